@@ -1,0 +1,21 @@
+-- Which machines there are.
+use Rattle.std.specs.Prelude.{ℕ, ◌≡◌, ◌≤◌, List, [], ◌∷◌, length, sum, All}
+use Rattle.page_model.specs.Replay.{Shape}
+
+-- the guests by their salts and their numbers of pages, guest 0 first
+abbrev pub shapes : List ℕ → List ℕ → List Shape
+shapes [] pages = []
+shapes (salt ∷ salts) [] = []
+shapes (salt ∷ salts) (n ∷ pages) = record { salt = salt; pages = n } ∷ shapes salts pages
+
+-- this may be a machine's total of frames
+abbrev pub AreFrames : ℕ → Type 0
+AreFrames frames = (1 ≤ frames) × (frames ≤ 1048576)
+
+-- these may be the guests' salts and numbers of pages, as far as the number of guests goes
+abbrev pub AreGuests : List ℕ → List ℕ → Type 0
+AreGuests salts pages = (1 ≤ length pages) × (length pages ≤ 64) × (length salts ≡ length pages)
+
+-- these may be the guests' numbers of pages, as far as these numbers go
+abbrev pub ArePages : List ℕ → Type 0
+ArePages pages = All (λ n. 1 ≤ n) pages × (sum pages ≤ 1048576)

@@ -1,0 +1,23 @@
+-- Stores, loads and reports as contracts see them: their parts, with no fact about them.
+use Rattle.std.specs.Prelude.{ℕ, List}
+
+-- a store of bytes at a place of page ppn
+pub record StoreParts : Type 0 where
+  pub ppn : ℕ
+  pub at : ℕ
+  pub bytes : List ℕ
+
+-- a load of len bytes at a place of page ppn
+pub record LoadParts : Type 0 where
+  pub ppn : ℕ
+  pub at : ℕ
+  pub len : ℕ
+
+-- the six numbers of a report
+pub record Totals : Type 0 where
+  pub entries : ℕ
+  pub mapped : ℕ
+  pub shared : ℕ
+  pub frames : ℕ
+  pub reclaimed : ℕ
+  pub hints : ℕ

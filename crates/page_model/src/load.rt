@@ -1,0 +1,51 @@
+//! A load.
+ghost use Rattle.std.specs.Prelude.{◌≡◌, ◌+◌, ◌≤◌};
+
+use std::marker::Model;
+
+/// A load of 1 to 64 bytes from a place within one page.
+#[derive(Clone, Copy, Debug, PartialEq, Eq)]
+pub struct LoadReq {
+    pub(crate) ppn: u32,
+    pub(crate) at: u32,
+    pub(crate) len: u32,
+}
+
+impl Model for LoadReq {
+    ghost use Rattle.std.specs.Prelude.{◌+◌, ◌≤◌};
+    ghost use Rattle.page_model.specs.Parts.{LoadParts};
+
+    ghost Value = { LoadParts };
+
+    ghost view = { λ s. record { ppn = s.ppn; at = s.at; len = s.len } };
+
+    ghost invariant = { λ s. (1 ≤ s.len) × (s.len ≤ 64) × (s.at + s.len ≤ 4096) };
+
+    ghost inverse = { λ s. record { ppn = s.ppn; at = s.at; len = s.len } };
+}
+
+impl LoadReq {
+    /// The number of the page.
+    pub fn ppn(&self) -> u32
+        ensures { result ≡ self.now.ppn }
+    {
+        self.ppn
+    }
+
+    /// The place of the first byte within the page.
+    pub fn at(&self) -> u32
+        ensures at { result ≡ self.now.at }
+        ensures within { result + self.now.len ≤ 4096 }
+    {
+        self.at
+    }
+
+    /// How many bytes are asked for.
+    pub fn len(&self) -> u32
+        ensures len { result ≡ self.now.len }
+        ensures some { 1 ≤ result }
+        ensures few { result ≤ 64 }
+    {
+        self.len
+    }
+}

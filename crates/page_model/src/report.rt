@@ -1,0 +1,92 @@
+//! What the machine counts.
+ghost use Rattle.std.specs.Prelude.{◌≡◌, ◌-◌, ◌≤◌};
+
+use std::marker::Model;
+
+/// How many requests, pages and frames there are.
+///
+/// Reclaimed and frames in use make up the mapped pages; no more pages are shared than mapped, and no
+/// more pages are hints than frames are in use.
+#[derive(Clone, Copy, Debug, PartialEq, Eq)]
+pub struct Report {
+    entries: u32,
+    mapped: u32,
+    shared: u32,
+    frames: u32,
+    reclaimed: u32,
+    hints: u32,
+}
+
+impl Model for Report {
+    ghost use Rattle.std.specs.Prelude.{◌≡◌, ◌+◌, ◌≤◌};
+    ghost use Rattle.page_model.specs.Parts.{Totals};
+
+    ghost Value = { Totals };
+
+    ghost view = { λ r. record { entries = r.entries; mapped = r.mapped; shared = r.shared; frames = r.frames; reclaimed = r.reclaimed; hints = r.hints } };
+
+    ghost invariant = { λ r. (r.reclaimed + r.frames ≡ r.mapped) × (r.shared ≤ r.mapped) × (r.hints ≤ r.frames) };
+
+    ghost inverse = { λ r. record { entries = r.entries; mapped = r.mapped; shared = r.shared; frames = r.frames; reclaimed = r.reclaimed; hints = r.hints } };
+}
+
+impl Report {
+    /// A report of these numbers. What is reclaimed is the mapped pages less the frames in use.
+    pub fn new(entries: u32, mapped: u32, shared: u32, frames: u32, hints: u32) -> Self
+        requires frames { frames ≤ mapped }
+        requires shared { shared ≤ mapped }
+        requires hints { hints ≤ frames }
+        ensures { result ≡ record { entries = entries; mapped = mapped; shared = shared; frames = frames; reclaimed = mapped - frames; hints = hints } }
+    {
+        Report {
+            entries,
+            mapped,
+            shared,
+            frames,
+            reclaimed: mapped - frames,
+            hints,
+        }
+    }
+
+    /// The requests so far.
+    pub fn entries(&self) -> u32
+        ensures { result ≡ self.now.entries }
+    {
+        self.entries
+    }
+
+    /// The pages that have a frame, their own or a shared one.
+    pub fn mapped(&self) -> u32
+        ensures { result ≡ self.now.mapped }
+    {
+        self.mapped
+    }
+
+    /// The pages that have a shared frame.
+    pub fn shared(&self) -> u32
+        ensures { result ≡ self.now.shared }
+    {
+        self.shared
+    }
+
+    /// The frames in use.
+    pub fn frames(&self) -> u32
+        ensures { result ≡ self.now.frames }
+    {
+        self.frames
+    }
+
+    /// The frames that sharing saves: mapped pages less frames in use.
+    pub fn reclaimed(&self) -> u32
+        ensures { result ≡ self.now.reclaimed }
+    {
+        self.reclaimed
+    }
+
+    /// The pages that are hints.
+    pub fn hints(&self) -> u32
+        ensures { result ≡ self.now.hints }
+    {
+        self.hints
+    }
+}

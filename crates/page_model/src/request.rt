@@ -1,0 +1,79 @@
+//! What a guest asks.
+ghost use Rattle.std.specs.Prelude.{◌≡◌, ◌+◌, ◌≤◌, length, IfOk, MatchResult};
+ghost use Rattle.page_model.specs.Faults.{Fits, RefusedFor};
+
+use crate::{LoadReq, StoreReq};
+use arrayvec::ArrayVec;
+
+/// What a guest asks. A page is named by its physical page number (PPN), counted from 0.
+#[derive(Clone, Debug, PartialEq, Eq, Drop)]
+pub enum Request {
+    /// Look for pages with the same content, and share a frame with them.
+    Propose(u32),
+    /// Write bytes to a page.
+    Store(StoreReq),
+    /// Read bytes of a page.
+    Load(LoadReq),
+    /// Give up a page's frame: from then on it reads as zeros.
+    Release(u32),
+    /// Tell what the machine counts.
+    Count,
+    /// The guest's last request.
+    Close,
+}
+
+/// Why there is no such store or load, in the order in which the causes are looked at.
+#[derive(Clone, Copy, Debug, PartialEq, Eq)]
+pub enum RequestFault {
+    /// No byte, or more than 64.
+    Length,
+    /// The last byte would stand past the page's end.
+    Crosses,
+}
+
+impl Request {
+    /// A store of these bytes to page `ppn` from place `at` on.
+    pub fn store(ppn: u32, at: u32, bytes: &[u8]) -> Result<Request, RequestFault>
+        ensures ok { IfOk result (λ r. r ≡ Request.Store (record { ppn = ppn; at = at; bytes = bytes.now })) }
+        ensures fault { MatchResult result (λ _. Fits at (length bytes.now)) (λ f. RefusedFor at (length bytes.now) f) }
+    {
+        if bytes.is_empty() {
+            return Err(RequestFault::Length);
+        }
+        match ArrayVec::try_from(bytes) {
+            Err(_) => Err(RequestFault::Length),
+            Ok(kept) => {
+                if at as usize > 4096 - bytes.len() {
+                    Err(RequestFault::Crosses)
+                } else {
+                    Ok(Request::Store(StoreReq {
+                        ppn,
+                        at,
+                        bytes: kept,
+                    }))
+                }
+            }
+        }
+    }
+
+    /// A load of `len` bytes of page `ppn` from place `at` on.
+    pub fn load(ppn: u32, at: u32, len: u32) -> Result<Request, RequestFault>
+        ensures ok { IfOk result (λ r. r ≡ Request.Load (record { ppn = ppn; at = at; len = len })) }
+        ensures fault { MatchResult result (λ _. Fits at len) (λ f. RefusedFor at len f) }
+    {
+        if len == 0 || len > 64 {
+            return Err(RequestFault::Length);
+        }
+        if at > 4096 - len {
+            return Err(RequestFault::Crosses);
+        }
+        Ok(Request::Load(LoadReq { ppn, at, len }))
+    }
+}
+
+/// One entry of a journal: a request and the number of the guest who asks.
+#[derive(Clone, Debug, PartialEq, Eq, Drop)]
+pub struct Entry {
+    pub guest: u8,
+    pub request: Request,
+}
