@@ -1,0 +1,14 @@
+//! The hash of a page: a number of 64 bits, by which equal pages are found.
+//!
+//! Nothing is assumed about collisions: pages are compared in full before they share a frame.
+#![tactic(auto)]
+
+mod page_hash;
+mod sha256;
+mod short;
+#[cfg(test)]
+mod tests;
+
+pub use page_hash::PageHash;
+pub use sha256::Sha256Hash;
+pub use short::{FirstByteHash, TwoByteHash};

@@ -1,0 +1,35 @@
+//! Weak hashes, for tests of what happens where different pages have equal hashes.
+use crate::PageHash;
+use page_model::{HashFunction, Page};
+
+/// Byte 0 of the page. It doesn't look at the salt.
+#[derive(Clone, Copy, Debug, PartialEq, Eq)]
+pub struct FirstByteHash;
+
+impl HashFunction for FirstByteHash {
+    ghost use Rattle.page_digest.specs.Hashes.{first_byte_hash};
+
+    ghost hash_of = { first_byte_hash };
+}
+
+impl PageHash for FirstByteHash {
+    fn hash(&self, _salt: u32, page: &Page) -> u64 {
+        page[0].into()
+    }
+}
+
+/// Byte 0 of the page times 2^32, and byte 1: pages with equal byte 1 have one key. It doesn't look at the salt.
+#[derive(Clone, Copy, Debug, PartialEq, Eq)]
+pub struct TwoByteHash;
+
+impl HashFunction for TwoByteHash {
+    ghost use Rattle.page_digest.specs.Hashes.{two_byte_hash};
+
+    ghost hash_of = { two_byte_hash };
+}
+
+impl PageHash for TwoByteHash {
+    fn hash(&self, _salt: u32, page: &Page) -> u64 {
+        u64::from(page[0]) * 4_294_967_296 + u64::from(page[1])
+    }
+}
