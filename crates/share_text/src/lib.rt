@@ -1,0 +1,16 @@
+//! Journals as texts, and the engine that replays one.
+//!
+//! The texts, the output and the order of faults stand in `docs/FORMATS.md`; `specs/` defines them apart
+//! from the code.
+#![tactic(auto)]
+
+mod fault;
+mod header;
+mod journal;
+mod print;
+mod request;
+mod word;
+
+pub use fault::{Cause, TextFault};
+pub use journal::{Journal, read_journal};
+pub use print::{fault_line, report_line, verdict_line};
