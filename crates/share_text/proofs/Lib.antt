@@ -2,3 +2,4 @@ pub mod Values
 pub mod Bytes
 pub mod Cuts
 pub mod Lines
+pub mod Known

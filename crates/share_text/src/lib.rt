@@ -4,13 +4,16 @@
 //! from the code.
 #![tactic(auto)]
 
+mod ends;
 mod fault;
 mod header;
 mod journal;
+mod output;
 mod print;
 mod request;
 mod word;
 
+pub use ends::{Noted, Sink, Source};
 pub use fault::{Cause, TextFault};
 pub use journal::{Journal, read_journal};
 pub use print::{fault_line, report_line, verdict_line};
