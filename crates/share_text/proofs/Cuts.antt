@@ -1,6 +1,6 @@
 -- Words and lines as lists.
-use Rattle.std.proofs.Common.{◌≡◌, ℕ, ◌+◌, ◌-◌, ◌<◌, ◌≤◌, suc, Bool, true, false, not, ◌&&◌, cond, List, [], ◌∷◌, ◌++◌, length, take, drop, refl, sym, ap, ◌∙◌, arith, rules, get_or, nat_lt, ltb, ◌⊎◌, inl, inr, Option, Some, None, Result, Ok, Err, append_assoc, append-nil}
-use Rattle.std.specs.List.{position_or_len, before_first, after_first, slice_split, All}
+use Rattle.std.proofs.Common.{◌≡◌, ℕ, true, false, List, [], ◌∷◌, ◌++◌, length, take, refl, sym, ap, ◌∙◌, arith, nat_lt, inl, inr, Some, None, Result, Ok, Err, append_assoc, append-nil}
+use Rattle.std.specs.List.{position_or_len, before_first}
 use Rattle.std.proofs.lemmas.Bool.{cases_lt, lt-ltb, le-ltb}
 use Rattle.std.proofs.lemmas.List.{take_all}
 use Rattle.std.proofs.lemmas.List.Sums.{fails_before_first}
@@ -9,7 +9,6 @@ use Rattle.share_text.specs.Words.{◌>>=◌, is_space, behind_space, number}
 use Rattle.share_text.specs.Headers.{words_in, numbers, at_line}
 use Rattle.share_text.specs.Words.{with_front}
 use Rattle.share_text.specs.declared.fault.Cause.{Cause}
-use Rattle.share_text.specs.declared.fault.TextFault.{TextFault}
 use Rattle.share_text.specs.declared.fault.TextFault.TheVariants as faults
 
 -- the words of bytes are the first and the rest

@@ -1,12 +1,10 @@
 -- Lines as lists.
-use Rattle.std.proofs.Common.{◌≡◌, ℕ, ◌+◌, ◌-◌, ◌<◌, ◌≤◌, suc, Bool, true, false, not, ◌&&◌, cond, List, [], ◌∷◌, ◌++◌, length, take, drop, refl, sym, ap, ◌∙◌, arith, rules, get_or, nat_lt, ltb, eqb, ◌==◌, ◌⊎◌, inl, inr, Option, Some, None, Result, Ok, Err, append_assoc}
+use Rattle.std.proofs.Common.{◌≡◌, ℕ, ◌+◌, ◌<◌, Bool, true, false, not, ◌&&◌, cond, List, [], ◌∷◌, ◌++◌, length, take, refl, sym, ap, ◌∙◌, arith, get_or, ◌==◌, Ok, Err}
 use Rattle.std.specs.List.{position_or_len, before_first, after_first, list_all}
-use Rattle.std.proofs.lemmas.Bool.{cases_lt, lt-ltb, le-ltb, and_parts, and_from, and_left, and_right, not-true, not_from_false, eqb-true, ne_eqb}
-use Rattle.std.proofs.lemmas.List.{get_or-take, length-take, nil_from_length}
+use Rattle.std.proofs.lemmas.Bool.{and_parts, not-true, not_from_false, eqb-true, ne_eqb}
+use Rattle.std.proofs.lemmas.List.{get_or-take, length-take}
 use Rattle.std.proofs.lemmas.List.Sums.{fails_before_first, passes_at_first, split_at_first, list_all-from_AllPass}
 use Rattle.page_model.specs.declared.request.Entry.{Entry}
-use Rattle.share_text.specs.Words.{◌>>=◌}
-use Rattle.share_text.specs.declared.request.Line.{Line}
 use Rattle.share_text.specs.declared.request.Line.TheVariants.{Enters, Ends}
 use Rattle.share_text.specs.Requests.{line_of}
 use Rattle.share_text.specs.Headers.{is_feed}
@@ -14,7 +12,6 @@ use Rattle.share_text.specs.Words.{with_front}
 use Rattle.share_text.specs.Texts.{lines_of, is_whole, onto_line, is_none, entries_from, entries_in, ended, closed_after, AreBelow}
 use Rattle.std.proofs.lemmas.Grind.{elements}
 use Rattle.share_text.specs.declared.fault.Cause.{Cause}
-use Rattle.share_text.specs.declared.fault.TextFault.{TextFault}
 use Rattle.share_text.specs.declared.fault.TextFault.TheVariants as faults
 use Rattle.share_text.proofs.Cuts.{front_on}
 

@@ -1,5 +1,5 @@
 -- The lines at the head of a text, and how a text is cut into lines.
-use Rattle.std.specs.Prelude.{ℕ, ◌+◌, ◌^◌, ◌==◌, ◌&&◌, ◌||◌, nat_le, nat_lt, Bool, true, false, if◌then◌else◌, List, [], ◌∷◌, length, sum, Option, Some, None, Result, Ok, Err, codes}
+use Rattle.std.specs.Prelude.{ℕ, ◌^◌, ◌==◌, ◌&&◌, ◌||◌, nat_le, nat_lt, Bool, if◌then◌else◌, List, [], ◌∷◌, length, sum, Option, Some, None, Result, Ok, Err, codes}
 use Rattle.std.specs.List.{list_all, position_or_len, before_first, after_first, slice_split}
 use Rattle.std.specs.Str.{bytes_eq}
 use Rattle.share_text.specs.declared.fault.Cause.{Cause}

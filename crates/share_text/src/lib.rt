@@ -5,6 +5,7 @@
 #![tactic(auto)]
 
 mod ends;
+mod engine;
 mod fault;
 mod header;
 mod journal;
@@ -14,6 +15,7 @@ mod request;
 mod word;
 
 pub use ends::{Noted, Sink, Source};
+pub use engine::replay;
 pub use fault::{Cause, TextFault};
 pub use journal::{Journal, read_journal};
 pub use print::{fault_line, report_line, verdict_line};

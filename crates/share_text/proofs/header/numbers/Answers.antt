@@ -1,4 +1,4 @@
-use Rattle.std.proofs.Common.{◌≡◌, ℕ, ◌++◌, [], ◌∷◌, List, Option, Some, None, Result, Ok, Err, ap, sym, refl, ◌∙◌, rules, arith}
+use Rattle.std.proofs.Common.{◌≡◌, ℕ, ◌++◌, [], ◌∷◌, List, Option, Some, None, Ok, Err, ap, sym, ◌∙◌}
 use Rattle.share_text.specs.Words.{number, is_space, behind_space}
 use Rattle.std.specs.List.{before_first}
 use Rattle.share_text.specs.Headers.{at_line, numbers, words_in}

@@ -1,4 +1,4 @@
-use Rattle.std.proofs.Common.{◌≡◌, ℕ, ◌+◌, List, length, Option, Some, None}
+use Rattle.std.proofs.Common.{◌≡◌}
 use Rattle.share_text.specs.Headers.{at_line, numbers, words_in}
 use Rattle.share_text.specs.Words.{with_front}
 use Rattle.share_text.specs.Cursor.{left, left_length}

@@ -1,13 +1,12 @@
-use Rattle.std.proofs.Common.{◌≡◌, ℕ, ◌+◌, ◌<◌, ◌≤◌, ◌++◌, [], ◌∷◌, List, Option, Some, None, Result, Ok, Err, length, ap, sym, refl, ◌∙◌, rules, arith, ◌==◌, length-append, length-drop}
-use Rattle.std.specs.List.{position_or_len, before_first, after_first}
+use Rattle.std.proofs.Common.{◌≡◌, ℕ, ◌+◌, ◌<◌, ◌≤◌, ◌++◌, [], ◌∷◌, List, Result, Ok, Err, length, ap, sym, ◌∙◌, arith, ◌==◌, length-append}
+use Rattle.std.specs.List.{before_first, after_first}
 use Rattle.share_text.specs.declared.request.Line.{Line}
 use Rattle.share_text.specs.declared.fault.Cause.{Cause}
 use Rattle.share_text.specs.Requests.{line_of, IsBelow}
 use Rattle.share_text.specs.declared.request.Line.TheVariants.{Enters, Ends}
 use Rattle.page_model.specs.declared.request.Entry.{Entry}
 use Rattle.share_text.specs.Headers.{is_feed}
-use Rattle.share_text.specs.Words.{with_front}
-use Rattle.share_text.specs.Texts.{entries_in, ended, closed_after}
+use Rattle.share_text.specs.Texts.{closed_after}
 use Rattle.share_text.proofs.Lines.{entries_end, entries_fault, entries_ended, entries_step, below_push}
 use Rattle.share_text.proofs.journal.entries.Goals as goal
 

@@ -1,4 +1,4 @@
-use Rattle.std.proofs.Common.{◌≡◌, ℕ, ◌+◌, ◌*◌, ◌≤◌, List, length}
+use Rattle.std.proofs.Common.{◌≡◌, ◌+◌, ◌*◌, ◌≤◌, length}
 use Rattle.share_text.specs.Words.{with_front}
 use Rattle.share_text.specs.Texts.{entries_in, AreBelow}
 use Rattle.share_text.proofs.journal.entries.Given as goal

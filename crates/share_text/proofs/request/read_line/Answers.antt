@@ -1,4 +1,3 @@
-use Rattle.std.proofs.Common.{length}
 use Rattle.share_text.proofs.request.read_line.Goals as goal
 
 pub returns-then-eq-clause-below : goal.returns-then-eq-clause-below

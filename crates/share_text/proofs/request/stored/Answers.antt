@@ -1,4 +1,4 @@
-use Rattle.std.proofs.Common.{◌≡◌, ℕ, ◌*◌, ◌<◌, List, length, sym, ◌∙◌, arith}
+use Rattle.std.proofs.Common.{sym, arith}
 use Rattle.share_text.specs.Words.{spelled}
 use Rattle.share_text.proofs.Bytes.{spelled_is, stored_long}
 use Rattle.share_text.proofs.request.stored.Goals as goal

@@ -1,4 +1,4 @@
-use Rattle.std.proofs.Common.{◌≡◌, ℕ, ◌*◌, List, length, sym, ◌∙◌, arith, Ok}
+use Rattle.std.proofs.Common.{◌≡◌, ◌*◌, length, ◌∙◌, arith, Ok}
 use Rattle.hex.specs.Hex.{decode_sized}
 use Rattle.hex.proofs.HexLemmas.{decode_sized-twice}
 use Rattle.share_text.specs.Words.{spelled}
