@@ -1,0 +1,101 @@
+-- A journal's text, version 1: what it says, or its first fault. The lines are looked at in order, and the first faulty
+-- one decides; where no complete line is at fault and no end line has come, the text is cut off.
+use Rattle.std.specs.Prelude.{◌<◌, ℕ, ◌+◌, ◌^◌, ◌==◌, ◌&&◌, nat_lt, Bool, true, false, if◌then◌else◌, List, [], ◌∷◌, length, replicate, Result, Ok, Err, slice_set, codes}
+use Rattle.std.specs.List.{All}
+use Rattle.std.specs.Str.{bytes_eq}
+use Rattle.page_model.specs.declared.request.Entry.{Entry}
+use Rattle.page_model.specs.declared.request.Request.{Request}
+use Rattle.page_model.specs.declared.request.Request.TheVariants.{Propose, Store, Load, Release, Count, Close}
+use Rattle.share_text.specs.declared.fault.Cause.{Cause}
+use Rattle.share_text.specs.declared.fault.Cause.TheVariants as causes
+use Rattle.share_text.specs.declared.fault.TextFault.{TextFault}
+use Rattle.share_text.specs.declared.fault.TextFault.TheVariants as faults
+use Rattle.share_text.specs.declared.request.Line.{Line}
+use Rattle.share_text.specs.declared.request.Line.TheVariants.{Enters, Ends}
+use Rattle.share_text.specs.Words.{◌>>=◌}
+use Rattle.share_text.specs.Headers.{is_feed, line_at, at_line, frames_of, pages_of}
+use Rattle.share_text.specs.Requests.{line_of}
+
+-- what a journal says: the machine's total of frames, each guest's number of pages and salt, and who asked what
+pub record Journal : Type 0 where
+  pub frames : ℕ
+  pub pages : List ℕ
+  pub salts : List ℕ
+  pub entries : List Entry
+
+-- the first line
+unfoldable pub header_of : List ℕ → Result (Unit {0}) Cause
+header_of line = if bytes_eq line (codes "pageshare journal 1") then Ok tt else Err causes.Header
+
+-- one byte before the first of some lines, where there is one
+abbrev pub onto_line : ℕ → List (List ℕ) → List (List ℕ)
+onto_line b [] = []
+onto_line b (line ∷ lines) = (b ∷ line) ∷ lines
+
+-- all lines that end with a line feed, without it
+abbrev pub lines_of : List ℕ → List (List ℕ)
+lines_of [] = []
+lines_of (b ∷ text) = if is_feed b then [] ∷ lines_of text else onto_line b (lines_of text)
+
+-- no byte stands behind the last line feed
+abbrev pub is_whole : List ℕ → Bool
+is_whole [] = true
+is_whole (b ∷ []) = is_feed b
+is_whole (b ∷ c ∷ text) = is_whole (c ∷ text)
+
+-- the request is a close
+abbrev pub closes : Request → Bool
+closes (Propose ppn) = false
+closes (Store r) = false
+closes (Load r) = false
+closes (Release ppn) = false
+closes Count = false
+closes Close = true
+
+-- who has closed after an entry
+abbrev pub closed_after : List Bool → Entry → List Bool
+closed_after closed e = if closes e.request then slice_set closed e.guest true else closed
+
+-- Line n is the end line. It tells how many entries came before it, which are k; then it is to be the last.
+abbrev pub ended : ℕ → ℕ → Bool → ℕ → Result (List Entry) TextFault
+ended n k last count = if count == k then (if last then Ok [] else Err (faults.Line (n + 1) causes.Form)) else Err faults.Count
+
+-- what line n and the lines after it say: an entry goes before those of more, which reads the later lines
+abbrev pub goes_on : ℕ → ℕ → Bool → Result Line Cause → (Entry → Result (List Entry) TextFault) → Result (List Entry) TextFault
+goes_on n k last (Err cause) more = Err (faults.Line n cause)
+goes_on n k last (Ok (Ends count)) more = ended n k last count
+goes_on n k last (Ok (Enters e)) more = more e >>= λ es. Ok (e ∷ es)
+
+abbrev pub is_none : List (List ℕ) → Bool
+is_none [] = true
+is_none (line ∷ lines) = false
+
+-- The entries of the lines from number n on, with k entries before them. closed: who has closed; whole: no byte stands
+-- behind the lines.
+unfoldable pub entries_from : Bool → List Bool → ℕ → ℕ → List (List ℕ) → Result (List Entry) TextFault
+entries_from whole closed n k [] = Err (faults.Truncated n)
+entries_from whole closed n k (line ∷ lines) = goes_on n k (is_none lines && whole) (line_of closed line) (λ e. entries_from whole (closed_after closed e) (n + 1) (k + 1) lines)
+
+-- the entries of what stands behind the header's lines, or behind some entries
+abbrev pub entries_in : List Bool → ℕ → ℕ → List ℕ → Result (List Entry) TextFault
+entries_in closed n k text = entries_from (is_whole text) closed n k (lines_of text)
+
+-- a journal's text of any length: three lines at its head, and then the entries. Every salt is 0
+unfoldable pub journal_in : List ℕ → Result Journal TextFault
+journal_in text = do
+  first ← line_at 1 text
+  _ ← at_line 1 (header_of first.0)
+  second ← line_at 2 first.1
+  frames ← at_line 2 (frames_of second.0)
+  third ← line_at 3 second.1
+  pages ← at_line 3 (pages_of third.0)
+  entries ← entries_in (replicate (length pages) false) 4 0 third.1
+  Ok (record { frames = frames; pages = pages; salts = replicate (length pages) 0; entries = entries })
+
+-- What a text says: its one journal, or its first fault. A text has at most 67,108,864 bytes, and that comes first.
+unfoldable pub journal_of : List ℕ → Result Journal TextFault
+journal_of text = if nat_lt (2 ^ 26) (length text) then Err faults.Long else journal_in text
+
+-- each entry's guest is one of the first n
+abbrev pub AreBelow : ℕ → List Entry → Type 0
+AreBelow n es = All (λ e. e.guest < n) es

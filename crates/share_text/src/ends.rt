@@ -1,0 +1,170 @@
+//! Readers and writers that remember whether they failed.
+ghost use Rattle.std.specs.Prelude.{◌≡◌, ◌+◌, ◌<◌, ◌≤◌, ◌++◌, ◌^◌, ◌||◌, ℕ, List, Option, Bool, true, false, length, vec_len, is_err, IfOk, IfErr, IfSome, OnOk, OnErr};
+ghost use Rattle.std.specs.Io.{ReadsAtMost, WritesAtMost};
+ghost use Rattle.std.specs.Io.KnownBytes.{Appends, Keeps, ReadConsumes, WriteAppends};
+ghost use Rattle.share_text.specs.Ends.{inner_of, failed_of, write_failed, AppendsFront, NotRead};
+
+use crate::fault::TextFault;
+use page_model::MAX_TEXT_BYTES;
+use std::alloc::Allocator;
+use std::io::{self, Read, Write};
+
+/// A reader that remembers whether a read failed.
+pub trait Source {
+    // The bytes that reads will give, where they are known.
+    ghost remaining: { Self → Option (List ℕ) };
+    // Whether a read failed.
+    ghost has_failed: { Self → Bool };
+
+    /// Reads into `buf`, as `std::io::Read::read` does.
+    fn read(&mut self, buf: &mut [u8]) -> io::Result<usize>
+        ensures bound { ReadsAtMost result buf.new }
+        ensures bytes { ReadConsumes (remaining self.old) (remaining self.new) result buf.new }
+        ensures failed { has_failed self.new ≡ (has_failed self.old || is_err result) };
+
+    /// Whether a read failed.
+    fn failed(&self) -> bool
+        ensures { result ≡ has_failed self.now };
+}
+
+/// A writer that remembers whether a write failed, also by taking none of some bytes.
+pub trait Sink {
+    // The bytes that the writer holds, where they are known.
+    ghost contents: { Self → Option (List ℕ) };
+    // Whether a write failed.
+    ghost has_failed: { Self → Bool };
+
+    /// Writes from `buf`, as `std::io::Write::write` does.
+    fn write(&mut self, buf: &[u8]) -> io::Result<usize>
+        ensures bound { WritesAtMost result buf.now }
+        ensures bytes { WriteAppends (contents self.old) (contents self.new) result buf.now }
+        ensures failed { has_failed self.new ≡ (has_failed self.old || write_failed result buf.now) };
+
+    /// Whether a write failed.
+    fn failed(&self) -> bool
+        ensures { result ≡ has_failed self.now };
+}
+
+/// A reader or a writer of std, and whether a call on it failed.
+#[derive(Drop)]
+pub struct Noted<T> {
+    inner: T,
+    failed: bool,
+}
+
+impl<T> Noted<T> {
+    /// A reader or a writer that has not failed.
+    pub fn new(inner: T) -> Self
+        ensures inner { inner_of result ≡ inner }
+        ensures failed { failed_of result ≡ false }
+    {
+        Noted {
+            inner,
+            failed: false,
+        }
+    }
+}
+
+impl<R: Read> Source for Noted<R> {
+    ghost remaining = { λ noted. R.remaining (inner_of noted) };
+
+    ghost has_failed = { λ noted. failed_of noted };
+
+    fn read(&mut self, buf: &mut [u8]) -> io::Result<usize> {
+        let got = self.inner.read(buf);
+        if got.is_err() {
+            self.failed = true;
+        }
+        got
+    }
+
+    fn failed(&self) -> bool {
+        self.failed
+    }
+}
+
+impl<W: Write> Sink for Noted<W> {
+    ghost contents = { λ noted. W.contents (inner_of noted) };
+
+    ghost has_failed = { λ noted. failed_of noted };
+
+    fn write(&mut self, buf: &[u8]) -> io::Result<usize> {
+        let took = self.inner.write(buf);
+        if is_failure(&took, buf) {
+            self.failed = true;
+        }
+        took
+    }
+
+    fn failed(&self) -> bool {
+        self.failed
+    }
+}
+
+/// Whether a write of `buf` failed.
+fn is_failure(took: &io::Result<usize>, buf: &[u8]) -> bool
+    ensures { result ≡ write_failed took.now buf.now }
+{
+    match took {
+        Ok(n) => *n == 0 && !buf.is_empty(),
+        Err(_) => true,
+    }
+}
+
+/// How many bytes are asked for at once.
+const PIECE_BYTES: usize = 65_536;
+
+/// So many zeros.
+fn room<A: Allocator>(alloc: A, len: usize) -> Result<Vec<u8, A>, TextFault>
+    ensures len { IfOk result (λ v. vec_len v ≡ len) }
+    ensures err { IfErr result (λ e. e ≡ TextFault.OutOfMemory) }
+{
+    Ok(vec![in alloc; 0; len]?)
+}
+
+/// All that a reader gives. An `Err` is `Read`, `Long` or `OutOfMemory`.
+pub fn read_all<R: Source, A: Allocator + Clone>(
+    alloc: A,
+    reader: &mut R,
+) -> Result<Vec<u8, A>, TextFault>
+    requires { R.has_failed reader.old ≡ false }
+    ensures ok { IfOk result (λ text. IfSome (R.remaining reader.old) (λ bytes. text.items ≡ bytes)) }
+    ensures short { IfOk result (λ text. length text.items ≤ 2 ^ 26) }
+    ensures fine { OnOk result (R.has_failed reader.new ≡ false) }
+    ensures err { IfErr result (λ e. NotRead (R.has_failed reader.new) (R.remaining reader.old) e) }
+{
+    let mut text = Vec::new(alloc.clone()?);
+    let mut piece = room(alloc, PIECE_BYTES)?;
+    loop {
+        match reader.read(&mut piece) {
+            Err(_) => return Err(TextFault::Read),
+            Ok(0) => return Ok(text),
+            Ok(n) => {
+                if n > MAX_TEXT_BYTES - text.len() {
+                    return Err(TextFault::Long);
+                }
+                text.extend_from_slice(&piece[..n])?;
+            }
+        }
+    }
+}
+
+/// Writes all of some bytes. An `Err` is `Write`, and then a front of them went out.
+pub fn write_all<W: Sink>(writer: &mut W, bytes: &[u8]) -> Result<(), TextFault>
+    requires { W.has_failed writer.old ≡ false }
+    ensures ok { OnOk result (Appends (W.contents writer.old) (W.contents writer.new) bytes.now) }
+    ensures fine { OnOk result (W.has_failed writer.new ≡ false) }
+    ensures err { OnErr result (AppendsFront (W.contents writer.old) (W.contents writer.new) bytes.now) }
+    ensures failed { OnErr result (W.has_failed writer.new ≡ true) }
+    ensures fault { IfErr result (λ e. e ≡ TextFault.Write) }
+{
+    let mut done = 0;
+    while done < bytes.len() {
+        match writer.write(&bytes[done..]) {
+            Err(_) => return Err(TextFault::Write),
+            Ok(0) => return Err(TextFault::Write),
+            Ok(n) => done += n,
+        }
+    }
+    Ok(())
+}

@@ -1,0 +1,180 @@
+//! The engine that replays a journal.
+ghost use Rattle.std.specs.Prelude.{◌≡◌, ◌+◌, ◌<◌, ◌≤◌, ◌++◌, [], length, codes, true, false, string_bytes, string_len, string_capacity, IfOk, OnOk, OnErr, IfErr, IsErr};
+ghost use Rattle.std.specs.Io.KnownBytes.{Appends};
+ghost use Rattle.page_model.specs.Limits.{shapes, AreFrames, AreGuests, ArePages};
+ghost use Rattle.page_model.specs.Replay.{empty_state};
+ghost use Rattle.page_model.specs.Steps.{step};
+ghost use Rattle.share_text.specs.declared.fault.TextFault.TheVariants.{OutOfMemory};
+ghost use Rattle.share_text.specs.Printed.{verdict_line};
+ghost use Rattle.share_text.specs.Texts.{AreBelow};
+ghost use Rattle.share_text.specs.Views.{journal_seen};
+ghost use Rattle.share_text.specs.Ends.{AppendsFront, Sends};
+ghost use Rattle.share_text.specs.Replayed.{report_text, printed_from, printed, Replays, Refuses, NotPrinted};
+
+use crate::ends::{Sink, Source, read_all, write_all};
+use crate::fault::TextFault;
+use crate::journal::{Journal, read_journal};
+use crate::output::{LINE_BYTES, buffer, make_room, put_report, put_verdict};
+use crate::print::fault_line;
+use merge_core::{Core, CoreFault};
+use page_digest::PageHash;
+use page_model::Entry;
+use std::alloc::Allocator;
+
+/// The machine of a journal, before its first request.
+fn core_of<H: PageHash + Drop, A: Allocator + Clone>(
+    alloc: A,
+    journal: &Journal<A>,
+    hash: H,
+) -> Result<Core<H, A>, TextFault>
+    requires frames { AreFrames journal.now.frames }
+    requires guests { AreGuests journal.now.salts.items journal.now.pages.items }
+    requires pages { ArePages journal.now.pages.items }
+    ensures empty { IfOk result (λ core. core ≡ empty_state journal.now.frames (shapes journal.now.salts.items journal.now.pages.items)) }
+    ensures guests { IfOk result (λ core. length core.guests ≡ length journal.now.pages.items) }
+    ensures fault { IfErr result (λ e. e ≡ OutOfMemory) }
+{
+    match Core::new(alloc, journal.frames, &journal.pages, &journal.salts, hash) {
+        Ok(core) => Ok(core),
+        Err(CoreFault::OutOfMemory) => Err(TextFault::OutOfMemory),
+        // The journal is one of a machine within the limits.
+        Err(CoreFault::Frames) => unreachable!(),
+        Err(CoreFault::Guests) => unreachable!(),
+        Err(CoreFault::Pages) => unreachable!(),
+    }
+}
+
+/// Serves an entry, and puts its verdict's line behind what the buffer holds.
+fn print_entry<H: PageHash, W: Sink, A: Allocator>(
+    core: &mut Core<H, A>,
+    entry: &Entry,
+    writer: &mut W,
+    out: &mut String<A>,
+) -> Result<(), TextFault>
+    requires guest { entry.now.guest < length core.old.guests }
+    requires few { core.old.entries < 16777216 }
+    requires fine { W.has_failed writer.old ≡ false }
+    requires room { LINE_BYTES ≤ string_capacity out.old }
+    ensures step { OnOk result (core.new ≡ (step H.hash_of core.old entry.now.guest entry.now.request).state) }
+    ensures entries { OnOk result (core.new.entries ≡ core.old.entries + 1) }
+    ensures guests { OnOk result (length core.new.guests ≡ length core.old.guests) }
+    ensures sends { OnOk result (Sends (W.contents writer.old) (W.contents writer.new) (string_bytes out.new) (string_bytes out.old ++ (verdict_line entry.now.guest (step H.hash_of core.old entry.now.guest entry.now.request).verdict ++ codes "\n"))) }
+    ensures fine { OnOk result (W.has_failed writer.new ≡ false) }
+    ensures room { OnOk result (LINE_BYTES ≤ string_capacity out.new) }
+    ensures err { OnErr result (AppendsFront (W.contents writer.old) (W.contents writer.new) (string_bytes out.old)) }
+    ensures failed { OnErr result (W.has_failed writer.new ≡ true) }
+    ensures fault { IfErr result (λ e. e ≡ TextFault.Write) }
+{
+    make_room(writer, out)?;
+    let verdict = core.apply(entry.guest, &entry.request);
+    put_verdict(out, entry.guest, &verdict);
+    Ok(())
+}
+
+/// Writes what the buffer holds, and the report's line behind it.
+fn print_report<H: PageHash, W: Sink, A: Allocator>(
+    core: &Core<H, A>,
+    writer: &mut W,
+    out: &mut String<A>,
+) -> Result<(), TextFault>
+    requires fine { W.has_failed writer.old ≡ false }
+    requires room { LINE_BYTES ≤ string_capacity out.old }
+    ensures ok { OnOk result (Appends (W.contents writer.old) (W.contents writer.new) (string_bytes out.old ++ report_text core.now)) }
+    ensures err { OnErr result (AppendsFront (W.contents writer.old) (W.contents writer.new) (string_bytes out.old ++ report_text core.now)) }
+    ensures failed { OnErr result (W.has_failed writer.new ≡ true) }
+    ensures fault { IfErr result (λ e. e ≡ TextFault.Write) }
+{
+    make_room(writer, out)?;
+    put_report(out, &core.report());
+    write_all(writer, out.as_bytes())
+}
+
+/// Writes the lines of the entries' verdicts, and of the report after them, by way of an empty buffer.
+fn print_all<H: PageHash, W: Sink, A: Allocator>(
+    core: &mut Core<H, A>,
+    entries: &[Entry],
+    writer: &mut W,
+    out: &mut String<A>,
+) -> Result<(), TextFault>
+    requires guests { AreBelow (length core.old.guests) entries.now }
+    requires few { core.old.entries + length entries.now ≤ 16777216 }
+    requires fine { W.has_failed writer.old ≡ false }
+    requires empty { string_bytes out.old ≡ [] }
+    requires room { LINE_BYTES ≤ string_capacity out.old }
+    ensures ok { OnOk result (Appends (W.contents writer.old) (W.contents writer.new) (printed_from H.hash_of core.old entries.now)) }
+    ensures err { OnErr result (AppendsFront (W.contents writer.old) (W.contents writer.new) (printed_from H.hash_of core.old entries.now)) }
+    ensures failed { OnErr result (W.has_failed writer.new ≡ true) }
+    ensures fault { IfErr result (λ e. e ≡ TextFault.Write) }
+{
+    for entry in entries {
+        print_entry(core, entry, writer, out)?;
+    }
+    print_report(core, writer, out)
+}
+
+/// Writes what a journal prints. All memory is taken before the first write.
+fn print_journal<H: PageHash + Drop, W: Sink, A: Allocator + Clone>(
+    alloc: A,
+    journal: &Journal<A>,
+    writer: &mut W,
+    hash: H,
+) -> Result<(), TextFault>
+    requires frames { AreFrames journal.now.frames }
+    requires guests { AreGuests journal.now.salts.items journal.now.pages.items }
+    requires pages { ArePages journal.now.pages.items }
+    requires entries { AreBelow (length journal.now.pages.items) journal.now.entries.items }
+    requires few { length journal.now.entries.items ≤ 16777216 }
+    requires fine { W.has_failed writer.old ≡ false }
+    ensures ok { OnOk result (Appends (W.contents writer.old) (W.contents writer.new) (printed H.hash_of (journal_seen journal.now))) }
+    ensures err { IfErr result (λ e. NotPrinted (W.contents writer.old) (W.contents writer.new) (W.has_failed writer.new) (printed H.hash_of (journal_seen journal.now)) e) }
+{
+    let mut out = buffer(alloc.clone()?)?;
+    let mut core = core_of(alloc, journal, hash)?;
+    print_all(&mut core, &journal.entries, writer, &mut out)
+}
+
+/// Writes the line that tells of a fault of the text, and answers the fault.
+fn refuse<W: Sink, A: Allocator>(
+    alloc: A,
+    writer: &mut W,
+    fault: TextFault,
+) -> Result<(), TextFault>
+    requires { W.has_failed writer.old ≡ false }
+    ensures err { IsErr result }
+    ensures told { IfErr result (λ e. Refuses fault (W.contents writer.old) (W.contents writer.new) (W.has_failed writer.new) e) }
+{
+    let mut line = fault_line(alloc, &fault)?;
+    line.push_str("\n")?;
+    write_all(writer, line.as_bytes())?;
+    Err(fault)
+}
+
+/// Reads a journal, and writes a verdict line for each entry and then the report line.
+///
+/// Where the text is at fault, the fault's line is written and nothing else, and the fault is answered. On
+/// `OutOfMemory`, `Read` and `Long` nothing was written, and on `Write` a front of the output went out.
+pub fn replay<R: Source, W: Sink, H: PageHash + Drop, A: Allocator + Clone>(
+    alloc: A,
+    reader: &mut R,
+    writer: &mut W,
+    hash: H,
+) -> Result<(), TextFault>
+    requires reader { R.has_failed reader.old ≡ false }
+    requires writer { W.has_failed writer.old ≡ false }
+    ensures { Replays H.hash_of (R.remaining reader.old) (W.contents writer.old) (W.contents writer.new) (R.has_failed reader.new) (W.has_failed writer.new) result }
+{
+    let text = match read_all(alloc.clone()?, reader) {
+        Ok(text) => text,
+        Err(fault) => return Err(fault),
+    };
+    match read_journal(alloc.clone()?, &text) {
+        Ok(journal) => print_journal(alloc, &journal, writer, hash),
+        Err(TextFault::Line(n, cause)) => refuse(alloc, writer, TextFault::Line(n, cause)),
+        Err(TextFault::Truncated(n)) => refuse(alloc, writer, TextFault::Truncated(n)),
+        Err(TextFault::Count) => refuse(alloc, writer, TextFault::Count),
+        Err(TextFault::OutOfMemory) => Err(TextFault::OutOfMemory),
+        Err(TextFault::Read) => Err(TextFault::Read),
+        Err(TextFault::Write) => Err(TextFault::Write),
+        Err(TextFault::Long) => Err(TextFault::Long),
+    }
+}

@@ -1,0 +1,21 @@
+//! Journals as texts, and the engine that replays one.
+//!
+//! The texts, the output and the order of faults stand in `docs/FORMATS.md`; `specs/` defines them apart
+//! from the code.
+#![tactic(auto)]
+
+mod ends;
+mod engine;
+mod fault;
+mod header;
+mod journal;
+mod output;
+mod print;
+mod request;
+mod word;
+
+pub use ends::{Noted, Sink, Source};
+pub use engine::replay;
+pub use fault::{Cause, TextFault};
+pub use journal::{Journal, read_journal};
+pub use print::{fault_line, report_line, verdict_line};
