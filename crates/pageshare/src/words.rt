@@ -11,10 +11,13 @@ pub enum Task {
 
 /// What these words ask for; the first is the program's own name.
 pub fn task_of(alloc: Global, words: &[String]) -> Result<Task, Error> {
-    let replay = Command::new(alloc, "replay")
-        .about("Replay the journal on standard input: print a verdict for each request, then the report");
+    let replay = Command::new(alloc, "replay").about(
+        "Replay the journal on standard input: print a verdict for each request, then the report",
+    );
     Command::new(alloc, "pageshare")
-        .about("Content-based page sharing: journals of page requests, their verdicts and the memory reclaimed")
+        .about(
+            "Content-based page sharing: journals of page requests, their verdicts and the memory reclaimed",
+        )
         .subcommand_required(true)
         .subcommand(replay)?
         .try_get_matches_from(words)?;
