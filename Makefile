@@ -1,15 +1,19 @@
-# The gate: every proof from nothing, the edits that the prover must refuse, the tests, and the programs.
-.PHONY: test demo build
+.PHONY: test build demo
+
+# The gate: every proof from nothing, the edits that must be refused, the tests and the programs.
 test:
 	rt ci
 
 # The proved program, left at out/pageshare.
 build: out/pageshare
 
-out/pageshare: $(shell find crates -name '*.rt' -o -name '*.antt' | grep -v /out/) crates.txt
-	cd crates/pageshare && rt build
+SOURCES = $(shell find crates -path '*/out' -prune -o -type f -print) crates.txt
+
+out/pageshare: $(SOURCES)
+	cd crates/pageshare && rt run -- --help > /dev/null
 	mkdir -p out
 	cp crates/pageshare/out/pageshare $@
 
-demo: out/pageshare
+# A first look: three equal pages of two guests come to share one frame.
+demo: build
 	out/pageshare replay < examples/three-share.journal
