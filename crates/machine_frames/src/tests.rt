@@ -1,3 +1,5 @@
+ghost use Rattle.machine_frames.specs.FrameMap.{IsTaken};
+
 use super::*;
 use refusing::Refusing;
 use std::process::Abort;
@@ -36,15 +38,24 @@ fn frames(rt: HostRuntime) -> Result<(), Fail> {
     two_frames(&rt, frames)
 }
 
-// A frame that was given back, with other bytes in it, is taken again as a copy.
-#[test]
-fn copied_again(rt: HostRuntime) -> Result<(), Fail> {
-    let mut frames = Frames::new(rt.alloc(), 2).map_err(|_| "no frames")?;
+// Takes another frame, fills its end and gives it back.
+fn use_another<A: Allocator>(frames: &mut Frames<A>, mpn: u32) -> Result<(), Fail>
+    requires { IsTaken frames.old mpn }
+    ensures { IsTaken frames.new mpn }
+{
     let other = frames.take_zeroed().ok_or("full")?;
     frames.write(other, 4095, &[0x42]);
     frames.give_back(other);
-    assert_eq!(rt; frames.used(), 0);
+    Ok(())
+}
+
+// A frame that was given back with other bytes in it is taken again as a copy.
+#[test]
+fn copied_again(rt: HostRuntime) -> Result<(), Fail> {
+    let mut frames = Frames::new(rt.alloc(), 2).map_err(|_| "no frames")?;
     let a = frames.take_zeroed().ok_or("full")?;
+    use_another(&mut frames, a)?;
+    assert_eq!(rt; frames.used(), 1);
     let b = frames.take_copy(a).ok_or("full")?;
     assert_eq!(rt; frames.bytes(b)[4095], 0);
     assert_eq!(rt; frames.used(), 2);

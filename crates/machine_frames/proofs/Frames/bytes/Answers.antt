@@ -1,4 +1,4 @@
-use Rattle.std.proofs.Common.{◌≡◌, ◌∙◌, sym, arith}
+use Rattle.std.proofs.Common.{◌∙◌, arith}
 use Rattle.machine_frames.proofs.Places.{known, page_at, stands_at}
 use Rattle.machine_frames.proofs.Frames.bytes.Goals as goal
 

@@ -1,6 +1,4 @@
-use Rattle.std.proofs.Common.{◌≡◌, List, ◌∷◌, [], ◌++◌, ℕ, sym, subst, ap, ◌∙◌, arith}
-use Rattle.machine_frames.specs.FrameMap.{IsTaken}
-use Rattle.machine_frames.specs.Places.{frames_of, IsSound}
+use Rattle.std.proofs.Common.{arith}
 use Rattle.machine_frames.proofs.Places.{given_back}
 use Rattle.machine_frames.proofs.Frames.give_back.Goals as goal
 

@@ -1,4 +1,4 @@
-use Rattle.std.proofs.Common.{arith, vec_len}
+use Rattle.std.proofs.Common.{arith}
 use Rattle.machine_frames.proofs.Places.{fresh}
 use Rattle.machine_frames.proofs.Frames.new.Goals as goal
 

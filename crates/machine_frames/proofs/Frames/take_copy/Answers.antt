@@ -1,8 +1,6 @@
-use Rattle.std.proofs.Common.{◌≡◌, ◌<◌, ◌∙◌, ◌++◌, ◌∷◌, [], ℕ, List, ap, length, sym, refl, arith, true≢false}
-use Rattle.std.specs.Prelude.{slice_set}
+use Rattle.std.proofs.Common.{◌∙◌, ◌++◌, ◌∷◌, [], sym, refl, arith, true≢false}
 use Rattle.slab.specs.Slab.{get}
-use Rattle.machine_frames.specs.Places.{IsSound, frames_of}
-use Rattle.machine_frames.specs.FrameMap.{used, frame, FrameMap}
+use Rattle.machine_frames.specs.Places.{IsSound}
 use Rattle.machine_frames.proofs.Places.{length-frames_of, again, known, stands_at, page_at, again_stands, again_copied, first_at, all_taken, not_all_taken}
 use Rattle.machine_frames.proofs.Frames.take_copy.Goals as goal
 

@@ -1,7 +1,6 @@
-use Rattle.std.proofs.Common.{◌≡◌, ◌<◌, ◌∙◌, ◌++◌, ◌∷◌, [], ℕ, List, Some, length, sym, refl, arith, true≢false}
+use Rattle.std.proofs.Common.{◌∙◌, ◌++◌, ◌∷◌, [], Some, sym, refl, arith, true≢false}
 use Rattle.page_model.specs.Pages.{blank}
-use Rattle.machine_frames.specs.Places.{IsSound, frames_of}
-use Rattle.machine_frames.specs.FrameMap.{used, frame, FrameMap}
+use Rattle.machine_frames.specs.Places.{IsSound}
 use Rattle.machine_frames.proofs.Places.{length-frames_of, again, again_stands, again_zeroed, first_at, all_taken, not_all_taken}
 use Rattle.machine_frames.proofs.Frames.take_zeroed.Goals as goal
 

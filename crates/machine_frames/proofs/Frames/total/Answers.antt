@@ -1,4 +1,4 @@
-use Rattle.std.proofs.Common.{refl, sym, ap, ◌∙◌, length}
+use Rattle.std.proofs.Common.{refl}
 use Rattle.machine_frames.proofs.Places.{length-frames_of}
 use Rattle.machine_frames.proofs.Frames.total.Goals as goal
 

@@ -1,4 +1,4 @@
-use Rattle.std.proofs.Common.{◌≡◌, List, ℕ, arith}
+use Rattle.std.proofs.Common.{List, ℕ, arith}
 use Rattle.page_model.specs.Pages.{written}
 use Rattle.machine_frames.proofs.Places.{known, stands_at, written_at}
 use Rattle.machine_frames.proofs.Frames.write.Goals as goal

@@ -1,4 +1,4 @@
-use Rattle.std.proofs.Common.{arith, refl, ◌<◌, get_or, ◌^◌}
+use Rattle.std.proofs.Common.{arith}
 use Rattle.std.proofs.lemmas.List.{get_or_default}
 use Rattle.machine_frames.proofs.pages.bytes_fit.Goals as goal
 
