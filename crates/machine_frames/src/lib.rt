@@ -1,0 +1,166 @@
+//! Machine memory: frames of 4,096 bytes, by machine page numbers (MPNs) below a fixed total.
+#![tactic(auto)]
+
+ghost use Rattle.std.specs.Prelude.{◌≡◌, ◌+◌, ◌≤◌, ◌<◌, ◌↔◌, ◌⊎◌, length, None, Some, IsNone, IfNone, IfSome, IfOk, IfErr, slice_set, option_map};
+ghost use Rattle.page_model.specs.Pages.{blank, written};
+ghost use Rattle.machine_frames.specs.FrameMap.{frame, IsTaken, used, no_frames, IsPage};
+
+mod pages;
+#[cfg(test)]
+mod tests;
+
+use page_model::{MAX_FRAMES, Page};
+use slab::Slab;
+use std::alloc::{AllocError, Allocator, Global};
+use std::marker::Model;
+
+/// Why there are no frames.
+#[derive(Clone, Copy, Debug, PartialEq, Eq)]
+pub enum FramesFault {
+    /// The number of frames is 0 or above 1,048,576.
+    Frames,
+    /// The room for the frames was refused.
+    OutOfMemory,
+}
+
+impl From<AllocError> for FramesFault {
+    ghost use Rattle.std.specs.Prelude.{◌≡◌};
+    ghost use Rattle.machine_frames.specs.declared.FramesFault.{FramesFault};
+
+    ghost from_gives = { λ _ fault. fault ≡ FramesFault.OutOfMemory };
+
+    fn from(_refused: AllocError) -> FramesFault {
+        FramesFault::OutOfMemory
+    }
+}
+
+/// A fixed number of frames, each of them free or taken.
+///
+/// All room is made by `new`, but a frame's memory is first touched when that frame is first taken. From then on its
+/// page stays where it is.
+#[derive(Drop)]
+pub struct Frames<A: Allocator = Global> {
+    total: u32,
+    // The key in `pages` of each frame that was ever taken, by MPN.
+    keys: Vec<usize, A>,
+    // The frames that were given back.
+    free: Vec<u32, A>,
+    pages: Slab<Page, A>,
+}
+
+impl<A: Allocator> Model for Frames<A> {
+    ghost use Rattle.std.specs.Prelude.{◌≤◌, ℕ, List, Option, vec_capacity};
+    ghost use Rattle.machine_frames.specs.Places.{frames_of, IsSound};
+
+    ghost Value = { List (Option (List ℕ)) };
+
+    ghost view = { λ f. frames_of f.keys.items f.free.items f.pages f.total };
+
+    ghost invariant = { λ f. IsSound f.keys.items f.free.items f.pages f.total × (f.total ≤ vec_capacity f.keys) × (f.total ≤ vec_capacity f.free) };
+}
+
+impl<A: Allocator> Frames<A> {
+    /// As many frames as `count`, all of them free.
+    pub fn new(alloc: A, count: u32) -> Result<Frames<A>, FramesFault>
+    where
+        A: Clone,
+        ensures ok { IfOk result (λ frames. frames ≡ no_frames count) }
+        ensures in_range { IfOk result (λ _. (1 ≤ count) × (count ≤ 1048576)) }
+        ensures fault { IfErr result (λ fault. fault ≡ FramesFault.Frames ↔ ((count ≡ 0) ⊎ (1048576 < count))) }
+    {
+        if count == 0 || count > MAX_FRAMES {
+            return Err(FramesFault::Frames);
+        }
+        let keys = Vec::with_capacity(alloc.clone()?, count as usize)?;
+        let free = Vec::with_capacity(alloc.clone()?, count as usize)?;
+        let pages = Slab::with_capacity(alloc, count as usize)?;
+        Ok(Frames {
+            total: count,
+            keys,
+            free,
+            pages,
+        })
+    }
+
+    /// The number of frames that are taken.
+    pub fn used(&self) -> u32
+        ensures value { result ≡ used self.now }
+        ensures within { result ≤ length self.now }
+    {
+        (self.keys.len() - self.free.len()) as u32
+    }
+
+    /// The number of all frames.
+    pub fn total(&self) -> u32
+        ensures { result ≡ length self.now }
+    {
+        self.total
+    }
+
+    /// Takes a free frame, which then holds zeros. `None` where no frame is free.
+    pub fn take_zeroed(&mut self) -> Option<u32>
+        ensures full { IsNone result ↔ (used self.old ≡ length self.old) }
+        ensures none { IfNone result (self.new ≡ self.old) }
+        ensures free { IfSome result (λ mpn. (mpn < length self.old) × (frame self.old mpn ≡ None)) }
+        ensures taken { IfSome result (λ mpn. self.new ≡ slice_set self.old mpn (Some blank)) }
+    {
+        if let Some(mpn) = self.free.pop() {
+            pages::clear(&mut self.pages, self.keys[mpn as usize]);
+            return Some(mpn);
+        }
+        if self.keys.len() == self.total as usize {
+            return None;
+        }
+        let mpn = self.keys.len() as u32;
+        self.keys.push_reserved(pages::add_zeroed(&mut self.pages));
+        Some(mpn)
+    }
+
+    /// Takes a free frame, which then holds the bytes of the frame `mpn`. `None` where no frame is free.
+    pub fn take_copy(&mut self, mpn: u32) -> Option<u32>
+        requires { IsTaken self.old mpn }
+        ensures full { IsNone result ↔ (used self.old ≡ length self.old) }
+        ensures none { IfNone result (self.new ≡ self.old) }
+        ensures free { IfSome result (λ copy. (copy < length self.old) × (frame self.old copy ≡ None)) }
+        ensures taken { IfSome result (λ copy. self.new ≡ slice_set self.old copy (frame self.old mpn)) }
+    {
+        let from = self.keys[mpn as usize];
+        if let Some(copy) = self.free.pop() {
+            pages::copy(&mut self.pages, from, self.keys[copy as usize]);
+            return Some(copy);
+        }
+        if self.keys.len() == self.total as usize {
+            return None;
+        }
+        let copy = self.keys.len() as u32;
+        self.keys
+            .push_reserved(pages::add_copy(&mut self.pages, from));
+        Some(copy)
+    }
+
+    /// The bytes of a frame.
+    pub fn bytes(&self, mpn: u32) -> &Page
+        requires { IsTaken self.now mpn }
+        ensures value { frame self.now mpn ≡ Some result.now }
+        ensures page { IsPage result.now }
+    {
+        pages::page(&self.pages, self.keys[mpn as usize])
+    }
+
+    /// Writes `bytes` into a frame, from the place `at` on.
+    pub fn write(&mut self, mpn: u32, at: u32, bytes: &[u8])
+        requires taken { IsTaken self.old mpn }
+        requires fits { at + length bytes.now ≤ 4096 }
+        ensures { self.new ≡ slice_set self.old mpn (option_map (λ page. written page at bytes.now) (frame self.old mpn)) }
+    {
+        pages::write(&mut self.pages, self.keys[mpn as usize], at as usize, bytes);
+    }
+
+    /// Frees a frame.
+    pub fn give_back(&mut self, mpn: u32)
+        requires { IsTaken self.old mpn }
+        ensures { self.new ≡ slice_set self.old mpn None }
+    {
+        self.free.push_reserved(mpn);
+    }
+}
