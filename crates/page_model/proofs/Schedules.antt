@@ -192,14 +192,14 @@ get_left (x ∷ xs) ys zero h = refl
 get_left (x ∷ xs) ys (suc k) h = get_left xs ys k (omega arith)
 
 -- each place lies within the journal
-record Within (low high p : ℕ) : Type 0 where
-  least : low ≤ p
-  most : p < high
+pub record Within (low high p : ℕ) : Type 0 where
+  pub least : low ≤ p
+  pub most : p < high
 
 within_wider : (low high n m p : ℕ) → n ≤ low → high ≤ m → Within low high p → Within n m p
 within_wider low high n m p l h w = record { least = let a = w.least in omega arith; most = let a = w.most in omega arith }
 
-places_within : (n i : ℕ) (es : List Entry) (k p : ℕ) → slice_get (places_from n i es) k ≡ Some p → Within n (n + length es) p
+pub places_within : (n i : ℕ) (es : List Entry) (k p : ℕ) → slice_get (places_from n i es) k ≡ Some p → Within n (n + length es) p
 places_within n i [] k p h = cc
 places_within n i (e ∷ es) k p h = pick (nat_eq e.guest i) k h (λ j g. within_wider (n + 1) (n + 1 + length es) n (n + length (e ∷ es)) p (omega arith) (omega arith) (places_within (n + 1) i es j p g)) where
   pick : (b : Bool) (j : ℕ) → slice_get (cond b (n ∷ places_from (n + 1) i es) (places_from (n + 1) i es)) j ≡ Some p → ((l : ℕ) → slice_get (places_from (n + 1) i es) l ≡ Some p → Within n (n + length (e ∷ es)) p) → Within n (n + length (e ∷ es)) p

@@ -6,6 +6,7 @@ pub mod Replay
 pub mod Limits
 pub mod Journal
 pub mod Stored
+pub mod Placed
 pub mod Growth
 pub mod Alone
 pub mod Reports

@@ -3,6 +3,7 @@ ghost use Rattle.std.specs.Prelude.{◌≡◌, ℕ, [], ◌∷◌};
 ghost use Rattle.page_model.specs.Stored.{ReadsLastStored};
 ghost use Rattle.page_model.specs.Journal.{places, asked};
 ghost use Rattle.page_model.specs.Growth.{EntriesNeverFall, OneVerdictEach, VerdictsStay};
+ghost use Rattle.page_model.specs.Placed.{PlacesHoldRequests, PlacesHoldAnswers, AllArePlaced, PlacesRise};
 ghost use Rattle.page_model.specs.Alone.{LoadsAsAlone, PagesAsAlone};
 ghost use Rattle.page_model.specs.Reports.{ReportAddsUp, ReportCountsEntries, FramesSuffice};
 ghost use Rattle.page_model.specs.Proposals.{KeepsBytes, KeepsLoads, OneHintAKey, EqualPagesShare};
@@ -31,6 +32,15 @@ pub fn entries_law(entries: &[Entry])
 pub fn verdicts_law(entries: &[Entry])
     ensures each { OneVerdictEach entries.now }
     ensures stay { VerdictsStay entries.now }
+{}
+
+/// A guest's places in a journal are those of all its entries, rising; its requests and its answers are what was asked
+/// there and the verdicts there.
+pub fn places_law(entries: &[Entry], guest: u8)
+    ensures asked { PlacesHoldRequests entries.now guest }
+    ensures answers { PlacesHoldAnswers entries.now guest }
+    ensures all { AllArePlaced entries.now guest }
+    ensures rise { PlacesRise entries.now guest }
 {}
 
 /// After every journal the report counts each entry, what is reclaimed and the frames in use make up the
