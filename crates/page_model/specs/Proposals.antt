@@ -1,12 +1,12 @@
 -- What a proposal keeps, and when proposals make pages share.
-use Rattle.std.specs.Prelude.{◌≡◌, ℕ, ◌≤◌, true, List, [], ◌∷◌, Some}
+use Rattle.std.specs.Prelude.{◌≡◌, ℕ, ◌+◌, ◌*◌, ◌^◌, ◌≤◌, true, List, [], ◌∷◌, Some, slice_index}
 use Rattle.page_model.specs.Parts.{LoadParts}
 use Rattle.page_model.specs.Pages.{Slot, Shared, Guest, State, bytes_of, is_mapped, has_hint, count_pages, page_at}
 use Rattle.page_model.specs.Steps.{key_of, step}
 use Rattle.page_model.specs.Replay.{Shape, empty_state, state_after}
 use Rattle.page_model.specs.Stored.{byte_at}
 use Rattle.page_model.specs.declared.request.Entry.{Entry}
-use Rattle.page_model.specs.declared.request.Request.TheVariants.{Propose, Load}
+use Rattle.page_model.specs.declared.request.Request.TheVariants.{Propose, Store, Load}
 
 -- a proposal of this page changes no byte of any page of any guest, in whatever state
 abbrev pub KeepsBytes : ℕ → ℕ → Type 0
@@ -49,3 +49,23 @@ EqualPagesShare es =
     HasContent s.guests guest ppn salt bytes → HasContent s.guests other place salt bytes → HasOwnKey hash s.guests salt bytes →
     let after = state_after hash s (record { guest = guest; request = Propose ppn } ∷ record { guest = other; request = Propose place } ∷ []) in
     (page_at after.guests guest ppn ≡ Some (salt, Shared bytes)) × (page_at after.guests other place ≡ Some (salt, Shared bytes))
+
+-- a hash that tells the first two bytes of a page: its key is the second byte alone
+abbrev pub first_two : ℕ → List ℕ → ℕ
+first_two salt bytes = slice_index bytes 0 * 2 ^ 32 + slice_index bytes 1
+
+-- an entry of guest 0 that stores two bytes at the head of a page
+abbrev pub puts : ℕ → List ℕ → Entry
+puts ppn bytes = record { guest = 0; request = Store (record { ppn = ppn; at = 0; bytes = bytes }) }
+
+-- an entry of guest 0 that proposes a page
+abbrev pub offers : ℕ → Entry
+offers ppn = record { guest = 0; request = Propose ppn }
+
+-- pages 1 and 2 are equal, and page 0, with another first byte, is the hint under their key
+abbrev pub clashing : List Entry
+clashing = puts 0 (65 ∷ 7 ∷ []) ∷ offers 0 ∷ puts 1 (66 ∷ 7 ∷ []) ∷ puts 2 (66 ∷ 7 ∷ []) ∷ offers 1 ∷ offers 2 ∷ []
+
+-- a machine of three frames and one guest with three pages
+abbrev pub three_pages : State
+three_pages = empty_state 3 (record { salt = 0; pages = 3 } ∷ [])

@@ -3,13 +3,14 @@ ghost use Rattle.std.specs.Prelude.{◌≡◌, ℕ, [], ◌∷◌};
 ghost use Rattle.page_model.specs.Stored.{ReadsLastStored};
 ghost use Rattle.page_model.specs.Journal.{places, asked};
 ghost use Rattle.page_model.specs.Growth.{EntriesNeverFall, OneVerdictEach, VerdictsStay};
+ghost use Rattle.page_model.specs.Replay.{verdicts_of};
 ghost use Rattle.page_model.specs.Placed.{PlacesHoldRequests, PlacesHoldAnswers, AllArePlaced, PlacesRise};
 ghost use Rattle.page_model.specs.Alone.{LoadsAsAlone, PagesAsAlone};
 ghost use Rattle.page_model.specs.Reports.{ReportAddsUp, ReportCountsEntries, FramesSuffice};
-ghost use Rattle.page_model.specs.Proposals.{KeepsBytes, KeepsLoads, OneHintAKey, EqualPagesShare};
+ghost use Rattle.page_model.specs.Proposals.{KeepsBytes, KeepsLoads, OneHintAKey, EqualPagesShare, first_two, three_pages, clashing};
 ghost use Rattle.page_model.specs.Events.{Begins, ClosesLast, world_after, GotBeforeSent, out_of_order};
 
-use crate::{Entry, Event, Request};
+use crate::{Entry, Event, Request, Verdict};
 
 /// After every journal, each page reads the bytes last stored to it, and zeros where none were.
 pub fn last_stored_law(entries: &[Entry])
@@ -70,6 +71,12 @@ pub fn proposal_law(guest: u8, ppn: u32)
 /// one and right after it a proposal of the other.
 pub fn equal_pages_law(entries: &[Entry])
     ensures { EqualPagesShare entries.now }
+{}
+
+/// Two equal pages stay unshared where a page of another content is the hint under their key, though its hash is
+/// another one.
+pub fn key_clash()
+    ensures { verdicts_of first_two three_pages clashing ≡ Verdict.Mapped ∷ Verdict.Hinted ∷ Verdict.Mapped ∷ Verdict.Mapped ∷ Verdict.Ineligible ∷ Verdict.Ineligible ∷ [] }
 {}
 
 /// In whatever order guests send and get and the merger takes and gives, each list of a guest's traffic is a
