@@ -6,3 +6,9 @@ pub mod Replay
 pub mod Limits
 pub mod Journal
 pub mod Stored
+pub mod Placed
+pub mod Growth
+pub mod Alone
+pub mod Reports
+pub mod Proposals
+pub mod Events

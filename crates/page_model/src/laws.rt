@@ -1,9 +1,98 @@
 //! Laws of the definitions, for every journal, machine and hash. Their bodies are empty: the proof is all.
+ghost use Rattle.std.specs.Prelude.{◌≡◌, ℕ, [], ◌∷◌};
 ghost use Rattle.page_model.specs.Stored.{ReadsLastStored};
+ghost use Rattle.page_model.specs.Journal.{places, asked};
+ghost use Rattle.page_model.specs.Growth.{EntriesNeverFall, OneVerdictEach, VerdictsStay};
+ghost use Rattle.page_model.specs.Replay.{verdicts_of};
+ghost use Rattle.page_model.specs.Placed.{PlacesHoldRequests, PlacesHoldAnswers, AllArePlaced, PlacesRise};
+ghost use Rattle.page_model.specs.Alone.{LoadsAsAlone, PagesAsAlone};
+ghost use Rattle.page_model.specs.Reports.{ReportAddsUp, ReportCountsEntries, FramesSuffice};
+ghost use Rattle.page_model.specs.Proposals.{KeepsBytes, KeepsLoads, OneHintAKey, EqualPagesShare, first_two, three_pages, clashing};
+ghost use Rattle.page_model.specs.Events.{Begins, ClosesLast, world_after, GotBeforeSent, out_of_order};
 
-use crate::Entry;
+use crate::{Entry, Event, Request, Verdict};
 
 /// After every journal, each page reads the bytes last stored to it, and zeros where none were.
 pub fn last_stored_law(entries: &[Entry])
     ensures { ReadsLastStored entries.now }
+{}
+
+/// What a guest reads shows nothing of the other guests or of sharing: where none of its stores was refused
+/// a frame, it reads what it would read on a machine of its own.
+pub fn alone_law(entries: &[Entry], guest: u8)
+    ensures loads { LoadsAsAlone entries.now guest }
+    ensures pages { PagesAsAlone entries.now guest }
+{}
+
+/// The number of entries never falls as a journal grows.
+pub fn entries_law(entries: &[Entry])
+    ensures { EntriesNeverFall entries.now }
+{}
+
+/// Each entry has one verdict, which later entries don't change.
+pub fn verdicts_law(entries: &[Entry])
+    ensures each { OneVerdictEach entries.now }
+    ensures stay { VerdictsStay entries.now }
+{}
+
+/// A guest's places in a journal are those of all its entries, rising; its requests and its answers are what was asked
+/// there and the verdicts there.
+pub fn places_law(entries: &[Entry], guest: u8)
+    ensures asked { PlacesHoldRequests entries.now guest }
+    ensures answers { PlacesHoldAnswers entries.now guest }
+    ensures all { AllArePlaced entries.now guest }
+    ensures rise { PlacesRise entries.now guest }
+{}
+
+/// After every journal the report counts each entry, what is reclaimed and the frames in use make up the
+/// mapped pages, and neither more pages are shared than mapped nor more hints stand than frames are in use.
+pub fn report_law(entries: &[Entry])
+    ensures sums { ReportAddsUp entries.now }
+    ensures entries { ReportCountsEntries entries.now }
+{}
+
+/// A machine never uses more frames than it has, however few these are.
+pub fn frames_law(entries: &[Entry])
+    ensures { FramesSuffice entries.now }
+{}
+
+/// No key ever stands as a hint twice.
+pub fn hints_law(entries: &[Entry])
+    ensures { OneHintAKey entries.now }
+{}
+
+/// A proposal, whatever its verdict, changes nothing that any guest reads.
+pub fn proposal_law(guest: u8, ppn: u32)
+    ensures bytes { KeepsBytes guest ppn }
+    ensures loads { KeepsLoads guest ppn }
+{}
+
+/// Of two pages with equal content whose key no other content has, both are shared after a proposal of the
+/// one and right after it a proposal of the other.
+pub fn equal_pages_law(entries: &[Entry])
+    ensures { EqualPagesShare entries.now }
+{}
+
+/// Two equal pages stay unshared where a page of another content is the hint under their key, though its hash is
+/// another one.
+pub fn key_clash()
+    ensures { verdicts_of first_two three_pages clashing ≡ Verdict.Mapped ∷ Verdict.Hinted ∷ Verdict.Mapped ∷ Verdict.Mapped ∷ Verdict.Ineligible ∷ Verdict.Ineligible ∷ [] }
+{}
+
+/// In whatever order guests send and get and the merger takes and gives, each list of a guest's traffic is a
+/// beginning of the one before it, nothing follows a close, and what one guest got before another sent
+/// stands before it in the journal.
+pub fn schedule_law(events: &[Event])
+    ensures taken { (guest : ℕ) → let w = world_after events.now in Begins (w.traffic guest).taken (w.traffic guest).sent }
+    ensures journal { (guest : ℕ) → let w = world_after events.now in (w.traffic guest).taken ≡ asked guest w.journal }
+    ensures given { (guest : ℕ) → let w = world_after events.now in Begins (w.traffic guest).given (places guest w.journal) }
+    ensures got { (guest : ℕ) → let w = world_after events.now in Begins (w.traffic guest).got (w.traffic guest).given }
+    ensures closed { (guest : ℕ) → ClosesLast ((world_after events.now).traffic guest).sent }
+    ensures order { GotBeforeSent events.now }
+{}
+
+/// The world after a get and a take of nothing, a send, a take, a get of nothing, a give and a get.
+pub fn events_out_of_order()
+    ensures traffic { (world_after out_of_order).traffic 0 ≡ record { sent = Request.Count ∷ []; taken = Request.Count ∷ []; given = 0 ∷ []; got = 0 ∷ [] } }
+    ensures journal { (world_after out_of_order).journal ≡ record { guest = 0; request = Request.Count } ∷ [] }
 {}

@@ -5,6 +5,7 @@
 //! Resource Management in VMware ESX Server", OSDI 2002, section 4). `docs/MODEL.md` tells them in words.
 #![tactic(auto)]
 
+mod event;
 mod hashing;
 pub mod laws;
 mod limits;
@@ -16,6 +17,7 @@ mod store;
 mod tests;
 mod verdict;
 
+pub use event::Event;
 pub use hashing::HashFunction;
 pub use limits::{
     MAX_ACCESS_BYTES, MAX_ENTRIES, MAX_FRAMES, MAX_GUESTS, MAX_PAGES, MAX_RING_CAPACITY,

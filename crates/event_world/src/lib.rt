@@ -1,0 +1,15 @@
+//! What passes between the guests and the merger, kept on one thread in plain lists: the world of events that the
+//! law of schedules speaks of, as a program.
+//!
+//! The machine itself has rings in place of these lists. Here each event is one call, so an order of events can be
+//! played through and looked at.
+#![tactic(auto)]
+
+mod looks;
+#[cfg(test)]
+mod tests;
+mod traffic;
+mod world;
+
+pub use traffic::Traffic;
+pub use world::World;

@@ -1,0 +1,129 @@
+//! One guest's part of the world of events.
+ghost use Rattle.std.specs.Prelude.{◌≡◌, ◌++◌, OnOk, OnErr, IfOk};
+ghost use Rattle.page_model.specs.Journal.{places};
+ghost use Rattle.page_model.specs.Events.{no_traffic, next, sends, takes, gives, gets, entries_of};
+
+use crate::looks::{copy_of, has_close, place_of};
+use page_model::{Entry, Request};
+use std::alloc::{AllocError, Allocator, Global};
+use std::marker::Model;
+
+/// What has passed between one guest and the merger: the requests that the guest sent and those that the merger took,
+/// and the verdicts that the merger gave and those that the guest got, by their places in the journal.
+#[derive(Drop)]
+pub struct Traffic<A: Allocator = Global> {
+    sent: Vec<Request, A>,
+    taken: Vec<Request, A>,
+    given: Vec<usize, A>,
+    got: Vec<usize, A>,
+}
+
+impl<A: Allocator> Model for Traffic<A> {
+    ghost use Rattle.page_model.specs.Events as events;
+
+    ghost Value = { events.Traffic };
+
+    ghost view = { λ t. record { sent = t.sent.items; taken = t.taken.items; given = t.given.items; got = t.got.items } };
+}
+
+impl<A: Allocator> Traffic<A> {
+    // Nothing has passed yet. No memory is taken for it.
+    pub(crate) fn new(alloc: A) -> Result<Traffic<A>, AllocError>
+    where
+        A: Clone,
+        ensures { IfOk result (λ traffic. traffic ≡ no_traffic) }
+    {
+        let for_sent = alloc.clone()?;
+        let for_taken = alloc.clone()?;
+        let for_given = alloc.clone()?;
+        Ok(Traffic {
+            sent: Vec::new(for_sent),
+            taken: Vec::new(for_taken),
+            given: Vec::new(for_given),
+            got: Vec::new(alloc),
+        })
+    }
+
+    // The guest sends a request, unless it sent a close before.
+    pub(crate) fn send(&mut self, request: Request) -> Result<(), AllocError>
+        ensures ok { OnOk result (self.new ≡ sends request self.old) }
+        ensures err { OnErr result (self.new ≡ self.old) }
+    {
+        if has_close(self.sent.as_slice()) {
+            return Ok(());
+        }
+        self.sent.push(request)?;
+        Ok(())
+    }
+
+    // The merger takes the next request that was sent, as this guest's entry of the journal.
+    #[tactic(auto, using(crate::proofs::Nexts::with_none, crate::proofs::Nexts::with_some))]
+    pub(crate) fn take(&mut self, guest: u8, journal: &mut Vec<Entry, A>) -> Result<(), AllocError>
+        ensures ok { OnOk result (self.new ≡ takes self.old) }
+        ensures journal { OnOk result (journal.new.items ≡ journal.old.items ++ entries_of guest (next self.old.taken self.old.sent)) }
+        ensures err { OnErr result (self.new ≡ self.old) }
+        ensures err_journal { OnErr result (journal.new.items ≡ journal.old.items) }
+    {
+        let Some(next) = self.sent.get(self.taken.len()) else {
+            return Ok(());
+        };
+        let taken = copy_of(next)?;
+        let request = copy_of(next)?;
+        self.taken.reserve(1)?;
+        journal.reserve(1)?;
+        self.taken.push_reserved(taken);
+        journal.push_reserved(Entry { guest, request });
+        Ok(())
+    }
+
+    // The merger gives the place of the guest's first request in the journal that has no verdict yet.
+    #[tactic(auto, using(crate::proofs::Nexts::with_none, crate::proofs::Nexts::with_some))]
+    pub(crate) fn give(&mut self, guest: u8, journal: &[Entry]) -> Result<(), AllocError>
+        ensures ok { OnOk result (self.new ≡ gives (places guest journal.now) self.old) }
+        ensures err { OnErr result (self.new ≡ self.old) }
+    {
+        if let Some(place) = place_of(journal, guest, self.given.len()) {
+            self.given.push(place)?;
+        }
+        Ok(())
+    }
+
+    // The guest gets the next place that was given.
+    pub(crate) fn get(&mut self) -> Result<(), AllocError>
+        ensures ok { OnOk result (self.new ≡ gets self.old) }
+        ensures err { OnErr result (self.new ≡ self.old) }
+    {
+        if let Some(place) = self.given.get(self.got.len()) {
+            self.got.push(*place)?;
+        }
+        Ok(())
+    }
+
+    /// The requests that the guest sent.
+    pub fn sent(&self) -> &[Request]
+        ensures { result.now ≡ self.now.sent }
+    {
+        self.sent.as_slice()
+    }
+
+    /// The requests that the merger took.
+    pub fn taken(&self) -> &[Request]
+        ensures { result.now ≡ self.now.taken }
+    {
+        self.taken.as_slice()
+    }
+
+    /// The places in the journal whose verdicts the merger gave.
+    pub fn given(&self) -> &[usize]
+        ensures { result.now ≡ self.now.given }
+    {
+        self.given.as_slice()
+    }
+
+    /// The places in the journal whose verdicts the guest got.
+    pub fn got(&self) -> &[usize]
+        ensures { result.now ≡ self.now.got }
+    {
+        self.got.as_slice()
+    }
+}

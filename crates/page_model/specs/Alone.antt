@@ -1,0 +1,60 @@
+-- A guest's entries by themselves, and what the guest reads there.
+use Rattle.std.specs.Prelude.{◌≡◌, ℕ, Bool, true, false, if◌then◌else◌, List, [], ◌∷◌, map, Some, slice_get}
+use Rattle.std.specs.List.{list_any}
+use Rattle.page_model.specs.Pages.{State}
+use Rattle.page_model.specs.Replay.{Shape, empty_state, state_after, verdicts_of}
+use Rattle.page_model.specs.Journal.{asked, answers}
+use Rattle.page_model.specs.Stored.{byte_at}
+use Rattle.page_model.specs.declared.request.Entry.{Entry}
+use Rattle.page_model.specs.declared.request.Request.{Request}
+use Rattle.page_model.specs.declared.request.Request.TheVariants.{Propose, Store, Load, Release, Count, Close}
+use Rattle.page_model.specs.declared.verdict.Verdict.{Verdict}
+use Rattle.page_model.specs.declared.verdict.Verdict.TheVariants.{NoFrame}
+
+-- the verdict of a store that was refused a frame
+abbrev pub is_no_frame : Verdict → Bool
+is_no_frame NoFrame = true
+is_no_frame _ = false
+
+-- the request is a load
+abbrev pub is_load : Request → Bool
+is_load (Propose ppn) = false
+is_load (Store r) = false
+is_load (Load r) = true
+is_load (Release ppn) = false
+is_load Count = false
+is_load Close = false
+
+-- of the verdicts, one for each request, those of the loads
+abbrev pub loads_told : List Request → List Verdict → List Verdict
+loads_told [] verdicts = []
+loads_told (r ∷ rs) [] = []
+loads_told (r ∷ rs) (v ∷ verdicts) = if is_load r then v ∷ loads_told rs verdicts else loads_told rs verdicts
+
+-- a machine with this guest only, with its own salt and pages and with one frame for each of its pages
+abbrev pub lone : Shape → State
+lone shape = empty_state shape.pages (shape ∷ [])
+
+-- these requests as a journal of that machine, whose one guest is guest 0
+abbrev pub by_itself : List Request → List Entry
+by_itself rs = map (λ r. record { guest = 0; request = r }) rs
+
+-- a guest's entries by themselves
+abbrev pub alone : ℕ → List Entry → List Entry
+alone guest es = by_itself (asked guest es)
+
+-- where no store of the guest was refused a frame, its loads are answered as when its entries are replayed by themselves
+abbrev pub LoadsAsAlone : List Entry → ℕ → Type 0
+LoadsAsAlone es guest =
+    (hash : ℕ → List ℕ → ℕ) (total : ℕ) (shapes : List Shape) (shape : Shape) → slice_get shapes guest ≡ Some shape →
+    let s = empty_state total shapes in
+    list_any is_no_frame (answers hash s guest es) ≡ false →
+    loads_told (asked guest es) (answers hash s guest es) ≡ loads_told (asked guest es) (verdicts_of hash (lone shape) (alone guest es))
+
+-- and each byte of its pages reads at the end as it does there
+abbrev pub PagesAsAlone : List Entry → ℕ → Type 0
+PagesAsAlone es guest =
+    (hash : ℕ → List ℕ → ℕ) (total : ℕ) (shapes : List Shape) (shape : Shape) → slice_get shapes guest ≡ Some shape →
+    let s = empty_state total shapes in
+    list_any is_no_frame (answers hash s guest es) ≡ false →
+    (ppn k : ℕ) → byte_at (state_after hash s es) guest ppn k ≡ byte_at (state_after hash (lone shape) (alone guest es)) 0 ppn k
