@@ -1,6 +1,7 @@
 ghost use Rattle.std.specs.Prelude.{◌≡◌, ◌<◌, ◌^◌};
 
 use crate::{HintFrame, Table};
+use refusing::Refusing;
 use std::alloc::Allocator;
 use std::process::Abort;
 use std::test::Fail;
@@ -124,4 +125,28 @@ fn one_chain(rt: HostRuntime) -> Result<(), Fail> {
     table.drop_hint(7);
     assert_eq!(rt; (table.len(), table.count(0x1_0000_0007)), (1, 3));
     Ok(())
+}
+
+// Request number n is refused, n counting up until there is no refusal. Nothing is asked for later.
+#[test]
+fn new_refused_in_turn(rt: HostRuntime) {
+    let mut whole_at = None;
+    for n in 0..100 {
+        let heap = Refusing::new(rt.alloc(), n, 0);
+        match Table::new(&heap, 1) {
+            Ok(mut table) => {
+                assert!(rt; !heap.has_refused(), "at {n}");
+                heap.refuse_all();
+                widen(&rt, &mut table);
+                assert!(rt; !heap.has_refused(), "at {n}");
+                whole_at = Some(n);
+            }
+            Err(_) => assert!(rt; heap.has_refused(), "at {n}"),
+        }
+        assert!(rt; heap.holds_nothing(), "at {n}");
+        if whole_at.is_some() {
+            break;
+        }
+    }
+    assert_eq!(rt; whole_at, Some(2));
 }
