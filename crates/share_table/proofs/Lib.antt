@@ -1,0 +1,4 @@
+pub mod Maps
+pub mod Pairs
+pub mod Keyed
+pub mod Tables

@@ -1,0 +1,36 @@
+//! What the lists of a table hold.
+
+/// A page that a key was noted for, and the frame that it had then.
+#[derive(Clone, Copy, Debug, PartialEq, Eq)]
+pub struct HintFrame {
+    /// The guest's number.
+    pub guest: u8,
+    /// The page's number within the guest.
+    pub ppn: u32,
+    /// The frame's number within the machine.
+    pub mpn: u32,
+}
+
+// A shared frame. Its field is the count of its pages, or `EXTENDED`.
+#[derive(Clone, Copy)]
+pub(crate) struct SharedEntry {
+    pub(crate) hash: u64,
+    pub(crate) mpn: u32,
+    pub(crate) field: u16,
+}
+
+// The field of a frame whose count does not fit it, and stands in the overflow table.
+pub(crate) const EXTENDED: u16 = 0;
+
+#[derive(Clone, Copy)]
+pub(crate) struct HintEntry {
+    pub(crate) key: u32,
+    pub(crate) frame: HintFrame,
+}
+
+// A count above 65,535.
+#[derive(Clone, Copy, Default)]
+pub(crate) struct WideCount {
+    pub(crate) hash: u64,
+    pub(crate) count: u32,
+}

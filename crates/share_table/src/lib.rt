@@ -1,0 +1,209 @@
+//! The table of a page sharing machine: shared frames by the hash of their content, and hint frames
+//! by key.
+//!
+//! A shared frame is one whose content some pages share. Its count is the number of these pages. A
+//! hint frame is that of a private page, under a key that the page's content had when it was noted.
+//!
+//! As in VMware ESX Server (C. Waldspurger, "Memory Resource Management in VMware ESX Server", OSDI
+//! 2002, section 4) a shared frame has a field of 16 bits for its count, and the few counts that do
+//! not fit it stand in an overflow table.
+#![tactic(auto)]
+
+mod entries;
+mod places;
+#[cfg(test)]
+mod tests;
+mod wide;
+
+ghost use Rattle.std.specs.Prelude.{◌≡◌, ◌+◌, ◌≤◌, ◌<◌, ◌^◌, None, IsSome, IfOk, option_map};
+ghost use Rattle.share_table.specs.TableMaps.{shared_at, hint_at, entry_count, references, extended, field_of, count_at, with_shared, with_count, with_one_less, with_hint, without_hint, empty_table};
+
+pub use entries::HintFrame;
+use entries::{HintEntry, SharedEntry};
+use places::{hint_place, shared_place};
+use std::alloc::{AllocError, Allocator, Global};
+use std::marker::Model;
+use wide::WideCounts;
+
+/// The shared frames by hash, and the hint frames by key.
+///
+/// MPNs and PPNs have 24 bits. All counts together are at most 1,048,576, so at most sixteen of them
+/// are above 65,535. All room is taken when the table is made, and no other call takes memory.
+#[derive(Drop)]
+pub struct Table<A: Allocator = Global> {
+    capacity: u32,
+    references: u32,
+    shared: Vec<SharedEntry, A>,
+    hints: Vec<HintEntry, A>,
+    wide: WideCounts,
+}
+
+impl<A: Allocator> Model for Table<A> {
+    ghost use Rattle.std.specs.Prelude.{◌≤◌, vec_capacity};
+    ghost use Rattle.share_table.specs.TableMaps.{TableMaps, table_code};
+
+    ghost Value = { TableMaps };
+
+    ghost coded = { table_code };
+
+    ghost use Rattle.share_table.specs.Stored.{as_table, IsKept};
+
+    ghost view = { λ t. as_table t.capacity t.shared.items t.hints.items t.wide };
+
+    ghost invariant = { λ t. (t.capacity ≤ vec_capacity t.shared) × (t.capacity ≤ vec_capacity t.hints) × IsKept t.capacity t.references t.shared.items t.hints.items t.wide };
+}
+
+impl<A: Allocator + Clone> Table<A> {
+    /// An empty table with room for `capacity` entries.
+    pub fn new(alloc: A, capacity: u32) -> Result<Table<A>, AllocError>
+        requires least { 1 ≤ capacity }
+        requires most { capacity ≤ 1048576 }
+        ensures { IfOk result (λ table. table ≡ empty_table capacity) }
+    {
+        let other = alloc.clone()?;
+        let shared = Vec::with_capacity(alloc, capacity as usize)?;
+        let hints = Vec::with_capacity(other, capacity as usize)?;
+        Ok(Table {
+            capacity,
+            references: 0,
+            shared,
+            hints,
+            wide: WideCounts::new(),
+        })
+    }
+}
+
+impl<A: Allocator> Table<A> {
+    /// The number of entries of both kinds.
+    pub fn len(&self) -> u32
+        ensures value { result ≡ entry_count self.now }
+        ensures room { result ≤ self.now.capacity }
+    {
+        (self.shared.len() + self.hints.len()) as u32
+    }
+
+    /// The sum of the counts of all shared frames.
+    pub fn references(&self) -> u32
+        ensures value { result ≡ references self.now }
+        ensures limit { result ≤ 1048576 }
+    {
+        self.references
+    }
+
+    /// The number of counts that do not fit a field of 16 bits.
+    pub fn extended(&self) -> u32
+        ensures value { result ≡ extended self.now }
+        ensures limit { result ≤ 16 }
+    {
+        self.wide.len() as u32
+    }
+
+    /// The MPN and the count of the shared frame with this hash.
+    pub fn find_shared(&self, hash: u64) -> Option<(u32, u32)>
+        ensures { result ≡ option_map (λ frame. (frame.mpn, frame.count)) (shared_at self.now hash) }
+    {
+        let place = shared_place(self.shared.as_slice(), hash)?;
+        let entry = self.shared[place];
+        Some((entry.mpn, self.wide.count_of(entry)))
+    }
+
+    /// The count of the shared frame with this hash: 0 where there is none.
+    pub fn count(&self, hash: u64) -> u32
+        ensures { result ≡ count_at self.now hash }
+    {
+        match self.find_shared(hash) {
+            None => 0,
+            Some((_, count)) => count,
+        }
+    }
+
+    /// The 16-bit field of the shared frame with this hash: its count up to 65,535, and 0 above.
+    pub fn field(&self, hash: u64) -> Option<u16>
+        ensures { result ≡ option_map (λ frame. field_of frame.count) (shared_at self.now hash) }
+    {
+        let place = shared_place(self.shared.as_slice(), hash)?;
+        Some(self.shared[place].field)
+    }
+
+    /// Adds a shared frame, of two pages.
+    pub fn add_shared(&mut self, hash: u64, mpn: u32)
+        requires absent { shared_at self.old hash ≡ None }
+        requires room { entry_count self.old < self.old.capacity }
+        requires references { references self.old + 2 ≤ 1048576 }
+        requires mpn { mpn < 2 ^ 24 }
+        ensures { self.new ≡ with_shared self.old hash mpn 2 }
+    {
+        self.shared.push_reserved(SharedEntry {
+            hash,
+            mpn,
+            field: 2,
+        });
+        self.references += 2;
+    }
+
+    /// One more page shares the frame with this hash. The new count.
+    pub fn join(&mut self, hash: u64) -> u32
+        requires present { IsSome (shared_at self.old hash) }
+        requires references { references self.old < 1048576 }
+        ensures count { result ≡ count_at self.old hash + 1 }
+        ensures joined { self.new ≡ with_count self.old hash (count_at self.old hash + 1) }
+    {
+        let place = shared_place(self.shared.as_slice(), hash).unwrap();
+        let entry = self.shared[place];
+        let count = self.wide.count_of(entry) + 1;
+        let field = self.wide.store(entry, count);
+        self.shared[place] = SharedEntry { field, ..entry };
+        self.references += 1;
+        count
+    }
+
+    /// One page less shares the frame with this hash, which goes with the last. The count left.
+    pub fn leave(&mut self, hash: u64) -> u32
+        requires present { IsSome (shared_at self.old hash) }
+        ensures count { result + 1 ≡ count_at self.old hash }
+        ensures left { self.new ≡ with_one_less self.old hash }
+    {
+        let place = shared_place(self.shared.as_slice(), hash).unwrap();
+        let entry = self.shared[place];
+        let count = self.wide.count_of(entry) - 1;
+        self.references -= 1;
+        if count == 0 {
+            self.shared.remove(place);
+            return 0;
+        }
+        let field = self.wide.store(entry, count);
+        self.shared[place] = SharedEntry { field, ..entry };
+        count
+    }
+
+    /// The hint frame with this key.
+    pub fn find_hint(&self, key: u32) -> Option<HintFrame>
+        ensures { result ≡ hint_at self.now key }
+    {
+        let place = hint_place(self.hints.as_slice(), key)?;
+        Some(self.hints[place].frame)
+    }
+
+    /// Adds a hint frame.
+    pub fn put_hint(&mut self, key: u32, guest: u8, ppn: u32, mpn: u32)
+        requires absent { hint_at self.old key ≡ None }
+        requires room { entry_count self.old < self.old.capacity }
+        requires ppn { ppn < 2 ^ 24 }
+        requires mpn { mpn < 2 ^ 24 }
+        ensures { self.new ≡ with_hint self.old key guest ppn mpn }
+    {
+        self.hints.push_reserved(HintEntry {
+            key,
+            frame: HintFrame { guest, ppn, mpn },
+        });
+    }
+
+    /// Takes the hint frame with this key away.
+    pub fn drop_hint(&mut self, key: u32)
+        requires present { IsSome (hint_at self.old key) }
+        ensures { self.new ≡ without_hint self.old key }
+    {
+        let place = hint_place(self.hints.as_slice(), key).unwrap();
+        self.hints.remove(place);
+    }
+}
