@@ -1,28 +1,42 @@
 -- How the views of pages and guests follow the lists that they view.
-use Rattle.std.proofs.Common.{◌≡◌, ℕ, zero, suc, ◌+◌, ◌<◌, ◌≤◌, List, [], ◌∷◌, length, get_or, set, drop, refl, ap, sym, arith, vec_len}
+use Rattle.std.proofs.Common.{◌≡◌, ℕ, zero, suc, ◌+◌, ◌<◌, ◌≤◌, List, [], ◌∷◌, length, get_or, set, drop, refl, ap, sym, subst, arith, vec_len}
+use Rattle.std.specs.Prelude.{Option, IsSome, slice_get}
+use Rattle.std.specs.Option.{option_map}
 use Rattle.std.specs.Vec.{with_item}
-use Rattle.std.proofs.lemmas.List.{map-set, drop_more, set_past, length-map}
-use Rattle.page_model.specs.Pages.{Slot, Guest, with_slot}
-use Rattle.merge_core.specs.declared.pages.CorePage.{CorePage}
-use Rattle.merge_core.specs.declared.pages.GuestPages.{GuestPages}
-use Rattle.merge_core.specs.View.{slot_of, slots_of, guest_of, guests_of}
-
--- the first of the pages that are left
-pub next_page : (pages : List CorePage) (i : ℕ) (d : CorePage) → i < length pages → slots_of (drop i pages) ≡ slot_of (get_or pages i d) ∷ slots_of (drop (i + 1) pages)
-next_page pages i d h = ap slots_of (drop_more pages i d h)
-
-pub next_guest : {A : Type 0} (guests : List (GuestPages A)) (i : ℕ) (d : GuestPages A) → i < length guests → guests_of (drop i guests) ≡ guest_of (get_or guests i d) ∷ guests_of (drop (i + 1) guests)
-next_guest guests i d h = ap guests_of (drop_more guests i d h)
+use Rattle.std.proofs.lemmas.Bool.{false≢true}
+use Rattle.std.proofs.lemmas.List.{map-set}
+use Rattle.page_model.specs.Pages.{SlotOf, GuestOf, with_slot, page_at}
+use Rattle.merge_core.specs.declared.held.PageEntry.{PageEntry}
+use Rattle.merge_core.specs.declared.held.GuestPages.{GuestPages}
+use Rattle.merge_core.specs.View.{slot_of, slots_of, guest_of, names_in}
 
 -- a write of one page
-pub set_guest : {A : Type 0} (gs : List (GuestPages A)) (i ppn : ℕ) (page : CorePage) (d : GuestPages A) → guests_of (set gs i (record { salt = (get_or gs i d).salt; pages = with_item (get_or gs i d).pages ppn page })) ≡ with_slot (guests_of gs) i ppn (slot_of page)
+pub set_guest : {A : Type 0} (gs : List (GuestPages A)) (i ppn : ℕ) (page : PageEntry) (d : GuestPages A) → names_in (set gs i (record { salt = (get_or gs i d).salt; pages = with_item (get_or gs i d).pages ppn page })) ≡ with_slot (names_in gs) i ppn (slot_of page)
 set_guest [] i ppn page d = refl
-set_guest (g ∷ gs) zero ppn page d = ap (λ (slots : List Slot). let g' : Guest = record { salt = g.salt; slots = slots } in g' ∷ guests_of gs) (map-set slot_of g.pages.items ppn page)
+set_guest (g ∷ gs) zero ppn page d = ap (λ (slots : List (SlotOf ℕ)). let g' : GuestOf ℕ = record { salt = g.salt; slots = slots } in g' ∷ names_in gs) (map-set slot_of g.pages.items ppn page)
 set_guest (g ∷ gs) (suc i) ppn page d = ap (λ rest. guest_of g ∷ rest) (set_guest gs i ppn page d)
 
--- a write past the pages changes nothing
-pub set_guest_past : {A : Type 0} (gs : List (GuestPages A)) (i ppn : ℕ) (page : CorePage) (d : GuestPages A) → vec_len (get_or gs i d).pages ≤ ppn → guests_of (set gs i (get_or gs i d)) ≡ with_slot (guests_of gs) i ppn (slot_of page)
-set_guest_past [] i ppn page d h = refl
-set_guest_past (g ∷ gs) zero ppn page d h =
-    ap (λ (slots : List Slot). let g' : Guest = record { salt = g.salt; slots = slots } in g' ∷ guests_of gs) (sym (set_past (slots_of g.pages.items) ppn (slot_of page) (omega (arith, length-map g.pages.items slot_of, g.pages.ok.0))))
-set_guest_past (g ∷ gs) (suc i) ppn page d h = ap (λ rest. guest_of g ∷ rest) (set_guest_past gs i ppn page d h)
+-- the same, after the guest was read
+pub set_guest_read : {A : Type 0} (gs : List (GuestPages A)) (i ppn : ℕ) (page : PageEntry) (g : GuestPages A) → g ≡ get_or gs i g → names_in (set gs i (record { salt = g.salt; pages = with_item g.pages ppn page })) ≡ with_slot (names_in gs) i ppn (slot_of page)
+set_guest_read {A} gs i ppn page g e = subst (λ (x : GuestPages A). names_in (set gs i (record { salt = x.salt; pages = with_item x.pages ppn page })) ≡ with_slot (names_in gs) i ppn (slot_of page)) (sym e) (set_guest gs i ppn page g)
+
+
+-- the place of a page that is there
+pub guest_within : {A : Type 0} (gs : List (GuestPages A)) (i ppn : ℕ) → IsSome (page_at (names_in gs) i ppn) → i < length gs
+guest_within [] i ppn h = absurd (false≢true h)
+guest_within (g ∷ gs) zero ppn h = omega arith
+guest_within (g ∷ gs) (suc i) ppn h = omega (arith, guest_within gs i ppn h)
+
+slot_within : (salt : ℕ) (pages : List PageEntry) (ppn : ℕ) → IsSome (option_map {U = ℕ × SlotOf ℕ} (λ slot. (salt, slot)) (slice_get (slots_of pages) ppn)) → ppn < length pages
+slot_within salt [] ppn h = absurd (false≢true h)
+slot_within salt (p ∷ pages) zero h = omega arith
+slot_within salt (p ∷ pages) (suc ppn) h = omega (arith, slot_within salt pages ppn h)
+
+pub page_within : {A : Type 0} (gs : List (GuestPages A)) (i ppn : ℕ) (d : GuestPages A) → IsSome (page_at (names_in gs) i ppn) → ppn < vec_len (get_or gs i d).pages
+page_within [] i ppn d h = absurd (false≢true h)
+page_within (g ∷ gs) zero ppn d h = omega (arith, slot_within g.salt g.pages.items ppn h, g.pages.ok.0)
+page_within (g ∷ gs) (suc i) ppn d h = page_within gs i ppn d h
+
+-- the same, after the guest was read
+pub page_within_read : {A : Type 0} (gs : List (GuestPages A)) (i ppn : ℕ) (g : GuestPages A) → g ≡ get_or gs i g → IsSome (page_at (names_in gs) i ppn) → ppn < vec_len g.pages
+page_within_read {A} gs i ppn g e h = subst (λ (x : GuestPages A). ppn < vec_len x.pages) (sym e) (page_within gs i ppn g h)

@@ -1,2 +1,5 @@
+pub mod Names
+pub mod Ties
 pub mod View
+pub mod Shown
 pub mod Refusals

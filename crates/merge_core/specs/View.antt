@@ -1,25 +1,49 @@
--- What the core's pages are to a contract.
-use Rattle.std.specs.Prelude.{ℕ, List, map, sum_by, vec_len}
-use Rattle.page_model.specs.Pages.{Slot, Guest}
+-- The parts of a core as a contract sees them.
+use Rattle.std.specs.Prelude.{◌≡◌, ◌≤◌, ℕ, List, length, map as map_list}
+use Rattle.std.specs.FinMap as map
+use Rattle.page_model.specs.Pages.{SlotOf, GuestOf, Guest}
 use Rattle.page_model.specs.Pages as s
-use Rattle.merge_core.specs.declared.pages.CorePage.{CorePage}
-use Rattle.merge_core.specs.declared.pages.CorePage.TheVariants.{Unmapped, Private, Shared}
-use Rattle.merge_core.specs.declared.pages.GuestPages.{GuestPages}
+use Rattle.merge_core.specs.Names.{Names, Known, guests_in}
+use Rattle.merge_core.specs.Ties.{Ties, Few}
+use Rattle.merge_core.specs.declared.held.PageEntry.{PageEntry}
+use Rattle.merge_core.specs.declared.held.PageEntry.TheVariants.{Unmapped, Private, Shared}
+use Rattle.merge_core.specs.declared.held.GuestPages.{GuestPages}
+use Rattle.merge_core.specs.declared.held.Note.{Note}
+use Rattle.merge_core.specs.declared.held.Held.{Held}
 
-abbrev pub slot_of : CorePage → Slot
+abbrev pub slot_of : PageEntry → SlotOf ℕ
 slot_of Unmapped = s.Unmapped
-slot_of (Private bytes hint) = s.Private bytes hint
-slot_of (Shared bytes) = s.Shared bytes
+slot_of (Private mpn hint) = s.Private mpn hint
+slot_of (Shared mpn) = s.Shared mpn
 
-abbrev pub slots_of : List CorePage → List Slot
-slots_of pages = map slot_of pages
+abbrev pub slots_of : List PageEntry → List (SlotOf ℕ)
+slots_of pages = map_list slot_of pages
 
-abbrev pub guest_of : {A : Type 0} → GuestPages A → Guest
+abbrev pub guest_of : {A : Type 0} → GuestPages A → GuestOf ℕ
 guest_of g = record { salt = g.salt; slots = slots_of g.pages.items }
 
-abbrev pub guests_of : {A : Type 0} → List (GuestPages A) → List Guest
-guests_of guests = map guest_of guests
+abbrev pub names_in : {A : Type 0} → List (GuestPages A) → Names
+names_in guests = map_list guest_of guests
 
--- how many pages all guests have
-abbrev pub pages_in : {A : Type 0} → List (GuestPages A) → ℕ
-pages_in guests = sum_by (λ g. vec_len g.pages) guests
+abbrev pub known_of : Note → Known
+known_of n = record { salt = n.salt; hash = n.hash }
+
+abbrev pub notes_in : List Note → List Known
+notes_in notes = map_list known_of notes
+
+abbrev pub names_of : {H A : Type 0} → Held H A → Names
+names_of held = names_in held.guests.items
+
+abbrev pub notes_of : {H A : Type 0} → Held H A → List Known
+notes_of held = notes_in held.notes.items
+
+-- the guests of the model
+abbrev pub guests_of : {H A : Type 0} → Held H A → List Guest
+guests_of held = guests_in held.frames (names_of held)
+
+-- What a core keeps is sound: its parts hang together, the machine is within its limits, and the hints are counted.
+pub record Whole {H A : Type 0} (hash : ℕ → List ℕ → ℕ) (held : Held H A) : Type 0 where
+  pub ties : Ties hash (names_of held) held.frames held.table (notes_of held)
+  pub few : Few (names_of held)
+  pub total : length held.frames ≤ 1048576
+  pub hints : held.hints ≡ map.len held.table.hints

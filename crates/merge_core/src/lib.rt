@@ -1,15 +1,20 @@
-//! A plain core: each page has bytes of its own, and equal pages are found by looking at all of them.
+//! The core of a page sharing machine: which frame each page has, and what each request does to it.
+//!
+//! A core keeps its guests' pages in frames, and shared frames and hints in a table. It answers as the model does, which
+//! knows page contents alone.
 #![tactic(auto)]
 
 mod fault;
+mod held;
+mod machine;
 mod make;
+mod moves;
 mod offer;
-mod pages;
-mod plain;
-mod scan;
 mod serve;
+mod tally;
 #[cfg(test)]
 mod tests;
 
 pub use fault::CoreFault;
-pub use plain::Core;
+pub use machine::Core;
+

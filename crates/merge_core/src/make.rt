@@ -1,10 +1,16 @@
-//! The pages of a new machine.
-ghost use Rattle.std.specs.Prelude.{◌≡◌, ◌+◌, ◌<◌, ◌≤◌, ◌^◌, ◌↔◌, length, vec_len, sum, map, IfOk, IsTrue};
-ghost use Rattle.page_model.specs.Replay.{empty_guest};
-ghost use Rattle.merge_core.specs.View.{guest_of, guests_of, pages_in};
-ghost use Rattle.page_model.specs.Limits.{ArePages, shapes};
+//! The parts of a new core.
+ghost use Rattle.std.specs.Prelude.{◌≡◌, ◌+◌, ◌<◌, ◌≤◌, ◌^◌, ◌↔◌, length, vec_len, sum, map, replicate, IfOk, IsTrue};
+ghost use Rattle.page_model.specs.Limits.{AreFrames, ArePages, shapes};
+ghost use Rattle.machine_frames.specs.FrameMap.{no_frames};
+ghost use Rattle.share_table.specs.TableMaps.{empty_table};
+ghost use Rattle.merge_core.specs.Names.{unknown, empty_names, empty_name};
+ghost use Rattle.merge_core.specs.View.{guest_of, names_in, names_of, notes_in, Whole};
 
-use crate::pages::{CorePage, GuestPages};
+use crate::fault::CoreFault;
+use crate::held::{GuestPages, Held, Note, PageEntry};
+use machine_frames::Frames;
+use page_digest::PageHash;
+use share_table::Table;
 use std::alloc::{AllocError, Allocator};
 
 /// Whether each guest has a page, and all together at most 1,048,576.
@@ -21,30 +27,79 @@ pub fn are_pages(pages: &[u32]) -> bool
     true
 }
 
+/// A guest with no page mapped.
 fn new_guest<A: Allocator>(alloc: A, salt: u32, pages: u32) -> Result<GuestPages<A>, AllocError>
-    ensures guest { IfOk result (λ g. guest_of g ≡ empty_guest (record { salt = salt; pages = pages })) }
-    ensures len { IfOk result (λ g. vec_len g.pages ≡ pages) }
+    ensures { IfOk result (λ g. guest_of g ≡ empty_name (record { salt = salt; pages = pages })) }
 {
-    let mut blank = Vec::with_capacity(alloc, pages as usize)?;
+    let mut entries = Vec::with_capacity(alloc, pages as usize)?;
     for _ in 0..pages {
-        blank.push_reserved(CorePage::Unmapped);
+        entries.push_reserved(PageEntry::Unmapped);
     }
-    Ok(GuestPages { salt, pages: blank })
+    Ok(GuestPages {
+        salt,
+        pages: entries,
+    })
 }
 
-pub fn new_guests<A: Allocator + Clone>(
+/// The guests of these salts and numbers of pages, with no page mapped.
+fn new_guests<A: Allocator + Clone>(
     alloc: A,
     salts: &[u32],
     pages: &[u32],
 ) -> Result<Vec<GuestPages<A>, A>, AllocError>
     requires { length salts.now ≡ length pages.now }
-    ensures guests { IfOk result (λ v. guests_of v.items ≡ map empty_guest (shapes salts.now pages.now)) }
-    ensures pages { IfOk result (λ v. pages_in v.items ≡ sum pages.now) }
-    ensures len { IfOk result (λ v. vec_len v ≡ length pages.now) }
+    ensures { IfOk result (λ v. names_in v.items ≡ empty_names (shapes salts.now pages.now)) }
 {
     let mut guests = Vec::with_capacity(alloc.clone()?, pages.len())?;
     for i in 0..pages.len() {
         guests.push_reserved(new_guest(alloc.clone()?, salts[i], pages[i])?);
     }
     Ok(guests)
+}
+
+/// One note for each frame, of which nothing is known.
+fn new_notes<A: Allocator>(alloc: A, frames: u32) -> Result<Vec<Note, A>, AllocError>
+    ensures { IfOk result (λ v. notes_in v.items ≡ replicate frames unknown) }
+{
+    let mut notes = Vec::with_capacity(alloc, frames as usize)?;
+    for _ in 0..frames {
+        notes.push_reserved(Note {
+            salt: 0,
+            hash: None,
+        });
+    }
+    Ok(notes)
+}
+
+/// The parts of a core with no page mapped, and all the room that they ever need.
+pub fn new_held<H: PageHash + Drop, A: Allocator + Clone>(
+    alloc: A,
+    frames: u32,
+    pages: &[u32],
+    salts: &[u32],
+    hash: H,
+) -> Result<Held<H, A>, AllocError>
+    requires frames { AreFrames frames }
+    requires salts { length salts.now ≡ length pages.now }
+    requires guests { length pages.now ≤ 64 }
+    requires pages { sum pages.now ≤ 1048576 }
+    ensures whole { IfOk result (λ held. Whole H.hash_of held) }
+    ensures names { IfOk result (λ held. names_of held ≡ empty_names (shapes salts.now pages.now)) }
+    ensures frames { IfOk result (λ held. held.frames ≡ no_frames frames) }
+    ensures table { IfOk result (λ held. held.table ≡ empty_table frames) }
+{
+    let guests = new_guests(alloc.clone()?, salts, pages)?;
+    let notes = new_notes(alloc.clone()?, frames)?;
+    let table = Table::new(alloc.clone()?, frames)?;
+    match Frames::new(alloc, frames) {
+        Err(_) => Err(AllocError),
+        Ok(frames) => Ok(Held {
+            hash,
+            frames,
+            table,
+            guests,
+            notes,
+            hints: 0,
+        }),
+    }
 }

@@ -1,12 +1,21 @@
 //! A proposal.
-ghost use Rattle.std.specs.Prelude.{◌≡◌, ◌+◌, ◌<◌, ◌≤◌, ◌-◌, ◌^◌, ℕ, Option, length};
-ghost use Rattle.page_model.specs.Steps.{Outcome, matched, proposed, weighed, offered, key_of, kept_hint, at_page};
-ghost use Rattle.merge_core.specs.View.{slot_of, guests_of, pages_in};
+ghost use Rattle.std.specs.Prelude.{◌≡◌, ◌<◌, ◌≤◌, ◌^◌, ◌==◌, ◌&&◌, length, Option, Some, None, option_map};
+ghost use Rattle.page_model.specs.Steps.{Outcome, proposed, matched, offered, weighed, at_page, key_of, kept_hint};
+ghost use Rattle.page_model.specs.Pages.{page_at, with_slot, find_page, has_hint};
+ghost use Rattle.page_model.specs.Pages as s;
+ghost use Rattle.merge_core.specs.Names.{bytes_in, known_at};
+ghost use Rattle.share_table.specs.TableMaps.{hint_at, shared_at, count_at};
+ghost use Rattle.merge_core.specs.View.{names_of, guests_of, notes_in, notes_of, Whole};
+ghost use Rattle.machine_frames.specs.FrameMap as fm;
+ghost use Rattle.std.specs.Str.{bytes_eq};
 
-use crate::pages::{CorePage, GuestPages, bytes_of, find, set_page};
-use crate::scan::{SharedAs, SharedUnder, any, count, find_hint};
+use crate::held::{Held, Note, PageEntry, Place};
+use crate::moves::{drop_hint, find, hash_frame, join, learn, put_hint, share, unmap};
+use crate::serve::{bytes_at, clear_hint};
+use machine_frames::Frames;
 use page_digest::PageHash;
-use page_model::{Page, Verdict};
+use page_model::Verdict;
+use share_table::HintFrame;
 use std::alloc::Allocator;
 
 /// The low 32 bits of a hash.
@@ -16,9 +25,53 @@ fn key_of(code: u64) -> u32
     (code % 4_294_967_296) as u32
 }
 
-/// A page's own hint, where it stands under the key of the present bytes.
-fn kept_hint(key: u32, hint: Option<u32>) -> Option<u32>
-    ensures { result ≡ kept_hint key hint }
+/// A proposal.
+#[tactic(auto, unfolding(page_model::specs::Steps::proposed))]
+pub fn propose<H: PageHash, A: Allocator>(held: &mut Held<H, A>, guest: usize, ppn: u32) -> Verdict
+    requires whole { Whole H.hash_of held.old }
+    ensures whole { Whole H.hash_of held.new }
+    ensures total { length held.new.frames ≡ length held.old.frames }
+    ensures step { record { guests = guests_of held.new; verdict = result }
+        ≡ at_page (guests_of held.old) guest ppn (λ salt slot. proposed H.hash_of (guests_of held.old) guest ppn salt slot) }
+{
+    let ppn = ppn as usize;
+    let Some((salt, entry)) = find(held, guest, ppn) else {
+        return Verdict::NoPage;
+    };
+    let page = Place { guest, ppn, salt };
+    match entry {
+        PageEntry::Unmapped => Verdict::Unmapped,
+        PageEntry::Shared(_) => Verdict::Already,
+        PageEntry::Private(mpn, hint) => {
+            propose_private(held, page, mpn, hint)
+        },
+    }
+}
+
+/// A proposal of a private page.
+fn propose_private<H: PageHash, A: Allocator>(held: &mut Held<H, A>, page: Place, mpn: u32, hint: Option<u32>) -> Verdict
+    requires whole { Whole H.hash_of held.old }
+    requires page { page_at (names_of held.old) page.guest page.ppn ≡ Some (page.salt, s.Private mpn hint) }
+    ensures whole { Whole H.hash_of held.new }
+    ensures total { length held.new.frames ≡ length held.old.frames }
+    ensures step { record { guests = guests_of held.new; verdict = result }
+        ≡ proposed H.hash_of (guests_of held.old) page.guest page.ppn page.salt (s.Private (bytes_in held.old.frames mpn) hint) }
+{
+    let code = hash_frame(held, mpn, page.salt);
+    let kept = settle_hint(held, page, mpn, hint, key_of(code));
+    find_match(held, page, mpn, kept, code)
+}
+
+/// A page's own hint stays only under the key of the present bytes.
+#[tactic(auto, using(page_model::proofs::Places::unchanged))]
+fn settle_hint<H: PageHash, A: Allocator>(held: &mut Held<H, A>, page: Place, mpn: u32, hint: Option<u32>, key: u32) -> Option<u32>
+    requires whole { Whole H.hash_of held.old }
+    requires page { page_at (names_of held.old) page.guest page.ppn ≡ Some (page.salt, s.Private mpn hint) }
+    ensures whole { Whole H.hash_of held.new }
+    ensures frames { held.new.frames ≡ held.old.frames }
+    ensures kept { result ≡ kept_hint key hint }
+    ensures page { page_at (names_of held.new) page.guest page.ppn ≡ Some (page.salt, s.Private mpn result) }
+    ensures guests { guests_of held.new ≡ with_slot (guests_of held.old) page.guest page.ppn (s.Private (bytes_in held.old.frames mpn) result) }
 {
     match hint {
         None => None,
@@ -26,135 +79,150 @@ fn kept_hint(key: u32, hint: Option<u32>) -> Option<u32>
             if own == key {
                 return Some(own);
             }
+            drop_hint(held, page, mpn, own);
             None
         }
     }
 }
 
-#[tactic(auto, unfolding(page_model::specs::Steps::proposed))]
-pub fn propose<H: PageHash, A: Allocator>(
-    hash: &H,
-    guests: &mut [GuestPages<A>],
-    guest: usize,
-    ppn: u32,
-) -> Verdict
-    requires guest { guest < length guests.old }
-    requires few { pages_in guests.old ≤ 2 ^ 20 }
-    ensures size { pages_in guests.new ≡ pages_in guests.old }
-    ensures step { record { guests = guests_of guests.new; verdict = result }
-        ≡ at_page (guests_of guests.old) guest ppn (λ salt slot. proposed H.hash_of (guests_of guests.old) guest ppn salt slot) }
+/// Looks for a shared frame with the page's hash.
+fn find_match<H: PageHash, A: Allocator>(held: &mut Held<H, A>, page: Place, mpn: u32, kept: Option<u32>, code: u64) -> Verdict
+    requires whole { Whole H.hash_of held.old }
+    requires page { page_at (names_of held.old) page.guest page.ppn ≡ Some (page.salt, s.Private mpn kept) }
+    requires fits { kept_hint (key_of code) kept ≡ kept }
+    requires code { code ≡ H.hash_of page.salt (bytes_in held.old.frames mpn) }
+    ensures whole { Whole H.hash_of held.new }
+    ensures total { length held.new.frames ≡ length held.old.frames }
+    ensures step { record { guests = guests_of held.new; verdict = result }
+        ≡ matched H.hash_of (guests_of held.old) page.guest page.ppn page.salt (bytes_in held.old.frames mpn) code }
 {
-    let ppn = ppn as usize;
-    let Some((salt, page)) = find(guests, guest, ppn) else {
-        return Verdict::NoPage;
-    };
-    match page {
-        CorePage::Unmapped => Verdict::Unmapped,
-        CorePage::Shared(_) => Verdict::Already,
-        CorePage::Private(bytes, hint) => {
-            let code = hash.hash(salt, &bytes);
-            set_page(
-                guests,
-                guest,
-                ppn,
-                CorePage::Private(bytes, kept_hint(key_of(code), hint)),
-            );
-            find_match(hash, guests, guest, ppn, salt, &bytes, code)
-        }
-    }
-}
-
-#[tactic(auto, unfolding(page_model::specs::Steps::matched))]
-fn find_match<H: PageHash, A: Allocator>(
-    hash: &H,
-    guests: &mut [GuestPages<A>],
-    guest: usize,
-    ppn: usize,
-    salt: u32,
-    bytes: &Page,
-    code: u64,
-) -> Verdict
-    requires guest { guest < length guests.old }
-    requires few { pages_in guests.old ≤ 2 ^ 20 }
-    ensures size { pages_in guests.new ≡ pages_in guests.old }
-    ensures step { record { guests = guests_of guests.new; verdict = result }
-        ≡ matched H.hash_of (guests_of guests.old) guest ppn salt bytes.now code }
-{
-    if any(&SharedAs { salt, bytes }, guests) {
-        set_page(guests, guest, ppn, CorePage::Shared(*bytes));
-        let n = count(&SharedAs { salt, bytes }, guests);
-        return Verdict::Joined(n as u32);
-    }
-    if any(&SharedUnder { hash, code }, guests) {
-        return Verdict::Ineligible;
-    }
-    offer(hash, guests, guest, ppn, salt, bytes, key_of(code))
-}
-
-#[tactic(auto, unfolding(page_model::specs::Steps::offered, page_model::specs::Steps::held))]
-fn offer<H: PageHash, A: Allocator>(
-    hash: &H,
-    guests: &mut [GuestPages<A>],
-    guest: usize,
-    ppn: usize,
-    salt: u32,
-    bytes: &Page,
-    key: u32,
-) -> Verdict
-    requires guest { guest < length guests.old }
-    ensures size { pages_in guests.new ≡ pages_in guests.old }
-    ensures step { record { guests = guests_of guests.new; verdict = result }
-        ≡ offered H.hash_of (guests_of guests.old) guest ppn salt bytes.now key }
-{
-    match find_hint(key, guests) {
-        None => {
-            set_page(guests, guest, ppn, CorePage::Private(*bytes, Some(key)));
-            Verdict::Hinted
-        }
-        Some((other, place)) => {
-            if other == guest && place == ppn {
-                return Verdict::Kept;
+    match held.table.find_shared(code) {
+        None => offer(held, page, mpn, kept, code),
+        Some((theirs, _)) => {
+            if same_content(held, page.salt, mpn, theirs) {
+                return join_match(held, page, mpn, kept, theirs, code);
             }
-            let Some((other_salt, page)) = find(guests, other, place) else {
-                return Verdict::NoPage;
-            };
-            let others = bytes_of(&page);
-            weigh(
-                hash, guests, guest, ppn, salt, bytes, key, other, place, other_salt, &others,
-            )
+            Verdict::Ineligible
         }
     }
 }
 
-#[tactic(auto, unfolding(page_model::specs::Steps::weighed))]
-fn weigh<H: PageHash, A: Allocator>(
-    hash: &H,
-    guests: &mut [GuestPages<A>],
-    guest: usize,
-    ppn: usize,
-    salt: u32,
-    bytes: &Page,
-    key: u32,
-    other: usize,
-    place: usize,
-    other_salt: u32,
-    others: &Page,
-) -> Verdict
-    requires guest { guest < length guests.old }
-    requires other { other < length guests.old }
-    ensures size { pages_in guests.new ≡ pages_in guests.old }
-    ensures step { record { guests = guests_of guests.new; verdict = result }
-        ≡ weighed H.hash_of (guests_of guests.old) guest ppn salt bytes.now key other place other_salt others.now }
+/// Whether a frame has this salt and the bytes of another frame.
+fn same_content<H: PageHash, A: Allocator>(held: &Held<H, A>, salt: u32, mpn: u32, theirs: u32) -> bool
+    requires whole { Whole H.hash_of held.now }
+    requires mine { fm.IsTaken held.now.frames mpn }
+    requires theirs { fm.IsTaken held.now.frames theirs }
+    ensures { result ≡ ((known_at (notes_of held.now) theirs).salt == salt && bytes_eq (bytes_in held.now.frames theirs) (bytes_in held.now.frames mpn)) }
 {
-    if key_of(hash.hash(other_salt, others)) != key {
-        set_page(guests, other, place, CorePage::Private(*others, None));
-        set_page(guests, guest, ppn, CorePage::Private(*bytes, Some(key)));
-        return Verdict::Replaced;
+    salt_of(&held.notes, theirs) == salt && same_bytes(&held.frames, theirs, mpn)
+}
+
+/// Whether two frames have the same bytes.
+fn same_bytes<A: Allocator>(frames: &Frames<A>, one: u32, other: u32) -> bool
+    requires one { fm.IsTaken frames.now one }
+    requires other { fm.IsTaken frames.now other }
+    ensures { result ≡ bytes_eq (bytes_in frames.now one) (bytes_in frames.now other) }
+{
+    bytes_at(frames, one) == bytes_at(frames, other)
+}
+
+/// A private page leaves its frame for a shared one of the same content.
+fn join_match<H: PageHash, A: Allocator>(held: &mut Held<H, A>, page: Place, mpn: u32, kept: Option<u32>, theirs: u32, code: u64) -> Verdict
+    requires whole { Whole H.hash_of held.old }
+    requires page { page_at (names_of held.old) page.guest page.ppn ≡ Some (page.salt, s.Private mpn kept) }
+    requires found { shared_at held.old.table code ≡ Some (record { mpn = theirs; count = count_at held.old.table code }) }
+    requires salt { (known_at (notes_of held.old) theirs).salt ≡ page.salt }
+    requires bytes { bytes_in held.old.frames theirs ≡ bytes_in held.old.frames mpn }
+    ensures whole { Whole H.hash_of held.new }
+    ensures total { length held.new.frames ≡ length held.old.frames }
+    ensures step { record { guests = guests_of held.new; verdict = result }
+        ≡ matched H.hash_of (guests_of held.old) page.guest page.ppn page.salt (bytes_in held.old.frames mpn) code }
+{
+    clear_hint(held, page, mpn, kept);
+    unmap(held, page, mpn);
+    Verdict::Joined(join(held, page, theirs, code))
+}
+
+/// No shared page has the hash of the page, which becomes a hint unless there is one under its key.
+fn offer<H: PageHash, A: Allocator>(held: &mut Held<H, A>, page: Place, mpn: u32, kept: Option<u32>, code: u64) -> Verdict
+    requires whole { Whole H.hash_of held.old }
+    requires page { page_at (names_of held.old) page.guest page.ppn ≡ Some (page.salt, s.Private mpn kept) }
+    requires fits { kept_hint (key_of code) kept ≡ kept }
+    requires code { code ≡ H.hash_of page.salt (bytes_in held.old.frames mpn) }
+    requires absent { shared_at held.old.table code ≡ None }
+    ensures whole { Whole H.hash_of held.new }
+    ensures total { length held.new.frames ≡ length held.old.frames }
+    ensures step { record { guests = guests_of held.new; verdict = result }
+        ≡ offered H.hash_of (guests_of held.old) page.guest page.ppn page.salt (bytes_in held.old.frames mpn) (key_of code) }
+{
+    let key = key_of(code);
+    match kept {
+        Some(_) => Verdict::Kept,
+        None => match held.table.find_hint(key) {
+            None => {
+                put_hint(held, page, mpn, key);
+                Verdict::Hinted
+            }
+            Some(hint) => weigh(held, page, mpn, code, hint),
+        },
     }
-    if other_salt == salt && others == bytes {
-        set_page(guests, other, place, CorePage::Shared(*others));
-        set_page(guests, guest, ppn, CorePage::Shared(*bytes));
+}
+
+/// Another page holds the hint under the page's key. Their contents are compared first: equal ones need no hash.
+fn weigh<H: PageHash, A: Allocator>(held: &mut Held<H, A>, page: Place, mpn: u32, code: u64, hint: HintFrame) -> Verdict
+    requires whole { Whole H.hash_of held.old }
+    requires page { page_at (names_of held.old) page.guest page.ppn ≡ Some (page.salt, s.Private mpn None) }
+    requires hint { hint_at held.old.table (key_of code) ≡ Some hint }
+    requires code { code ≡ H.hash_of page.salt (bytes_in held.old.frames mpn) }
+    requires absent { shared_at held.old.table code ≡ None }
+    ensures whole { Whole H.hash_of held.new }
+    ensures total { length held.new.frames ≡ length held.old.frames }
+    ensures step { record { guests = guests_of held.new; verdict = result }
+        ≡ offered H.hash_of (guests_of held.old) page.guest page.ppn page.salt (bytes_in held.old.frames mpn) (key_of code) }
+{
+    let theirs = hint.mpn;
+    let salt = salt_of(&held.notes, theirs);
+    let other = Place {
+        guest: hint.guest as usize,
+        ppn: hint.ppn as usize,
+        salt,
+    };
+    if same_content(held, page.salt, mpn, theirs) {
+        pair(held, other, theirs, page, mpn, code);
         return Verdict::Paired;
     }
+    let key = key_of(code);
+    let present = hash_frame(held, theirs, salt);
+    if key_of(present) != key {
+        drop_hint(held, other, theirs, key);
+        put_hint(held, page, mpn, key);
+        return Verdict::Replaced;
+    }
     Verdict::Ineligible
+}
+
+/// A private page leaves its frame, and shares that of the hint page under its key, which is equal.
+fn pair<H: PageHash, A: Allocator>(held: &mut Held<H, A>, first: Place, theirs: u32, page: Place, mpn: u32, code: u64)
+    requires whole { Whole H.hash_of held.old }
+    requires page { page_at (names_of held.old) page.guest page.ppn ≡ Some (page.salt, s.Private mpn None) }
+    requires first { page_at (names_of held.old) first.guest first.ppn ≡ Some (first.salt, s.Private theirs (Some (key_of code))) }
+    requires salt { first.salt ≡ page.salt }
+    requires bytes { bytes_in held.old.frames theirs ≡ bytes_in held.old.frames mpn }
+    requires code { code ≡ H.hash_of page.salt (bytes_in held.old.frames mpn) }
+    requires absent { shared_at held.old.table code ≡ None }
+    ensures whole { Whole H.hash_of held.new }
+    ensures total { length held.new.frames ≡ length held.old.frames }
+    ensures guests { guests_of held.new ≡ with_slot (with_slot (guests_of held.old) first.guest first.ppn (s.Shared (bytes_in held.old.frames theirs))) page.guest page.ppn (s.Shared (bytes_in held.old.frames mpn)) }
+{
+    drop_hint(held, first, theirs, key_of(code));
+    unmap(held, page, mpn);
+    learn(held, theirs, page.salt, code);
+    share(held, first, theirs, page, code);
+}
+
+fn salt_of<A: Allocator>(notes: &Vec<Note, A>, mpn: u32) -> u32
+    requires mpn { mpn < length (notes_in notes.now.items) }
+    ensures salt { result ≡ (known_at (notes_in notes.now.items) mpn).salt }
+{
+    notes[mpn as usize].salt
 }

@@ -1,123 +1,189 @@
 //! Each request on the pages of all guests.
-ghost use Rattle.std.specs.Prelude.{◌≡◌, ◌+◌, ◌<◌, ◌≤◌, ◌-◌, ◌^◌, length, take, drop};
+ghost use Rattle.std.specs.Prelude.{◌≡◌, ◌+◌, ◌<◌, ◌≤◌, ◌-◌, ◌^◌, length, take, drop, Some, None, Option};
 ghost use Rattle.page_model.specs.Steps.{Outcome, stored, released, loaded, at_page};
-ghost use Rattle.merge_core.specs.View.{slot_of, guests_of, pages_in};
+ghost use Rattle.page_model.specs.Pages.{page_at, with_slot, blank};
+ghost use Rattle.page_model.specs.Pages as s;
+ghost use Rattle.merge_core.specs.Names.{bytes_in, slot_in};
+ghost use Rattle.machine_frames.specs.FrameMap as fm;
+ghost use Rattle.merge_core.specs.View.{slot_of, names_of, guests_of, Whole};
 
-use crate::pages::{CorePage, GuestPages, blank_page, bytes_of, find, set_page, written_page};
-use crate::scan::{SharedAs, count, used};
+use crate::held::{Held, PageEntry, Place};
+use crate::moves::{drop_hint, find, hash_frame, is_full, keep, leave, map_copy, map_zeroed, peers_of, unmap, write};
 use arrayvec::ArrayVec;
-use page_model::{LoadReq, Page, StoreReq, Verdict};
+use machine_frames::Frames;
+use page_digest::PageHash;
+use page_model::{LoadReq, StoreReq, Verdict};
 use std::alloc::Allocator;
 
-#[tactic(auto, unfolding(page_model::specs::Steps::stored))]
-pub fn store<A: Allocator>(
-    frames: u32,
-    guests: &mut [GuestPages<A>],
-    guest: usize,
-    request: &StoreReq,
-) -> Verdict
-    requires guest { guest < length guests.old }
-    requires few { pages_in guests.old ≤ 2 ^ 20 }
-    ensures size { pages_in guests.new ≡ pages_in guests.old }
-    ensures step { record { guests = guests_of guests.new; verdict = result }
-        ≡ at_page (guests_of guests.old) guest request.now.ppn (λ salt slot. stored frames (guests_of guests.old) guest request.now.ppn request.now.at request.now.bytes salt slot) }
+#[tactic(auto, using(page_model::proofs::Places::again), unfolding(page_model::specs::Steps::stored))]
+pub fn store<H: PageHash, A: Allocator>(held: &mut Held<H, A>, guest: usize, request: &StoreReq) -> Verdict
+    requires whole { Whole H.hash_of held.old }
+    ensures whole { Whole H.hash_of held.new }
+    ensures total { length held.new.frames ≡ length held.old.frames }
+    ensures step { record { guests = guests_of held.new; verdict = result }
+        ≡ at_page (guests_of held.old) guest request.now.ppn (λ salt slot. stored (length held.old.frames) (guests_of held.old) guest request.now.ppn request.now.at request.now.bytes salt slot) }
 {
     let ppn = request.ppn() as usize;
     let at = request.at();
     let bytes = request.bytes();
-    let Some((salt, page)) = find(guests, guest, ppn) else {
+    let Some((salt, entry)) = find(held, guest, ppn) else {
         return Verdict::NoPage;
     };
-    match page {
-        CorePage::Unmapped => {
-            if used(guests) == frames as usize {
+    let page = Place { guest, ppn, salt };
+    match entry {
+        PageEntry::Unmapped => {
+            if is_full(held) {
                 return Verdict::NoFrame;
             }
-            set_page(
-                guests,
-                guest,
-                ppn,
-                CorePage::Private(written_page(blank_page(), at, bytes), None),
-            );
+            let mpn = map_zeroed(held, page);
+            write(held, page, mpn, None, at, bytes);
             Verdict::Mapped
         }
-        CorePage::Private(old, hint) => {
-            set_page(
-                guests,
-                guest,
-                ppn,
-                CorePage::Private(written_page(old, at, bytes), hint),
-            );
+        PageEntry::Private(mpn, hint) => {
+            write(held, page, mpn, hint, at, bytes);
             Verdict::Stored
         }
-        CorePage::Shared(old) => {
-            if count(&SharedAs { salt, bytes: &old }, guests) == 1 {
-                set_page(
-                    guests,
-                    guest,
-                    ppn,
-                    CorePage::Private(written_page(old, at, bytes), None),
-                );
-                return Verdict::Taken;
-            }
-            if used(guests) == frames as usize {
-                return Verdict::NoFrame;
-            }
-            set_page(
-                guests,
-                guest,
-                ppn,
-                CorePage::Private(written_page(old, at, bytes), None),
-            );
-            Verdict::Copied
-        }
+        PageEntry::Shared(mpn) => store_shared(held, page, mpn, at, bytes),
     }
 }
 
-#[tactic(auto, unfolding(page_model::specs::Steps::released))]
-pub fn release<A: Allocator>(guests: &mut [GuestPages<A>], guest: usize, ppn: u32) -> Verdict
-    requires guest { guest < length guests.old }
-    requires few { pages_in guests.old ≤ 2 ^ 20 }
-    ensures size { pages_in guests.new ≡ pages_in guests.old }
-    ensures step { record { guests = guests_of guests.new; verdict = result }
-        ≡ at_page (guests_of guests.old) guest ppn (λ salt slot. released (guests_of guests.old) guest ppn salt slot) }
+/// A store to a shared page.
+#[tactic(auto, using(page_model::proofs::Places::again), unfolding(page_model::specs::Steps::stored))]
+fn store_shared<H: PageHash, A: Allocator>(held: &mut Held<H, A>, page: Place, mpn: u32, at: u32, bytes: &[u8]) -> Verdict
+    requires whole { Whole H.hash_of held.old }
+    requires page { page_at (names_of held.old) page.guest page.ppn ≡ Some (page.salt, s.Shared mpn) }
+    requires fits { at + length bytes.now ≤ 4096 }
+    ensures whole { Whole H.hash_of held.new }
+    ensures total { length held.new.frames ≡ length held.old.frames }
+    ensures step { record { guests = guests_of held.new; verdict = result }
+        ≡ stored (length held.old.frames) (guests_of held.old) page.guest page.ppn at bytes.now page.salt (s.Shared (bytes_in held.old.frames mpn)) }
+{
+    let code = hash_frame(held, mpn, page.salt);
+    let count = peers_of(held, page, mpn, code);
+    if count == 1 {
+        keep(held, page, mpn, code);
+        write(held, page, mpn, None, at, bytes);
+        return Verdict::Taken;
+    }
+    if is_full(held) {
+        return Verdict::NoFrame;
+    }
+    leave(held, page, mpn, code, count);
+    let copy = map_copy(held, page, mpn);
+    write(held, page, copy, None, at, bytes);
+    Verdict::Copied
+}
+
+/// Drops a private page's hint, if it has one.
+#[tactic(auto, using(page_model::proofs::Places::unchanged))]
+pub fn clear_hint<H: PageHash, A: Allocator>(held: &mut Held<H, A>, page: Place, mpn: u32, hint: Option<u32>)
+    requires whole { Whole H.hash_of held.old }
+    requires page { page_at (names_of held.old) page.guest page.ppn ≡ Some (page.salt, s.Private mpn hint) }
+    ensures whole { Whole H.hash_of held.new }
+    ensures frames { held.new.frames ≡ held.old.frames }
+    ensures page { page_at (names_of held.new) page.guest page.ppn ≡ Some (page.salt, s.Private mpn None) }
+    ensures guests { guests_of held.new ≡ with_slot (guests_of held.old) page.guest page.ppn (s.Private (bytes_in held.old.frames mpn) None) }
+    ensures shared { held.new.table.shared ≡ held.old.table.shared }
+    ensures notes { held.new.notes ≡ held.old.notes }
+{
+    match hint {
+        None => {}
+        Some(key) => drop_hint(held, page, mpn, key),
+    }
+}
+
+/// A release of a shared page.
+#[tactic(auto, using(page_model::proofs::Places::again), unfolding(page_model::specs::Steps::released))]
+fn release_shared<H: PageHash, A: Allocator>(held: &mut Held<H, A>, page: Place, mpn: u32) -> Verdict
+    requires whole { Whole H.hash_of held.old }
+    requires page { page_at (names_of held.old) page.guest page.ppn ≡ Some (page.salt, s.Shared mpn) }
+    ensures whole { Whole H.hash_of held.new }
+    ensures total { length held.new.frames ≡ length held.old.frames }
+    ensures step { record { guests = guests_of held.new; verdict = result }
+        ≡ released (guests_of held.old) page.guest page.ppn page.salt (s.Shared (bytes_in held.old.frames mpn)) }
+{
+    let code = hash_frame(held, mpn, page.salt);
+    let count = peers_of(held, page, mpn, code);
+    if count == 1 {
+        keep(held, page, mpn, code);
+        unmap(held, page, mpn);
+        return Verdict::Released(true);
+    }
+    leave(held, page, mpn, code, count);
+    Verdict::Released(false)
+}
+
+/// A release.
+#[tactic(auto, using(page_model::proofs::Places::again), unfolding(page_model::specs::Steps::released))]
+pub fn release<H: PageHash, A: Allocator>(held: &mut Held<H, A>, guest: usize, ppn: u32) -> Verdict
+    requires whole { Whole H.hash_of held.old }
+    ensures whole { Whole H.hash_of held.new }
+    ensures total { length held.new.frames ≡ length held.old.frames }
+    ensures step { record { guests = guests_of held.new; verdict = result }
+        ≡ at_page (guests_of held.old) guest ppn (λ salt slot. released (guests_of held.old) guest ppn salt slot) }
 {
     let ppn = ppn as usize;
-    let Some((salt, page)) = find(guests, guest, ppn) else {
+    let Some((salt, entry)) = find(held, guest, ppn) else {
+        return Verdict::NoPage;
+    };
+    let page = Place { guest, ppn, salt };
+    match entry {
+        PageEntry::Unmapped => Verdict::Unmapped,
+        PageEntry::Private(mpn, hint) => {
+            clear_hint(held, page, mpn, hint);
+            unmap(held, page, mpn);
+            Verdict::Released(true)
+        }
+        PageEntry::Shared(mpn) => release_shared(held, page, mpn),
+    }
+}
+
+/// A load.
+pub fn load<H: PageHash, A: Allocator>(held: &Held<H, A>, guest: usize, request: &LoadReq) -> Verdict
+    requires whole { Whole H.hash_of held.now }
+    ensures { record { guests = guests_of held.now; verdict = result }
+        ≡ at_page (guests_of held.now) guest request.now.ppn (λ _ slot. loaded (guests_of held.now) request.now.at request.now.len slot) }
+{
+    let start = request.at() as usize;
+    let end = start + request.len() as usize;
+    let Some((_, page)) = find(held, guest, request.ppn() as usize) else {
         return Verdict::NoPage;
     };
     match page {
-        CorePage::Unmapped => Verdict::Unmapped,
-        CorePage::Private(_, _) => {
-            set_page(guests, guest, ppn, CorePage::Unmapped);
-            Verdict::Released(true)
-        }
-        CorePage::Shared(old) => {
-            let last = count(&SharedAs { salt, bytes: &old }, guests) == 1;
-            set_page(guests, guest, ppn, CorePage::Unmapped);
-            Verdict::Released(last)
-        }
+        PageEntry::Unmapped => Verdict::Bytes(zeros(start, end)),
+        PageEntry::Private(mpn, _) => Verdict::Bytes(part(bytes_at(&held.frames, mpn), start, end)),
+        PageEntry::Shared(mpn) => Verdict::Bytes(part(bytes_at(&held.frames, mpn), start, end)),
     }
 }
 
-pub fn load<A: Allocator>(guests: &[GuestPages<A>], guest: usize, request: &LoadReq) -> Verdict
-    ensures { record { guests = guests_of guests.now; verdict = result }
-        ≡ at_page (guests_of guests.now) guest request.now.ppn (λ _ slot. loaded (guests_of guests.now) request.now.at request.now.len slot) }
+/// The bytes of a taken frame.
+pub fn bytes_at<A: Allocator>(frames: &Frames<A>, mpn: u32) -> &[u8; 4096]
+    requires taken { fm.IsTaken frames.now mpn }
+    ensures bytes { result.now ≡ bytes_in frames.now mpn }
 {
-    let Some((_, page)) = find(guests, guest, request.ppn() as usize) else {
-        return Verdict::NoPage;
-    };
-    let start = request.at() as usize;
-    let end = start + request.len() as usize;
-    Verdict::Bytes(part(&bytes_of(&page), start, end))
+    frames.bytes(mpn)
 }
 
-fn part(page: &Page, start: usize, end: usize) -> ArrayVec<u8, 64>
+fn part(page: &[u8; 4096], start: usize, end: usize) -> ArrayVec<u8, 64>
     requires order { start ≤ end }
     requires within { end ≤ 4096 }
     requires few { end ≤ start + 64 }
     ensures { result.items ≡ take (end - start) (drop start page.now) }
 {
+    match ArrayVec::try_from(&page[start..end]) {
+        Ok(bytes) => bytes,
+        Err(_) => unreachable!(),
+    }
+}
+
+#[tactic(auto, unfolding(page_model::specs::Pages::blank))]
+fn zeros(start: usize, end: usize) -> ArrayVec<u8, 64>
+    requires order { start ≤ end }
+    requires within { end ≤ 4096 }
+    requires few { end ≤ start + 64 }
+    ensures { result.items ≡ take (end - start) (drop start blank) }
+{
+    let page = [0; 4096];
     match ArrayVec::try_from(&page[start..end]) {
         Ok(bytes) => bytes,
         Err(_) => unreachable!(),

@@ -5,6 +5,6 @@ use Rattle.merge_core.proofs.make.new_guest.Given as goal
 
 abbrev pub invariant-loop : goal.invariant-loop
 invariant-loop g l = record {
-  made : slots_of l.blank.items ≡ replicate l.counter s.Unmapped;
-  len : vec_len l.blank ≡ l.counter;
+  made : slots_of l.entries.items ≡ replicate l.counter s.Unmapped;
+  len : vec_len l.entries ≡ l.counter;
 }

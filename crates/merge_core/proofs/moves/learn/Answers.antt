@@ -1,0 +1,10 @@
+use Rattle.std.proofs.Common.{arith}
+use Rattle.merge_core.specs.View.{names_of, notes_of}
+use Rattle.merge_core.proofs.Changes.{learnt_ties}
+use Rattle.merge_core.proofs.FrameLemmas.{taken_within}
+use Rattle.merge_core.proofs.moves.learn.Goals as goal
+
+pub returns-clause-whole : goal.returns-clause-whole
+returns-clause-whole g c =
+    let held = c.args.held.now in
+    record { ties = rw c.note_hash.ensures.notes (learnt_ties g.H.HashFunction.hash_of (names_of held) held.frames held.table (notes_of held) c.args.mpn c.args.salt c.args.code c.requires.whole.ties c.requires.taken c.requires.salt c.requires.code); few = c.requires.whole.few; total = c.requires.whole.total; hints = c.requires.whole.hints }

@@ -1,0 +1,28 @@
+use Rattle.std.proofs.Common.{◌≡◌, ◌≢◌, ℕ, Some, None, refl, ap, sym, ◌∙◌, arith}
+use Rattle.std.specs.FinMap as map
+use Rattle.page_model.specs.Pages.{Private, Shared, Slot, any_page, is_shared_as}
+use Rattle.page_model.proofs.Places.{again}
+use Rattle.share_table.specs.TableMaps.{SharedFrame, count_at}
+use Rattle.merge_core.specs.Names.{bytes_in, known_at}
+use Rattle.merge_core.specs.View.{names_of, guests_of, notes_of}
+use Rattle.merge_core.proofs.FrameLemmas.{bytes_other}
+use Rattle.merge_core.proofs.Matches.{same_any}
+use Rattle.merge_core.proofs.Arms.{matched_joined, joined_outcome}
+use Rattle.merge_core.proofs.offer.join_match.Goals as goal
+
+pub join-requires-clause-found : goal.join-requires-clause-found
+join-requires-clause-found g c κs live = rw (c.unmap.ensures.table, c.clear_hint.ensures.shared) c.requires.found
+
+pub join-requires-clause-salt : goal.join-requires-clause-salt
+join-requires-clause-salt g c κs live = rw (c.unmap.ensures.notes, c.clear_hint.ensures.notes) c.requires.salt
+
+pub returns-clause-step : goal.returns-clause-step
+returns-clause-step g c =
+    let held = c.args.held.now in
+    let f : SharedFrame = record { mpn = c.args.theirs; count = count_at held.table c.args.code } in
+    let differ : c.args.theirs ≢ c.args.mpn = c.requires.whole.ties.shares.apart c.args.page.guest c.args.page.ppn c.args.page.salt c.args.mpn c.args.kept c.args.code f c.requires.page c.requires.found in
+    let guests = rw (c.unmap.ensures.guests, c.clear_hint.ensures.guests, c.unmap.ensures.frames, c.clear_hint.ensures.frames, bytes_other held.frames c.args.mpn c.args.theirs None differ, c.requires.bytes) at c.join.ensures.guests in
+    let count = rw (c.unmap.ensures.frames, c.clear_hint.ensures.frames, bytes_other held.frames c.args.mpn c.args.theirs None differ, c.requires.bytes) at c.join.ensures.count in
+    let any = rw (c.requires.salt, c.requires.bytes) at (same_any g.H.HashFunction.hash_of (names_of held) held.frames (notes_of held) held.table.shared c.args.code f c.requires.whole.ties.shares c.requires.found) in
+    joined_outcome c.join.result c.args.page.salt (bytes_in held.frames c.args.mpn) _ _ (guests ∙ again _ c.args.page.guest c.args.page.ppn _ _ ∙ again (guests_of held) c.args.page.guest c.args.page.ppn _ _) count
+    ∙ sym (matched_joined g.H.HashFunction.hash_of (guests_of held) c.args.page.guest c.args.page.ppn c.args.page.salt (bytes_in held.frames c.args.mpn) c.args.code any)

@@ -1,0 +1,29 @@
+use Rattle.std.proofs.Common.{◌≡◌, ℕ, Option, Some, None, refl, ap, sym, ◌∙◌}
+use Rattle.std.specs.Prelude.{option_map}
+use Rattle.page_model.specs.Steps.{key_of}
+use Rattle.page_model.specs.declared.verdict.Verdict.TheVariants as v
+use Rattle.share_table.specs.TableMaps.{hint_at}
+use Rattle.share_table.specs.declared.entries.HintFrame.{HintFrame}
+use Rattle.merge_core.specs.Names.{bytes_in}
+use Rattle.merge_core.specs.View.{names_of, guests_of}
+use Rattle.merge_core.proofs.Holders.{found_is, found_none, kept_own}
+use Rattle.merge_core.proofs.Arms.{offered_hinted, offered_kept, outcome}
+use Rattle.merge_core.proofs.offer.offer.Goals as goal
+
+pub returns-in-Some-clause-step : goal.returns-in-Some-clause-step
+returns-in-Some-clause-step g c =
+    let held = c.args.held.now in
+    let key : ℕ = key_of c.args.code in
+    let fits = rw c.in-Some.is at c.requires.fits in
+    let own = kept_own key c.in-Some.field-0 fits in
+    let page = rw (c.in-Some.is, own) at c.requires.page in
+    let t = c.requires.whole.ties.hinted in
+    sym (offered_kept g.H.HashFunction.hash_of (guests_of held) c.args.page.guest c.args.page.ppn c.args.page.salt (bytes_in held.frames c.args.mpn) key (found_is (names_of held) held.frames held.table.hints key t (record { guest = c.args.page.guest; ppn = c.args.page.ppn; mpn = c.args.mpn }) (t.there c.args.page.guest c.args.page.ppn c.args.page.salt c.args.mpn key page)))
+
+pub returns-in-None-find_hint-clause-step : goal.returns-in-None-find_hint-clause-step
+returns-in-None-find_hint-clause-step g c =
+    let held = c.args.held.now in
+    let key : ℕ = key_of c.args.code in
+    let none = sym (rw (c.in-None-find_hint.is, c.key_of-key.ensures) at c.find_hint.ensures) in
+    let guests = rw c.key_of-key.ensures at c.put_hint.ensures.guests in
+    outcome v.Hinted _ _ guests ∙ sym (offered_hinted g.H.HashFunction.hash_of (guests_of held) c.args.page.guest c.args.page.ppn c.args.page.salt (bytes_in held.frames c.args.mpn) key (found_none (names_of held) held.frames held.table.hints key c.requires.whole.ties.hinted none))

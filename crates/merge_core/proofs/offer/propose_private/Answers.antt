@@ -1,0 +1,13 @@
+use Rattle.std.proofs.Common.{◌≡◌, ℕ, Some, None, refl, ap, sym, ◌∙◌, arith}
+use Rattle.page_model.specs.Pages.{Private, Guest, Slot, with_slot}
+use Rattle.page_model.specs.Steps.{matched, key_of}
+use Rattle.merge_core.specs.Names.{bytes_in}
+use Rattle.merge_core.specs.View.{guests_of}
+use Rattle.merge_core.proofs.Arms.{proposed_matched}
+use Rattle.merge_core.proofs.offer.propose_private.Goals as goal
+
+pub returns-clause-step : goal.returns-clause-step
+returns-clause-step g c =
+    let held = c.args.held.now in
+    let e = rw (c.settle_hint-kept.ensures.guests, c.settle_hint-kept.ensures.frames, c.settle_hint-kept.ensures.kept, c.key_of.ensures, c.hash_frame-code.ensures.shown, c.hash_frame-code.ensures.frames) at c.find_match.ensures.step in
+    e ∙ sym (proposed_matched g.H.HashFunction.hash_of (guests_of held) c.args.page.guest c.args.page.ppn c.args.page.salt (bytes_in held.frames c.args.mpn) c.hash_frame-code.result c.args.hint c.hash_frame-code.ensures.hash)

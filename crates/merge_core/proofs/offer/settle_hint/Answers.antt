@@ -1,0 +1,19 @@
+use Rattle.std.proofs.Common.{◌≡◌, refl, ap, sym, ◌∙◌, ℕ, Option, Some, None}
+use Rattle.page_model.specs.Pages.{Private, with_slot}
+use Rattle.page_model.proofs.Places.{unchanged}
+use Rattle.merge_core.specs.Names.{bytes_in}
+use Rattle.merge_core.specs.View.{names_of, guests_of}
+use Rattle.merge_core.proofs.Views.{page_in_is}
+use Rattle.merge_core.proofs.offer.settle_hint.Goals as goal
+
+pub returns-in-None-clause-guests : goal.returns-in-None-clause-guests
+returns-in-None-clause-guests g c =
+    let held = c.args.held.now in
+    let page = rw c.in-None.is at c.requires.page in
+    sym (unchanged (guests_of held) c.args.page.guest c.args.page.ppn c.args.page.salt (Private (bytes_in held.frames c.args.mpn) None) (page_in_is held.frames (names_of held) c.args.page.guest c.args.page.ppn c.args.page.salt (Private c.args.mpn None) page))
+
+pub returns-then-own-key-clause-guests : goal.returns-then-own-key-clause-guests
+returns-then-own-key-clause-guests g c =
+    let held = c.args.held.now in
+    let page = rw c.in-Some.is at c.requires.page in
+    sym (unchanged (guests_of held) c.args.page.guest c.args.page.ppn c.args.page.salt (Private (bytes_in held.frames c.args.mpn) (Some c.in-Some.own)) (page_in_is held.frames (names_of held) c.args.page.guest c.args.page.ppn c.args.page.salt (Private c.args.mpn (Some c.in-Some.own)) page))

@@ -1,0 +1,28 @@
+use Rattle.std.proofs.Common.{◌≡◌, refl, ap, sym, ◌∙◌, arith, ℕ, List, Some, None, length, true, false}
+use Rattle.std.specs.Prelude.{◌==◌}
+use Rattle.page_model.specs.Pages.{Guest, peers, used, with_slot, Private, Shared, Unmapped, written}
+use Rattle.page_model.specs.Steps.{Outcome, stays}
+use Rattle.page_model.specs.declared.verdict.Verdict.{Verdict}
+use Rattle.page_model.specs.declared.verdict.Verdict.TheVariants as v
+use Rattle.page_model.proofs.Places.{again, unchanged}
+use Rattle.merge_core.specs.Names.{bytes_in}
+use Rattle.merge_core.specs.View.{names_of, guests_of}
+use Rattle.merge_core.proofs.Arms.{stored_taken, stored_full, stored_copied, released_last, released_more}
+use Rattle.merge_core.proofs.serve.release_shared.Goals as goal
+
+outcome : (v : Verdict) (x y : List Guest) → x ≡ y → stays x v ≡ stays y v
+outcome v x y e = ap (λ (z : List Guest). stays z v) e
+
+pub returns-then-count-eq1-clause-step : goal.returns-then-count-eq1-clause-step
+returns-then-count-eq1-clause-step g c =
+    let held = c.args.held.now in
+    let p = rw (c.hash_frame-code.ensures.shown, c.hash_frame-code.ensures.frames) at c.peers_of-count.ensures.peers in
+    let e = rw (c.keep.ensures.guests, c.hash_frame-code.ensures.shown, c.hash_frame-code.ensures.frames) at c.unmap.ensures.guests in
+    outcome (v.Released true) _ _ (e ∙ again (guests_of held) c.args.page.guest c.args.page.ppn _ _) ∙ sym (released_last (guests_of held) c.args.page.guest c.args.page.ppn c.args.page.salt (bytes_in held.frames c.args.mpn) (sym p ∙ c.if-count-eq1.true))
+
+pub returns-clause-step : goal.returns-clause-step
+returns-clause-step g c =
+    let held = c.args.held.now in
+    let p = rw (c.hash_frame-code.ensures.shown, c.hash_frame-code.ensures.frames) at c.peers_of-count.ensures.peers in
+    let e = rw c.hash_frame-code.ensures.shown at c.leave.ensures.guests in
+    outcome (v.Released false) _ _ e ∙ sym (released_more (guests_of held) c.args.page.guest c.args.page.ppn c.args.page.salt (bytes_in held.frames c.args.mpn) (λ e. c.if-count-eq1.false (p ∙ e)))

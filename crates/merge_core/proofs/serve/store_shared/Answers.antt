@@ -1,0 +1,36 @@
+use Rattle.std.proofs.Common.{◌≡◌, refl, ap, sym, ◌∙◌, arith, ℕ, List, Some, None, length, true, false}
+use Rattle.std.specs.Prelude.{◌==◌}
+use Rattle.page_model.specs.Pages.{Guest, peers, used, with_slot, Private, Shared, Unmapped, written}
+use Rattle.page_model.specs.Steps.{Outcome, stays}
+use Rattle.page_model.specs.declared.verdict.Verdict.{Verdict}
+use Rattle.page_model.specs.declared.verdict.Verdict.TheVariants as v
+use Rattle.page_model.proofs.Places.{again, unchanged}
+use Rattle.merge_core.specs.Names.{bytes_in}
+use Rattle.merge_core.specs.View.{names_of, guests_of}
+use Rattle.merge_core.proofs.Arms.{stored_taken, stored_full, stored_copied, released_last, released_more}
+use Rattle.merge_core.proofs.serve.store_shared.Goals as goal
+
+outcome : (v : Verdict) (x y : List Guest) → x ≡ y → stays x v ≡ stays y v
+outcome v x y e = ap (λ (z : List Guest). stays z v) e
+
+pub returns-then-count-eq1-clause-step : goal.returns-then-count-eq1-clause-step
+returns-then-count-eq1-clause-step g c =
+    let held = c.args.held.now in
+    let p = rw (c.hash_frame-code.ensures.shown, c.hash_frame-code.ensures.frames) at c.peers_of-count.ensures.peers in
+    let e = rw (c.keep.ensures.guests, c.keep.ensures.frames, c.hash_frame-code.ensures.shown, c.hash_frame-code.ensures.frames) at c.write.ensures.guests in
+    outcome v.Taken _ _ (e ∙ again (guests_of held) c.args.page.guest c.args.page.ppn _ _) ∙ sym (stored_taken (length held.frames) (guests_of held) c.args.page.guest c.args.page.ppn c.args.at c.args.bytes.now c.args.page.salt (bytes_in held.frames c.args.mpn) (sym p ∙ c.if-count-eq1.true))
+
+pub returns-then-is_full-clause-step : goal.returns-then-is_full-clause-step
+returns-then-is_full-clause-step g c =
+    let held = c.args.held.now in
+    let p = rw (c.hash_frame-code.ensures.shown, c.hash_frame-code.ensures.frames) at c.peers_of-count.ensures.peers in
+    let full = rw (c.if-is_full.true, c.hash_frame-code.ensures.shown, c.hash_frame-code.ensures.frames) at c.is_full.ensures.full in
+    outcome v.NoFrame _ _ c.hash_frame-code.ensures.shown ∙ sym (stored_full (length held.frames) (guests_of held) c.args.page.guest c.args.page.ppn c.args.at c.args.bytes.now c.args.page.salt (bytes_in held.frames c.args.mpn) (λ e. c.if-count-eq1.false (p ∙ e)) (sym full))
+
+pub returns-clause-step : goal.returns-clause-step
+returns-clause-step g c =
+    let held = c.args.held.now in
+    let p = rw (c.hash_frame-code.ensures.shown, c.hash_frame-code.ensures.frames) at c.peers_of-count.ensures.peers in
+    let full = rw (c.if-is_full.false, c.hash_frame-code.ensures.shown, c.hash_frame-code.ensures.frames) at c.is_full.ensures.full in
+    let e = rw (c.map_copy-copy.ensures.guests, c.map_copy-copy.ensures.bytes, c.leave.ensures.guests, c.leave.ensures.frames, c.hash_frame-code.ensures.shown, c.hash_frame-code.ensures.frames) at c.write-2.ensures.guests in
+    outcome v.Copied _ _ (e ∙ again (with_slot (guests_of held) c.args.page.guest c.args.page.ppn Unmapped) c.args.page.guest c.args.page.ppn _ _ ∙ again (guests_of held) c.args.page.guest c.args.page.ppn _ _) ∙ sym (stored_copied (length held.frames) (guests_of held) c.args.page.guest c.args.page.ppn c.args.at c.args.bytes.now c.args.page.salt (bytes_in held.frames c.args.mpn) (λ e. c.if-count-eq1.false (p ∙ e)) (sym full))

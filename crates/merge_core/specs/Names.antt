@@ -1,0 +1,48 @@
+-- The guests with an MPN in place of each page's bytes, and the bytes that they stand for.
+use Rattle.std.specs.Prelude.{◌≡◌, ℕ, List, [], map, replicate, Option, Some, None, unwrap_or, slice_index_or}
+use Rattle.page_model.specs.Pages.{SlotOf, Slot, Unmapped, Private, Shared, GuestOf, Guest, State}
+use Rattle.page_model.specs.Replay.{Shape}
+use Rattle.machine_frames.specs.FrameMap.{FrameMap, frame}
+
+abbrev pub Names : Type 0
+Names = List (GuestOf ℕ)
+
+-- the bytes of a frame
+unfoldable pub bytes_in : FrameMap → ℕ → List ℕ
+bytes_in frames mpn = unwrap_or (frame frames mpn) []
+
+-- the page with its frame's bytes
+abbrev pub slot_in : FrameMap → SlotOf ℕ → Slot
+slot_in frames Unmapped = Unmapped
+slot_in frames (Private mpn hint) = Private (bytes_in frames mpn) hint
+slot_in frames (Shared mpn) = Shared (bytes_in frames mpn)
+
+abbrev pub guest_in : FrameMap → GuestOf ℕ → Guest
+guest_in frames g = record { salt = g.salt; slots = map (slot_in frames) g.slots }
+
+abbrev pub guests_in : FrameMap → Names → List Guest
+guests_in frames names = map (guest_in frames) names
+
+-- a guest with no page mapped
+abbrev pub empty_name : Shape → GuestOf ℕ
+empty_name g = record { salt = g.salt; slots = replicate g.pages Unmapped }
+
+abbrev pub empty_names : List Shape → Names
+empty_names shapes = map empty_name shapes
+
+-- the page's MPN
+abbrev pub frame_of : SlotOf ℕ → Option ℕ
+frame_of Unmapped = None
+frame_of (Private mpn hint) = Some mpn
+frame_of (Shared mpn) = Some mpn
+
+-- what is known of a frame: the salt of its page, and perhaps its hash
+pub record Known : Type 0 where
+  pub salt : ℕ
+  pub hash : Option ℕ
+
+abbrev pub unknown : Known
+unknown = record { salt = 0; hash = None }
+
+abbrev pub known_at : List Known → ℕ → Known
+known_at notes mpn = slice_index_or notes mpn unknown

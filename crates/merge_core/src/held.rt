@@ -1,0 +1,46 @@
+//! What a core keeps.
+use machine_frames::Frames;
+use share_table::Table;
+use std::alloc::{Allocator, Global};
+
+/// A page: its frame, and a private page's hint.
+#[derive(Clone, Copy)]
+pub enum PageEntry {
+    Unmapped,
+    Private(u32, Option<u32>),
+    Shared(u32),
+}
+
+/// Where a page is: its guest, its number, and its guest's salt.
+#[derive(Clone, Copy)]
+pub struct Place {
+    pub guest: usize,
+    pub ppn: usize,
+    pub salt: u32,
+}
+
+/// A guest's salt, and its pages by their numbers.
+#[derive(Drop)]
+pub struct GuestPages<A: Allocator = Global> {
+    pub salt: u32,
+    pub pages: Vec<PageEntry, A>,
+}
+
+/// What is known of a frame.
+#[derive(Clone, Copy)]
+pub struct Note {
+    pub salt: u32,
+    pub hash: Option<u64>,
+}
+
+/// The parts of a core.
+#[derive(Drop)]
+pub struct Held<H, A: Allocator = Global> {
+    pub hash: H,
+    pub frames: Frames<A>,
+    pub table: Table<A>,
+    pub guests: Vec<GuestPages<A>, A>,
+    pub notes: Vec<Note, A>,
+    /// How many hints the table has.
+    pub hints: u32,
+}

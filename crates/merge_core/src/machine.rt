@@ -1,0 +1,177 @@
+//! The core.
+ghost use Rattle.std.specs.Prelude.{◌≡◌, ◌+◌, ◌<◌, length, slice_get, is_some, None, Some, IsSome, IfOk, IfSome, MatchResult};
+ghost use Rattle.std.specs.Option.{option_map, option_and_then};
+ghost use Rattle.page_model.specs.Limits.{shapes, AreFrames, AreGuests, ArePages};
+ghost use Rattle.page_model.specs.Pages.{page_at, totals, is_mapped, bytes_of};
+ghost use Rattle.page_model.specs.Replay.{empty_state};
+ghost use Rattle.page_model.specs.Steps.{Step, step};
+ghost use Rattle.page_model.specs.Stored.{byte_at, text_at};
+ghost use Rattle.machine_frames.specs.FrameMap.{frame, no_frames};
+ghost use Rattle.share_table.specs.TableMaps.{empty_table};
+ghost use Rattle.merge_core.specs.Names.{frame_of};
+ghost use Rattle.merge_core.specs.Refusals.{NoCoreFor};
+ghost use Rattle.merge_core.specs.Shown.{state_of, FramesOfPages, TableOfPages};
+
+use crate::fault::CoreFault;
+use crate::held::{Held, PageEntry};
+use crate::make::{are_pages, new_held};
+use crate::moves::find;
+use crate::offer::propose;
+use crate::serve::{bytes_at, load, release, store};
+use crate::tally::report;
+use machine_frames::Frames;
+use page_digest::PageHash;
+use page_model::{MAX_FRAMES, MAX_GUESTS, Report, Request, Verdict};
+use share_table::Table;
+use std::alloc::{Allocator, Global};
+use std::marker::Model;
+
+/// A machine: its guests' pages in frames, and the number of requests so far.
+#[derive(Drop)]
+pub struct Core<H: PageHash, A: Allocator = Global> {
+    entries: u32,
+    held: Held<H, A>,
+}
+
+impl<H: PageHash, A: Allocator> Model for Core<H, A> {
+    ghost use Rattle.merge_core.specs.Shown.{Shown, shown_code};
+
+    ghost Value = { Shown };
+
+    ghost coded = { shown_code };
+
+    ghost use Rattle.merge_core.specs.View.{names_of, Whole};
+
+    ghost view = { λ c. record { entries = c.entries; names = names_of c.held; frames = c.held.frames; table = c.held.table } };
+
+    ghost invariant = { λ c. Whole H.hash_of c.held };
+}
+
+impl<H: PageHash + Drop, A: Allocator + Clone> Core<H, A> {
+    /// A machine before its first request: guest i has `pages[i]` pages and the salt `salts[i]`.
+    ///
+    /// All memory of the machine is taken here.
+    pub fn new(
+        alloc: A,
+        frames: u32,
+        pages: &[u32],
+        salts: &[u32],
+        hash: H,
+    ) -> Result<Core<H, A>, CoreFault>
+        ensures empty { IfOk result (λ core. state_of core ≡ empty_state frames (shapes salts.now pages.now)) }
+        ensures guests { IfOk result (λ core. length (state_of core).guests ≡ length pages.now) }
+        ensures frames { IfOk result (λ core. core.frames ≡ no_frames frames) }
+        ensures table { IfOk result (λ core. core.table ≡ empty_table frames) }
+        ensures fault { MatchResult result (λ _. AreFrames frames × AreGuests salts.now pages.now × ArePages pages.now) (λ fault. NoCoreFor frames pages.now salts.now fault) }
+    {
+        if frames == 0 || frames > MAX_FRAMES {
+            return Err(CoreFault::Frames);
+        }
+        if pages.is_empty() || pages.len() > MAX_GUESTS || salts.len() != pages.len() {
+            return Err(CoreFault::Guests);
+        }
+        if !are_pages(pages) {
+            return Err(CoreFault::Pages);
+        }
+        match new_held(alloc, frames, pages, salts, hash) {
+            Err(_) => Err(CoreFault::OutOfMemory),
+            Ok(held) => Ok(Core { entries: 0, held }),
+        }
+    }
+}
+
+impl<H: PageHash, A: Allocator> Core<H, A> {
+    /// Serves one request of a guest, and tells the verdict. It takes no memory.
+    #[tactic(auto, unfolding(page_model::specs::Steps::step, page_model::specs::Steps::answered))]
+    pub fn apply(&mut self, guest: u8, request: &Request) -> Verdict
+        requires guest { guest < length (state_of self.old).guests }
+        requires room { self.old.entries < 16777216 }
+        ensures step { record { state = state_of self.new; verdict = result } ≡ step H.hash_of (state_of self.old) guest request.now }
+        ensures entries { self.new.entries ≡ self.old.entries + 1 }
+        ensures guests { length (state_of self.new).guests ≡ length (state_of self.old).guests }
+    {
+        self.entries += 1;
+        let guest = guest as usize;
+        match request {
+            Request::Propose(ppn) => propose(&mut self.held, guest, *ppn),
+            Request::Store(r) => store(&mut self.held, guest, r),
+            Request::Load(r) => load(&self.held, guest, r),
+            Request::Release(ppn) => release(&mut self.held, guest, *ppn),
+            Request::Count => Verdict::Totals(report(&self.held, self.entries)),
+            Request::Close => Verdict::Closed,
+        }
+    }
+
+    /// What the machine counts.
+    pub fn report(&self) -> Report
+        ensures { result ≡ totals self.now.entries (state_of self.now).guests }
+    {
+        report(&self.held, self.entries)
+    }
+
+    /// The byte of a page at a place, 0 where the page is unmapped.
+    pub fn read(&self, guest: u8, ppn: u32, at: u32) -> u8
+        requires page { IsSome (page_at (state_of self.now).guests guest ppn) }
+        requires at { at < 4096 }
+        ensures { result ≡ byte_at (state_of self.now) guest ppn at }
+    {
+        match self.frame(guest, ppn) {
+            None => 0,
+            Some(mpn) => bytes_at(&self.held.frames, mpn)[at as usize],
+        }
+    }
+
+    /// The requests so far.
+    pub fn entries(&self) -> u32
+        ensures { result ≡ self.now.entries }
+    {
+        self.entries
+    }
+
+    /// How many guests there are.
+    pub fn guests(&self) -> u8
+        ensures { result ≡ length (state_of self.now).guests }
+    {
+        self.held.guests.len() as u8
+    }
+
+    /// How many pages a guest has.
+    pub fn pages(&self, guest: u8) -> u32
+        requires { guest < length (state_of self.now).guests }
+        ensures { Some result ≡ option_map (λ g. length g.slots) (slice_get (state_of self.now).guests guest) }
+    {
+        let g = &self.held.guests[guest as usize];
+        g.pages.len() as u32
+    }
+
+    /// The machine page number (MPN) of a page's frame, `None` where the page is unmapped.
+    pub fn frame(&self, guest: u8, ppn: u32) -> Option<u32>
+        requires { IsSome (page_at (state_of self.now).guests guest ppn) }
+        ensures name { result ≡ option_and_then (λ x. frame_of x.1) (page_at self.now.names guest ppn) }
+        ensures mapped { Some (is_some result) ≡ option_map (λ x. is_mapped x.1) (page_at (state_of self.now).guests guest ppn) }
+        ensures bytes { IfSome result (λ mpn. frame self.now.frames mpn ≡ text_at (state_of self.now).guests guest ppn) }
+    {
+        match find(&self.held, guest as usize, ppn as usize) {
+            None => unreachable!(),
+            Some((_, PageEntry::Unmapped)) => None,
+            Some((_, PageEntry::Private(mpn, _))) => Some(mpn),
+            Some((_, PageEntry::Shared(mpn))) => Some(mpn),
+        }
+    }
+
+    /// The frames. Each mapped page's frame is taken, and each taken frame is some page's.
+    pub fn frames(&self) -> &Frames<A>
+        ensures value { result.now ≡ self.now.frames }
+        ensures pages { FramesOfPages self.now }
+    {
+        &self.held.frames
+    }
+
+    /// The table of shared frames and hints.
+    pub fn table(&self) -> &Table<A>
+        ensures value { result.now ≡ self.now.table }
+        ensures pages { TableOfPages H.hash_of self.now }
+    {
+        &self.held.table
+    }
+}

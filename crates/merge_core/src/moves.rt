@@ -1,0 +1,316 @@
+//! The single changes of a page.
+ghost use Rattle.std.specs.Prelude.{◌≡◌, ◌+◌, ◌<◌, ◌≤◌, ◌==◌, ◌^◌, length, vec_len, false, Option, None, Some, option_map, slice_set, IfSome, IsSome};
+ghost use Rattle.page_model.specs.Pages.{blank, written, with_slot, page_at, used, peers};
+ghost use Rattle.page_model.specs.Pages.{SlotOf};
+ghost use Rattle.page_model.specs.Pages as s;
+ghost use Rattle.merge_core.specs.Names.{bytes_in, slot_in, frame_of, known_at};
+ghost use Rattle.merge_core.specs.View.{slot_of, names_in, names_of, guests_of, notes_in, notes_of, Whole};
+ghost use Rattle.machine_frames.specs.FrameMap as fm;
+ghost use Rattle.share_table.specs.TableMaps.{shared_at, hint_at, count_at, without_hint};
+
+use crate::held::{GuestPages, Held, Note, PageEntry, Place};
+use machine_frames::Frames;
+use page_digest::PageHash;
+use std::alloc::Allocator;
+
+/// A page's entry, after its guest's salt.
+fn find_entry<A: Allocator>(guests: &[GuestPages<A>], guest: usize, ppn: usize) -> Option<(u32, PageEntry)>
+    ensures within { IfSome result (λ _. guest < length guests.now) }
+    ensures name { option_map (λ x. (x.0, slot_of x.1)) result ≡ page_at (names_in guests.now) guest ppn }
+{
+    if guest >= guests.len() {
+        return None;
+    }
+    let g = &guests[guest];
+    if ppn >= g.pages.len() {
+        return None;
+    }
+    Some((g.salt, g.pages[ppn]))
+}
+
+/// A page, after its guest's salt.
+pub fn find<H, A: Allocator>(held: &Held<H, A>, guest: usize, ppn: usize) -> Option<(u32, PageEntry)>
+    ensures within { IfSome result (λ _. guest < length (names_of held.now)) }
+    ensures name { option_map (λ x. (x.0, slot_of x.1)) result ≡ page_at (names_of held.now) guest ppn }
+    ensures page { option_map (λ x. (x.0, slot_in held.now.frames (slot_of x.1))) result ≡ page_at (guests_of held.now) guest ppn }
+{
+    find_entry(held.guests.as_slice(), guest, ppn)
+}
+
+/// Whether no frame is free.
+pub fn is_full<H: PageHash, A: Allocator>(held: &Held<H, A>) -> bool
+    requires { Whole H.hash_of held.now }
+    ensures full { result ≡ (used (guests_of held.now) == length held.now.frames) }
+    ensures room { result ≡ (fm.used held.now.frames == length held.now.frames) }
+{
+    held.frames.used() == held.frames.total()
+}
+
+/// Takes a free frame.
+#[tactic(auto, unfolding(page_model::specs::Pages::blank))]
+fn new_frame<A: Allocator>(frames: &mut Frames<A>) -> u32
+    requires room { (fm.used frames.old == length frames.old) ≡ false }
+    ensures within { result < length frames.old }
+    ensures free { fm.frame frames.old result ≡ None }
+    ensures taken { frames.new ≡ slice_set frames.old result (Some blank) }
+{
+    match frames.take_zeroed() {
+        Some(mpn) => mpn,
+        None => unreachable!(),
+    }
+}
+
+/// Notes a frame's salt, and that its hash isn't known.
+fn set_note<A: Allocator>(notes: &mut Vec<Note, A>, mpn: u32, salt: u32)
+    requires mpn { mpn < length (notes_in notes.old.items) }
+    ensures notes { notes_in notes.new.items ≡ slice_set (notes_in notes.old.items) mpn (record { salt = salt; hash = None }) }
+{
+    notes[mpn as usize] = Note { salt, hash: None };
+}
+
+/// Maps a page to a frame of zeros.
+pub fn map_zeroed<H: PageHash, A: Allocator>(held: &mut Held<H, A>, page: Place) -> u32
+    requires whole { Whole H.hash_of held.old }
+    requires page { page_at (names_of held.old) page.guest page.ppn ≡ Some (page.salt, s.Unmapped) }
+    requires room { (fm.used held.old.frames == length held.old.frames) ≡ false }
+    ensures whole { Whole H.hash_of held.new }
+    ensures total { length held.new.frames ≡ length held.old.frames }
+    ensures name { names_of held.new ≡ with_slot (names_of held.old) page.guest page.ppn (s.Private result None) }
+    ensures bytes { bytes_in held.new.frames result ≡ blank }
+    ensures page { page_at (names_of held.new) page.guest page.ppn ≡ Some (page.salt, s.Private result None) }
+    ensures guests { guests_of held.new ≡ with_slot (guests_of held.old) page.guest page.ppn (s.Private blank None) }
+{
+    let mpn = new_frame(&mut held.frames);
+    set_note(&mut held.notes, mpn, page.salt);
+    set_page(&mut held.guests, page, PageEntry::Private(mpn, None));
+    mpn
+}
+
+/// Changes one page's entry.
+fn set_page<A: Allocator>(guests: &mut Vec<GuestPages<A>, A>, page: Place, entry: PageEntry)
+    requires there { IsSome (page_at (names_in guests.old.items) page.guest page.ppn) }
+    ensures names { names_in guests.new.items ≡ with_slot (names_in guests.old.items) page.guest page.ppn (slot_of entry) }
+{
+    let g = &mut guests[page.guest];
+    g.pages[page.ppn] = entry;
+}
+
+/// Writes bytes into a private page.
+pub fn write<H: PageHash, A: Allocator>(held: &mut Held<H, A>, page: Place, mpn: u32, hint: Option<u32>, at: u32, bytes: &[u8])
+    requires whole { Whole H.hash_of held.old }
+    requires page { page_at (names_of held.old) page.guest page.ppn ≡ Some (page.salt, s.Private mpn hint) }
+    requires fits { at + length bytes.now ≤ 4096 }
+    ensures whole { Whole H.hash_of held.new }
+    ensures total { length held.new.frames ≡ length held.old.frames }
+    ensures name { names_of held.new ≡ names_of held.old }
+    ensures guests { guests_of held.new ≡ with_slot (guests_of held.old) page.guest page.ppn (s.Private (written (bytes_in held.old.frames mpn) at bytes.now) hint) }
+{
+    held.frames.write(mpn, at, bytes);
+    set_note(&mut held.notes, mpn, page.salt);
+}
+
+/// Takes a free frame with the bytes of another.
+fn new_copy<A: Allocator>(frames: &mut Frames<A>, from: u32) -> u32
+    requires from { fm.IsTaken frames.old from }
+    requires room { (fm.used frames.old == length frames.old) ≡ false }
+    ensures within { result < length frames.old }
+    ensures free { fm.frame frames.old result ≡ None }
+    ensures taken { frames.new ≡ slice_set frames.old result (fm.frame frames.old from) }
+{
+    match frames.take_copy(from) {
+        Some(mpn) => mpn,
+        None => unreachable!(),
+    }
+}
+
+/// Maps a page to a copy of a frame.
+pub fn map_copy<H: PageHash, A: Allocator>(held: &mut Held<H, A>, page: Place, from: u32) -> u32
+    requires whole { Whole H.hash_of held.old }
+    requires page { page_at (names_of held.old) page.guest page.ppn ≡ Some (page.salt, s.Unmapped) }
+    requires from { fm.IsTaken held.old.frames from }
+    requires room { (fm.used held.old.frames == length held.old.frames) ≡ false }
+    ensures whole { Whole H.hash_of held.new }
+    ensures total { length held.new.frames ≡ length held.old.frames }
+    ensures bytes { bytes_in held.new.frames result ≡ bytes_in held.old.frames from }
+    ensures page { page_at (names_of held.new) page.guest page.ppn ≡ Some (page.salt, s.Private result None) }
+    ensures guests { guests_of held.new ≡ with_slot (guests_of held.old) page.guest page.ppn (s.Private (bytes_in held.old.frames from) None) }
+{
+    let mpn = new_copy(&mut held.frames, from);
+    set_note(&mut held.notes, mpn, page.salt);
+    set_page(&mut held.guests, page, PageEntry::Private(mpn, None));
+    mpn
+}
+
+/// Unmaps a private page that has no hint.
+pub fn unmap<H: PageHash, A: Allocator>(held: &mut Held<H, A>, page: Place, mpn: u32)
+    requires whole { Whole H.hash_of held.old }
+    requires page { page_at (names_of held.old) page.guest page.ppn ≡ Some (page.salt, s.Private mpn None) }
+    ensures whole { Whole H.hash_of held.new }
+    ensures total { length held.new.frames ≡ length held.old.frames }
+    ensures frames { held.new.frames ≡ slice_set held.old.frames mpn None }
+    ensures table { held.new.table ≡ held.old.table }
+    ensures notes { held.new.notes ≡ held.old.notes }
+    ensures name { names_of held.new ≡ with_slot (names_of held.old) page.guest page.ppn s.Unmapped }
+    ensures page { page_at (names_of held.new) page.guest page.ppn ≡ Some (page.salt, s.Unmapped) }
+    ensures guests { guests_of held.new ≡ with_slot (guests_of held.old) page.guest page.ppn s.Unmapped }
+{
+    held.frames.give_back(mpn);
+    set_page(&mut held.guests, page, PageEntry::Unmapped);
+}
+
+/// Drops a private page's hint.
+pub fn drop_hint<H: PageHash, A: Allocator>(held: &mut Held<H, A>, page: Place, mpn: u32, key: u32)
+    requires whole { Whole H.hash_of held.old }
+    requires page { page_at (names_of held.old) page.guest page.ppn ≡ Some (page.salt, s.Private mpn (Some key)) }
+    ensures whole { Whole H.hash_of held.new }
+    ensures frames { held.new.frames ≡ held.old.frames }
+    ensures table { held.new.table ≡ without_hint held.old.table key }
+    ensures notes { held.new.notes ≡ held.old.notes }
+    ensures name { names_of held.new ≡ with_slot (names_of held.old) page.guest page.ppn (s.Private mpn None) }
+    ensures page { page_at (names_of held.new) page.guest page.ppn ≡ Some (page.salt, s.Private mpn None) }
+    ensures guests { guests_of held.new ≡ with_slot (guests_of held.old) page.guest page.ppn (s.Private (bytes_in held.old.frames mpn) None) }
+{
+    held.table.drop_hint(key);
+    held.hints -= 1;
+    set_page(&mut held.guests, page, PageEntry::Private(mpn, None));
+}
+
+/// The hash of a page's frame, computed only where it isn't known.
+pub fn hash_frame<H: PageHash, A: Allocator>(held: &mut Held<H, A>, mpn: u32, salt: u32) -> u64
+    requires whole { Whole H.hash_of held.old }
+    requires taken { fm.IsTaken held.old.frames mpn }
+    requires salt { (known_at (notes_of held.old) mpn).salt ≡ salt }
+    ensures hash { result ≡ H.hash_of salt (bytes_in held.old.frames mpn) }
+    ensures whole { Whole H.hash_of held.new }
+    ensures frames { held.new.frames ≡ held.old.frames }
+    ensures table { held.new.table ≡ held.old.table }
+    ensures names { names_of held.new ≡ names_of held.old }
+    ensures shown { guests_of held.new ≡ guests_of held.old }
+{
+    if let Some(code) = known_hash(&held.notes, mpn) {
+        return code;
+    }
+    let code = held.hash.hash(salt, held.frames.bytes(mpn));
+    learn(held, mpn, salt, code);
+    code
+}
+
+/// Notes a frame's hash.
+pub fn learn<H: PageHash, A: Allocator>(held: &mut Held<H, A>, mpn: u32, salt: u32, code: u64)
+    requires whole { Whole H.hash_of held.old }
+    requires taken { fm.IsTaken held.old.frames mpn }
+    requires salt { (known_at (notes_of held.old) mpn).salt ≡ salt }
+    requires code { code ≡ H.hash_of salt (bytes_in held.old.frames mpn) }
+    ensures whole { Whole H.hash_of held.new }
+    ensures frames { held.new.frames ≡ held.old.frames }
+    ensures table { held.new.table ≡ held.old.table }
+    ensures names { names_of held.new ≡ names_of held.old }
+    ensures shown { guests_of held.new ≡ guests_of held.old }
+{
+    note_hash(&mut held.notes, mpn, salt, code);
+}
+
+fn known_hash<A: Allocator>(notes: &Vec<Note, A>, mpn: u32) -> Option<u64>
+    requires mpn { mpn < length (notes_in notes.now.items) }
+    ensures hash { result ≡ (known_at (notes_in notes.now.items) mpn).hash }
+{
+    notes[mpn as usize].hash
+}
+
+fn note_hash<A: Allocator>(notes: &mut Vec<Note, A>, mpn: u32, salt: u32, code: u64)
+    requires mpn { mpn < length (notes_in notes.old.items) }
+    ensures notes { notes_in notes.new.items ≡ slice_set (notes_in notes.old.items) mpn (record { salt = salt; hash = Some code }) }
+{
+    notes[mpn as usize] = Note {
+        salt,
+        hash: Some(code),
+    };
+}
+
+/// How many pages share a page's frame.
+pub fn peers_of<H: PageHash, A: Allocator>(held: &Held<H, A>, page: Place, mpn: u32, code: u64) -> u32
+    requires whole { Whole H.hash_of held.now }
+    requires page { page_at (names_of held.now) page.guest page.ppn ≡ Some (page.salt, s.Shared mpn) }
+    requires code { code ≡ H.hash_of page.salt (bytes_in held.now.frames mpn) }
+    ensures found { shared_at held.now.table code ≡ Some (record { mpn = mpn; count = result }) }
+    ensures peers { result ≡ peers page.salt (bytes_in held.now.frames mpn) (guests_of held.now) }
+    ensures some { 1 ≤ result }
+{
+    held.table.count(code)
+}
+
+/// The last page of a shared frame keeps it for itself.
+pub fn keep<H: PageHash, A: Allocator>(held: &mut Held<H, A>, page: Place, mpn: u32, code: u64)
+    requires whole { Whole H.hash_of held.old }
+    requires page { page_at (names_of held.old) page.guest page.ppn ≡ Some (page.salt, s.Shared mpn) }
+    requires found { shared_at held.old.table code ≡ Some (record { mpn = mpn; count = 1 }) }
+    ensures whole { Whole H.hash_of held.new }
+    ensures frames { held.new.frames ≡ held.old.frames }
+    ensures page { page_at (names_of held.new) page.guest page.ppn ≡ Some (page.salt, s.Private mpn None) }
+    ensures guests { guests_of held.new ≡ with_slot (guests_of held.old) page.guest page.ppn (s.Private (bytes_in held.old.frames mpn) None) }
+{
+    held.table.leave(code);
+    set_page(&mut held.guests, page, PageEntry::Private(mpn, None));
+}
+
+/// A page leaves a shared frame that others keep.
+pub fn leave<H: PageHash, A: Allocator>(held: &mut Held<H, A>, page: Place, mpn: u32, code: u64, count: u32)
+    requires whole { Whole H.hash_of held.old }
+    requires page { page_at (names_of held.old) page.guest page.ppn ≡ Some (page.salt, s.Shared mpn) }
+    requires found { shared_at held.old.table code ≡ Some (record { mpn = mpn; count = count }) }
+    requires several { 2 ≤ count }
+    ensures whole { Whole H.hash_of held.new }
+    ensures frames { held.new.frames ≡ held.old.frames }
+    ensures page { page_at (names_of held.new) page.guest page.ppn ≡ Some (page.salt, s.Unmapped) }
+    ensures guests { guests_of held.new ≡ with_slot (guests_of held.old) page.guest page.ppn s.Unmapped }
+{
+    held.table.leave(code);
+    set_page(&mut held.guests, page, PageEntry::Unmapped);
+}
+
+/// Puts a hint on a private page that has none.
+pub fn put_hint<H: PageHash, A: Allocator>(held: &mut Held<H, A>, page: Place, mpn: u32, key: u32)
+    requires whole { Whole H.hash_of held.old }
+    requires page { page_at (names_of held.old) page.guest page.ppn ≡ Some (page.salt, s.Private mpn None) }
+    requires absent { hint_at held.old.table key ≡ None }
+    ensures whole { Whole H.hash_of held.new }
+    ensures frames { held.new.frames ≡ held.old.frames }
+    ensures page { page_at (names_of held.new) page.guest page.ppn ≡ Some (page.salt, s.Private mpn (Some key)) }
+    ensures guests { guests_of held.new ≡ with_slot (guests_of held.old) page.guest page.ppn (s.Private (bytes_in held.old.frames mpn) (Some key)) }
+{
+    held.table.put_hint(key, page.guest as u8, page.ppn as u32, mpn);
+    held.hints += 1;
+    set_page(&mut held.guests, page, PageEntry::Private(mpn, Some(key)));
+}
+
+/// A page without a frame joins the shared frame under a hash: how many pages then share it.
+pub fn join<H: PageHash, A: Allocator>(held: &mut Held<H, A>, page: Place, mpn: u32, code: u64) -> u32
+    requires whole { Whole H.hash_of held.old }
+    requires page { page_at (names_of held.old) page.guest page.ppn ≡ Some (page.salt, s.Unmapped) }
+    requires found { shared_at held.old.table code ≡ Some (record { mpn = mpn; count = count_at held.old.table code }) }
+    requires salt { (known_at (notes_of held.old) mpn).salt ≡ page.salt }
+    ensures whole { Whole H.hash_of held.new }
+    ensures frames { held.new.frames ≡ held.old.frames }
+    ensures count { result ≡ peers page.salt (bytes_in held.old.frames mpn) (guests_of held.new) }
+    ensures guests { guests_of held.new ≡ with_slot (guests_of held.old) page.guest page.ppn (s.Shared (bytes_in held.old.frames mpn)) }
+{
+    let count = held.table.join(code);
+    set_page(&mut held.guests, page, PageEntry::Shared(mpn));
+    count
+}
+
+/// A private page and a page without a frame become the first two pages of a shared frame, the private page's.
+pub fn share<H: PageHash, A: Allocator>(held: &mut Held<H, A>, first: Place, mpn: u32, second: Place, code: u64)
+    requires whole { Whole H.hash_of held.old }
+    requires first { page_at (names_of held.old) first.guest first.ppn ≡ Some (first.salt, s.Private mpn None) }
+    requires second { page_at (names_of held.old) second.guest second.ppn ≡ Some (first.salt, s.Unmapped) }
+    requires absent { shared_at held.old.table code ≡ None }
+    requires code { H.hash_of first.salt (bytes_in held.old.frames mpn) ≡ code }
+    ensures whole { Whole H.hash_of held.new }
+    ensures frames { held.new.frames ≡ held.old.frames }
+    ensures guests { guests_of held.new ≡ with_slot (with_slot (guests_of held.old) first.guest first.ppn (s.Shared (bytes_in held.old.frames mpn))) second.guest second.ppn (s.Shared (bytes_in held.old.frames mpn)) }
+{
+    held.table.add_shared(code, mpn);
+    set_page(&mut held.guests, first, PageEntry::Shared(mpn));
+    set_page(&mut held.guests, second, PageEntry::Shared(mpn));
+}

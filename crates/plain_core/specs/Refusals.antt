@@ -1,0 +1,12 @@
+-- Why no core is made.
+use Rattle.std.specs.Prelude.{ℕ, List}
+use Rattle.page_model.specs.Limits.{AreFrames, AreGuests, ArePages}
+use Rattle.plain_core.specs.declared.fault.CoreFault.{CoreFault}
+use Rattle.plain_core.specs.declared.fault.CoreFault.TheVariants.{Frames, Guests, Pages, OutOfMemory}
+
+-- the first cause for which there is no core of these frames, pages and salts; memory is wanting only where there is none
+abbrev pub NoCoreFor : ℕ → List ℕ → List ℕ → CoreFault → Type 0
+NoCoreFor frames pages salts Frames = ¬ AreFrames frames
+NoCoreFor frames pages salts Guests = AreFrames frames × ¬ AreGuests salts pages
+NoCoreFor frames pages salts Pages = AreFrames frames × AreGuests salts pages × ¬ ArePages pages
+NoCoreFor frames pages salts OutOfMemory = AreFrames frames × AreGuests salts pages × ArePages pages
