@@ -1,7 +1,12 @@
 mod in_threads;
 
-use crate::{Meeting, RingFault, Scan, SendFault, meet, ring_pair};
+ghost use Rattle.std.specs.Prelude.{◌≡◌, []};
+ghost use Rattle.share_rings.specs.Ends.{port_name, end_name, end_taken, end_given};
+
+use crate::{Meeting, MergerEnd, Port, RingFault, Scan, SendFault, meet, ring_pair};
 use page_model::{Request, Verdict};
+use std::alloc::Allocator;
+use std::process::Abort;
 use std::test::Fail;
 
 #[test]
@@ -20,9 +25,15 @@ fn ring_pair_bounds(rt: HostRuntime) {
     }
 }
 
-#[test]
-fn ring_pair_of_one_slot(rt: HostRuntime) -> Result<(), Fail> {
-    let (port, mut end) = ring_pair(rt.alloc(), 1)?;
+// A new pair of one slot each: its close is sent, taken, answered and got.
+fn close_alone<A: Allocator>(
+    rt: &impl Abort,
+    port: Port<A>,
+    mut end: MergerEnd<A>,
+) -> Result<(), Fail>
+    requires pair { port_name port ≡ end_name end }
+    requires fresh { (end_taken end ≡ []) × (end_given end ≡ []) }
+{
     let Ok(mut port) = port.close() else {
         return Err(Fail::from("busy at the first request"));
     };
@@ -41,6 +52,12 @@ fn ring_pair_of_one_slot(rt: HostRuntime) -> Result<(), Fail> {
     assert_eq!(rt; meet(&mut port, &mut end), Meeting::Met);
     assert_eq!(rt; (port.verdict(), end.take()), (None, None));
     Ok(())
+}
+
+#[test]
+fn ring_pair_of_one_slot(rt: HostRuntime) -> Result<(), Fail> {
+    let (port, end) = ring_pair(rt.alloc(), 1)?;
+    close_alone(&rt, port, end)
 }
 
 #[test]
