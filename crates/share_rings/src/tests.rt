@@ -1,4 +1,5 @@
 mod in_threads;
+mod refused;
 
 ghost use Rattle.std.specs.Prelude.{◌≡◌, []};
 ghost use Rattle.share_rings.specs.Ends.{port_name, end_name, end_taken, end_given};
