@@ -1,0 +1,42 @@
+//! Why a request was not sent.
+ghost use Rattle.std.specs.Prelude.{◌≡◌};
+
+use page_model::{Request, RequestFault};
+
+/// The ring has no slot that is known to be free.
+#[derive(Clone, Copy, Debug, PartialEq, Eq)]
+pub struct Busy;
+
+/// Why a request was not sent, in the order in which the causes are looked at.
+#[derive(Clone, Copy, Debug, PartialEq, Eq)]
+pub enum SendFault {
+    /// No byte, or more than 64.
+    Length,
+    /// The last byte would stand past the page's end.
+    Crosses,
+    /// The ring has no slot that is known to be free.
+    Busy,
+}
+
+impl From<RequestFault> for SendFault {
+    ghost use Rattle.share_rings.specs.Faults.{fault_of};
+
+    ghost from_gives = { λ refused fault. fault ≡ fault_of refused };
+
+    fn from(refused: RequestFault) -> SendFault {
+        match refused {
+            RequestFault::Length => SendFault::Length,
+            RequestFault::Crosses => SendFault::Crosses,
+        }
+    }
+}
+
+impl From<(Request, Busy)> for SendFault {
+    ghost use Rattle.share_rings.specs.declared.fault.SendFault.TheVariants as fault;
+
+    ghost from_gives = { λ _ given. given ≡ fault.Busy };
+
+    fn from(_unsent: (Request, Busy)) -> SendFault {
+        SendFault::Busy
+    }
+}
