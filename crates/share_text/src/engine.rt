@@ -1,6 +1,7 @@
 //! The engine that replays a journal.
 ghost use Rattle.std.specs.Prelude.{◌≡◌, ◌+◌, ◌<◌, ◌≤◌, ◌++◌, [], length, codes, true, false, string_bytes, string_len, string_capacity, IfOk, OnOk, OnErr, IfErr, IsErr};
 ghost use Rattle.std.specs.Io.KnownBytes.{Appends};
+ghost use Rattle.merge_core.specs.Shown.{state_of};
 ghost use Rattle.page_model.specs.Limits.{shapes, AreFrames, AreGuests, ArePages};
 ghost use Rattle.page_model.specs.Replay.{empty_state};
 ghost use Rattle.page_model.specs.Steps.{step};
@@ -30,8 +31,8 @@ fn core_of<H: PageHash + Drop, A: Allocator + Clone>(
     requires frames { AreFrames journal.now.frames }
     requires guests { AreGuests journal.now.salts.items journal.now.pages.items }
     requires pages { ArePages journal.now.pages.items }
-    ensures empty { IfOk result (λ core. core ≡ empty_state journal.now.frames (shapes journal.now.salts.items journal.now.pages.items)) }
-    ensures guests { IfOk result (λ core. length core.guests ≡ length journal.now.pages.items) }
+    ensures empty { IfOk result (λ core. state_of core ≡ empty_state journal.now.frames (shapes journal.now.salts.items journal.now.pages.items)) }
+    ensures guests { IfOk result (λ core. length (state_of core).guests ≡ length journal.now.pages.items) }
     ensures fault { IfErr result (λ e. e ≡ OutOfMemory) }
 {
     match Core::new(alloc, journal.frames, &journal.pages, &journal.salts, hash) {
@@ -51,14 +52,14 @@ fn print_entry<H: PageHash, W: Sink, A: Allocator>(
     writer: &mut W,
     out: &mut String<A>,
 ) -> Result<(), TextFault>
-    requires guest { entry.now.guest < length core.old.guests }
+    requires guest { entry.now.guest < length (state_of core.old).guests }
     requires few { core.old.entries < 16777216 }
     requires fine { W.has_failed writer.old ≡ false }
     requires room { LINE_BYTES ≤ string_capacity out.old }
-    ensures step { OnOk result (core.new ≡ (step H.hash_of core.old entry.now.guest entry.now.request).state) }
+    ensures step { OnOk result (state_of core.new ≡ (step H.hash_of (state_of core.old) entry.now.guest entry.now.request).state) }
     ensures entries { OnOk result (core.new.entries ≡ core.old.entries + 1) }
-    ensures guests { OnOk result (length core.new.guests ≡ length core.old.guests) }
-    ensures sends { OnOk result (Sends (W.contents writer.old) (W.contents writer.new) (string_bytes out.new) (string_bytes out.old ++ (verdict_line entry.now.guest (step H.hash_of core.old entry.now.guest entry.now.request).verdict ++ codes "\n"))) }
+    ensures guests { OnOk result (length (state_of core.new).guests ≡ length (state_of core.old).guests) }
+    ensures sends { OnOk result (Sends (W.contents writer.old) (W.contents writer.new) (string_bytes out.new) (string_bytes out.old ++ (verdict_line entry.now.guest (step H.hash_of (state_of core.old) entry.now.guest entry.now.request).verdict ++ codes "\n"))) }
     ensures fine { OnOk result (W.has_failed writer.new ≡ false) }
     ensures room { OnOk result (LINE_BYTES ≤ string_capacity out.new) }
     ensures err { OnErr result (AppendsFront (W.contents writer.old) (W.contents writer.new) (string_bytes out.old)) }
@@ -79,8 +80,8 @@ fn print_report<H: PageHash, W: Sink, A: Allocator>(
 ) -> Result<(), TextFault>
     requires fine { W.has_failed writer.old ≡ false }
     requires room { LINE_BYTES ≤ string_capacity out.old }
-    ensures ok { OnOk result (Appends (W.contents writer.old) (W.contents writer.new) (string_bytes out.old ++ report_text core.now)) }
-    ensures err { OnErr result (AppendsFront (W.contents writer.old) (W.contents writer.new) (string_bytes out.old ++ report_text core.now)) }
+    ensures ok { OnOk result (Appends (W.contents writer.old) (W.contents writer.new) (string_bytes out.old ++ report_text (state_of core.now))) }
+    ensures err { OnErr result (AppendsFront (W.contents writer.old) (W.contents writer.new) (string_bytes out.old ++ report_text (state_of core.now))) }
     ensures failed { OnErr result (W.has_failed writer.new ≡ true) }
     ensures fault { IfErr result (λ e. e ≡ TextFault.Write) }
 {
@@ -96,13 +97,13 @@ fn print_all<H: PageHash, W: Sink, A: Allocator>(
     writer: &mut W,
     out: &mut String<A>,
 ) -> Result<(), TextFault>
-    requires guests { AreBelow (length core.old.guests) entries.now }
+    requires guests { AreBelow (length (state_of core.old).guests) entries.now }
     requires few { core.old.entries + length entries.now ≤ 16777216 }
     requires fine { W.has_failed writer.old ≡ false }
     requires empty { string_bytes out.old ≡ [] }
     requires room { LINE_BYTES ≤ string_capacity out.old }
-    ensures ok { OnOk result (Appends (W.contents writer.old) (W.contents writer.new) (printed_from H.hash_of core.old entries.now)) }
-    ensures err { OnErr result (AppendsFront (W.contents writer.old) (W.contents writer.new) (printed_from H.hash_of core.old entries.now)) }
+    ensures ok { OnOk result (Appends (W.contents writer.old) (W.contents writer.new) (printed_from H.hash_of (state_of core.old) entries.now)) }
+    ensures err { OnErr result (AppendsFront (W.contents writer.old) (W.contents writer.new) (printed_from H.hash_of (state_of core.old) entries.now)) }
     ensures failed { OnErr result (W.has_failed writer.new ≡ true) }
     ensures fault { IfErr result (λ e. e ≡ TextFault.Write) }
 {
