@@ -1,10 +1,10 @@
 -- The arms of a store and of a release, by what decides them.
-use Rattle.std.proofs.Common.{◌≡◌, ℕ, List, Bool, true, false, refl, ap, arith, ◌⊎◌, inl, inr}
+use Rattle.std.proofs.Common.{◌≡◌, ℕ, List, true, false, refl, ap, arith, ◌⊎◌, inl, inr}
 use Rattle.std.specs.Prelude.{◌==◌, ◌&&◌, Option, Some, None}
 use Rattle.std.proofs.lemmas.Bool.{cases_eq, eq-eqb, ne_eqb, and_left, and_right}
 use Rattle.std.proofs.lemmas.Bool.Decides.{nat_tests}
 use Rattle.page_model.specs.Pages.{Slot, Unmapped, Private, Shared, Guest, written, peers, used, page_at, with_slot, bytes_of, find_page, has_hint, any_page, is_shared_as, is_shared_under}
-use Rattle.page_model.specs.Steps.{Outcome, stored, released, matched, offered, held, weighed, key_of, kept_hint, proposed, sets, stays}
+use Rattle.page_model.specs.Steps.{stored, released, matched, offered, held, weighed, key_of, kept_hint, proposed, sets, stays}
 use Rattle.std.specs.Str.{bytes_eq}
 use Rattle.page_model.specs.declared.verdict.Verdict.{Verdict}
 use Rattle.page_model.specs.declared.verdict.Verdict.TheVariants as v

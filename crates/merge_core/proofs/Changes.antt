@@ -1,12 +1,12 @@
 -- What hangs together stays so at each single change of a page.
-use Rattle.std.proofs.Common.{◌≡◌, ℕ, ◌+◌, ◌<◌, List, length, Option, Some, None, is_some, IsSome, refl, ap, sym, ◌∙◌, subst, arith, ◌⊎◌, inl, inr}
+use Rattle.std.proofs.Common.{◌≡◌, ℕ, ◌<◌, List, length, Option, Some, None, refl, ap, sym, ◌∙◌, subst, arith, ◌⊎◌, inl, inr}
 use Rattle.std.specs.Prelude.{slice_set}
 use Rattle.std.proofs.lemmas.List.{length-set}
-use Rattle.page_model.specs.Pages.{SlotOf, Slot, Unmapped, Private, Shared, Guest, page_at, with_slot}
+use Rattle.page_model.specs.Pages.{Unmapped, Private, page_at, with_slot}
 use Rattle.page_model.proofs.Places.{unchanged}
 use Rattle.machine_frames.specs.FrameMap.{FrameMap, frame, IsTaken}
 use Rattle.share_table.specs.TableMaps.{TableMaps, without_hint, with_hint, hint_at, SharedFrame}
-use Rattle.merge_core.specs.Names.{Names, bytes_in, slot_in, guests_in, Known, known_at}
+use Rattle.merge_core.specs.Names.{Names, bytes_in, guests_in, Known, known_at}
 use Rattle.merge_core.specs.Ties.{Placed, Noted, Shares, SharedWell, Counted, Ties}
 use Rattle.merge_core.proofs.FrameLemmas.{used_set, taken_within, bytes_are, known_same, known_other}
 use Rattle.std.proofs.lemmas.Bool.{cases_eq}

@@ -1,5 +1,5 @@
 -- A core with no page mapped.
-use Rattle.std.proofs.Common.{◌≡◌, ℕ, zero, suc, ◌+◌, ◌*◌, ◌≤◌, Bool, true, false, cond, List, [], ◌∷◌, length, replicate, map, sum, Option, Some, None, IsSome, is_some, refl, ap, sym, subst, ◌∙◌, arith}
+use Rattle.std.proofs.Common.{◌≡◌, ℕ, zero, suc, ◌≤◌, Bool, false, cond, List, [], ◌∷◌, length, replicate, map, sum, Option, Some, None, IsSome, is_some, refl, ap, sym, subst, ◌∙◌, arith}
 use Rattle.std.specs.Prelude.{slice_get, count_by, sum_by}
 use Rattle.std.specs.Option.{option_map}
 use Rattle.std.specs.Ordering.{nat_cmp}
@@ -9,14 +9,14 @@ use Rattle.std.proofs.lemmas.List.{length-replicate, nil_from_length}
 use Rattle.std.proofs.lemmas.List.Folds.{sum_by-replicate}
 use Rattle.std.proofs.lemmas.List.Sums.{sum_by-cons}
 use Rattle.page_model.specs.Limits.{shapes}
-use Rattle.page_model.specs.Pages.{SlotOf, Slot, Unmapped, Private, Shared, GuestOf, Guest, page_at, count_pages, distinct_in, distinct, used, is_private, is_shared, is_hinted}
+use Rattle.page_model.specs.Pages.{SlotOf, Slot, Unmapped, Private, Shared, GuestOf, Guest, page_at, count_pages, distinct_in, distinct, is_private, is_shared, is_hinted}
 use Rattle.page_model.specs.Replay.{Shape, empty_guest}
 use Rattle.page_model.proofs.Places.{same_page}
 use Rattle.machine_frames.specs.FrameMap.{FrameMap, frame, IsTaken, no_frames}
 use Rattle.machine_frames.specs.FrameMap as fm
-use Rattle.share_table.specs.TableMaps.{TableMaps, SharedFrame, empty_table, references}
+use Rattle.share_table.specs.TableMaps.{SharedFrame, empty_table, references}
 use Rattle.share_table.specs.declared.entries.HintFrame.{HintFrame}
-use Rattle.merge_core.specs.Names.{Names, slot_in, guests_in, frame_of, Known, unknown, empty_name, empty_names}
+use Rattle.merge_core.specs.Names.{slot_in, guests_in, frame_of, Known, unknown, empty_name, empty_names}
 use Rattle.merge_core.specs.Ties.{Ties, Few, Counted, page_total}
 
 -- each page is unmapped

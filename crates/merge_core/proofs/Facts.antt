@@ -1,16 +1,15 @@
 -- What a core shows of its frames and of its table.
-use Rattle.std.proofs.Common.{◌≡◌, ℕ, ◌+◌, ◌≤◌, Bool, true, false, List, length, Option, Some, None, refl, ap, sym, ◌∙◌, subst, arith}
+use Rattle.std.proofs.Common.{◌≡◌, ℕ, List, Some, refl, ap, sym, ◌∙◌, arith}
 use Rattle.std.specs.Prelude.{is_some}
 use Rattle.std.specs.FinMap as map
 use Rattle.std.proofs.lemmas.List.Sums.{count_by-le-length}
-use Rattle.page_model.specs.Pages.{SlotOf, Unmapped, Private, Shared, Guest, page_at, peers, used, is_hinted, is_private}
+use Rattle.page_model.specs.Pages.{SlotOf, Unmapped, Private, Shared, page_at, peers}
 use Rattle.page_model.proofs.Counts.{hinted-le-private}
-use Rattle.machine_frames.specs.FrameMap.{FrameMap, IsTaken}
+use Rattle.machine_frames.specs.FrameMap.{FrameMap}
 use Rattle.share_table.specs.TableMaps.{TableMaps, SharedFrame}
-use Rattle.merge_core.specs.Names.{Names, bytes_in, guests_in, frame_of, Known, known_at}
+use Rattle.merge_core.specs.Names.{Names, bytes_in, guests_in, frame_of, Known}
 use Rattle.merge_core.specs.Shown.{Shown, FramesOfPages, TableOfPages, Sharer}
 use Rattle.merge_core.specs.Ties.{Ties, Owner}
-use Rattle.merge_core.proofs.Owners.{sharer}
 
 module _ (hash : ℕ → List ℕ → ℕ) (entries : ℕ) (names : Names) (frames : FrameMap) (table : TableMaps) (notes : List Known) (t : Ties hash names frames table notes) where
   abbrev shown : Shown
@@ -30,14 +29,15 @@ module _ (hash : ℕ → List ℕ → ℕ) (entries : ℕ) (names : Names) (fram
   frames_of_pages = record {
     taken = t.placed.taken;
     owned = t.owned;
-    apart = λ a b salt x y other m mine theirs at there apart f h.
-      (both a b salt x y other m mine theirs at there apart f h,
-       both x y other a b salt m theirs mine there at (λ e i. apart (sym e) (sym i)) h f,
-       sym (t.noted.salts x y other theirs m there h) ∙ t.noted.salts a b salt mine m at f);
+    apart = λ a b salt x y other m mine theirs at there apart f h. (
+      both a b salt x y other m mine theirs at there apart f h,
+      both x y other a b salt m theirs mine there at (λ e i. apart (sym e) (sym i)) h f,
+      sym (t.noted.salts x y other theirs m there h) ∙ t.noted.salts a b salt mine m at f,
+    );
     joint = λ a b x y salt m n at there same.
-      let one = t.shares.listed a b salt m at in
-      let two = t.shares.listed x y salt n there in
-      ap (λ (f : SharedFrame). f.mpn) (same_entry _ _ (sym one.here ∙ ap (λ (bytes : List ℕ). map.get table.shared (hash salt bytes)) same ∙ two.here));
+        let one = t.shares.listed a b salt m at in
+        let two = t.shares.listed x y salt n there in
+        ap (λ (f : SharedFrame). f.mpn) (same_entry _ _ (sym one.here ∙ ap (λ (bytes : List ℕ). map.get table.shared (hash salt bytes)) same ∙ two.here));
   } where
     same_entry : (x y : SharedFrame) → Some x ≡ Some y → x ≡ y
     same_entry x y e = cc

@@ -1,5 +1,5 @@
 -- The page of a hint, and pages that are another.
-use Rattle.std.proofs.Common.{◌≡◌, ◌≢◌, ℕ, ◌<◌, Bool, true, false, ◌&&◌, List, length, Option, Some, None, IsSome, refl, ap, sym, ◌∙◌, arith}
+use Rattle.std.proofs.Common.{◌≡◌, ◌≢◌, ℕ, ◌<◌, true, false, ◌&&◌, List, length, Option, Some, None, refl, ap, sym, ◌∙◌, arith}
 use Rattle.std.specs.Prelude.{◌==◌, option_map}
 use Rattle.std.specs.Str.{bytes_eq}
 use Rattle.std.proofs.lemmas.Bool.{false≢true, and_from, and_parts, eqb-true, eq-eqb}
@@ -9,7 +9,7 @@ use Rattle.page_model.proofs.Places.{again, swap, same_page}
 use Rattle.machine_frames.specs.FrameMap.{FrameMap, IsTaken}
 use Rattle.share_table.specs.TableMaps.{TableMaps, SharedFrame, hint_at}
 use Rattle.share_table.specs.declared.entries.HintFrame.{HintFrame}
-use Rattle.merge_core.specs.Names.{Names, bytes_in, frame_of, Known, known_at}
+use Rattle.merge_core.specs.Names.{Names, Known, known_at}
 use Rattle.merge_core.specs.Ties.{HintWell, Placed, Ties}
 use Rattle.merge_core.proofs.FrameLemmas.{taken_within}
 

@@ -1,6 +1,6 @@
 -- The page that the table names under a key is the first page with that hint.
-use Rattle.std.proofs.Common.{◌≡◌, ℕ, ◌+◌, ◌<◌, ◌≤◌, Bool, true, false, List, length, Option, Some, None, is_some, refl, ap, sym, ◌∙◌, arith, ◌⊎◌, inl, inr}
-use Rattle.std.specs.Prelude.{nat_eq, option_map}
+use Rattle.std.proofs.Common.{◌≡◌, ℕ, ◌<◌, true, List, Option, Some, None, is_some, refl, ap, sym, ◌∙◌, arith, ◌⊎◌, inl, inr}
+use Rattle.std.specs.Prelude.{option_map}
 use Rattle.std.specs.FinMap as map
 use Rattle.std.proofs.lemmas.Bool.{false≢true, eqb-true, eq-eqb, cases_eq, ne_eqb}
 use Rattle.std.proofs.lemmas.List.Sums.{count_by-le-length}
@@ -14,7 +14,7 @@ use Rattle.machine_frames.specs.FrameMap.{FrameMap}
 use Rattle.share_table.specs.TableMaps.{TableMaps, HintMap, entry_count}
 use Rattle.share_table.specs.declared.entries.HintFrame.{HintFrame}
 use Rattle.merge_core.specs.Names.{Names, bytes_in, slot_in, guests_in, Known}
-use Rattle.merge_core.specs.Ties.{HintWell, Hinted, Ties}
+use Rattle.merge_core.specs.Ties.{Hinted, Ties}
 use Rattle.merge_core.proofs.Views.{page_in, page_in_is}
 
 abbrev place_of : HintFrame → ℕ × ℕ

@@ -26,7 +26,7 @@ stored_len total gs a b at bytes salt (Private old hint) = length_after gs a b (
 stored_len total gs a b at bytes salt (Shared old) =
     let new : Slot = Private (written old at bytes) None in
     either (peers salt old gs == 1) (sets gs a b new v.Taken) (cond (used gs == total) (stays gs v.NoFrame) (sets gs a b new v.Copied)) (length gs) (length_after gs a b new)
-      (either (used gs == total) (stays gs v.NoFrame) (sets gs a b new v.Copied) (length gs) refl (length_after gs a b new))
+    (either (used gs == total) (stays gs v.NoFrame) (sets gs a b new v.Copied) (length gs) refl (length_after gs a b new))
 
 pub released_len : (gs : List Guest) (a b salt : ℕ) (slot : Slot) → length (released gs a b salt slot).guests ≡ length gs
 unfolding released
@@ -44,8 +44,8 @@ module _ (hash : ℕ → List ℕ → ℕ) (guest ppn salt : ℕ) (bytes : List 
       let pair : Outcome = sets (with_slot gs other place (Shared others)) guest ppn (Shared bytes) v.Paired in
       let replace : Outcome = sets (with_slot gs other place (Private others None)) guest ppn (Private bytes (Some key)) v.Replaced in
       either (key_of (hash other_salt others) == key) (cond (other_salt == salt && bytes_eq others bytes) pair (stays gs v.Ineligible)) replace (length gs)
-        (either (other_salt == salt && bytes_eq others bytes) pair (stays gs v.Ineligible) (length gs) (twice_after gs other place guest ppn (Shared others) (Shared bytes)) refl)
-        (twice_after gs other place guest ppn (Private others None) (Private bytes (Some key)))
+      (either (other_salt == salt && bytes_eq others bytes) pair (stays gs v.Ineligible) (length gs) (twice_after gs other place guest ppn (Shared others) (Shared bytes)) refl)
+      (twice_after gs other place guest ppn (Private others None) (Private bytes (Some key)))
 
   held_len : (gs : List Guest) (key : ℕ) (o : Option (ℕ × ℕ)) → length (held hash gs guest ppn salt bytes key o).guests ≡ length gs
   unfolding held
@@ -53,7 +53,7 @@ module _ (hash : ℕ → List ℕ → ℕ) (guest ppn salt : ℕ) (bytes : List 
   held_len gs key (Some (other, place)) =
       let weigh : ℕ → Slot → Outcome = λ other_salt slot. weighed hash gs guest ppn salt bytes key other place other_salt (bytes_of slot) in
       either (other == guest && place == ppn) (stays gs v.Kept) (at_page gs other place weigh) (length gs) refl
-        (at_page_len gs other place weigh (λ other_salt slot. weighed_len gs key other place other_salt (bytes_of slot)))
+      (at_page_len gs other place weigh (λ other_salt slot. weighed_len gs key other place other_salt (bytes_of slot)))
 
   matched_len : (gs : List Guest) (code : ℕ) → length (matched hash gs guest ppn salt bytes code).guests ≡ length gs
   unfolding matched offered
@@ -62,7 +62,7 @@ module _ (hash : ℕ → List ℕ → ℕ) (guest ppn salt : ℕ) (bytes : List 
       let join : Outcome = stays joined (v.Joined (peers salt bytes joined)) in
       let offer : Outcome = held hash gs guest ppn salt bytes (key_of code) (find_page (has_hint (key_of code)) gs) in
       either (any_page (is_shared_as salt bytes) gs) join (cond (any_page (is_shared_under hash code) gs) (stays gs v.Ineligible) offer) (length gs) (length_after gs guest ppn (Shared bytes))
-        (either (any_page (is_shared_under hash code) gs) (stays gs v.Ineligible) offer (length gs) refl (held_len gs (key_of code) (find_page (has_hint (key_of code)) gs)))
+      (either (any_page (is_shared_under hash code) gs) (stays gs v.Ineligible) offer (length gs) refl (held_len gs (key_of code) (find_page (has_hint (key_of code)) gs)))
 
 pub proposed_len : (hash : ℕ → List ℕ → ℕ) (gs : List Guest) (guest ppn salt : ℕ) (slot : Slot) → length (proposed hash gs guest ppn salt slot).guests ≡ length gs
 unfolding proposed

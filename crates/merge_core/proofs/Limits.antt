@@ -1,6 +1,6 @@
 -- The numbers of guests and pages stay, and what they leave room for.
-use Rattle.std.proofs.Common.{◌≡◌, ℕ, zero, suc, ◌+◌, ◌<◌, ◌≤◌, Bool, true, false, cond, List, [], ◌∷◌, length, Option, Some, None, refl, ap, sym, ◌∙◌, arith}
-use Rattle.std.specs.Prelude.{slice_get, slice_set, map, count_by, sum_by}
+use Rattle.std.proofs.Common.{◌≡◌, ℕ, zero, suc, ◌+◌, ◌<◌, ◌≤◌, Bool, false, List, [], ◌∷◌, length, Some, None, refl, ap, sym, ◌∙◌, arith}
+use Rattle.std.specs.Prelude.{slice_get, slice_set, map, count_by}
 use Rattle.std.specs.Option.{option_map}
 use Rattle.std.proofs.lemmas.List.{length-set, length-map}
 use Rattle.std.proofs.lemmas.List.Sums.{sum_by-cons, sum_by-le-sum_by, count_by-le-length}
@@ -78,8 +78,8 @@ module _ (hash : ℕ → List ℕ → ℕ) (names : Names) (frames : FrameMap) (
   references_two a b c d salt other m at there =
       let gs : List Guest = guests_in frames names in
       let apart : c ≡ a → d ≡ b → ⊥ = λ e f.
-        let moved : page_at names a b ≡ Some (other, Unmapped) = ap (λ (i : ℕ). page_at names i b) (sym e) ∙ ap (λ (i : ℕ). page_at names c i) (sym f) ∙ there in
-        no ((same_page (page_at names a b) salt other (Private m None) Unmapped at moved).1) in
+      let moved : page_at names a b ≡ Some (other, Unmapped) = ap (λ (i : ℕ). page_at names i b) (sym e) ∙ ap (λ (i : ℕ). page_at names c i) (sym f) ∙ there in
+      no ((same_page (page_at names a b) salt other (Private m None) Unmapped at moved).1) in
       let one = pages_counted (λ _. is_shared) gs a b salt (Private (bytes_in frames m) None) (Shared []) (page_in_is frames names a b salt (Private m None) at) in
       let still = at_other gs a b (Shared []) c d apart ∙ page_in_is frames names c d other Unmapped there in
       let two = room_for_one (with_slot gs a b (Shared [])) c d other Unmapped still refl in

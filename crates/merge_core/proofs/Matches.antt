@@ -1,11 +1,10 @@
 -- What the table's entry under a hash says of the shared pages.
-use Rattle.std.proofs.Common.{◌≡◌, ℕ, ◌+◌, ◌≤◌, Bool, true, false, List, Option, Some, None, refl, ap, sym, ◌∙◌, subst, ◌⊎◌, inl, inr, arith}
-use Rattle.std.specs.Prelude.{◌==◌}
+use Rattle.std.proofs.Common.{◌≡◌, ℕ, ◌≤◌, Bool, true, false, List, Some, None, refl, ap, sym, ◌∙◌, inl, inr, arith}
 use Rattle.std.specs.FinMap as map
 use Rattle.std.proofs.lemmas.Bool.{false≢true, eq-eqb, eqb-true}
-use Rattle.page_model.specs.Pages.{SlotOf, Slot, Unmapped, Private, Shared, Guest, page_at, is_shared_as, is_shared_under, peers, any_page, count_pages}
-use Rattle.page_model.proofs.Anys.{any_is_count, AnyIsCount, Passing, page_passing, none_passes}
-use Rattle.page_model.proofs.Used.{pages_counted, one}
+use Rattle.page_model.specs.Pages.{SlotOf, Slot, Unmapped, Private, Shared, Guest, page_at, is_shared_as, is_shared_under, any_page}
+use Rattle.page_model.proofs.Anys.{any_is_count, AnyIsCount, page_passing, none_passes}
+use Rattle.page_model.proofs.Used.{pages_counted}
 use Rattle.machine_frames.specs.FrameMap.{FrameMap}
 use Rattle.share_table.specs.TableMaps.{SharedMap, SharedFrame}
 use Rattle.merge_core.specs.Names.{Names, bytes_in, slot_in, guests_in, Known, known_at}
@@ -59,8 +58,8 @@ module _ (hash : ℕ → List ℕ → ℕ) (names : Names) (frames : FrameMap) (
 
   pub no_under : any_page (is_shared_under hash code) (guests_in frames names) ≡ false
   no_under = none_passes (is_shared_under hash code) (guests_in frames names) (λ c d s x at.
-    let n = named names frames c d s x at in
-    ap (is_shared_under hash code s) (sym n.is) ∙ under_none c d s n.slot (is_shared_under hash code s (slot_in frames n.slot)) n.at refl)
+      let n = named names frames c d s x at in
+      ap (is_shared_under hash code s) (sym n.is) ∙ under_none c d s n.slot (is_shared_under hash code s (slot_in frames n.slot)) n.at refl)
 
 -- no shared page has another content than the frame that the table has under its hash
 module _ (hash : ℕ → List ℕ → ℕ) (names : Names) (frames : FrameMap) (notes : List Known) (shared : SharedMap) (salt code : ℕ) (bytes : List ℕ) (f : SharedFrame) (noted : Noted hash names frames notes) (shares : Shares hash names frames notes shared) (found : map.get shared code ≡ Some f) (code_is : hash salt bytes ≡ code) (differs : (known_at notes f.mpn).salt ≡ salt → bytes_in frames f.mpn ≡ bytes → ⊥) where
@@ -78,5 +77,5 @@ module _ (hash : ℕ → List ℕ → ℕ) (names : Names) (frames : FrameMap) (
 
   pub not_shared : any_page (is_shared_as salt bytes) (guests_in frames names) ≡ false
   not_shared = none_passes (is_shared_as salt bytes) (guests_in frames names) (λ c d s x at.
-    let n = named names frames c d s x at in
-    ap (is_shared_as salt bytes s) (sym n.is) ∙ other_none c d s n.slot (is_shared_as salt bytes s (slot_in frames n.slot)) n.at refl)
+      let n = named names frames c d s x at in
+      ap (is_shared_as salt bytes s) (sym n.is) ∙ other_none c d s n.slot (is_shared_as salt bytes s (slot_in frames n.slot)) n.at refl)

@@ -1,20 +1,14 @@
 -- The numbers of frames, shared frames, references and hints at a change of one page, and the hints
 -- where it has none.
-use Rattle.std.proofs.Common.{◌≡◌, ℕ, ◌+◌, ◌<◌, Bool, true, false, List, length, Option, Some, None, is_some, refl, ap, sym, ◌∙◌, arith, ◌⊎◌, inl, inr}
-use Rattle.std.specs.Prelude.{slice_set}
+use Rattle.std.proofs.Common.{◌≡◌, ℕ, ◌+◌, List, Option, Some, None, ap, sym, ◌∙◌, arith}
 use Rattle.std.specs.FinMap as map
-use Rattle.std.proofs.lemmas.Bool.{cases_eq}
-use Rattle.std.proofs.lemmas.List.{length-set}
 use Rattle.page_model.specs.Pages.{SlotOf, Slot, Unmapped, Private, Shared, Guest, page_at, with_slot, is_private, is_shared, is_hinted, used, distinct, count_pages}
 use Rattle.page_model.proofs.Places.{at_changed, here, elsewhere, Changed, at_other, same_page}
 use Rattle.page_model.proofs.Used.{used_before, used_after, pages_counted, frames_for, cleared, one}
-use Rattle.machine_frames.specs.FrameMap.{FrameMap, frame}
-use Rattle.machine_frames.specs.FrameMap as fm
-use Rattle.share_table.specs.TableMaps.{TableMaps, HintMap, references}
+use Rattle.share_table.specs.TableMaps.{HintMap}
 use Rattle.share_table.specs.declared.entries.HintFrame.{HintFrame}
 use Rattle.merge_core.specs.Names.{Names}
-use Rattle.merge_core.specs.Ties.{HintWell, Hinted, Counted}
-use Rattle.merge_core.proofs.FrameLemmas.{used_set}
+use Rattle.merge_core.specs.Ties.{HintWell, Hinted}
 
 -- how each number changes with one page
 pub record Shift (gs gs' : List Guest) (own : ℕ) (old new : Slot) (rest : ℕ) (rest' : ℕ) : Type 0 where

@@ -1,15 +1,15 @@
 -- Each taken frame is some page's, after each change of one page.
-use Rattle.std.proofs.Common.{◌≡◌, ◌≢◌, ℕ, ◌+◌, ◌<◌, ◌≤◌, Bool, true, false, List, length, Option, Some, None, IsSome, refl, ap, sym, ◌∙◌, subst, ◌⊎◌, inl, inr, arith}
-use Rattle.std.specs.Prelude.{slice_set, option_map}
+use Rattle.std.proofs.Common.{◌≡◌, ℕ, ◌<◌, ◌≤◌, Bool, true, List, length, Option, Some, None, IsSome, refl, ap, sym, ◌∙◌, subst, ◌⊎◌, inl, inr}
+use Rattle.std.specs.Prelude.{slice_set}
 use Rattle.std.specs.FinMap as map
 use Rattle.std.proofs.lemmas.Bool.{cases_eq, false≢true}
-use Rattle.page_model.specs.Pages.{SlotOf, Slot, Unmapped, Private, Shared, Guest, page_at, with_slot, is_shared_as, peers, any_page}
+use Rattle.page_model.specs.Pages.{SlotOf, Unmapped, Private, Shared, page_at, with_slot, is_shared_as, peers}
 use Rattle.page_model.proofs.Places.{at_same, at_other, same_page}
-use Rattle.page_model.proofs.Anys.{any_is_count, Passing, page_passing}
+use Rattle.page_model.proofs.Anys.{any_is_count, page_passing}
 use Rattle.machine_frames.specs.FrameMap.{FrameMap, frame, IsTaken}
 use Rattle.share_table.specs.TableMaps.{SharedMap, SharedFrame}
 use Rattle.merge_core.specs.Names.{Names, bytes_in, slot_in, guests_in, frame_of, Known}
-use Rattle.merge_core.specs.Ties.{Listed, Shares, Owner, Owned}
+use Rattle.merge_core.specs.Ties.{Shares, Owner, Owned}
 use Rattle.merge_core.proofs.Named.{named}
 use Rattle.merge_core.proofs.FrameLemmas.{frame_same, frame_other}
 use Rattle.merge_core.proofs.Sharing.{content_is}
@@ -24,6 +24,7 @@ module _ (names : Names) (frames : FrameMap) (a b salt : ℕ) (old new : SlotOf 
   move m o h = pick (cases_eq o.guest a) (cases_eq o.ppn b) where
     stays : (o.guest ≡ a → o.ppn ≡ b → ⊥) → Owner (with_slot names a b new) m
     stays apart = record { guest = o.guest; ppn = o.ppn; salt = o.salt; slot = o.slot; at = at_other names a b new o.guest o.ppn apart ∙ o.at; frame = o.frame }
+
     pick : ((o.guest ≡ a) ⊎ (o.guest ≡ a → ⊥)) → ((o.ppn ≡ b) ⊎ (o.ppn ≡ b → ⊥)) → Owner (with_slot names a b new) m
     pick (inl e) (inl f) =
         let moved : page_at names a b ≡ Some (o.salt, o.slot) = ap (λ (i : ℕ). page_at names i b) (sym e) ∙ ap (λ (i : ℕ). page_at names o.guest i) (sym f) ∙ o.at in
@@ -50,6 +51,7 @@ pub fill_owned : (names : Names) (frames : FrameMap) (a b salt m : ℕ) (bytes :
 fill_owned names frames a b salt m bytes at owned k taken = pick (cases_eq k m) where
   none_some : None ≡ Some k → ⊥
   none_some e = cc
+
   pick : ((k ≡ m) ⊎ (k ≡ m → ⊥)) → Owner (with_slot names a b (Private m None)) k
   pick (inl e) = own names frames a b salt Unmapped (Private m None) at k (ap Some (sym e))
   pick (inr n) =
@@ -68,6 +70,7 @@ pub less_owned : (names : Names) (frames : FrameMap) (a b salt m : ℕ) → page
 less_owned names frames a b salt m at within owned k taken = pick (cases_eq k m) where
   some_same : Some m ≡ Some k → k ≡ m
   some_same e = cc
+
   pick : ((k ≡ m) ⊎ (k ≡ m → ⊥)) → Owner (with_slot names a b Unmapped) k
   pick (inl e) =
       let none : frame (slice_set frames m None) k ≡ None = ap (frame (slice_set frames m None)) e ∙ frame_same frames m None within in

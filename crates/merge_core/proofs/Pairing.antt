@@ -1,16 +1,16 @@
 -- A private page becomes the first shared page of its content.
-use Rattle.std.proofs.Common.{◌≡◌, ◌≢◌, ℕ, ◌+◌, ◌<◌, ◌≤◌, Bool, true, false, List, length, Option, Some, None, IsSome, refl, ap, sym, ◌∙◌, subst, ◌⊎◌, inl, inr, arith}
+use Rattle.std.proofs.Common.{◌≡◌, ◌≢◌, ℕ, Bool, true, false, List, Option, Some, None, refl, ap, sym, ◌∙◌, ◌⊎◌, inl, inr, arith}
 use Rattle.std.specs.Prelude.{option_map}
 use Rattle.std.specs.FinMap as map
-use Rattle.std.proofs.lemmas.Bool.{cases_eq, cases_Bool, false≢true}
-use Rattle.page_model.specs.Pages.{SlotOf, Slot, Unmapped, Private, Shared, Guest, page_at, with_slot, is_shared_as, peers, any_page}
+use Rattle.std.proofs.lemmas.Bool.{cases_eq, false≢true}
+use Rattle.page_model.specs.Pages.{SlotOf, Slot, Unmapped, Private, Shared, page_at, with_slot, is_shared_as, peers, any_page}
 use Rattle.page_model.proofs.Places.{at_changed, here, elsewhere, Changed, same_page}
 use Rattle.page_model.proofs.Anys.{any_is_count, AnyIsCount, none_passes}
-use Rattle.machine_frames.specs.FrameMap.{FrameMap, frame, IsTaken}
+use Rattle.machine_frames.specs.FrameMap.{FrameMap}
 use Rattle.share_table.specs.TableMaps.{SharedMap, SharedFrame}
 use Rattle.merge_core.proofs.Maps.{got_same, got_other}
-use Rattle.merge_core.specs.Names.{Names, bytes_in, slot_in, guests_in, frame_of, Known, known_at}
-use Rattle.merge_core.specs.Ties.{Placed, Noted, SharedWell, Listed, Shares}
+use Rattle.merge_core.specs.Names.{Names, bytes_in, slot_in, guests_in, Known, known_at}
+use Rattle.merge_core.specs.Ties.{Placed, Noted, Listed, Shares}
 use Rattle.merge_core.proofs.Views.{page_in}
 use Rattle.merge_core.proofs.Renames.{re_peers, re_placed, re_noted}
 use Rattle.merge_core.proofs.Sharing.{own_content, content_is, same_frame, none_frame, calm_shared, inserted_well}
@@ -65,10 +65,10 @@ module _ (hash : ℕ → List ℕ → ℕ) (names : Names) (frames : FrameMap) (
 
   pub first_placed : Placed (with_slot names a b (Shared m)) frames
   first_placed = re_placed names frames a b salt (Private m None) (Shared m) at
-    (λ k f. placed.taken a b salt (Private m None) k at f)
-    (λ k h is. absurd (no_private k h is))
-    (λ k f c d s h apart there. alone c d s k h apart there (same_some k f))
-    placed
+      (λ k f. placed.taken a b salt (Private m None) k at f)
+      (λ k h is. absurd (no_private k h is))
+      (λ k f c d s h apart there. alone c d s k h apart there (same_some k f))
+      placed
 
   pub first_noted : Noted hash (with_slot names a b (Shared m)) frames notes
   first_noted = re_noted names frames a b salt (Private m None) (Shared m) at hash notes noted (λ k f. noted.salts a b salt (Private m None) k at f)

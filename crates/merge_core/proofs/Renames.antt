@@ -1,16 +1,16 @@
 -- A change of one page under frames and notes that stay.
-use Rattle.std.proofs.Common.{◌≡◌, ◌≢◌, ℕ, ◌+◌, ◌<◌, ◌≤◌, Bool, true, false, List, length, Option, Some, None, IsSome, refl, ap, sym, ◌∙◌, subst, ◌⊎◌, inl, inr, arith}
+use Rattle.std.proofs.Common.{◌≡◌, ◌≢◌, ℕ, ◌+◌, List, Option, Some, None, refl, ap, sym, ◌∙◌, subst, ◌⊎◌, inl, inr, arith}
 use Rattle.std.specs.FinMap as map
 use Rattle.std.proofs.lemmas.Bool.{cases_eq}
-use Rattle.page_model.specs.Pages.{SlotOf, Slot, Unmapped, Private, Shared, Guest, GuestOf, page_at, with_slot, is_shared, is_shared_as, peers, used, distinct, count_pages, is_private, is_hinted}
+use Rattle.page_model.specs.Pages.{SlotOf, Private, Shared, page_at, with_slot, is_shared_as, peers}
 use Rattle.page_model.proofs.Places.{at_changed, here, elsewhere, Changed, at_same, at_other, same_page}
 use Rattle.page_model.proofs.Used.{pages_counted, one}
-use Rattle.machine_frames.specs.FrameMap.{FrameMap, frame, IsTaken}
-use Rattle.share_table.specs.TableMaps.{TableMaps, SharedMap, SharedFrame, HintMap}
+use Rattle.machine_frames.specs.FrameMap.{FrameMap, IsTaken}
+use Rattle.share_table.specs.TableMaps.{SharedMap, SharedFrame, HintMap}
 use Rattle.share_table.specs.declared.entries.HintFrame.{HintFrame}
 use Rattle.merge_core.proofs.Maps.{got_same, got_other, gone_same, gone_other}
 use Rattle.merge_core.specs.Names.{Names, bytes_in, slot_in, guests_in, frame_of, Known, known_at}
-use Rattle.merge_core.specs.Ties.{Placed, Noted, SharedWell, Listed, Shares, HintWell, Hinted, Counted, Ties}
+use Rattle.merge_core.specs.Ties.{Placed, Noted, Listed, Shares, HintWell, Hinted}
 use Rattle.merge_core.proofs.Views.{guests_but, page_in_is}
 
 same_some : (x y : ℕ) → Some x ≡ Some y → x ≡ y
@@ -137,6 +137,7 @@ module _ (names : Names) (hints : HintMap) (a b salt m key : ℕ) (at : page_at 
   put_parts k other e = (one e, two e) where
     one : Private k (Some other) ≡ Private m (Some key) → k ≡ m
     one e = cc
+
     two : Private k (Some other) ≡ Private m (Some key) → other ≡ key
     two e = cc
 

@@ -1,21 +1,21 @@
 -- What hangs together stays so where a page becomes shared, or stops to be.
-use Rattle.std.proofs.Common.{◌≡◌, ◌≢◌, ℕ, ◌+◌, ◌<◌, ◌≤◌, Bool, true, false, cond, List, length, Option, Some, None, IsSome, refl, ap, sym, ◌∙◌, subst, ◌⊎◌, inl, inr, arith}
-use Rattle.std.specs.Prelude.{◌==◌, ◌-◌}
+use Rattle.std.proofs.Common.{◌≡◌, ℕ, ◌+◌, ◌≤◌, Bool, false, List, Some, None, refl, ap, sym, ◌∙◌, subst, inl, inr, arith}
+use Rattle.std.specs.Prelude.{◌==◌}
 use Rattle.std.specs.FinMap as map
 use Rattle.std.proofs.lemmas.Bool.Decides.{nat_tests}
-use Rattle.page_model.specs.Pages.{SlotOf, Slot, Unmapped, Private, Shared, Guest, page_at, with_slot, is_shared_as, any_page, count_pages, peers}
+use Rattle.page_model.specs.Pages.{Unmapped, Private, Shared, Guest, page_at, with_slot, is_shared_as, any_page, peers}
 use Rattle.page_model.proofs.Places.{unchanged, at_other, same_page}
 use Rattle.page_model.proofs.Used.{pages_counted, cleared, once}
 use Rattle.page_model.proofs.Anys.{any_is_count, AnyIsCount}
-use Rattle.machine_frames.specs.FrameMap.{FrameMap, IsTaken}
-use Rattle.share_table.specs.TableMaps.{TableMaps, SharedMap, SharedFrame, shared_at, with_shared, with_count, with_one_less, references}
+use Rattle.machine_frames.specs.FrameMap.{FrameMap}
+use Rattle.share_table.specs.TableMaps.{TableMaps, SharedMap, SharedFrame, shared_at, with_shared, with_count, with_one_less}
 use Rattle.merge_core.proofs.Maps.{len_new, len_old, len_gone, sum_new, sum_old, sum_gone, got_same, twice_inserted}
-use Rattle.merge_core.specs.Names.{Names, bytes_in, slot_in, guests_in, frame_of, Known, known_at}
+use Rattle.merge_core.specs.Names.{Names, bytes_in, guests_in, frame_of, Known, known_at}
 use Rattle.merge_core.specs.Ties.{Counted, Ties, Owner}
 use Rattle.merge_core.proofs.Views.{page_in_is}
 use Rattle.merge_core.proofs.Numbers.{shift, hinted_calm}
 use Rattle.merge_core.proofs.Renames.{re_guests}
-use Rattle.merge_core.proofs.Owners.{own, same_owned, more_owned, re_owned, sharer}
+use Rattle.merge_core.proofs.Owners.{same_owned, more_owned, re_owned, sharer}
 use Rattle.merge_core.proofs.Pairing.{no_peers, first_placed, first_noted, first_shares}
 use Rattle.merge_core.proofs.Sharing.{own_content, joined_placed, joined_noted, joined_shares, joined_count, left_placed, left_noted, left_shares, left_count, kept_placed, kept_noted, kept_shares}
 

@@ -1,20 +1,19 @@
 -- A page becomes shared, or stops to be.
-use Rattle.std.proofs.Common.{◌≡◌, ◌≢◌, ℕ, ◌+◌, ◌<◌, ◌≤◌, Bool, true, false, ◌&&◌, List, length, Option, Some, None, IsSome, refl, ap, sym, ◌∙◌, subst, ◌⊎◌, inl, inr, arith}
+use Rattle.std.proofs.Common.{◌≡◌, ◌≢◌, ℕ, ◌+◌, ◌≤◌, true, false, List, Option, Some, None, refl, ap, sym, ◌∙◌, subst, ◌⊎◌, inl, inr, arith}
 use Rattle.std.specs.Prelude.{nat_eq}
 use Rattle.std.specs.Str.{bytes_eq}
 use Rattle.std.specs.FinMap as map
 use Rattle.std.proofs.lemmas.Bool.{cases_eq, cases_Bool, eqb-true, and_parts, and_from, eq-eqb}
 use Rattle.std.proofs.lemmas.Slice.Eq.{bytes_eq-Decides}
-use Rattle.page_model.specs.Pages.{SlotOf, Slot, Unmapped, Private, Shared, Guest, GuestOf, page_at, with_slot, is_shared, is_shared_as, peers, used, distinct, count_pages, any_page, is_private, is_hinted}
-use Rattle.page_model.proofs.Places.{at_changed, here, elsewhere, Changed, at_same, at_other, same_page}
-use Rattle.page_model.proofs.Used.{pages_counted, one}
-use Rattle.machine_frames.specs.FrameMap.{FrameMap, frame, IsTaken}
-use Rattle.share_table.specs.TableMaps.{TableMaps, SharedMap, SharedFrame, HintMap}
-use Rattle.share_table.specs.declared.entries.HintFrame.{HintFrame}
+use Rattle.page_model.specs.Pages.{SlotOf, Slot, Unmapped, Private, Shared, Guest, page_at, with_slot, is_shared_as, peers}
+use Rattle.page_model.proofs.Places.{at_changed, here, elsewhere, Changed, at_other}
+use Rattle.page_model.proofs.Used.{pages_counted}
+use Rattle.machine_frames.specs.FrameMap.{FrameMap, IsTaken}
+use Rattle.share_table.specs.TableMaps.{SharedMap, SharedFrame}
 use Rattle.merge_core.proofs.Maps.{got_same, got_other, gone_same, gone_other}
 use Rattle.merge_core.specs.Names.{Names, bytes_in, slot_in, guests_in, frame_of, Known, known_at}
-use Rattle.merge_core.specs.Ties.{Placed, Noted, SharedWell, Listed, Shares, HintWell, Hinted, Counted, Ties}
-use Rattle.merge_core.proofs.Views.{guests_but, page_in_is}
+use Rattle.merge_core.specs.Ties.{Placed, Noted, SharedWell, Listed, Shares}
+use Rattle.merge_core.proofs.Views.{page_in_is}
 use Rattle.merge_core.proofs.Renames.{re_peers, re_placed, re_noted}
 
 pub same_frame : {x y : SharedFrame} → Some x ≡ Some y → x ≡ y
@@ -111,12 +110,12 @@ module _ (hash : ℕ → List ℕ → ℕ) (names : Names) (frames : FrameMap) (
 
   pub joined_placed : Placed (with_slot names a b (Shared m)) frames
   joined_placed = re_placed names frames a b salt Unmapped (Shared m) at
-    (λ k f. subst (IsTaken frames) (same f) join_well.taken)
-    (λ k h is. absurd (no_private k m h (sym is)))
-    (λ k f c d s h apart there. shares.apart c d s k h code was there found (same f))
-    placed where
-      same : {k : ℕ} → Some m ≡ Some k → m ≡ k
-      same e = cc
+      (λ k f. subst (IsTaken frames) (same f) join_well.taken)
+      (λ k h is. absurd (no_private k m h (sym is)))
+      (λ k f c d s h apart there. shares.apart c d s k h code was there found (same f))
+      placed where
+        same : {k : ℕ} → Some m ≡ Some k → m ≡ k
+        same e = cc
 
   pub joined_noted : Noted hash (with_slot names a b (Shared m)) frames notes
   joined_noted = re_noted names frames a b salt Unmapped (Shared m) at hash notes noted (λ k f. ap (λ (x : ℕ). (known_at notes x).salt) (sym (same f)) ∙ salt_is) where
@@ -252,6 +251,7 @@ module _ (hash : ℕ → List ℕ → ℕ) (names : Names) (frames : FrameMap) (
       none (omega (arith, two, kept_count)) where
         same : Some k ≡ Some m → k ≡ m
         same e = cc
+
         none : 1 ≤ 0 → ⊥
         none h = omega arith
 
@@ -263,10 +263,10 @@ module _ (hash : ℕ → List ℕ → ℕ) (names : Names) (frames : FrameMap) (
 
   pub kept_placed : Placed kept frames
   kept_placed = re_placed names frames a b salt (Shared m) (Private m None) at
-    (λ k f. subst (IsTaken frames) (same_frame_of k f) kept_well.taken)
-    (λ k h is c d s slot apart there f. sole c d s slot apart there (f ∙ ap Some (sym (same_own k h is))))
-    (λ k f c d s h apart there. sole c d s (Private k h) apart there (sym f))
-    placed
+      (λ k f. subst (IsTaken frames) (same_frame_of k f) kept_well.taken)
+      (λ k h is c d s slot apart there f. sole c d s slot apart there (f ∙ ap Some (sym (same_own k h is))))
+      (λ k f c d s h apart there. sole c d s (Private k h) apart there (sym f))
+      placed
 
   pub kept_noted : Noted hash kept frames notes
   kept_noted = re_noted names frames a b salt (Shared m) (Private m None) at hash notes noted (λ k f. ap (λ (x : ℕ). (known_at notes x).salt) (sym (same_frame_of k f)) ∙ kept_salt)

@@ -1,10 +1,9 @@
 -- The numbers of a report, from the counters of the frames and of the table.
-use Rattle.std.proofs.Common.{◌≡◌, ℕ, ◌+◌, ◌-◌, ◌≤◌, Bool, true, false, cond, List, [], ◌∷◌, refl, ap, sym, ◌∙◌, arith}
+use Rattle.std.proofs.Common.{◌≡◌, ℕ, ◌+◌, ◌-◌, cond, List, [], ◌∷◌, refl, arith}
 use Rattle.std.specs.Prelude.{count_by}
 use Rattle.std.specs.FinMap as maps
 use Rattle.std.proofs.lemmas.List.Sums.{sum_by-cons}
-use Rattle.page_model.specs.Parts.{Totals}
-use Rattle.page_model.specs.Pages.{Slot, Unmapped, Private, Shared, Guest, is_mapped, is_private, is_shared, is_hinted, count_pages, used, distinct, totals}
+use Rattle.page_model.specs.Pages.{Slot, Unmapped, Private, Shared, Guest, is_mapped, is_private, is_shared, is_hinted, count_pages, used, totals}
 use Rattle.machine_frames.specs.FrameMap.{FrameMap}
 use Rattle.machine_frames.specs.FrameMap as fm
 use Rattle.share_table.specs.TableMaps.{TableMaps, references}

@@ -1,15 +1,15 @@
 -- What a core's pages read as, and how many there are.
-use Rattle.std.proofs.Common.{◌≡◌, ℕ, zero, suc, ◌+◌, ◌<◌, ◌≤◌, Bool, true, false, List, [], ◌∷◌, length, get_or, map, Option, Some, None, IsSome, is_some, refl, ap, sym, ◌∙◌, subst, arith, vec_len}
-use Rattle.std.specs.Prelude.{slice_get, slice_index}
-use Rattle.std.specs.Option.{option_map, option_and_then}
+use Rattle.std.proofs.Common.{◌≡◌, ℕ, zero, suc, ◌<◌, ◌≤◌, false, List, [], ◌∷◌, length, get_or, map, Option, Some, None, IsSome, refl, ap, sym, ◌∙◌, arith, vec_len}
+use Rattle.std.specs.Prelude.{slice_get}
+use Rattle.std.specs.Option.{option_map}
 use Rattle.std.proofs.lemmas.Bool.{false≢true}
 use Rattle.std.proofs.lemmas.List.{get_or-replicate, length-map}
 use Rattle.std.proofs.lemmas.List.Sums.{sum_by-cons}
 use Rattle.page_model.specs.Pages.{SlotOf, Slot, Unmapped, Private, Shared, GuestOf, Guest, page_at, blank, bytes_of, is_mapped}
 use Rattle.page_model.specs.Stored.{text_at, byte_in}
-use Rattle.machine_frames.specs.FrameMap.{FrameMap, frame, IsTaken}
+use Rattle.machine_frames.specs.FrameMap.{FrameMap, frame}
 use Rattle.merge_core.specs.declared.held.GuestPages.{GuestPages}
-use Rattle.merge_core.specs.Names.{Names, bytes_in, slot_in, guest_in, guests_in, frame_of}
+use Rattle.merge_core.specs.Names.{Names, bytes_in, slot_in, guests_in, frame_of}
 use Rattle.merge_core.specs.Ties.{Placed, page_total}
 use Rattle.merge_core.specs.View.{slot_of, guest_of, names_in}
 use Rattle.merge_core.proofs.FrameLemmas.{bytes_are}

@@ -1,6 +1,6 @@
 -- How the views of pages and guests follow the lists that they view.
-use Rattle.std.proofs.Common.{◌≡◌, ℕ, zero, suc, ◌+◌, ◌<◌, ◌≤◌, List, [], ◌∷◌, length, get_or, set, drop, refl, ap, sym, subst, arith, vec_len}
-use Rattle.std.specs.Prelude.{Option, IsSome, slice_get}
+use Rattle.std.proofs.Common.{◌≡◌, ℕ, zero, suc, ◌<◌, List, [], ◌∷◌, length, get_or, set, refl, ap, sym, subst, arith, vec_len}
+use Rattle.std.specs.Prelude.{IsSome, slice_get}
 use Rattle.std.specs.Option.{option_map}
 use Rattle.std.specs.Vec.{with_item}
 use Rattle.std.proofs.lemmas.Bool.{false≢true}
@@ -19,7 +19,6 @@ set_guest (g ∷ gs) (suc i) ppn page d = ap (λ rest. guest_of g ∷ rest) (set
 -- the same, after the guest was read
 pub set_guest_read : {A : Type 0} (gs : List (GuestPages A)) (i ppn : ℕ) (page : PageEntry) (g : GuestPages A) → g ≡ get_or gs i g → names_in (set gs i (record { salt = g.salt; pages = with_item g.pages ppn page })) ≡ with_slot (names_in gs) i ppn (slot_of page)
 set_guest_read {A} gs i ppn page g e = subst (λ (x : GuestPages A). names_in (set gs i (record { salt = x.salt; pages = with_item x.pages ppn page })) ≡ with_slot (names_in gs) i ppn (slot_of page)) (sym e) (set_guest gs i ppn page g)
-
 
 -- the place of a page that is there
 pub guest_within : {A : Type 0} (gs : List (GuestPages A)) (i ppn : ℕ) → IsSome (page_at (names_in gs) i ppn) → i < length gs

@@ -1,6 +1,6 @@
 -- The guests with an MPN in place of each page's bytes, and the bytes that they stand for.
-use Rattle.std.specs.Prelude.{◌≡◌, ℕ, List, [], map, replicate, Option, Some, None, unwrap_or, slice_index_or}
-use Rattle.page_model.specs.Pages.{SlotOf, Slot, Unmapped, Private, Shared, GuestOf, Guest, State}
+use Rattle.std.specs.Prelude.{ℕ, List, [], map, replicate, Option, Some, None, unwrap_or, slice_index_or}
+use Rattle.page_model.specs.Pages.{SlotOf, Slot, Unmapped, Private, Shared, GuestOf, Guest}
 use Rattle.page_model.specs.Replay.{Shape}
 use Rattle.machine_frames.specs.FrameMap.{FrameMap, frame}
 

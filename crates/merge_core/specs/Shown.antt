@@ -1,7 +1,6 @@
 -- What a contract sees of a core.
-use Rattle.std.specs.Prelude.{◌≡◌, ℕ, ◌+◌, ◌≤◌, List, length, Option, Some, None, refl}
+use Rattle.std.specs.Prelude.{◌≡◌, ℕ, ◌≤◌, List, length, Option, Some, None, refl}
 use Rattle.std.specs.Coded.{Coded, code_by, coded×, coded_ℕ, coded_list, coded_option}
-use Rattle.std.specs.FinMap as map
 use Rattle.page_model.specs.Pages.{SlotOf, Unmapped, Private, Shared, GuestOf, State, page_at, peers, used}
 use Rattle.machine_frames.specs.FrameMap.{FrameMap, IsTaken}
 use Rattle.share_table.specs.TableMaps.{TableMaps, table_code, SharedFrame, shared_at, hint_at, entry_count}

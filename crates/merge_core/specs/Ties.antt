@@ -1,7 +1,7 @@
 -- How the pages, the frames, the table and the notes of a core hang together.
-use Rattle.std.specs.Prelude.{◌≡◌, ℕ, ◌≤◌, ◌^◌, List, length, Option, Some, None, sum_by}
+use Rattle.std.specs.Prelude.{◌≡◌, ℕ, ◌≤◌, List, length, Option, Some, sum_by}
 use Rattle.std.specs.FinMap as map
-use Rattle.page_model.specs.Pages.{SlotOf, Unmapped, Private, Shared, Guest, GuestOf, page_at, peers, used, distinct, count_pages, is_shared, is_hinted}
+use Rattle.page_model.specs.Pages.{SlotOf, Private, Shared, Guest, GuestOf, page_at, peers, used, distinct, count_pages, is_shared, is_hinted}
 use Rattle.machine_frames.specs.FrameMap.{FrameMap, IsTaken}
 use Rattle.machine_frames.specs.FrameMap as fm
 use Rattle.share_table.specs.TableMaps.{TableMaps, SharedMap, HintMap, SharedFrame, references}

@@ -17,4 +17,3 @@ mod tests;
 
 pub use fault::CoreFault;
 pub use machine::Core;
-

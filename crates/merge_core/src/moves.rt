@@ -14,7 +14,11 @@ use page_digest::PageHash;
 use std::alloc::Allocator;
 
 /// A page's entry, after its guest's salt.
-fn find_entry<A: Allocator>(guests: &[GuestPages<A>], guest: usize, ppn: usize) -> Option<(u32, PageEntry)>
+fn find_entry<A: Allocator>(
+    guests: &[GuestPages<A>],
+    guest: usize,
+    ppn: usize,
+) -> Option<(u32, PageEntry)>
     ensures within { IfSome result (λ _. guest < length guests.now) }
     ensures name { option_map (λ x. (x.0, slot_of x.1)) result ≡ page_at (names_in guests.now) guest ppn }
 {
@@ -29,7 +33,11 @@ fn find_entry<A: Allocator>(guests: &[GuestPages<A>], guest: usize, ppn: usize) 
 }
 
 /// A page, after its guest's salt.
-pub fn find<H, A: Allocator>(held: &Held<H, A>, guest: usize, ppn: usize) -> Option<(u32, PageEntry)>
+pub fn find<H, A: Allocator>(
+    held: &Held<H, A>,
+    guest: usize,
+    ppn: usize,
+) -> Option<(u32, PageEntry)>
     ensures within { IfSome result (λ _. guest < length (names_of held.now)) }
     ensures name { option_map (λ x. (x.0, slot_of x.1)) result ≡ page_at (names_of held.now) guest ppn }
     ensures page { option_map (λ x. (x.0, slot_in held.now.frames (slot_of x.1))) result ≡ page_at (guests_of held.now) guest ppn }
@@ -96,7 +104,14 @@ fn set_page<A: Allocator>(guests: &mut Vec<GuestPages<A>, A>, page: Place, entry
 }
 
 /// Writes bytes into a private page.
-pub fn write<H: PageHash, A: Allocator>(held: &mut Held<H, A>, page: Place, mpn: u32, hint: Option<u32>, at: u32, bytes: &[u8])
+pub fn write<H: PageHash, A: Allocator>(
+    held: &mut Held<H, A>,
+    page: Place,
+    mpn: u32,
+    hint: Option<u32>,
+    at: u32,
+    bytes: &[u8],
+)
     requires whole { Whole H.hash_of held.old }
     requires page { page_at (names_of held.old) page.guest page.ppn ≡ Some (page.salt, s.Private mpn hint) }
     requires fits { at + length bytes.now ≤ 4096 }
@@ -228,7 +243,12 @@ fn note_hash<A: Allocator>(notes: &mut Vec<Note, A>, mpn: u32, salt: u32, code: 
 }
 
 /// How many pages share a page's frame.
-pub fn peers_of<H: PageHash, A: Allocator>(held: &Held<H, A>, page: Place, mpn: u32, code: u64) -> u32
+pub fn peers_of<H: PageHash, A: Allocator>(
+    held: &Held<H, A>,
+    page: Place,
+    mpn: u32,
+    code: u64,
+) -> u32
     requires whole { Whole H.hash_of held.now }
     requires page { page_at (names_of held.now) page.guest page.ppn ≡ Some (page.salt, s.Shared mpn) }
     requires code { code ≡ H.hash_of page.salt (bytes_in held.now.frames mpn) }
@@ -254,7 +274,13 @@ pub fn keep<H: PageHash, A: Allocator>(held: &mut Held<H, A>, page: Place, mpn: 
 }
 
 /// A page leaves a shared frame that others keep.
-pub fn leave<H: PageHash, A: Allocator>(held: &mut Held<H, A>, page: Place, mpn: u32, code: u64, count: u32)
+pub fn leave<H: PageHash, A: Allocator>(
+    held: &mut Held<H, A>,
+    page: Place,
+    mpn: u32,
+    code: u64,
+    count: u32,
+)
     requires whole { Whole H.hash_of held.old }
     requires page { page_at (names_of held.old) page.guest page.ppn ≡ Some (page.salt, s.Shared mpn) }
     requires found { shared_at held.old.table code ≡ Some (record { mpn = mpn; count = count }) }
@@ -278,13 +304,19 @@ pub fn put_hint<H: PageHash, A: Allocator>(held: &mut Held<H, A>, page: Place, m
     ensures page { page_at (names_of held.new) page.guest page.ppn ≡ Some (page.salt, s.Private mpn (Some key)) }
     ensures guests { guests_of held.new ≡ with_slot (guests_of held.old) page.guest page.ppn (s.Private (bytes_in held.old.frames mpn) (Some key)) }
 {
-    held.table.put_hint(key, page.guest as u8, page.ppn as u32, mpn);
+    held.table
+        .put_hint(key, page.guest as u8, page.ppn as u32, mpn);
     held.hints += 1;
     set_page(&mut held.guests, page, PageEntry::Private(mpn, Some(key)));
 }
 
 /// A page without a frame joins the shared frame under a hash: how many pages then share it.
-pub fn join<H: PageHash, A: Allocator>(held: &mut Held<H, A>, page: Place, mpn: u32, code: u64) -> u32
+pub fn join<H: PageHash, A: Allocator>(
+    held: &mut Held<H, A>,
+    page: Place,
+    mpn: u32,
+    code: u64,
+) -> u32
     requires whole { Whole H.hash_of held.old }
     requires page { page_at (names_of held.old) page.guest page.ppn ≡ Some (page.salt, s.Unmapped) }
     requires found { shared_at held.old.table code ≡ Some (record { mpn = mpn; count = count_at held.old.table code }) }
@@ -300,7 +332,13 @@ pub fn join<H: PageHash, A: Allocator>(held: &mut Held<H, A>, page: Place, mpn: 
 }
 
 /// A private page and a page without a frame become the first two pages of a shared frame, the private page's.
-pub fn share<H: PageHash, A: Allocator>(held: &mut Held<H, A>, first: Place, mpn: u32, second: Place, code: u64)
+pub fn share<H: PageHash, A: Allocator>(
+    held: &mut Held<H, A>,
+    first: Place,
+    mpn: u32,
+    second: Place,
+    code: u64,
+)
     requires whole { Whole H.hash_of held.old }
     requires first { page_at (names_of held.old) first.guest first.ppn ≡ Some (first.salt, s.Private mpn None) }
     requires second { page_at (names_of held.old) second.guest second.ppn ≡ Some (first.salt, s.Unmapped) }

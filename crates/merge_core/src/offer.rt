@@ -42,14 +42,17 @@ pub fn propose<H: PageHash, A: Allocator>(held: &mut Held<H, A>, guest: usize, p
     match entry {
         PageEntry::Unmapped => Verdict::Unmapped,
         PageEntry::Shared(_) => Verdict::Already,
-        PageEntry::Private(mpn, hint) => {
-            propose_private(held, page, mpn, hint)
-        },
+        PageEntry::Private(mpn, hint) => { propose_private(held, page, mpn, hint) },
     }
 }
 
 /// A proposal of a private page.
-fn propose_private<H: PageHash, A: Allocator>(held: &mut Held<H, A>, page: Place, mpn: u32, hint: Option<u32>) -> Verdict
+fn propose_private<H: PageHash, A: Allocator>(
+    held: &mut Held<H, A>,
+    page: Place,
+    mpn: u32,
+    hint: Option<u32>,
+) -> Verdict
     requires whole { Whole H.hash_of held.old }
     requires page { page_at (names_of held.old) page.guest page.ppn ≡ Some (page.salt, s.Private mpn hint) }
     ensures whole { Whole H.hash_of held.new }
@@ -64,7 +67,13 @@ fn propose_private<H: PageHash, A: Allocator>(held: &mut Held<H, A>, page: Place
 
 /// A page's own hint stays only under the key of the present bytes.
 #[tactic(auto, using(page_model::proofs::Places::unchanged))]
-fn settle_hint<H: PageHash, A: Allocator>(held: &mut Held<H, A>, page: Place, mpn: u32, hint: Option<u32>, key: u32) -> Option<u32>
+fn settle_hint<H: PageHash, A: Allocator>(
+    held: &mut Held<H, A>,
+    page: Place,
+    mpn: u32,
+    hint: Option<u32>,
+    key: u32,
+) -> Option<u32>
     requires whole { Whole H.hash_of held.old }
     requires page { page_at (names_of held.old) page.guest page.ppn ≡ Some (page.salt, s.Private mpn hint) }
     ensures whole { Whole H.hash_of held.new }
@@ -86,7 +95,13 @@ fn settle_hint<H: PageHash, A: Allocator>(held: &mut Held<H, A>, page: Place, mp
 }
 
 /// Looks for a shared frame with the page's hash.
-fn find_match<H: PageHash, A: Allocator>(held: &mut Held<H, A>, page: Place, mpn: u32, kept: Option<u32>, code: u64) -> Verdict
+fn find_match<H: PageHash, A: Allocator>(
+    held: &mut Held<H, A>,
+    page: Place,
+    mpn: u32,
+    kept: Option<u32>,
+    code: u64,
+) -> Verdict
     requires whole { Whole H.hash_of held.old }
     requires page { page_at (names_of held.old) page.guest page.ppn ≡ Some (page.salt, s.Private mpn kept) }
     requires fits { kept_hint (key_of code) kept ≡ kept }
@@ -108,7 +123,12 @@ fn find_match<H: PageHash, A: Allocator>(held: &mut Held<H, A>, page: Place, mpn
 }
 
 /// Whether a frame has this salt and the bytes of another frame.
-fn same_content<H: PageHash, A: Allocator>(held: &Held<H, A>, salt: u32, mpn: u32, theirs: u32) -> bool
+fn same_content<H: PageHash, A: Allocator>(
+    held: &Held<H, A>,
+    salt: u32,
+    mpn: u32,
+    theirs: u32,
+) -> bool
     requires whole { Whole H.hash_of held.now }
     requires mine { fm.IsTaken held.now.frames mpn }
     requires theirs { fm.IsTaken held.now.frames theirs }
@@ -127,7 +147,14 @@ fn same_bytes<A: Allocator>(frames: &Frames<A>, one: u32, other: u32) -> bool
 }
 
 /// A private page leaves its frame for a shared one of the same content.
-fn join_match<H: PageHash, A: Allocator>(held: &mut Held<H, A>, page: Place, mpn: u32, kept: Option<u32>, theirs: u32, code: u64) -> Verdict
+fn join_match<H: PageHash, A: Allocator>(
+    held: &mut Held<H, A>,
+    page: Place,
+    mpn: u32,
+    kept: Option<u32>,
+    theirs: u32,
+    code: u64,
+) -> Verdict
     requires whole { Whole H.hash_of held.old }
     requires page { page_at (names_of held.old) page.guest page.ppn ≡ Some (page.salt, s.Private mpn kept) }
     requires found { shared_at held.old.table code ≡ Some (record { mpn = theirs; count = count_at held.old.table code }) }
@@ -144,7 +171,13 @@ fn join_match<H: PageHash, A: Allocator>(held: &mut Held<H, A>, page: Place, mpn
 }
 
 /// No shared page has the hash of the page, which becomes a hint unless there is one under its key.
-fn offer<H: PageHash, A: Allocator>(held: &mut Held<H, A>, page: Place, mpn: u32, kept: Option<u32>, code: u64) -> Verdict
+fn offer<H: PageHash, A: Allocator>(
+    held: &mut Held<H, A>,
+    page: Place,
+    mpn: u32,
+    kept: Option<u32>,
+    code: u64,
+) -> Verdict
     requires whole { Whole H.hash_of held.old }
     requires page { page_at (names_of held.old) page.guest page.ppn ≡ Some (page.salt, s.Private mpn kept) }
     requires fits { kept_hint (key_of code) kept ≡ kept }
@@ -169,7 +202,13 @@ fn offer<H: PageHash, A: Allocator>(held: &mut Held<H, A>, page: Place, mpn: u32
 }
 
 /// Another page holds the hint under the page's key. Their contents are compared first: equal ones need no hash.
-fn weigh<H: PageHash, A: Allocator>(held: &mut Held<H, A>, page: Place, mpn: u32, code: u64, hint: HintFrame) -> Verdict
+fn weigh<H: PageHash, A: Allocator>(
+    held: &mut Held<H, A>,
+    page: Place,
+    mpn: u32,
+    code: u64,
+    hint: HintFrame,
+) -> Verdict
     requires whole { Whole H.hash_of held.old }
     requires page { page_at (names_of held.old) page.guest page.ppn ≡ Some (page.salt, s.Private mpn None) }
     requires hint { hint_at held.old.table (key_of code) ≡ Some hint }
@@ -202,7 +241,14 @@ fn weigh<H: PageHash, A: Allocator>(held: &mut Held<H, A>, page: Place, mpn: u32
 }
 
 /// A private page leaves its frame, and shares that of the hint page under its key, which is equal.
-fn pair<H: PageHash, A: Allocator>(held: &mut Held<H, A>, first: Place, theirs: u32, page: Place, mpn: u32, code: u64)
+fn pair<H: PageHash, A: Allocator>(
+    held: &mut Held<H, A>,
+    first: Place,
+    theirs: u32,
+    page: Place,
+    mpn: u32,
+    code: u64,
+)
     requires whole { Whole H.hash_of held.old }
     requires page { page_at (names_of held.old) page.guest page.ppn ≡ Some (page.salt, s.Private mpn None) }
     requires first { page_at (names_of held.old) first.guest first.ppn ≡ Some (first.salt, s.Private theirs (Some (key_of code))) }

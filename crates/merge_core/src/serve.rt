@@ -8,7 +8,9 @@ ghost use Rattle.machine_frames.specs.FrameMap as fm;
 ghost use Rattle.merge_core.specs.View.{slot_of, names_of, guests_of, Whole};
 
 use crate::held::{Held, PageEntry, Place};
-use crate::moves::{drop_hint, find, hash_frame, is_full, keep, leave, map_copy, map_zeroed, peers_of, unmap, write};
+use crate::moves::{
+    drop_hint, find, hash_frame, is_full, keep, leave, map_copy, map_zeroed, peers_of, unmap, write,
+};
 use arrayvec::ArrayVec;
 use machine_frames::Frames;
 use page_digest::PageHash;
@@ -16,7 +18,11 @@ use page_model::{LoadReq, StoreReq, Verdict};
 use std::alloc::Allocator;
 
 #[tactic(auto, using(page_model::proofs::Places::again), unfolding(page_model::specs::Steps::stored))]
-pub fn store<H: PageHash, A: Allocator>(held: &mut Held<H, A>, guest: usize, request: &StoreReq) -> Verdict
+pub fn store<H: PageHash, A: Allocator>(
+    held: &mut Held<H, A>,
+    guest: usize,
+    request: &StoreReq,
+) -> Verdict
     requires whole { Whole H.hash_of held.old }
     ensures whole { Whole H.hash_of held.new }
     ensures total { length held.new.frames ≡ length held.old.frames }
@@ -49,7 +55,13 @@ pub fn store<H: PageHash, A: Allocator>(held: &mut Held<H, A>, guest: usize, req
 
 /// A store to a shared page.
 #[tactic(auto, using(page_model::proofs::Places::again), unfolding(page_model::specs::Steps::stored))]
-fn store_shared<H: PageHash, A: Allocator>(held: &mut Held<H, A>, page: Place, mpn: u32, at: u32, bytes: &[u8]) -> Verdict
+fn store_shared<H: PageHash, A: Allocator>(
+    held: &mut Held<H, A>,
+    page: Place,
+    mpn: u32,
+    at: u32,
+    bytes: &[u8],
+) -> Verdict
     requires whole { Whole H.hash_of held.old }
     requires page { page_at (names_of held.old) page.guest page.ppn ≡ Some (page.salt, s.Shared mpn) }
     requires fits { at + length bytes.now ≤ 4096 }
@@ -76,7 +88,12 @@ fn store_shared<H: PageHash, A: Allocator>(held: &mut Held<H, A>, page: Place, m
 
 /// Drops a private page's hint, if it has one.
 #[tactic(auto, using(page_model::proofs::Places::unchanged))]
-pub fn clear_hint<H: PageHash, A: Allocator>(held: &mut Held<H, A>, page: Place, mpn: u32, hint: Option<u32>)
+pub fn clear_hint<H: PageHash, A: Allocator>(
+    held: &mut Held<H, A>,
+    page: Place,
+    mpn: u32,
+    hint: Option<u32>,
+)
     requires whole { Whole H.hash_of held.old }
     requires page { page_at (names_of held.old) page.guest page.ppn ≡ Some (page.salt, s.Private mpn hint) }
     ensures whole { Whole H.hash_of held.new }
@@ -94,7 +111,11 @@ pub fn clear_hint<H: PageHash, A: Allocator>(held: &mut Held<H, A>, page: Place,
 
 /// A release of a shared page.
 #[tactic(auto, using(page_model::proofs::Places::again), unfolding(page_model::specs::Steps::released))]
-fn release_shared<H: PageHash, A: Allocator>(held: &mut Held<H, A>, page: Place, mpn: u32) -> Verdict
+fn release_shared<H: PageHash, A: Allocator>(
+    held: &mut Held<H, A>,
+    page: Place,
+    mpn: u32,
+) -> Verdict
     requires whole { Whole H.hash_of held.old }
     requires page { page_at (names_of held.old) page.guest page.ppn ≡ Some (page.salt, s.Shared mpn) }
     ensures whole { Whole H.hash_of held.new }
@@ -139,7 +160,11 @@ pub fn release<H: PageHash, A: Allocator>(held: &mut Held<H, A>, guest: usize, p
 }
 
 /// A load.
-pub fn load<H: PageHash, A: Allocator>(held: &Held<H, A>, guest: usize, request: &LoadReq) -> Verdict
+pub fn load<H: PageHash, A: Allocator>(
+    held: &Held<H, A>,
+    guest: usize,
+    request: &LoadReq,
+) -> Verdict
     requires whole { Whole H.hash_of held.now }
     ensures { record { guests = guests_of held.now; verdict = result }
         ≡ at_page (guests_of held.now) guest request.now.ppn (λ _ slot. loaded (guests_of held.now) request.now.at request.now.len slot) }

@@ -1,4 +1,4 @@
-use Rattle.std.proofs.Common.{◌≡◌, ◌++◌, take, drop, vec_len, vec_capacity, length, ◌≤◌}
+use Rattle.std.proofs.Common.{◌≡◌, ◌++◌, drop, vec_len, vec_capacity, length, ◌≤◌}
 use Rattle.page_model.specs.Limits.{shapes}
 use Rattle.merge_core.specs.Names.{empty_names}
 use Rattle.merge_core.specs.View.{names_in}

@@ -1,6 +1,5 @@
-use Rattle.std.proofs.Common.{refl, ap, sym, ◌∙◌, arith, ◌≡◌, Some}
+use Rattle.std.proofs.Common.{refl, arith}
 use Rattle.page_model.proofs.Places.{at_same}
-use Rattle.merge_core.specs.Names.{bytes_in}
 use Rattle.merge_core.specs.View.{names_of, notes_of}
 use Rattle.merge_core.proofs.Changes.{dropped_ties, dropped_guests}
 use Rattle.merge_core.proofs.Limits.{few_after}

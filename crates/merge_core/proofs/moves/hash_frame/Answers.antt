@@ -1,6 +1,5 @@
-use Rattle.std.proofs.Common.{refl, ap, sym, ◌∙◌, arith, ◌≡◌, Some, List, ℕ}
+use Rattle.std.proofs.Common.{ap, sym, ◌∙◌, ◌≡◌, Some, List, ℕ}
 use Rattle.merge_core.specs.Names.{bytes_in}
-use Rattle.merge_core.specs.View.{names_of, notes_of}
 use Rattle.merge_core.proofs.FrameLemmas.{bytes_are}
 use Rattle.merge_core.proofs.moves.hash_frame.Goals as goal
 

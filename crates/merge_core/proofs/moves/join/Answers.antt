@@ -1,7 +1,5 @@
-use Rattle.std.proofs.Common.{◌≡◌, ℕ, ◌+◌, Some, refl, ap, sym, ◌∙◌, arith}
-use Rattle.share_table.specs.TableMaps.{shared_at, count_at, SharedFrame}
-use Rattle.page_model.specs.Pages.{peers}
-use Rattle.merge_core.specs.Names.{bytes_in}
+use Rattle.std.proofs.Common.{ℕ, ◌+◌}
+use Rattle.share_table.specs.TableMaps.{count_at}
 use Rattle.merge_core.specs.View.{names_of, notes_of}
 use Rattle.merge_core.proofs.Limits.{few_after, references_few}
 use Rattle.merge_core.proofs.SharedChanges.{joined_ties, joined_guests, joined_peers, with_count_is}

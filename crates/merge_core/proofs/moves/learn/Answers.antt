@@ -1,7 +1,5 @@
-use Rattle.std.proofs.Common.{arith}
 use Rattle.merge_core.specs.View.{names_of, notes_of}
 use Rattle.merge_core.proofs.Changes.{learnt_ties}
-use Rattle.merge_core.proofs.FrameLemmas.{taken_within}
 use Rattle.merge_core.proofs.moves.learn.Goals as goal
 
 pub returns-clause-whole : goal.returns-clause-whole

@@ -1,6 +1,5 @@
-use Rattle.std.proofs.Common.{refl, ap, sym, ◌∙◌, arith, ◌≡◌, Some}
+use Rattle.std.proofs.Common.{refl, ap, ◌∙◌, arith, ◌≡◌, Some}
 use Rattle.page_model.proofs.Places.{at_same}
-use Rattle.merge_core.specs.Names.{bytes_in}
 use Rattle.merge_core.specs.View.{names_of, notes_of}
 use Rattle.std.proofs.Common.{ℕ, ◌+◌, ◌-◌, ◌≤◌}
 use Rattle.share_table.specs.TableMaps.{shared_at, SharedFrame}

@@ -1,7 +1,3 @@
-use Rattle.std.proofs.Common.{refl, ap, sym, ◌∙◌, arith, ◌≡◌, Some}
-use Rattle.page_model.proofs.Places.{at_same}
-use Rattle.merge_core.specs.Names.{bytes_in}
-use Rattle.merge_core.specs.View.{names_of, notes_of}
 use Rattle.std.proofs.lemmas.List.{map-set}
 use Rattle.merge_core.specs.View.{known_of}
 use Rattle.merge_core.proofs.moves.note_hash.Goals as goal

@@ -1,5 +1,5 @@
 use Rattle.std.proofs.Common.{refl, ap, sym, ◌∙◌, arith, ◌≡◌, Some, ℕ}
-use Rattle.share_table.specs.TableMaps.{shared_at, SharedFrame}
+use Rattle.share_table.specs.TableMaps.{SharedFrame}
 use Rattle.page_model.specs.Pages.{peers}
 use Rattle.merge_core.specs.Names.{bytes_in}
 use Rattle.merge_core.specs.View.{guests_of}

@@ -1,4 +1,4 @@
-use Rattle.std.proofs.Common.{refl, ap, sym, ◌∙◌, arith, ◌≡◌, Some}
+use Rattle.std.proofs.Common.{refl, arith}
 use Rattle.page_model.proofs.Places.{at_same}
 use Rattle.merge_core.specs.View.{names_of, notes_of}
 use Rattle.std.proofs.Common.{None}

@@ -1,4 +1,4 @@
-use Rattle.merge_core.proofs.ViewLemmas.{set_guest_read, guest_within, page_within_read}
+use Rattle.merge_core.proofs.ViewLemmas.{set_guest_read}
 use Rattle.merge_core.proofs.moves.set_page.Goals as goal
 
 pub returns : goal.returns

@@ -1,6 +1,4 @@
-use Rattle.std.proofs.Common.{◌≡◌, ℕ, Some, refl, ap, sym, ◌∙◌, arith}
-use Rattle.page_model.specs.Pages.{page_at, Unmapped, Shared, with_slot, SlotOf}
-use Rattle.page_model.proofs.Places.{at_other}
+use Rattle.std.proofs.Common.{refl, arith}
 use Rattle.merge_core.specs.View.{names_of, notes_of}
 use Rattle.merge_core.proofs.Holders.{room_for}
 use Rattle.std.proofs.Common.{None}

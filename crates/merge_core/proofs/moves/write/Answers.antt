@@ -1,12 +1,9 @@
-use Rattle.std.proofs.Common.{refl, ap, sym, ◌∙◌, arith, ◌≡◌, Some}
-use Rattle.std.specs.Prelude.{slice_set}
+use Rattle.std.proofs.Common.{refl, arith, Some}
 use Rattle.page_model.specs.Pages.{written}
-use Rattle.machine_frames.specs.FrameMap.{frame}
 use Rattle.merge_core.specs.Names.{bytes_in}
 use Rattle.merge_core.specs.View.{names_of, notes_of}
 use Rattle.merge_core.proofs.FrameLemmas.{bytes_are}
 use Rattle.merge_core.proofs.Changes.{written_ties, written_guests, write_within}
-use Rattle.merge_core.proofs.Limits.{few_after}
 use Rattle.std.proofs.lemmas.List.{length-set}
 use Rattle.merge_core.proofs.moves.write.Goals as goal
 

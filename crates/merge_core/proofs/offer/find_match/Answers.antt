@@ -1,5 +1,4 @@
-use Rattle.std.proofs.Common.{◌≡◌, ℕ, Some, None, refl, ap, sym, ◌∙◌, arith}
-use Rattle.page_model.specs.declared.verdict.Verdict.TheVariants as v
+use Rattle.std.proofs.Common.{◌≡◌, Some, None, sym, ◌∙◌}
 use Rattle.share_table.specs.TableMaps.{SharedFrame, shared_at}
 use Rattle.merge_core.specs.Names.{bytes_in, known_at}
 use Rattle.merge_core.specs.View.{names_of, guests_of, notes_of}

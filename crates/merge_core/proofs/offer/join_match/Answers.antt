@@ -1,9 +1,7 @@
-use Rattle.std.proofs.Common.{◌≡◌, ◌≢◌, ℕ, Some, None, refl, ap, sym, ◌∙◌, arith}
-use Rattle.std.specs.FinMap as map
-use Rattle.page_model.specs.Pages.{Private, Shared, Slot, any_page, is_shared_as}
+use Rattle.std.proofs.Common.{◌≢◌, None, sym, ◌∙◌}
 use Rattle.page_model.proofs.Places.{again}
 use Rattle.share_table.specs.TableMaps.{SharedFrame, count_at}
-use Rattle.merge_core.specs.Names.{bytes_in, known_at}
+use Rattle.merge_core.specs.Names.{bytes_in}
 use Rattle.merge_core.specs.View.{names_of, guests_of, notes_of}
 use Rattle.merge_core.proofs.FrameLemmas.{bytes_other}
 use Rattle.merge_core.proofs.Matches.{same_any}

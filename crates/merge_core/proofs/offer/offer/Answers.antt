@@ -1,9 +1,6 @@
-use Rattle.std.proofs.Common.{◌≡◌, ℕ, Option, Some, None, refl, ap, sym, ◌∙◌}
-use Rattle.std.specs.Prelude.{option_map}
+use Rattle.std.proofs.Common.{ℕ, sym, ◌∙◌}
 use Rattle.page_model.specs.Steps.{key_of}
 use Rattle.page_model.specs.declared.verdict.Verdict.TheVariants as v
-use Rattle.share_table.specs.TableMaps.{hint_at}
-use Rattle.share_table.specs.declared.entries.HintFrame.{HintFrame}
 use Rattle.merge_core.specs.Names.{bytes_in}
 use Rattle.merge_core.specs.View.{names_of, guests_of}
 use Rattle.merge_core.proofs.Holders.{found_is, found_none, kept_own}

@@ -1,4 +1,4 @@
-use Rattle.std.proofs.Common.{◌≡◌, ◌≢◌, ℕ, Some, None, refl, ap, sym, ◌∙◌, arith}
+use Rattle.std.proofs.Common.{◌≡◌, ◌≢◌, None, ap, sym, ◌∙◌}
 use Rattle.page_model.specs.Pages.{Private, Shared, Slot, with_slot}
 use Rattle.page_model.proofs.Places.{at_other}
 use Rattle.page_model.specs.Steps.{key_of}

@@ -1,6 +1,4 @@
-use Rattle.std.proofs.Common.{◌≡◌, ℕ, Some, None, refl, ap, sym, ◌∙◌, arith}
-use Rattle.page_model.specs.Pages.{Private, Guest, Slot, with_slot}
-use Rattle.page_model.specs.Steps.{matched, key_of}
+use Rattle.std.proofs.Common.{sym, ◌∙◌}
 use Rattle.merge_core.specs.Names.{bytes_in}
 use Rattle.merge_core.specs.View.{guests_of}
 use Rattle.merge_core.proofs.Arms.{proposed_matched}

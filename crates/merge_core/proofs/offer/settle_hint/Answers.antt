@@ -1,5 +1,5 @@
-use Rattle.std.proofs.Common.{◌≡◌, refl, ap, sym, ◌∙◌, ℕ, Option, Some, None}
-use Rattle.page_model.specs.Pages.{Private, with_slot}
+use Rattle.std.proofs.Common.{sym, Some, None}
+use Rattle.page_model.specs.Pages.{Private}
 use Rattle.page_model.proofs.Places.{unchanged}
 use Rattle.merge_core.specs.Names.{bytes_in}
 use Rattle.merge_core.specs.View.{names_of, guests_of}

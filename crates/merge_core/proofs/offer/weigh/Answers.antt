@@ -1,9 +1,8 @@
-use Rattle.std.proofs.Common.{◌≡◌, ℕ, List, Option, Some, None, refl, ap, sym, ◌∙◌, arith}
-use Rattle.page_model.specs.Pages.{Private, Shared, page_at}
+use Rattle.std.proofs.Common.{◌≡◌, ℕ, Some, None, ap, sym, ◌∙◌}
+use Rattle.page_model.specs.Pages.{Private, page_at}
 use Rattle.page_model.specs.Steps.{key_of}
 use Rattle.page_model.specs.declared.verdict.Verdict.TheVariants as v
 use Rattle.page_model.proofs.Places.{at_other}
-use Rattle.share_table.specs.declared.entries.HintFrame.{HintFrame}
 use Rattle.merge_core.proofs.Maps.{gone_same}
 use Rattle.merge_core.specs.Names.{bytes_in, slot_in}
 use Rattle.merge_core.specs.View.{names_of, guests_of, notes_of}

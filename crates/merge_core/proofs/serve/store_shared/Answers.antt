@@ -1,13 +1,12 @@
-use Rattle.std.proofs.Common.{◌≡◌, refl, ap, sym, ◌∙◌, arith, ℕ, List, Some, None, length, true, false}
-use Rattle.std.specs.Prelude.{◌==◌}
-use Rattle.page_model.specs.Pages.{Guest, peers, used, with_slot, Private, Shared, Unmapped, written}
-use Rattle.page_model.specs.Steps.{Outcome, stays}
+use Rattle.std.proofs.Common.{◌≡◌, ap, sym, ◌∙◌, List, length}
+use Rattle.page_model.specs.Pages.{Guest, with_slot, Unmapped}
+use Rattle.page_model.specs.Steps.{stays}
 use Rattle.page_model.specs.declared.verdict.Verdict.{Verdict}
 use Rattle.page_model.specs.declared.verdict.Verdict.TheVariants as v
-use Rattle.page_model.proofs.Places.{again, unchanged}
+use Rattle.page_model.proofs.Places.{again}
 use Rattle.merge_core.specs.Names.{bytes_in}
-use Rattle.merge_core.specs.View.{names_of, guests_of}
-use Rattle.merge_core.proofs.Arms.{stored_taken, stored_full, stored_copied, released_last, released_more}
+use Rattle.merge_core.specs.View.{guests_of}
+use Rattle.merge_core.proofs.Arms.{stored_taken, stored_full, stored_copied}
 use Rattle.merge_core.proofs.serve.store_shared.Goals as goal
 
 outcome : (v : Verdict) (x y : List Guest) → x ≡ y → stays x v ≡ stays y v

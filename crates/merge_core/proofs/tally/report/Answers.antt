@@ -1,6 +1,6 @@
-use Rattle.std.proofs.Common.{◌≡◌, ℕ, ◌+◌, ◌-◌, ap, sym, ◌∙◌, arith}
+use Rattle.std.proofs.Common.{◌≡◌, ◌+◌, ◌-◌, ◌∙◌, arith}
 use Rattle.page_model.specs.Pages.{count_pages, is_mapped, is_shared, is_hinted, used}
-use Rattle.page_model.proofs.Counts.{used-le, shared-le, hinted-le}
+use Rattle.page_model.proofs.Counts.{used-le, hinted-le}
 use Rattle.merge_core.specs.View.{guests_of}
 use Rattle.merge_core.proofs.Tallies.{mapped_parts, totals_are}
 use Rattle.merge_core.proofs.tally.report.Goals as goal

@@ -1,5 +1,4 @@
-use Rattle.std.proofs.Common.{◌≡◌, ℕ, List, length, ap, sym, ◌∙◌}
-use Rattle.page_model.specs.Pages.{Guest}
+use Rattle.std.proofs.Common.{length, ap, ◌∙◌}
 use Rattle.page_model.specs.Steps.{Outcome}
 use Rattle.merge_core.specs.View.{guests_of}
 use Rattle.merge_core.proofs.Lengths.{at_page_len, proposed_len, stored_len, released_len}

@@ -1,9 +1,9 @@
-use Rattle.std.proofs.Common.{◌≡◌, ◌≤◌, ℕ, List, length, Option, None, map, refl, ap, sym, ◌∙◌, arith}
+use Rattle.std.proofs.Common.{◌≤◌, ℕ, List, length, Option, None, refl, ◌∙◌, arith}
 use Rattle.std.proofs.lemmas.List.{length-replicate, length-map}
 use Rattle.std.proofs.lemmas.Grind.{common_steps}
 use Rattle.page_model.specs.Limits.{shapes}
 use Rattle.machine_frames.specs.FrameMap.{no_frames}
-use Rattle.merge_core.specs.Names.{guests_in, guest_in, empty_names}
+use Rattle.merge_core.specs.Names.{guest_in, empty_names}
 use Rattle.merge_core.proofs.Empty.{empty_guests, empty_len}
 use Rattle.merge_core.proofs.machine.Core.new.Goals as goal
 
