@@ -191,6 +191,27 @@ fn cut_texts(rt: HostRuntime) -> Result<(), Fail> {
 }
 
 #[test]
+fn a_count_of_four_and_a_tenth_line(rt: HostRuntime) -> Result<(), Fail> {
+    let text = zeros().input;
+    let head = text.strip_suffix("end 5\n").ok_or("no end line")?;
+    let mut four = String::from_str(rt.alloc(), head)?;
+    four.push_str("end 4\n")?;
+    assert!(rt;
+        refused(
+            rt.alloc(),
+            four.as_bytes(),
+            TextFault::Count,
+            "fault count\n"
+        )
+    );
+    let mut ten = String::from_str(rt.alloc(), text)?;
+    ten.push_str("0 close\n")?;
+    let fault = TextFault::Line(10, Cause::Form);
+    assert!(rt; refused(rt.alloc(), ten.as_bytes(), fault, "fault line 10: form\n"));
+    Ok(())
+}
+
+#[test]
 fn wrong_ends(rt: HostRuntime) -> Result<(), Fail> {
     let extra = TextFault::Line(6, Cause::Form);
     for (lines, fault, line) in [
