@@ -1,10 +1,10 @@
 //! The core.
-ghost use Rattle.std.specs.Prelude.{◌≡◌, ◌+◌, ◌<◌, length, slice_get, is_some, None, Some, IsSome, IfOk, IfSome, MatchResult};
+ghost use Rattle.std.specs.Prelude.{◌≡◌, ◌+◌, ◌<◌, length, slice_get, is_some, Some, IsSome, IfOk, IfSome, MatchResult};
 ghost use Rattle.std.specs.Option.{option_map, option_and_then};
 ghost use Rattle.page_model.specs.Limits.{shapes, AreFrames, AreGuests, ArePages};
-ghost use Rattle.page_model.specs.Pages.{page_at, totals, is_mapped, bytes_of};
+ghost use Rattle.page_model.specs.Pages.{page_at, totals, is_mapped};
 ghost use Rattle.page_model.specs.Replay.{empty_state};
-ghost use Rattle.page_model.specs.Steps.{Step, step};
+ghost use Rattle.page_model.specs.Steps.{step};
 ghost use Rattle.page_model.specs.Stored.{byte_at, text_at};
 ghost use Rattle.machine_frames.specs.FrameMap.{frame, no_frames};
 ghost use Rattle.share_table.specs.TableMaps.{empty_table};

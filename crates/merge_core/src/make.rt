@@ -1,5 +1,5 @@
 //! The parts of a new core.
-ghost use Rattle.std.specs.Prelude.{◌≡◌, ◌+◌, ◌<◌, ◌≤◌, ◌^◌, ◌↔◌, length, vec_len, sum, map, replicate, IfOk, IsTrue};
+ghost use Rattle.std.specs.Prelude.{◌≡◌, ◌+◌, ◌<◌, ◌≤◌, ◌↔◌, length, sum, replicate, IfOk, IsTrue};
 ghost use Rattle.page_model.specs.Limits.{AreFrames, ArePages, shapes};
 ghost use Rattle.machine_frames.specs.FrameMap.{no_frames};
 ghost use Rattle.share_table.specs.TableMaps.{empty_table};

@@ -1,9 +1,8 @@
 //! The single changes of a page.
-ghost use Rattle.std.specs.Prelude.{◌≡◌, ◌+◌, ◌<◌, ◌≤◌, ◌==◌, ◌^◌, length, vec_len, false, Option, None, Some, option_map, slice_set, IfSome, IsSome};
+ghost use Rattle.std.specs.Prelude.{◌≡◌, ◌+◌, ◌<◌, ◌≤◌, ◌==◌, length, false, None, Some, option_map, slice_set, IfSome, IsSome};
 ghost use Rattle.page_model.specs.Pages.{blank, written, with_slot, page_at, used, peers};
-ghost use Rattle.page_model.specs.Pages.{SlotOf};
 ghost use Rattle.page_model.specs.Pages as s;
-ghost use Rattle.merge_core.specs.Names.{bytes_in, slot_in, frame_of, known_at};
+ghost use Rattle.merge_core.specs.Names.{bytes_in, slot_in, known_at};
 ghost use Rattle.merge_core.specs.View.{slot_of, names_in, names_of, guests_of, notes_in, notes_of, Whole};
 ghost use Rattle.machine_frames.specs.FrameMap as fm;
 ghost use Rattle.share_table.specs.TableMaps.{shared_at, hint_at, count_at, without_hint};

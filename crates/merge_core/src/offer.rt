@@ -1,7 +1,7 @@
 //! A proposal.
-ghost use Rattle.std.specs.Prelude.{◌≡◌, ◌<◌, ◌≤◌, ◌^◌, ◌==◌, ◌&&◌, length, Option, Some, None, option_map};
-ghost use Rattle.page_model.specs.Steps.{Outcome, proposed, matched, offered, weighed, at_page, key_of, kept_hint};
-ghost use Rattle.page_model.specs.Pages.{page_at, with_slot, find_page, has_hint};
+ghost use Rattle.std.specs.Prelude.{◌≡◌, ◌<◌, ◌==◌, ◌&&◌, length, Some, None};
+ghost use Rattle.page_model.specs.Steps.{proposed, matched, offered, at_page, key_of, kept_hint};
+ghost use Rattle.page_model.specs.Pages.{page_at, with_slot};
 ghost use Rattle.page_model.specs.Pages as s;
 ghost use Rattle.merge_core.specs.Names.{bytes_in, known_at};
 ghost use Rattle.share_table.specs.TableMaps.{hint_at, shared_at, count_at};

@@ -1,11 +1,11 @@
 //! Each request on the pages of all guests.
-ghost use Rattle.std.specs.Prelude.{◌≡◌, ◌+◌, ◌<◌, ◌≤◌, ◌-◌, ◌^◌, length, take, drop, Some, None, Option};
-ghost use Rattle.page_model.specs.Steps.{Outcome, stored, released, loaded, at_page};
+ghost use Rattle.std.specs.Prelude.{◌≡◌, ◌+◌, ◌<◌, ◌≤◌, ◌-◌, length, take, drop, Some, None};
+ghost use Rattle.page_model.specs.Steps.{stored, released, loaded, at_page};
 ghost use Rattle.page_model.specs.Pages.{page_at, with_slot, blank};
 ghost use Rattle.page_model.specs.Pages as s;
-ghost use Rattle.merge_core.specs.Names.{bytes_in, slot_in};
+ghost use Rattle.merge_core.specs.Names.{bytes_in};
 ghost use Rattle.machine_frames.specs.FrameMap as fm;
-ghost use Rattle.merge_core.specs.View.{slot_of, names_of, guests_of, Whole};
+ghost use Rattle.merge_core.specs.View.{names_of, guests_of, Whole};
 
 use crate::held::{Held, PageEntry, Place};
 use crate::moves::{
