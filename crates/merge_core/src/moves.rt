@@ -220,6 +220,7 @@ pub fn learn<H: PageHash, A: Allocator>(held: &mut Held<H, A>, mpn: u32, salt: u
     ensures table { held.new.table ≡ held.old.table }
     ensures names { names_of held.new ≡ names_of held.old }
     ensures shown { guests_of held.new ≡ guests_of held.old }
+    ensures known { known_at (notes_of held.new) mpn ≡ record { salt = salt; hash = Some code } }
 {
     note_hash(&mut held.notes, mpn, salt, code);
 }
