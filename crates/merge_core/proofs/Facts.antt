@@ -38,6 +38,7 @@ module _ (hash : ℕ → List ℕ → ℕ) (entries : ℕ) (names : Names) (fram
         let one = t.shares.listed a b salt m at in
         let two = t.shares.listed x y salt n there in
         ap (λ (f : SharedFrame). f.mpn) (same_entry _ _ (sym one.here ∙ ap (λ (bytes : List ℕ). map.get table.shared (hash salt bytes)) same ∙ two.here));
+    count = t.counted.used;
   } where
     same_entry : (x y : SharedFrame) → Some x ≡ Some y → x ≡ y
     same_entry x y e = cc

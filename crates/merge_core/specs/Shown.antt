@@ -2,7 +2,7 @@
 use Rattle.std.specs.Prelude.{◌≡◌, ℕ, ◌≤◌, List, length, Option, Some, None, refl}
 use Rattle.std.specs.Coded.{Coded, code_by, coded×, coded_ℕ, coded_list, coded_option}
 use Rattle.page_model.specs.Pages.{SlotOf, Unmapped, Private, Shared, GuestOf, State, page_at, peers, used}
-use Rattle.machine_frames.specs.FrameMap.{FrameMap, IsTaken}
+use Rattle.machine_frames.specs.FrameMap.{FrameMap, IsTaken, used as frames_used}
 use Rattle.share_table.specs.TableMaps.{TableMaps, table_code, SharedFrame, shared_at, hint_at, entry_count}
 use Rattle.share_table.specs.declared.entries.HintFrame.{HintFrame}
 use Rattle.merge_core.specs.Names.{Names, guests_in, bytes_in, frame_of}
@@ -20,12 +20,14 @@ abbrev pub state_of : Shown → State
 state_of c = record { total = length c.frames; guests = guests_in c.frames c.names; entries = c.entries }
 
 -- Which page has which frame: each mapped page's frame is taken, each taken frame is some page's, and two pages have one
--- frame exactly where both are shared with the same content.
+-- frame exactly where both are shared with the same content. So the frames in use are those that the pages name, and the
+-- model counts as many.
 pub record FramesOfPages (c : Shown) : Type 0 where
   pub taken : (a b salt : ℕ) (slot : SlotOf ℕ) (m : ℕ) → page_at c.names a b ≡ Some (salt, slot) → frame_of slot ≡ Some m → IsTaken c.frames m
   pub owned : (m : ℕ) → IsTaken c.frames m → Owner c.names m
   pub apart : (a b salt x y other m : ℕ) (mine theirs : SlotOf ℕ) → page_at c.names a b ≡ Some (salt, mine) → page_at c.names x y ≡ Some (other, theirs) → (x ≡ a → y ≡ b → ⊥) → frame_of mine ≡ Some m → frame_of theirs ≡ Some m → (mine ≡ Shared m) × (theirs ≡ Shared m) × (other ≡ salt)
   pub joint : (a b x y salt m n : ℕ) → page_at c.names a b ≡ Some (salt, Shared m) → page_at c.names x y ≡ Some (salt, Shared n) → bytes_in c.frames m ≡ bytes_in c.frames n → m ≡ n
+  pub count : frames_used c.frames ≡ used (state_of c).guests
 
 -- a shared page of the frame that stands under a hash
 pub record Sharer (hash : ℕ → List ℕ → ℕ) (c : Shown) (code m : ℕ) : Type 0 where

@@ -17,3 +17,4 @@ mod tests;
 
 pub use fault::CoreFault;
 pub use machine::Core;
+pub use make::check_limits;

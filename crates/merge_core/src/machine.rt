@@ -1,7 +1,7 @@
 //! The core.
 ghost use Rattle.std.specs.Prelude.{◌≡◌, ◌+◌, ◌<◌, length, slice_get, is_some, Some, IsSome, IfOk, IfSome, MatchResult};
 ghost use Rattle.std.specs.Option.{option_map, option_and_then};
-ghost use Rattle.page_model.specs.Limits.{shapes, AreFrames, AreGuests, ArePages};
+ghost use Rattle.page_model.specs.Limits.{shapes};
 ghost use Rattle.page_model.specs.Pages.{page_at, totals, is_mapped};
 ghost use Rattle.page_model.specs.Replay.{empty_state};
 ghost use Rattle.page_model.specs.Steps.{step};
@@ -9,21 +9,21 @@ ghost use Rattle.page_model.specs.Stored.{byte_at, text_at};
 ghost use Rattle.machine_frames.specs.FrameMap.{frame, no_frames};
 ghost use Rattle.share_table.specs.TableMaps.{empty_table};
 ghost use Rattle.merge_core.specs.Names.{frame_of};
-ghost use Rattle.merge_core.specs.Refusals.{NoCoreFor};
+ghost use Rattle.merge_core.specs.Refusals.{AreLimits, NoCoreFor};
 ghost use Rattle.merge_core.specs.Shown.{state_of, FramesOfPages, TableOfPages};
 
 use crate::fault::CoreFault;
 use crate::held::{Held, PageEntry};
-use crate::make::{are_pages, new_held};
+use crate::make::{check_limits, new_held};
 use crate::moves::find;
 use crate::offer::propose;
 use crate::serve::{bytes_at, load, release, store};
 use crate::tally::report;
 use machine_frames::Frames;
 use page_digest::PageHash;
-use page_model::{MAX_FRAMES, MAX_GUESTS, Report, Request, Verdict};
+use page_model::{Report, Request, Verdict};
 use share_table::Table;
-use std::alloc::{Allocator, Global};
+use std::alloc::{AllocError, Allocator, Global};
 use std::marker::Model;
 
 /// A machine: its guests' pages in frames, and the number of requests so far.
@@ -62,21 +62,31 @@ impl<H: PageHash + Drop, A: Allocator + Clone> Core<H, A> {
         ensures guests { IfOk result (λ core. length (state_of core).guests ≡ length pages.now) }
         ensures frames { IfOk result (λ core. core.frames ≡ no_frames frames) }
         ensures table { IfOk result (λ core. core.table ≡ empty_table frames) }
-        ensures fault { MatchResult result (λ _. AreFrames frames × AreGuests salts.now pages.now × ArePages pages.now) (λ fault. NoCoreFor frames pages.now salts.now fault) }
+        ensures fault { MatchResult result (λ _. AreLimits frames pages.now salts.now) (λ fault. NoCoreFor frames pages.now salts.now fault) }
     {
-        if frames == 0 || frames > MAX_FRAMES {
-            return Err(CoreFault::Frames);
-        }
-        if pages.is_empty() || pages.len() > MAX_GUESTS || salts.len() != pages.len() {
-            return Err(CoreFault::Guests);
-        }
-        if !are_pages(pages) {
-            return Err(CoreFault::Pages);
-        }
-        match new_held(alloc, frames, pages, salts, hash) {
+        check_limits(frames, pages, salts)?;
+        match Core::open(alloc, frames, pages, salts, hash) {
             Err(_) => Err(CoreFault::OutOfMemory),
-            Ok(held) => Ok(Core { entries: 0, held }),
+            Ok(core) => Ok(core),
         }
+    }
+
+    /// The same for a machine that is known to be within the limits (see [`check_limits`]).
+    pub fn open(
+        alloc: A,
+        frames: u32,
+        pages: &[u32],
+        salts: &[u32],
+        hash: H,
+    ) -> Result<Core<H, A>, AllocError>
+        requires { AreLimits frames pages.now salts.now }
+        ensures empty { IfOk result (λ core. state_of core ≡ empty_state frames (shapes salts.now pages.now)) }
+        ensures guests { IfOk result (λ core. length (state_of core).guests ≡ length pages.now) }
+        ensures frames { IfOk result (λ core. core.frames ≡ no_frames frames) }
+        ensures table { IfOk result (λ core. core.table ≡ empty_table frames) }
+    {
+        let held = new_held(alloc, frames, pages, salts, hash)?;
+        Ok(Core { entries: 0, held })
     }
 }
 

@@ -1,15 +1,18 @@
 //! The parts of a new core.
-ghost use Rattle.std.specs.Prelude.{◌≡◌, ◌+◌, ◌<◌, ◌≤◌, ◌↔◌, length, sum, replicate, IfOk, IsTrue};
-ghost use Rattle.page_model.specs.Limits.{AreFrames, ArePages, shapes};
+ghost use Rattle.std.specs.Prelude.{◌≡◌, ◌≢◌, ◌+◌, ◌<◌, ◌≤◌, ◌↔◌, length, sum, replicate, IfOk, IsTrue, MatchResult};
+ghost use Rattle.page_model.specs.Limits.{ArePages, shapes};
 ghost use Rattle.machine_frames.specs.FrameMap.{no_frames};
 ghost use Rattle.share_table.specs.TableMaps.{empty_table};
 ghost use Rattle.merge_core.specs.Names.{unknown, empty_names, empty_name};
+ghost use Rattle.merge_core.specs.Refusals.{AreLimits, NoCoreFor};
+ghost use Rattle.merge_core.specs.declared.fault.CoreFault.TheVariants.{OutOfMemory};
 ghost use Rattle.merge_core.specs.View.{guest_of, names_in, names_of, notes_in, Whole};
 
 use crate::fault::CoreFault;
 use crate::held::{GuestPages, Held, Note, PageEntry};
 use machine_frames::Frames;
 use page_digest::PageHash;
+use page_model::{MAX_FRAMES, MAX_GUESTS};
 use share_table::Table;
 use std::alloc::{AllocError, Allocator};
 
@@ -25,6 +28,22 @@ pub fn are_pages(pages: &[u32]) -> bool
         left -= *n;
     }
     true
+}
+
+/// Whether there may be a machine of these frames, pages and salts, and the first cause for which there is none.
+pub fn check_limits(frames: u32, pages: &[u32], salts: &[u32]) -> Result<(), CoreFault>
+    ensures { MatchResult result (λ _. AreLimits frames pages.now salts.now) (λ fault. NoCoreFor frames pages.now salts.now fault × (fault ≢ OutOfMemory)) }
+{
+    if frames == 0 || frames > MAX_FRAMES {
+        return Err(CoreFault::Frames);
+    }
+    if pages.is_empty() || pages.len() > MAX_GUESTS || salts.len() != pages.len() {
+        return Err(CoreFault::Guests);
+    }
+    if !are_pages(pages) {
+        return Err(CoreFault::Pages);
+    }
+    Ok(())
 }
 
 /// A guest with no page mapped.
@@ -79,10 +98,7 @@ pub fn new_held<H: PageHash + Drop, A: Allocator + Clone>(
     salts: &[u32],
     hash: H,
 ) -> Result<Held<H, A>, AllocError>
-    requires frames { AreFrames frames }
-    requires salts { length salts.now ≡ length pages.now }
-    requires guests { length pages.now ≤ 64 }
-    requires pages { sum pages.now ≤ 1048576 }
+    requires { AreLimits frames pages.now salts.now }
     ensures whole { IfOk result (λ held. Whole H.hash_of held) }
     ensures names { IfOk result (λ held. names_of held ≡ empty_names (shapes salts.now pages.now)) }
     ensures frames { IfOk result (λ held. held.frames ≡ no_frames frames) }

@@ -14,7 +14,7 @@ returns-in-Ok-clause-whole g c =
     let pages = c.args.pages.now in
     record {
       ties = rw (c.in_ok-guests.ensures, c.in-Ok.ensures.ok, c.in_ok-table.ensures, c.in_ok-notes.ensures) (empty_ties g.H.HashFunction.hash_of c.args.frames (shapes salts pages));
-      few = rw c.in_ok-guests.ensures (empty_few salts pages c.requires.salts c.requires.guests c.requires.pages);
-      total = rw c.in-Ok.ensures.ok (omega (arith, length-replicate {A = Option (List ℕ)} c.args.frames None, c.requires.frames));
+      few = rw c.in_ok-guests.ensures (empty_few salts pages c.requires.1.2 c.requires.1.1 c.requires.2.1);
+      total = rw c.in-Ok.ensures.ok (omega (arith, length-replicate {A = Option (List ℕ)} c.args.frames None, c.requires.0));
       hints = rw c.in_ok-table.ensures (sym (maps.len-empty nat_cmp HintFrame));
     }
