@@ -1,3 +1,3 @@
-mod Fronts
-mod Meets
-mod Scans
+pub mod Fronts
+pub mod Meets
+pub mod Scans

@@ -17,7 +17,7 @@ use crate::fault::TextFault;
 use crate::journal::{Journal, read_journal};
 use crate::output::{LINE_BYTES, buffer, make_room, put_report, put_verdict};
 use crate::print::fault_line;
-use merge_core::{Core, CoreFault};
+use merge_core::Core;
 use page_digest::PageHash;
 use page_model::Entry;
 use std::alloc::Allocator;
@@ -35,14 +35,8 @@ fn core_of<H: PageHash + Drop, A: Allocator + Clone>(
     ensures guests { IfOk result (λ core. length (state_of core).guests ≡ length journal.now.pages.items) }
     ensures fault { IfErr result (λ e. e ≡ OutOfMemory) }
 {
-    match Core::new(alloc, journal.frames, &journal.pages, &journal.salts, hash) {
-        Ok(core) => Ok(core),
-        Err(CoreFault::OutOfMemory) => Err(TextFault::OutOfMemory),
-        // The journal is one of a machine within the limits.
-        Err(CoreFault::Frames) => unreachable!(),
-        Err(CoreFault::Guests) => unreachable!(),
-        Err(CoreFault::Pages) => unreachable!(),
-    }
+    let core = Core::open(alloc, journal.frames, &journal.pages, &journal.salts, hash)?;
+    Ok(core)
 }
 
 /// Serves an entry, and puts its verdict's line behind what the buffer holds.
