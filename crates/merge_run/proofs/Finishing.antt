@@ -1,0 +1,89 @@
+-- What is known once the guests have ended.
+use Rattle.std.proofs.Common.{◌≡◌, ℕ, suc, zero, ◌<◌, ◌≤◌, Bool, true, false, not, None, Result, Ok, Err, inl, inr, List, [], ◌∷◌, length, get_or, take, map, refl, ap, sym, subst, ◌∙◌, arith}
+use Rattle.std.proofs.lemmas.Grind.{common_steps}
+use Rattle.std.proofs.lemmas.Bool.Decides.{nat_tests}
+use Rattle.std.specs.Prelude.{All, ◌⊎◌, IfOk, IfErr, IsErrAnd, MatchResult}
+use Rattle.std.specs.declared.vec.Vec.{Vec}
+use Rattle.page_model.specs.declared.hashing.HashFunction.{Ghosts}
+use Rattle.page_model.specs.declared.request.Request.{Request}
+use Rattle.page_model.specs.declared.verdict.Verdict.{Verdict}
+use Rattle.std.specs.List.{position, prefix_len}
+use Rattle.share_rings.specs.declared.closed_port.ClosedPort.{ClosedPort}
+use Rattle.share_rings.specs.declared.merger_end.MergerEnd.{MergerEnd}
+use Rattle.share_rings.specs.Closing.{last_closed}
+use Rattle.share_rings.specs.Ends.{closed_sent, closed_got, closed_view}
+use Rattle.merge_run.specs.Kept.{closed_views}
+use Rattle.merge_run.specs.Limits.{IsMachine}
+use Rattle.merge_run.specs.Runs.{NotRunFor, entries_of}
+use Rattle.merge_run.specs.Settling.{is_running, is_undrained}
+use Rattle.merge_run.specs.Tasks.{AreDone, with_close, all_sent}
+use Rattle.merge_run.specs.Turns.{HaveEnded}
+use Rattle.merge_run.specs.View.{settled_ports}
+use Rattle.merge_run.specs.declared.config.Config.{Config}
+use Rattle.merge_run.specs.declared.runs.Finished.{Finished}
+use Rattle.merge_run.specs.declared.runs.RunFault.{RunFault}
+use Rattle.merge_run.specs.declared.runs.RunFault.TheVariants.{OutOfMemory, NoThread}
+use Rattle.merge_run.specs.declared.guest.Task.{Task}
+use Rattle.merge_run.specs.declared.guest.DoneTask.{DoneTask}
+use Rattle.merge_run.proofs.Lists.{maps_length}
+
+all_pass : {X : Type 0} (p : X → Bool) (xs : List X) → ((i : ℕ) (d : X) → i < length xs → p (get_or xs i d) ≡ false) → prefix_len (λ x. not (p x)) xs ≡ length xs
+all_pass p [] fails = refl
+all_pass p (x ∷ xs) fails =
+    let first : p x ≡ false = fails zero x (omega arith) in
+    let rest = all_pass p xs (λ i d l. fails (suc i) d (omega arith)) in grind (arith, ap not first)
+
+-- where the test fails at each place, none passes
+position_none : {X : Type 0} (p : X → Bool) (xs : List X) → ((i : ℕ) (d : X) → i < length xs → p (get_or xs i d) ≡ false) → position p xs ≡ None
+position_none p xs fails = rw (all_pass p xs fails) (grind (arith, nat_tests))
+
+map_after : {X Y Z : Type 0} (f : X → Y) (h : Y → Z) (xs : List X) → map (λ x. h (f x)) xs ≡ map h (map f xs)
+map_after f h [] = refl
+map_after f h (x ∷ xs) = ap (λ zs. h (f x) ∷ zs) (map_after f h xs)
+
+maps_after : {X Y Z : Type 0} (f : X → Y) (h : Y → Z) (xs ys : List X) → map f xs ≡ map f ys → map (λ x. h (f x)) xs ≡ map (λ x. h (f x)) ys
+maps_after f h xs ys e = map_after f h xs ∙ ap (map h) e ∙ sym (map_after f h ys)
+
+of_memory : {X : Type 0} (result : Result X RunFault) → IsErrAnd result (λ fault. fault ≡ OutOfMemory) → IfErr result (λ fault. (fault ≡ OutOfMemory) ⊎ (fault ≡ NoThread))
+of_memory (Ok x) is = absurd is
+of_memory (Err fault) is = inl is
+
+if_ok : {X E : Type 0} (P Q R : X → Type 0) (result : Result X E) → IfOk result P → IfOk result Q → ((x : X) → P x → Q x → R x) → IfOk result R
+if_ok P Q R (Ok x) p q both = both x p q
+if_ok P Q R (Err fault) p q both = p
+
+module _ {A : Type 0} where
+  pub whole_done : (tasks : List (Task A)) (done : List (DoneTask A)) → AreDone (take (length done) tasks) done → length done ≡ length tasks → AreDone tasks done
+  whole_done tasks done are whole =
+      let all : take (length done) tasks ≡ tasks = grind (arith, common_steps, whole) in
+      subst (λ (ts : List (Task A)). AreDone ts done) all are
+
+  pub none_running : (n : ℕ) (ends : List (MergerEnd A)) → n ≡ length ends → HaveEnded n ends → position is_running ends ≡ None
+  none_running n ends all ended = position_none is_running ends (λ i e low. ap not (ended i e (omega (arith, low, all))))
+
+  pub none_undrained : (ports : List (ClosedPort A)) → All (λ p. last_closed (closed_got p) ≡ true) ports → position is_undrained ports ≡ None
+  none_undrained ports drained = position_none is_undrained ports (λ i p low. ap not (drained i p low))
+
+  pub same_sent : (xs ys : List (ClosedPort A)) → closed_views xs ≡ closed_views ys → map closed_sent xs ≡ map closed_sent ys
+  same_sent xs ys e = maps_after closed_view (λ v. v.1.0) xs ys e
+
+  pub same_got : (xs ys : List (ClosedPort A)) → closed_views xs ≡ closed_views ys → map closed_got xs ≡ map closed_got ys
+  same_got xs ys e = maps_after closed_view (λ v. v.1.1) xs ys e
+
+  -- memory or a thread was wanting where there is such a machine, and its journal has room
+  pub wanting : {X : Type 0} (config : Config A) (scripts : List (Vec Request A)) (result : Result X RunFault) → IsMachine config → entries_of scripts ≤ config.journal → IfErr result (λ fault. (fault ≡ OutOfMemory) ⊎ (fault ≡ NoThread)) → MatchResult result (λ _. IsMachine config × (entries_of scripts ≤ config.journal)) (λ fault. NotRunFor config scripts fault)
+  wanting config scripts (Ok x) machine room why = (machine, room)
+  wanting config scripts (Err fault) machine room (inl memory) = subst (λ f. NotRunFor config scripts f) (sym memory) (machine, room)
+  wanting config scripts (Err fault) machine room (inr thread) = subst (λ f. NotRunFor config scripts f) (sym thread) (machine, room)
+
+  pub wanting_memory : {X : Type 0} (config : Config A) (scripts : List (Vec Request A)) (result : Result X RunFault) → IsMachine config → entries_of scripts ≤ config.journal → IsErrAnd result (λ fault. fault ≡ OutOfMemory) → MatchResult result (λ _. IsMachine config × (entries_of scripts ≤ config.journal)) (λ fault. NotRunFor config scripts fault)
+  wanting_memory config scripts result machine room is = wanting config scripts result machine room (of_memory result is)
+
+  -- as many ports and lists of verdicts as scripts
+  pub as_many : {H : Type 0} {ghosts : Ghosts H} (n : ℕ) (scripts : List (Vec Request A)) (result : Result (Finished H A ghosts) RunFault) → length scripts ≡ n → IfOk result (λ f. map closed_sent (settled_ports f.settled) ≡ all_sent scripts) → IfOk result (λ f. map (λ list. list.items) f.verdicts.items ≡ map closed_got (settled_ports f.settled)) → IfOk result (λ f. (length (settled_ports f.settled) ≡ n) × (length f.verdicts.items ≡ n))
+  as_many n scripts result each sent got =
+      if_ok (λ f. map closed_sent (settled_ports f.settled) ≡ all_sent scripts) (λ f. map (λ list. list.items) f.verdicts.items ≡ map closed_got (settled_ports f.settled))
+      (λ f. (length (settled_ports f.settled) ≡ n) × (length f.verdicts.items ≡ n)) result sent got
+      (λ f s v.
+      let ports = maps_length closed_sent (λ (x : Vec Request A). with_close x.items) (settled_ports f.settled) scripts s ∙ each in
+      (ports, maps_length (λ (x : Vec Verdict A). x.items) closed_got f.verdicts.items (settled_ports f.settled) v ∙ ports))

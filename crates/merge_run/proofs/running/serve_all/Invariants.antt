@@ -1,0 +1,11 @@
+use Rattle.std.proofs.Common.{◌≡◌}
+use Rattle.merge_run.specs.Kept.{end_names}
+use Rattle.merge_run.specs.View.{ends_of, machine_of, guest_count}
+use Rattle.merge_run.proofs.running.serve_all.Given as goal
+
+abbrev pub invariant-loop : goal.invariant-loop
+invariant-loop g l = record {
+  names : end_names (ends_of l.merger) ≡ end_names (ends_of l.initial.merger);
+  guests : guest_count l.merger ≡ guest_count l.initial.merger;
+  machine : machine_of l.merger ≡ machine_of l.initial.merger;
+}

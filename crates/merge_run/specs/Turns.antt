@@ -1,0 +1,37 @@
+-- What a run of the guests' threads needs, and what the merger did once the guests that were started have ended.
+use Rattle.std.specs.Prelude.{◌≡◌, ℕ, ◌<◌, ◌≤◌, true, List, [], length, take, slice_index_or, All, vec_capacity}
+use Rattle.std.specs.declared.vec.Vec.{Vec}
+use Rattle.std.specs.declared.thread.PromisedHandle.{PromisedHandle}
+use Rattle.page_model.specs.declared.hashing.HashFunction.{Ghosts}
+use Rattle.share_rings.specs.declared.merger_end.MergerEnd.{MergerEnd}
+use Rattle.share_rings.specs.Closing.{has_closed}
+use Rattle.share_rings.specs.Ends.{end_given}
+use Rattle.merge_run.specs.Kept.{end_names}
+use Rattle.merge_run.specs.Tasks.{IsReady, AreDone}
+use Rattle.merge_run.specs.View.{ends_of, machine_of, guest_count}
+use Rattle.merge_run.specs.declared.guest.Task.{Task}
+use Rattle.merge_run.specs.declared.guest.DoneTask.{DoneTask}
+use Rattle.merge_run.specs.declared.guest.DoesTask.{DoesTask}
+use Rattle.merge_run.specs.declared.merger.Merger.{Merger}
+
+-- each of the first n guests was given its `Closed`
+abbrev pub HaveEnded : {A : Type 0} → ℕ → List (MergerEnd A) → Type 0
+HaveEnded n ends = (i : ℕ) (e : MergerEnd _) → i < n → has_closed (end_given (slice_index_or ends i e)) ≡ true
+
+module _ {H A : Type 0} {ghosts : Ghosts H} where
+  -- the tasks can be run beside this merger: no guest has begun, and the two lists are empty, with room for all
+  pub record CanRun (tasks : List (Task A)) (merger : Merger H A ghosts) (handles : Vec (PromisedHandle (DoneTask A) (DoesTask A)) A) (done : Vec (DoneTask A) A) : Type 0 where
+    pub ready : All IsReady tasks
+    pub few : length tasks ≤ guest_count merger
+    pub no_handles : handles.items ≡ []
+    pub handles_room : length tasks ≤ vec_capacity handles
+    pub none_done : done.items ≡ []
+    pub done_room : length tasks ≤ vec_capacity done
+
+  -- the merger of the same machine and rings, after the first of these tasks were done and their guests have ended
+  pub record IsServed (tasks : List (Task A)) (merger merger' : Merger H A ghosts) (done : List (DoneTask A)) : Type 0 where
+    pub names : end_names (ends_of merger') ≡ end_names (ends_of merger)
+    pub machine : machine_of merger' ≡ machine_of merger
+    pub most : length done ≤ length tasks
+    pub tasks_done : AreDone (take (length done) tasks) done
+    pub ended : HaveEnded (length done) (ends_of merger')

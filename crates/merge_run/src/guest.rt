@@ -1,0 +1,42 @@
+//! What the thread of a guest is given and what it gives back.
+
+use page_model::{Request, Verdict};
+use share_rings::{ClosedPort, Port};
+use std::alloc::{Allocator, Global};
+use std::snapshot::Snapshot;
+use std::thread::{Promise, PromisedHandle};
+
+/// What a guest's thread is given.
+#[derive(Drop)]
+pub(crate) struct Task<A: Allocator = Global> {
+    /// Which guest it is.
+    pub(crate) guest: u8,
+    /// The guest's end of its rings.
+    pub(crate) port: Port<A>,
+    /// What the guest sends before its close.
+    pub(crate) script: Vec<Request, A>,
+    /// An empty list, with room for a verdict to each request and to the close.
+    pub(crate) verdicts: Vec<Verdict, A>,
+}
+
+/// What a guest's thread gives back.
+#[derive(Drop)]
+pub(crate) struct DoneTask<A: Allocator = Global> {
+    /// The end that the thread was given, after the close and the last verdict.
+    pub(crate) port: ClosedPort<A>,
+    /// The verdicts that came, oldest first.
+    pub(crate) verdicts: Vec<Verdict, A>,
+}
+
+/// The promise of a guest's thread: it did its task.
+#[derive(Drop)]
+pub(crate) struct DoesTask<A: Allocator = Global>(pub(crate) Snapshot<Task<A>>);
+
+impl<A: Allocator> Promise<DoneTask<A>> for DoesTask<A> {
+    ghost use Rattle.merge_run.specs.Tasks.{IsDone};
+
+    ghost kept_by = { λ promise report. IsDone promise.0.value report };
+}
+
+/// Threads that were started, guest 0's first.
+pub(crate) type Handles<A> = Vec<PromisedHandle<DoneTask<A>, DoesTask<A>>, A>;

@@ -1,0 +1,191 @@
+//! What the thread of a guest does.
+ghost use Rattle.std.specs.Prelude.{◌≡◌, ◌≤◌, true, false, [], ◌∷◌, ◌++◌, vec_capacity};
+ghost use Rattle.page_model.specs.declared.request.Request.TheVariants.{Close};
+ghost use Rattle.share_rings.specs.Closing.{is_close, last_closed};
+ghost use Rattle.share_rings.specs.Ends.{port_sent, port_got, port_name, closed_sent, closed_got, closed_name};
+ghost use Rattle.merge_run.specs.Tasks.{IsReady, IsDone};
+
+use crate::gate::Gate;
+use crate::guest::{DoneTask, Task};
+use page_model::{Request, Verdict};
+use share_rings::{ClosedPort, Port};
+use std::alloc::Allocator;
+use std::sync::Wait;
+use std::thread;
+
+/// Sends the script and then a close, and takes the verdicts up to `Closed`.
+pub(crate) fn serve<R: Wait, A: Allocator, G: Gate>(rt: &R, gate: &G, task: Task<A>) -> DoneTask<A>
+    requires { IsReady task }
+    ensures { IsDone task result }
+{
+    let Task {
+        guest,
+        mut port,
+        script,
+        verdicts,
+    } = task;
+    let mut inbox = Inbox {
+        gate,
+        guest,
+        most: script.len() + 1,
+        verdicts,
+    };
+    let mut nth = 0;
+    for request in script {
+        gate.before(guest, nth);
+        send(rt, &mut port, &mut inbox, request);
+        nth += 1;
+    }
+    gate.before(guest, nth);
+    let mut port = close(rt, port, &mut inbox);
+    drain(rt, &mut port, &mut inbox);
+    DoneTask {
+        port,
+        verdicts: inbox.verdicts,
+    }
+}
+
+/// Where a guest's verdicts go as they come.
+///
+/// A port alone knows nothing of how many come, so no more are taken than there is room for: one for each request.
+#[derive(Drop)]
+struct Inbox<'g, A: Allocator, G: Gate> {
+    gate: &'g G,
+    guest: u8,
+    most: usize,
+    verdicts: Vec<Verdict, A>,
+    ghost room: { most ≤ vec_capacity verdicts },
+    // As many as a journal holds at most, so that they can be numbered.
+    ghost few: { most ≤ 16777216 },
+}
+
+impl<'g, A: Allocator, G: Gate> Inbox<'g, A, G> {
+    ghost use Rattle.std.specs.Prelude.{◌≡◌, ◌<◌, [], ◌∷◌, ◌++◌, ◌↔◌, IsTrue, vec_len};
+
+    /// Whether there is room for one more verdict.
+    fn has_room(&self) -> bool
+        ensures { IsTrue result ↔ (vec_len self.now.verdicts < self.now.most) }
+    {
+        self.verdicts.len() < self.most
+    }
+
+    /// Keeps a verdict, and lets the gate know of it.
+    fn keep(&mut self, verdict: Verdict)
+        requires { vec_len self.old.verdicts < self.old.most }
+        ensures { self.new.verdicts.items ≡ self.old.verdicts.items ++ verdict ∷ [] }
+    {
+        let nth = self.verdicts.len() as u32;
+        self.verdicts.push_reserved(verdict);
+        self.gate.after(self.guest, nth);
+    }
+}
+
+/// Sends a request. While the ring is full, it takes verdicts, or yields where none is seen.
+fn send<R: Wait, A: Allocator, G: Gate>(
+    rt: &R,
+    port: &mut Port<A>,
+    inbox: &mut Inbox<'_, A, G>,
+    request: Request,
+)
+    requires request { is_close request ≡ false }
+    requires got { inbox.old.verdicts.items ≡ port_got port.old }
+    ensures sent { port_sent port.new ≡ port_sent port.old ++ request ∷ [] }
+    ensures got { inbox.new.verdicts.items ≡ port_got port.new }
+    ensures name { port_name port.new ≡ port_name port.old }
+{
+    let mut request = request;
+    for _ in rt.forever() {
+        match port.send(request) {
+            Ok(()) => return,
+            Err((back, _)) => request = back,
+        }
+        if !collect(port, inbox) {
+            thread::yield_now();
+        }
+    }
+    unreachable!()
+}
+
+/// Sends the close, in the same way.
+fn close<R: Wait, A: Allocator, G: Gate>(
+    rt: &R,
+    port: Port<A>,
+    inbox: &mut Inbox<'_, A, G>,
+) -> ClosedPort<A>
+    requires got { inbox.old.verdicts.items ≡ port_got port }
+    ensures sent { closed_sent result ≡ port_sent port ++ Close ∷ [] }
+    ensures got { inbox.new.verdicts.items ≡ closed_got result }
+    ensures name { closed_name result ≡ port_name port }
+{
+    let mut port = port;
+    for _ in rt.forever() {
+        match port.close() {
+            Ok(closed) => return closed,
+            Err(back) => port = back,
+        }
+        if !collect(&mut port, inbox) {
+            thread::yield_now();
+        }
+    }
+    unreachable!()
+}
+
+/// Takes the verdicts up to `Closed`, and yields where none is seen.
+fn drain<R: Wait, A: Allocator, G: Gate>(
+    rt: &R,
+    port: &mut ClosedPort<A>,
+    inbox: &mut Inbox<'_, A, G>,
+)
+    requires { inbox.old.verdicts.items ≡ closed_got port.old }
+    ensures sent { closed_sent port.new ≡ closed_sent port.old }
+    ensures got { inbox.new.verdicts.items ≡ closed_got port.new }
+    ensures drained { last_closed (closed_got port.new) ≡ true }
+    ensures name { closed_name port.new ≡ closed_name port.old }
+{
+    for _ in rt.forever() {
+        if port.drained() {
+            return;
+        }
+        if !collect_closed(port, inbox) {
+            thread::yield_now();
+        }
+    }
+    unreachable!()
+}
+
+/// Takes a verdict, if one is seen, and says whether it did.
+fn collect<A: Allocator, G: Gate>(port: &mut Port<A>, inbox: &mut Inbox<'_, A, G>) -> bool
+    requires { inbox.old.verdicts.items ≡ port_got port.old }
+    ensures sent { port_sent port.new ≡ port_sent port.old }
+    ensures got { inbox.new.verdicts.items ≡ port_got port.new }
+    ensures name { port_name port.new ≡ port_name port.old }
+{
+    if !inbox.has_room() {
+        return false;
+    }
+    let Some(verdict) = port.verdict() else {
+        return false;
+    };
+    inbox.keep(verdict);
+    true
+}
+
+/// The same after the close.
+fn collect_closed<A: Allocator, G: Gate>(
+    port: &mut ClosedPort<A>,
+    inbox: &mut Inbox<'_, A, G>,
+) -> bool
+    requires { inbox.old.verdicts.items ≡ closed_got port.old }
+    ensures sent { closed_sent port.new ≡ closed_sent port.old }
+    ensures got { inbox.new.verdicts.items ≡ closed_got port.new }
+    ensures name { closed_name port.new ≡ closed_name port.old }
+{
+    if !inbox.has_room() {
+        return false;
+    }
+    let Some(verdict) = port.verdict() else {
+        return false;
+    };
+    inbox.keep(verdict);
+    true
+}
