@@ -1,0 +1,26 @@
+//! A port that is dropped before it was closed.
+use crate::makes::{both, new_machine};
+use merge_run::Step;
+use page_model::Verdict;
+use std::test::Fail;
+
+// The other guest is served to its end. There is no closed port of the first, so that the machine can't be settled.
+#[test]
+fn port_dropped_without_a_close(rt: HostRuntime) -> Result<(), Fail> {
+    let (mut merger, ports) = new_machine(rt.alloc(), 1, &[1, 1], 4, 4)?;
+    let (first, mut second) = both(ports).ok_or("not two ports")?;
+    assert_eq!(rt; second.load(0, 0, 1), Ok(()));
+    drop(second);
+    assert_eq!(rt; merger.step(1), Ok(Step::Done));
+    assert_eq!(rt; merger.step(1), Ok(Step::Idle));
+    let Ok(mut first) = first.close() else {
+        return Err(Fail::from("busy at the close"));
+    };
+    assert_eq!(rt; merger.step(0), Ok(Step::Done));
+    assert_eq!(rt; merger.step(0), Ok(Step::Ended));
+    assert_eq!(rt; first.verdict(), Some(Verdict::Closed));
+    assert!(rt; first.drained());
+    assert_eq!(rt; merger.journal().len(), 2);
+    drop(merger);
+    Ok(())
+}

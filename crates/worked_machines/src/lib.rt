@@ -1,0 +1,20 @@
+//! Worked machines, served by the public calls of `merge_run` over the ports of `share_rings`.
+//! This crate has tests alone.
+#![tactic(auto)]
+
+#[cfg(test)]
+mod dropped;
+#[cfg(test)]
+mod early;
+#[cfg(test)]
+mod limits;
+#[cfg(test)]
+mod makes;
+#[cfg(test)]
+mod one_slot;
+#[cfg(test)]
+mod refused;
+#[cfg(test)]
+mod sharing;
+#[cfg(test)]
+mod threads;

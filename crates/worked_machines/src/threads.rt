@@ -1,0 +1,163 @@
+//! Two guests in threads of their own, and the merger in the test's.
+ghost use Rattle.std.specs.Prelude.{◌≡◌, IfSome};
+ghost use Rattle.share_rings.specs.Ends.{port_name, closed_name};
+ghost use Rattle.merge_run.specs.Kept.{end_names};
+ghost use Rattle.merge_run.specs.View.{ends_of, guest_count};
+
+use crate::makes::{Merging, both, byte, list_of_both, new_machine, numbers};
+use merge_run::{Step, settle};
+use page_model::Verdict;
+use share_rings::{ClosedPort, Port};
+use std::alloc::Global;
+use std::snapshot::Snapshot;
+use std::test::Fail;
+use std::thread;
+use std::thread::{Promise, PromisedHandle, Threads};
+
+const TRIES: u64 = 1 << 30;
+
+const LOADS: u32 = 100;
+
+/// The verdicts that a guest got: bytes of zero before the close's verdict, that verdict, and all others.
+#[derive(Clone, Copy, Debug, PartialEq, Eq, Drop)]
+struct Tally {
+    zeros: u32,
+    closed: u32,
+    others: u32,
+}
+
+/// What a guest's thread gives back.
+#[derive(Drop)]
+struct Guest {
+    port: ClosedPort,
+    tally: Tally,
+}
+
+/// The port that comes back is the one that was given.
+#[derive(Drop)]
+struct SamePort(Snapshot<Port>);
+
+impl Promise<Option<Guest>> for SamePort {
+    ghost use Rattle.std.specs.Prelude.{◌≡◌, IfSome};
+    ghost use Rattle.share_rings.specs.Ends.{port_name, closed_name};
+
+    ghost kept_by = { λ promise result. IfSome result (λ guest. closed_name guest.port ≡ port_name promise.0.value) };
+}
+
+type Running = PromisedHandle<Option<Guest>, SamePort>;
+
+fn count(verdict: Option<Verdict>, tally: &mut Tally) {
+    let Some(verdict) = verdict else {
+        return;
+    };
+    if verdict == byte(0) && tally.closed == 0 {
+        tally.zeros = tally.zeros.wrapping_add(1);
+    } else if verdict == Verdict::Closed {
+        tally.closed = tally.closed.wrapping_add(1);
+    } else {
+        tally.others = tally.others.wrapping_add(1);
+    }
+}
+
+fn load(port: &mut Port, tally: &mut Tally)
+    ensures { port_name port.new ≡ port_name port.old }
+{
+    for _ in 0..TRIES {
+        if port.load(0, 0, 1).is_ok() {
+            return;
+        }
+        count(port.verdict(), tally);
+        thread::yield_now();
+    }
+}
+
+fn close(port: Port, tally: &mut Tally) -> Option<ClosedPort>
+    ensures { IfSome result (λ closed. closed_name closed ≡ port_name port) }
+{
+    let mut port = port;
+    for _ in 0..TRIES {
+        match port.close() {
+            Ok(closed) => return Some(closed),
+            Err(back) => port = back,
+        }
+        count(port.verdict(), tally);
+        thread::yield_now();
+    }
+    None
+}
+
+fn drain(port: &mut ClosedPort, tally: &mut Tally)
+    ensures { closed_name port.new ≡ closed_name port.old }
+{
+    for _ in 0..TRIES {
+        if port.drained() {
+            return;
+        }
+        count(port.verdict(), tally);
+        thread::yield_now();
+    }
+}
+
+fn run_guest(port: Port) -> Option<Guest>
+    ensures { IfSome result (λ guest. closed_name guest.port ≡ port_name port) }
+{
+    let mut port = port;
+    let mut tally = Tally {
+        zeros: 0,
+        closed: 0,
+        others: 0,
+    };
+    for _ in 0..LOADS {
+        load(&mut port, &mut tally);
+    }
+    let mut port = close(port, &mut tally)?;
+    drain(&mut port, &mut tally);
+    Some(Guest { port, tally })
+}
+
+fn start<R: Threads>(rt: &R, port: Port) -> Option<Running>
+    ensures { IfSome result (λ running. port_name running.promise.0.value ≡ port_name port) }
+{
+    let promise = SamePort(Snapshot::of(&port));
+    thread::spawn_with(rt, promise, move || run_guest(port)).ok()
+}
+
+/// Steps both guests in turn until both have ended.
+fn serve_both(merger: &mut Merging<Global>)
+    requires { guest_count merger.old ≡ 2 }
+    ensures { end_names (ends_of merger.new) ≡ end_names (ends_of merger.old) }
+{
+    for _ in 0..TRIES {
+        let first = merger.step(0);
+        let second = merger.step(1);
+        if first == Ok(Step::Ended) && second == Ok(Step::Ended) {
+            return;
+        }
+        thread::yield_now();
+    }
+}
+
+#[test]
+fn guests_in_threads_of_their_own(rt: HostRuntime) -> Result<(), Fail> {
+    let (mut merger, ports) = new_machine(rt.alloc(), 1, &[1, 1], 2, 202)?;
+    let (first, second) = both(ports).ok_or("not two ports")?;
+    let first = start(&rt, first).ok_or("no thread")?;
+    let second = start(&rt, second).ok_or("no thread")?;
+    serve_both(&mut merger);
+    let first = first.join(&rt).ok_or("port 0 was busy to the end")?;
+    let second = second.join(&rt).ok_or("port 1 was busy to the end")?;
+    let all = Tally {
+        zeros: LOADS,
+        closed: 1,
+        others: 0,
+    };
+    assert_eq!(rt; first.tally, all);
+    assert_eq!(rt; second.tally, all);
+    let ports = list_of_both(rt.alloc(), first.port, second.port)?;
+    let Ok(settled) = settle(merger, ports) else {
+        return Err(Fail::from("not settled"));
+    };
+    assert_eq!(rt; settled.journal().len(), 202);
+    assert_eq!(rt; numbers(&settled.report()), [202, 0, 0, 0, 0, 0]);
+    Ok(())
+}

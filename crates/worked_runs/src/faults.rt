@@ -1,0 +1,51 @@
+//! The order in which the causes of a run's fault are looked at.
+use crate::makes::{Ask, config_of, scripts_of};
+use merge_run::{JournalFull, OpenGate, RunFault, run};
+use page_digest::Sha256Hash;
+use page_model::{MAX_ENTRIES, MAX_FRAMES, MAX_PAGES, MAX_RING_CAPACITY};
+use refusing::Refusing;
+use std::test::Fail;
+
+const SCRIPT: [Ask; 3] = [Ask::Store(0, 0x41), Ask::Load(0), Ask::Propose(0)];
+
+/// A machine's numbers for two guests, and the fault of its run.
+type Case = (u32, (u32, u32), &'static [u32], u32, u32, RunFault);
+
+const STOPPED: RunFault = RunFault::Stopped(JournalFull);
+
+// The two scripts need eight entries. All memory is refused as well, and none is asked for before the last cause.
+#[test]
+fn order_of_faults(rt: HostRuntime) -> Result<(), Fail> {
+    let cases: [Case; 14] = [
+        (0, (0, 1), &[], 0, 0, RunFault::Frames),
+        (MAX_FRAMES + 1, (1, 1), &[0, 0], 1, 7, RunFault::Frames),
+        (1, (0, 1), &[0], 0, 0, RunFault::Guests),
+        (1, (1, 1), &[0, 0, 0], 1, 7, RunFault::Guests),
+        (1, (1, 0), &[0, 0], 0, 0, RunFault::Pages),
+        (1, (1, MAX_PAGES), &[0, 0], 1, 7, RunFault::Pages),
+        (1, (1, 1), &[0, 0], 0, 0, RunFault::Ring),
+        (1, (1, 1), &[0, 0], 0, 7, RunFault::Ring),
+        (1, (1, 1), &[0, 0], MAX_RING_CAPACITY + 1, 7, RunFault::Ring),
+        (1, (1, 1), &[0, 0], 1, 0, RunFault::Journal),
+        (1, (1, 1), &[0, 0], 1, MAX_ENTRIES + 1, RunFault::Journal),
+        (1, (1, 1), &[0, 0], 1, 1, STOPPED),
+        (1, (1, 1), &[0, 0], 1, 7, STOPPED),
+        (1, (1, 1), &[0, 0], 1, 8, RunFault::OutOfMemory),
+    ];
+    for (frames, (first, second), salts, ring, journal, fault) in cases {
+        let heap = Refusing::new(rt.alloc(), u64::MAX, 0);
+        let config = config_of(&heap, frames, &[first, second], salts, ring, journal)?;
+        let scripts = scripts_of(&heap, &[&SCRIPT, &SCRIPT])?;
+        heap.refuse_all();
+        let answer = run(&rt, &heap, &config, Sha256Hash, scripts, &OpenGate).err();
+        assert_eq!(rt;
+            answer,
+            Some(fault),
+            "{frames} {first} {second} {ring} {journal}"
+        );
+        assert_eq!(rt; heap.has_refused(), fault == RunFault::OutOfMemory);
+        drop(config);
+        assert!(rt; heap.holds_nothing());
+    }
+    Ok(())
+}

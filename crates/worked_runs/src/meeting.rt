@@ -1,0 +1,107 @@
+//! Two guests that wait for each other, so that the run ends only where each has a thread of its own.
+use crate::makes::{Ask, config_of, got, numbers, scripts_of};
+use crate::replays::check_replay;
+use merge_run::{Gate, JournalFull, RunFault, run};
+use page_digest::Sha256Hash;
+use page_model::Verdict;
+use std::sync::atomic::{AtomicBool, Ordering};
+use std::test::Fail;
+use std::thread;
+
+const TRIES: u64 = 1 << 30;
+
+// Each guest stores the same byte to its page, and proposes it.
+const SCRIPT: [Ask; 2] = [Ask::Store(0, 0x41), Ask::Propose(0)];
+
+/// Neither guest sends before both are about to, and guest 0 proposes after guest 1 got its first verdict.
+#[derive(Drop)]
+struct Meeting {
+    first_came: AtomicBool,
+    second_came: AtomicBool,
+    second_was_served: AtomicBool,
+    failed: AtomicBool,
+}
+
+impl Meeting {
+    fn new() -> Meeting {
+        Meeting {
+            first_came: AtomicBool::new(false),
+            second_came: AtomicBool::new(false),
+            second_was_served: AtomicBool::new(false),
+            failed: AtomicBool::new(false),
+        }
+    }
+
+    /// Waits for a flag, and notes a failure where it is never seen.
+    fn wait_for(&self, flag: &AtomicBool) {
+        for _ in 0..TRIES {
+            if flag.load(Ordering::SeqCst) {
+                return;
+            }
+            thread::yield_now();
+        }
+        self.failed.store(true, Ordering::SeqCst);
+    }
+
+    fn has_failed(&self) -> bool {
+        self.failed.load(Ordering::SeqCst)
+    }
+
+    /// Whether a guest came.
+    fn has_begun(&self) -> bool {
+        self.first_came.load(Ordering::SeqCst) || self.second_came.load(Ordering::SeqCst)
+    }
+}
+
+impl Gate for Meeting {
+    fn before(&self, guest: u8, nth: u32) {
+        match (guest, nth) {
+            (0, 0) => {
+                self.first_came.store(true, Ordering::SeqCst);
+                self.wait_for(&self.second_came);
+            }
+            (1, 0) => {
+                self.second_came.store(true, Ordering::SeqCst);
+                self.wait_for(&self.first_came);
+            }
+            (0, 1) => self.wait_for(&self.second_was_served),
+            _ => {}
+        }
+    }
+
+    fn after(&self, guest: u8, nth: u32) {
+        if guest == 1 && nth == 0 {
+            self.second_was_served.store(true, Ordering::SeqCst);
+        }
+    }
+}
+
+// On one thread guest 0 would wait in vain for guest 1, or guest 1 for guest 0.
+#[test]
+fn guests_that_wait_for_each_other(rt: HostRuntime) -> Result<(), Fail> {
+    let config = config_of(rt.alloc(), 2, &[1, 1], &[0, 0], 1, 6)?;
+    let scripts = scripts_of(rt.alloc(), &[&SCRIPT, &SCRIPT])?;
+    let gate = Meeting::new();
+    let finished = run(&rt, rt.alloc(), &config, Sha256Hash, scripts, &gate)?;
+    assert!(rt; !gate.has_failed());
+    let hinted = [Verdict::Mapped, Verdict::Hinted, Verdict::Closed];
+    let paired = [Verdict::Mapped, Verdict::Paired, Verdict::Closed];
+    let (first, second) = (got(&finished, 0), got(&finished, 1));
+    let first_leads = first == hinted.as_slice() && second == paired.as_slice();
+    let second_leads = first == paired.as_slice() && second == hinted.as_slice();
+    assert!(rt; first_leads || second_leads, "{first:?} {second:?}");
+    assert_eq!(rt; numbers(&finished.settled.report()), [6, 2, 2, 1, 1, 0]);
+    check_replay(&rt, rt.alloc(), &config, &finished)
+}
+
+// Where the journal lacks room for one request, no guest begins.
+#[test]
+fn no_guest_begins_without_room(rt: HostRuntime) -> Result<(), Fail> {
+    let config = config_of(rt.alloc(), 2, &[1, 1], &[0, 0], 1, 5)?;
+    let scripts = scripts_of(rt.alloc(), &[&SCRIPT, &SCRIPT])?;
+    let gate = Meeting::new();
+    let fault = run(&rt, rt.alloc(), &config, Sha256Hash, scripts, &gate).err();
+    assert_eq!(rt; fault, Some(RunFault::Stopped(JournalFull)));
+    assert!(rt; !gate.has_begun());
+    Ok(())
+}

@@ -1,0 +1,44 @@
+//! A run's journal, replayed on one thread.
+use merge_core::Core;
+use merge_run::{Config, Finished};
+use page_digest::Sha256Hash;
+use page_model::{MAX_ENTRIES, Verdict};
+use std::alloc::{AllocError, Global};
+use std::process::Abort;
+use std::test::Fail;
+
+/// An empty list for each guest.
+fn empty_lists(alloc: Global, guests: usize) -> Result<Vec<Vec<Verdict>>, AllocError> {
+    let mut lists = Vec::new(alloc);
+    for _ in 0..guests {
+        lists.push(Vec::new(alloc))?;
+    }
+    Ok(lists)
+}
+
+/// A fresh core that applies the journal entry by entry gives each guest's verdicts and the report.
+pub fn check_replay(
+    rt: &impl Abort,
+    alloc: Global,
+    config: &Config,
+    finished: &Finished<Sha256Hash>,
+) -> Result<(), Fail> {
+    let mut core = Core::new(
+        alloc,
+        config.frames,
+        &config.pages,
+        &config.salts,
+        Sha256Hash,
+    )?;
+    let mut lists = empty_lists(alloc, config.pages.len())?;
+    for entry in finished.settled.journal() {
+        assert!(rt; entry.guest < core.guests());
+        assert!(rt; core.entries() < MAX_ENTRIES);
+        let verdict = core.apply(entry.guest, &entry.request);
+        let list = lists.get_mut(entry.guest as usize).ok_or("no guest")?;
+        list.push(verdict)?;
+    }
+    assert!(rt; lists == finished.verdicts);
+    assert_eq!(rt; core.report(), finished.settled.report());
+    Ok(())
+}
