@@ -1,4 +1,4 @@
-.PHONY: test build demo
+.PHONY: test build demo no-thread
 
 # The gate: every proof from nothing, the edits that must be refused, the tests and the programs.
 test:
@@ -17,3 +17,12 @@ out/pageshare: $(SOURCES)
 # A first look: three equal pages of two guests come to share one frame.
 demo: build
 	out/pageshare replay < examples/three-share.journal
+
+# Outside the gate: where the system refuses to start a guest's thread, a run answers so and ends.
+no-thread: out/run_bench
+	checks/no_thread.sh out/run_bench
+
+out/run_bench: $(SOURCES)
+	cd crates/run_bench && rt run > /dev/null
+	mkdir -p out
+	cp crates/run_bench/out/run_bench $@
