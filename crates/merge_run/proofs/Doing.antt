@@ -1,6 +1,6 @@
 -- One task more is made, started and done.
 use Rattle.std.proofs.Common.{◌≡◌, zero, suc, true, List, [], ◌∷◌, ◌++◌, refl, ap, sym, subst, ◌∙◌, length, take, arith}
-use Rattle.std.proofs.lemmas.List.{map-append}
+use Rattle.std.proofs.lemmas.List.{length-map, map-append}
 use Rattle.std.proofs.lemmas.List.Elements.{All-append}
 use Rattle.std.proofs.Math.Seq.{append_snoc}
 use Rattle.std.specs.Prelude.{All}
@@ -15,7 +15,7 @@ use Rattle.merge_run.specs.Tasks.{IsDone, AreDone, tasks_of, ports_of, lists_of,
 use Rattle.merge_run.specs.declared.guest.Task.{Task}
 use Rattle.merge_run.specs.declared.guest.DoneTask.{DoneTask}
 use Rattle.merge_run.specs.declared.guest.DoesTask.{DoesTask}
-use Rattle.merge_run.proofs.Lists.{length_map, pushed_alike}
+use Rattle.merge_run.proofs.Lists.{pushed_alike}
 
 all_of_one : {X : Type 0} (P : X → Type 0) (x : X) → P x → All P (x ∷ [])
 all_of_one P x p zero d low = p
@@ -60,12 +60,12 @@ module _ {A : Type 0} where
 
   done_length : (tasks : List (Task A)) (done : List (DoneTask A)) → AreDone tasks done → length done ≡ length tasks
   done_length tasks done are =
-      sym (length_map (λ (t : DoneTask A). t.port) done) ∙ sym (length_map closed_name (ports_of done)) ∙ ap length are.ends
-      ∙ length_map (λ (t : Task A). port_name t.port) tasks
+      sym (length-map done (λ (t : DoneTask A). t.port)) ∙ sym (length-map (ports_of done) closed_name) ∙ ap length are.ends
+      ∙ length-map tasks (λ (t : Task A). port_name t.port)
 
   -- as many are done as threads were started
   pub done_handles : (handles : List (PromisedHandle (DoneTask A) (DoesTask A))) (done : List (DoneTask A)) → AreDone (tasks_of handles) done → length done ≡ length handles
-  done_handles handles done are = done_length (tasks_of handles) done are ∙ length_map (λ h. h.promise.0.value) handles
+  done_handles handles done are = done_length (tasks_of handles) done are ∙ length-map handles (λ h. h.promise.0.value)
 
   -- what is done are the first of the tasks
   pub first_done : (handles : List (PromisedHandle (DoneTask A) (DoesTask A))) (tasks : List (Task A)) (done : List (DoneTask A)) → tasks_of handles ≡ take (length handles) tasks → AreDone (tasks_of handles) done → AreDone (take (length done) tasks) done

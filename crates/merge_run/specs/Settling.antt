@@ -53,10 +53,12 @@ module _ {A : Type 0} where
     pub adds_up : AddUp (totals (state_of core).entries (state_of core).guests)
     pub frames : (totals (state_of core).entries (state_of core).guests).frames ≡ distinct_numbers (named core.names)
 
+-- the fault of the least guest that has not got its `Closed`, where there is one
 abbrev pub undrained_fault : Option ℕ → Option SettleFault
 undrained_fault None = None
 undrained_fault (Some i) = Some (Undrained i)
 
+-- the fault of the least guest whose `Closed` was not given, and where there is none the other
 abbrev pub running_fault : Option ℕ → Option SettleFault → Option SettleFault
 running_fault None undrained = undrained
 running_fault (Some i) undrained = Some (Running i)

@@ -18,7 +18,7 @@ pub struct Settled<H: PageHash, A: Allocator = Global> {
 /// Why a machine is not settled, in the order in which the causes are looked at.
 #[derive(Clone, Copy, Debug, PartialEq, Eq, Error)]
 pub enum SettleFault {
-    /// The merger has not answered this guest's close, nor missed one of a lesser guest.
+    /// The merger has not answered this guest's close, and has answered that of each lesser guest.
     #[error("the close of guest {0} is not answered")]
     Running(u8),
     /// This guest has not got its `Closed`, and each lesser guest has.
