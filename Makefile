@@ -14,9 +14,10 @@ out/pageshare: $(SOURCES)
 	mkdir -p out
 	cp crates/pageshare/out/pageshare $@
 
-# A first look: three equal pages of two guests come to share one frame.
-demo: build
-	out/pageshare replay < examples/three-share.journal
+# A first look, in about 40 seconds: three equal pages of two guests come to share one frame.
+demo:
+	@echo 'This build is for a first look and is not the proved one: make build makes that.'
+	@cd crates/pageshare && rt try -- replay < ../../examples/three-share.journal
 
 # Outside the gate: where the system refuses to start a guest's thread, a run answers so and ends.
 no-thread: out/run_bench
