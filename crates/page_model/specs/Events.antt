@@ -1,7 +1,7 @@
 -- What passes between the guests and the merger, one event after another. Verdicts stand here by the places of their
 -- entries in the journal, so a world of events is the same for every hash, number of frames and ring capacity.
-use Rattle.std.specs.Prelude.{◌≡◌, ℕ, ◌<◌, ◌≤◌, ◌==◌, Bool, true, false, if◌then◌else◌, List, [], ◌∷◌, ◌++◌, length, take, drop, map, Some, slice_get}
-use Rattle.page_model.specs.Closing.{is_close, has_close}
+use Rattle.std.specs.Prelude.{◌≡◌, ℕ, ◌<◌, ◌≤◌, ◌==◌, false, if◌then◌else◌, List, [], ◌∷◌, ◌++◌, length, take, drop, map, Some, slice_get}
+use Rattle.page_model.specs.Closing.{has_close}
 use Rattle.page_model.specs.Journal.{places}
 use Rattle.page_model.specs.declared.event.Event.{Event}
 use Rattle.page_model.specs.declared.event.Event.TheVariants.{Send, Take, Give, Get}

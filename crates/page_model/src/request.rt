@@ -3,6 +3,7 @@ ghost use Rattle.std.specs.Prelude.{◌≡◌, ◌+◌, ◌≤◌, ⊤, length, 
 ghost use Rattle.page_model.specs.Closing.{is_close};
 ghost use Rattle.page_model.specs.Faults.{Fits, RefusedFor};
 
+use crate::limits::{MAX_ACCESS_BYTES, PAGE_BYTES};
 use crate::{LoadReq, StoreReq};
 use arrayvec::ArrayVec;
 use std::alloc::AllocError;
@@ -66,7 +67,7 @@ impl Request {
         match ArrayVec::try_from(bytes) {
             Err(_) => Err(RequestFault::Length),
             Ok(kept) => {
-                if at as usize > 4096 - bytes.len() {
+                if at as usize > PAGE_BYTES - bytes.len() {
                     Err(RequestFault::Crosses)
                 } else {
                     Ok(Request::Store(StoreReq {
@@ -84,10 +85,10 @@ impl Request {
         ensures ok { IfOk result (λ r. r ≡ Request.Load (record { ppn = ppn; at = at; len = len })) }
         ensures fault { MatchResult result (λ _. Fits at len) (λ f. RefusedFor at len f) }
     {
-        if len == 0 || len > 64 {
+        if len == 0 || len as usize > MAX_ACCESS_BYTES {
             return Err(RequestFault::Length);
         }
-        if at > 4096 - len {
+        if at as usize > PAGE_BYTES - len as usize {
             return Err(RequestFault::Crosses);
         }
         Ok(Request::Load(LoadReq { ppn, at, len }))

@@ -3,6 +3,7 @@ ghost use Rattle.std.specs.Prelude.{◌≡◌};
 ghost use Rattle.page_model.specs.Closing.{is_closed};
 
 use crate::Report;
+use crate::limits::MAX_ACCESS_BYTES;
 use arrayvec::ArrayVec;
 
 /// The answer to one request.
@@ -37,7 +38,7 @@ pub enum Verdict {
     /// A store that needed a frame found none free, and nothing changed.
     NoFrame,
     /// The bytes that a load asked for.
-    Bytes(ArrayVec<u8, 64>),
+    Bytes(ArrayVec<u8, MAX_ACCESS_BYTES>),
     /// The page gave up its frame: whether the frame is free now.
     Released(bool),
     /// What the machine counts, this request among its entries.
