@@ -6,8 +6,6 @@
 #![tactic(auto)]
 
 mod looks;
-#[cfg(test)]
-mod tests;
 mod traffic;
 mod world;
 

@@ -12,6 +12,7 @@ use Rattle.std.proofs.lemmas.List.Folds.{sum_by-replicate}
 use Rattle.std.proofs.lemmas.Option.{slice_get-get_or, slice_get_past}
 use Rattle.slab.specs.Slab.{Slab, get, ContainsKey, slab_len, with_value, Updates}
 use Rattle.slab.proofs.SlabLemmas.{Updates-with_value}
+use Rattle.page_model.specs.declared.limits.TheConstants.{MAX_FRAMES}
 use Rattle.machine_frames.specs.FrameMap.{FrameMap, frame, IsTaken, used, no_frames}
 use Rattle.machine_frames.specs.Places.{times, page_of, taken_page, frames_of, IsSound}
 use Rattle.machine_frames.proofs.Used.{taken_within, used_taken, used_freed, used_written, used-lt-length}
@@ -370,7 +371,7 @@ all_none keys free pages total none =
 none_used : (total : ℕ) → used (no_frames total) ≡ 0
 none_used total = let nothing : Option (List ℕ) = None in omega (arith, sum_by-replicate (λ (o : Option (List ℕ)). one (is_some o)) total nothing)
 
-pub fresh : (keys free : List ℕ) (pages : Pages) (total : ℕ) → keys ≡ [] → free ≡ [] → pages.slots ≡ [] → total ≤ pages.capacity → total ≤ 1048576 → Fresh keys free pages total
+pub fresh : (keys free : List ℕ) (pages : Pages) (total : ℕ) → keys ≡ [] → free ≡ [] → pages.slots ≡ [] → total ≤ pages.capacity → total ≤ MAX_FRAMES → Fresh keys free pages total
 fresh keys free pages total k f s room most =
     record {
       is = is;

@@ -1,6 +1,7 @@
 -- What a contract sees of `Frames`: at each machine page number (MPN) below the total the bytes of a taken frame,
 -- and nothing for a free one.
 use Rattle.std.specs.Prelude.{◌≡◌, ℕ, ◌<◌, List, length, Option, None, is_some, IsSome, count_by, slice_index_or, replicate, All}
+use Rattle.page_model.specs.declared.limits.TheConstants.{PAGE_BYTES}
 
 abbrev pub FrameMap : Type 0
 FrameMap = List (Option (List ℕ))
@@ -23,4 +24,4 @@ no_frames total = replicate total None
 
 -- 4,096 bytes
 abbrev pub IsPage : List ℕ → Type 0
-IsPage page = (length page ≡ 4096) × All (λ b. b < 256) page
+IsPage page = (length page ≡ PAGE_BYTES) × All (λ b. b < 256) page

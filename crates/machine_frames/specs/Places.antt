@@ -4,6 +4,7 @@ use Rattle.std.specs.Prelude.{◌≡◌, ℕ, ◌+◌, ◌<◌, ◌≤◌, ◌==
 use Rattle.std.specs.List.{range_with_len}
 use Rattle.std.specs.Option.{option_and_then}
 use Rattle.slab.specs.Slab.{Slab, get, ContainsKey, slab_len}
+use Rattle.page_model.specs.declared.limits.TheConstants.{MAX_FRAMES}
 use Rattle.machine_frames.specs.FrameMap.{FrameMap, used}
 
 -- how often a number is listed
@@ -24,7 +25,7 @@ frames_of keys free pages total = map (taken_page keys free pages) (range_with_l
 
 pub record IsSound (keys free : List ℕ) (pages : Slab (List ℕ)) (total : ℕ) : Type 0 where
   pub few : length keys ≤ total
-  pub most : total ≤ 1048576
+  pub most : total ≤ MAX_FRAMES
   pub stored : slab_len pages ≡ length keys
   pub room : total ≤ pages.capacity
   pub filled : (mpn : ℕ) → mpn < length keys → ContainsKey pages (slice_index keys mpn)

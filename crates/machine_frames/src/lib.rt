@@ -6,20 +6,21 @@ ghost use Rattle.page_model.specs.Pages.{blank, written};
 ghost use Rattle.machine_frames.specs.FrameMap.{frame, IsTaken, used, no_frames, IsPage};
 
 mod pages;
-#[cfg(test)]
-mod tests;
 
-use page_model::{MAX_FRAMES, Page};
+use page_model::{MAX_FRAMES, PAGE_BYTES, Page};
 use slab::Slab;
 use std::alloc::{AllocError, Allocator, Global};
 use std::marker::Model;
+use thiserror::Error;
 
 /// Why there are no frames.
-#[derive(Clone, Copy, Debug, PartialEq, Eq)]
+#[derive(Clone, Copy, Debug, PartialEq, Eq, Error)]
 pub enum FramesFault {
     /// The number of frames is 0 or above 1,048,576.
+    #[error("ask for 1 to 1,048,576 frames")]
     Frames,
     /// The room for the frames was refused.
+    #[error("the frames' memory was refused: free some, or ask for fewer frames")]
     OutOfMemory,
 }
 
@@ -65,8 +66,8 @@ impl<A: Allocator> Frames<A> {
     where
         A: Clone,
         ensures ok { IfOk result (λ frames. frames ≡ no_frames count) }
-        ensures in_range { IfOk result (λ _. (1 ≤ count) × (count ≤ 1048576)) }
-        ensures fault { IfErr result (λ fault. fault ≡ FramesFault.Frames ↔ ((count ≡ 0) ⊎ (1048576 < count))) }
+        ensures in_range { IfOk result (λ _. (1 ≤ count) × (count ≤ MAX_FRAMES)) }
+        ensures fault { IfErr result (λ fault. fault ≡ FramesFault.Frames ↔ ((count ≡ 0) ⊎ (MAX_FRAMES < count))) }
     {
         if count == 0 || count > MAX_FRAMES {
             return Err(FramesFault::Frames);
@@ -150,7 +151,7 @@ impl<A: Allocator> Frames<A> {
     /// Writes `bytes` into a frame, from the place `at` on.
     pub fn write(&mut self, mpn: u32, at: u32, bytes: &[u8])
         requires taken { IsTaken self.old mpn }
-        requires fits { at + length bytes.now ≤ 4096 }
+        requires fits { at + length bytes.now ≤ PAGE_BYTES }
         ensures { self.new ≡ slice_set self.old mpn (option_map (λ page. written page at bytes.now) (frame self.old mpn)) }
     {
         pages::write(&mut self.pages, self.keys[mpn as usize], at as usize, bytes);

@@ -4,7 +4,7 @@ ghost use Rattle.page_model.specs.Pages.{blank, written};
 ghost use Rattle.slab.specs.Slab.{get, slab_len, ContainsKey, HasRoomFor, Updates};
 ghost use Rattle.machine_frames.specs.FrameMap.{IsPage};
 
-use page_model::Page;
+use page_model::{PAGE_BYTES, Page};
 use slab::Slab;
 use std::alloc::Allocator;
 
@@ -20,7 +20,7 @@ pub(crate) fn page<A: Allocator>(pages: &Slab<Page, A>, key: usize) -> &Page
 
 pub(crate) fn write<A: Allocator>(pages: &mut Slab<Page, A>, key: usize, at: usize, bytes: &[u8])
     requires taken { ContainsKey pages.old key }
-    requires fits { at + length bytes.now ≤ 4096 }
+    requires fits { at + length bytes.now ≤ PAGE_BYTES }
     ensures { pages.new ≡ record pages.old { slots = slice_set pages.old.slots key (option_map (λ page. written page at bytes.now) (get pages.old key)) } }
 {
     let page = pages.get_mut(key).unwrap();
@@ -32,7 +32,7 @@ pub(crate) fn clear<A: Allocator>(pages: &mut Slab<Page, A>, key: usize)
     requires { ContainsKey pages.old key }
     ensures { pages.new ≡ record pages.old { slots = slice_set pages.old.slots key (Some blank) } }
 {
-    *pages.get_mut(key).unwrap() = [0; 4096];
+    *pages.get_mut(key).unwrap() = [0; PAGE_BYTES];
 }
 
 // The functions below have a whole page among their locals, so they are kept out of their callers.
@@ -56,7 +56,7 @@ pub(crate) fn add_zeroed<A: Allocator>(pages: &mut Slab<Page, A>) -> usize
     ensures len { slab_len pages.new ≡ slab_len pages.old + 1 }
     ensures capacity { pages.new.capacity ≡ pages.old.capacity }
 {
-    pages.insert_reserved([0; 4096])
+    pages.insert_reserved([0; PAGE_BYTES])
 }
 
 // Puts a copy of a page under a key that had no page.

@@ -4,6 +4,7 @@ use Rattle.std.specs.List.{list_any}
 use Rattle.std.specs.Option.{option_map, option_and_then}
 use Rattle.std.specs.Str.{bytes_eq}
 use Rattle.page_model.specs.Parts.{Totals}
+use Rattle.page_model.specs.declared.limits.TheConstants.{PAGE_BYTES}
 
 -- One page of a guest. It is unmapped and has no frame; or private, with a frame of its own and maybe a hint
 -- under a key; or shared, with a frame that pages of equal content share. So hints stand on private pages alone.
@@ -34,7 +35,7 @@ pub record State : Type 0 where
 
 -- the bytes of a page that has no frame: zeros
 unfoldable pub blank : List ℕ
-blank = replicate 4096 0
+blank = replicate PAGE_BYTES 0
 
 -- what a page reads as
 abbrev pub bytes_of : Slot → List ℕ

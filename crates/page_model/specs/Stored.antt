@@ -4,6 +4,7 @@ use Rattle.std.specs.Option.{option_map}
 use Rattle.page_model.specs.Parts.{StoreParts}
 use Rattle.page_model.specs.Pages.{Guest, State, bytes_of, page_at}
 use Rattle.page_model.specs.Replay.{Shape, empty_state, state_after, verdicts_of}
+use Rattle.page_model.specs.declared.limits.TheConstants.{PAGE_BYTES}
 use Rattle.page_model.specs.declared.request.Entry.{Entry}
 use Rattle.page_model.specs.declared.request.Request.{Request}
 use Rattle.page_model.specs.declared.request.Request.TheVariants.{Propose, Store, Load, Release, Count, Close}
@@ -63,6 +64,6 @@ byte_at s guest ppn k = byte_in k (text_at s.guests guest ppn)
 -- after every journal, for every machine and hash, each place of each page reads the byte last stored there
 abbrev pub ReadsLastStored : List Entry → Type 0
 ReadsLastStored es =
-    (hash : ℕ → List ℕ → ℕ) (total : ℕ) (shapes : List Shape) (guest ppn k : ℕ) → k < 4096 →
+    (hash : ℕ → List ℕ → ℕ) (total : ℕ) (shapes : List Shape) (guest ppn k : ℕ) → k < PAGE_BYTES →
     let s = empty_state total shapes in
     byte_at (state_after hash s es) guest ppn k ≡ last_stored es (verdicts_of hash s es) guest ppn k

@@ -10,20 +10,20 @@ mod hashing;
 pub mod laws;
 mod limits;
 mod load;
+mod machine_shape;
 mod report;
 mod request;
 mod store;
-#[cfg(test)]
-mod tests;
 mod verdict;
 
 pub use event::Event;
 pub use hashing::HashFunction;
 pub use limits::{
     MAX_ACCESS_BYTES, MAX_ENTRIES, MAX_FRAMES, MAX_GUESTS, MAX_PAGES, MAX_RING_CAPACITY,
-    MAX_ROUND_REQUESTS, MAX_TEXT_BYTES, MAX_WATCHES, MAX_WORKERS, PAGE_BYTES, Page,
+    MAX_TEXT_BYTES, PAGE_BYTES, Page,
 };
 pub use load::LoadReq;
+pub use machine_shape::{MachineShape, ShapeFault};
 pub use report::Report;
 pub use request::{Entry, Request, RequestFault};
 pub use store::StoreReq;

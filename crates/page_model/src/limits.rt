@@ -1,13 +1,13 @@
-//! The greatest sizes of a machine. All least sizes are 1, but those of watches and texts, which are 0.
+//! The greatest sizes of a machine. Each least size is 1, but that of a text, which is 0.
 
 /// The bytes of one page.
-pub type Page = [u8; 4096];
+pub type Page = [u8; PAGE_BYTES];
 
 /// How many bytes a page has.
-pub const PAGE_BYTES: u32 = 4096;
+pub const PAGE_BYTES: usize = 4096;
 
 /// The most bytes of one store or load.
-pub const MAX_ACCESS_BYTES: u32 = 64;
+pub const MAX_ACCESS_BYTES: usize = 64;
 
 /// The most guests of a machine.
 pub const MAX_GUESTS: usize = 64;
@@ -23,15 +23,6 @@ pub const MAX_RING_CAPACITY: u32 = 65_536;
 
 /// The most entries of a journal.
 pub const MAX_ENTRIES: u32 = 16_777_216;
-
-/// The most threads that hash pages.
-pub const MAX_WORKERS: u32 = 64;
-
-/// The most requests that one round of the merger takes.
-pub const MAX_ROUND_REQUESTS: u32 = 1024;
-
-/// The most watches of a machine's published reports.
-pub const MAX_WATCHES: u32 = 8;
 
 /// The most bytes of an input text.
 pub const MAX_TEXT_BYTES: usize = 67_108_864;

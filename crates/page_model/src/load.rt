@@ -1,6 +1,7 @@
 //! A load.
 ghost use Rattle.std.specs.Prelude.{◌≡◌, ◌+◌, ◌≤◌};
 
+use crate::limits::{MAX_ACCESS_BYTES, PAGE_BYTES};
 use std::marker::Model;
 
 /// A load of 1 to 64 bytes from a place within one page.
@@ -19,7 +20,9 @@ impl Model for LoadReq {
 
     ghost view = { λ s. record { ppn = s.ppn; at = s.at; len = s.len } };
 
-    ghost invariant = { λ s. (1 ≤ s.len) × (s.len ≤ 64) × (s.at + s.len ≤ 4096) };
+    ghost use Rattle.page_model.specs.declared.limits.TheConstants.{MAX_ACCESS_BYTES, PAGE_BYTES};
+
+    ghost invariant = { λ s. (1 ≤ s.len) × (s.len ≤ MAX_ACCESS_BYTES) × (s.at + s.len ≤ PAGE_BYTES) };
 
     ghost inverse = { λ s. record { ppn = s.ppn; at = s.at; len = s.len } };
 }
@@ -35,7 +38,7 @@ impl LoadReq {
     /// The place of the first byte within the page.
     pub fn at(&self) -> u32
         ensures at { result ≡ self.now.at }
-        ensures within { result + self.now.len ≤ 4096 }
+        ensures within { result + self.now.len ≤ PAGE_BYTES }
     {
         self.at
     }
@@ -44,7 +47,7 @@ impl LoadReq {
     pub fn len(&self) -> u32
         ensures len { result ≡ self.now.len }
         ensures some { 1 ≤ result }
-        ensures few { result ≤ 64 }
+        ensures few { result ≤ MAX_ACCESS_BYTES }
     {
         self.len
     }

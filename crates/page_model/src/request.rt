@@ -1,12 +1,16 @@
 //! What a guest asks.
-ghost use Rattle.std.specs.Prelude.{◌≡◌, ◌+◌, ◌≤◌, length, IfOk, MatchResult};
+ghost use Rattle.std.specs.Prelude.{◌≡◌, ◌+◌, ◌≤◌, ⊤, length, IfOk, MatchResult};
+ghost use Rattle.page_model.specs.Closing.{is_close};
 ghost use Rattle.page_model.specs.Faults.{Fits, RefusedFor};
 
+use crate::limits::{MAX_ACCESS_BYTES, PAGE_BYTES};
 use crate::{LoadReq, StoreReq};
 use arrayvec::ArrayVec;
+use std::alloc::AllocError;
+use thiserror::Error;
 
 /// What a guest asks. A page is named by its physical page number (PPN), counted from 0.
-#[derive(Clone, Debug, PartialEq, Eq, Drop)]
+#[derive(Debug, PartialEq, Eq, Drop)]
 pub enum Request {
     /// Look for pages with the same content, and share a frame with them.
     Propose(u32),
@@ -23,12 +27,32 @@ pub enum Request {
 }
 
 /// Why there is no such store or load, in the order in which the causes are looked at.
-#[derive(Clone, Copy, Debug, PartialEq, Eq)]
+#[derive(Clone, Copy, Debug, PartialEq, Eq, Error)]
 pub enum RequestFault {
     /// No byte, or more than 64.
+    #[error("a store or load is of 1 to 64 bytes: split a longer one")]
     Length,
     /// The last byte would stand past the page's end.
+    #[error("a store or load ends within its page of 4,096 bytes: split it at the page's end")]
     Crosses,
+}
+
+/// The same request once more. It takes no memory, so it never fails.
+impl Clone for Request {
+    ghost is_clone = { λ request copy. copy ≡ request };
+
+    ghost is_infallible = { λ _. ⊤ };
+
+    fn clone(&self) -> Result<Request, AllocError> {
+        match self {
+            Request::Propose(ppn) => Ok(Request::Propose(*ppn)),
+            Request::Store(store) => Ok(Request::Store(store.clone()?)),
+            Request::Load(load) => Ok(Request::Load(*load)),
+            Request::Release(ppn) => Ok(Request::Release(*ppn)),
+            Request::Count => Ok(Request::Count),
+            Request::Close => Ok(Request::Close),
+        }
+    }
 }
 
 impl Request {
@@ -43,7 +67,7 @@ impl Request {
         match ArrayVec::try_from(bytes) {
             Err(_) => Err(RequestFault::Length),
             Ok(kept) => {
-                if at as usize > 4096 - bytes.len() {
+                if at as usize > PAGE_BYTES - bytes.len() {
                     Err(RequestFault::Crosses)
                 } else {
                     Ok(Request::Store(StoreReq {
@@ -61,13 +85,20 @@ impl Request {
         ensures ok { IfOk result (λ r. r ≡ Request.Load (record { ppn = ppn; at = at; len = len })) }
         ensures fault { MatchResult result (λ _. Fits at len) (λ f. RefusedFor at len f) }
     {
-        if len == 0 || len > 64 {
+        if len == 0 || len as usize > MAX_ACCESS_BYTES {
             return Err(RequestFault::Length);
         }
-        if at > 4096 - len {
+        if at as usize > PAGE_BYTES - len as usize {
             return Err(RequestFault::Crosses);
         }
         Ok(Request::Load(LoadReq { ppn, at, len }))
+    }
+
+    /// Whether this is a guest's last request.
+    pub fn is_close(&self) -> bool
+        ensures { result ≡ is_close self.now }
+    {
+        matches!(self, Request::Close)
     }
 }
 

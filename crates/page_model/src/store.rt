@@ -1,6 +1,7 @@
 //! A store.
 ghost use Rattle.std.specs.Prelude.{◌≡◌, ◌+◌, ◌≤◌, length};
 
+use crate::limits::{MAX_ACCESS_BYTES, PAGE_BYTES};
 use arrayvec::ArrayVec;
 use std::marker::Model;
 
@@ -9,7 +10,7 @@ use std::marker::Model;
 pub struct StoreReq {
     pub(crate) ppn: u32,
     pub(crate) at: u32,
-    pub(crate) bytes: ArrayVec<u8, 64>,
+    pub(crate) bytes: ArrayVec<u8, MAX_ACCESS_BYTES>,
 }
 
 impl Model for StoreReq {
@@ -20,7 +21,9 @@ impl Model for StoreReq {
 
     ghost view = { λ s. record { ppn = s.ppn; at = s.at; bytes = s.bytes.items } };
 
-    ghost invariant = { λ s. (1 ≤ length s.bytes.items) × (length s.bytes.items ≤ 64) × (s.at + length s.bytes.items ≤ 4096) };
+    ghost use Rattle.page_model.specs.declared.limits.TheConstants.{MAX_ACCESS_BYTES, PAGE_BYTES};
+
+    ghost invariant = { λ s. (1 ≤ length s.bytes.items) × (length s.bytes.items ≤ MAX_ACCESS_BYTES) × (s.at + length s.bytes.items ≤ PAGE_BYTES) };
 
     ghost inverse = { λ s. record { ppn = s.ppn; at = s.at; bytes = record { items = s.bytes } } };
 }
@@ -36,7 +39,7 @@ impl StoreReq {
     /// The place of the first byte within the page.
     pub fn at(&self) -> u32
         ensures at { result ≡ self.now.at }
-        ensures within { result + length self.now.bytes ≤ 4096 }
+        ensures within { result + length self.now.bytes ≤ PAGE_BYTES }
     {
         self.at
     }
@@ -45,7 +48,7 @@ impl StoreReq {
     pub fn bytes(&self) -> &[u8]
         ensures bytes { result.now ≡ self.now.bytes }
         ensures some { 1 ≤ length self.now.bytes }
-        ensures few { length self.now.bytes ≤ 64 }
+        ensures few { length self.now.bytes ≤ MAX_ACCESS_BYTES }
     {
         self.bytes.as_slice()
     }

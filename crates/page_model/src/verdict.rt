@@ -1,5 +1,9 @@
 //! What a guest is told.
+ghost use Rattle.std.specs.Prelude.{◌≡◌};
+ghost use Rattle.page_model.specs.Closing.{is_closed};
+
 use crate::Report;
+use crate::limits::MAX_ACCESS_BYTES;
 use arrayvec::ArrayVec;
 
 /// The answer to one request.
@@ -34,11 +38,20 @@ pub enum Verdict {
     /// A store that needed a frame found none free, and nothing changed.
     NoFrame,
     /// The bytes that a load asked for.
-    Bytes(ArrayVec<u8, 64>),
+    Bytes(ArrayVec<u8, MAX_ACCESS_BYTES>),
     /// The page gave up its frame: whether the frame is free now.
     Released(bool),
     /// What the machine counts, this request among its entries.
     Totals(Report),
     /// The guest asks nothing more.
     Closed,
+}
+
+impl Verdict {
+    /// Whether this is the answer to a guest's last request.
+    pub fn is_closed(&self) -> bool
+        ensures { result ≡ is_closed self.now }
+    {
+        matches!(self, Verdict::Closed)
+    }
 }

@@ -1,5 +1,5 @@
 -- What a contract sees of the ends of a guest's two rings.
-use Rattle.std.specs.Prelude.{◌≡◌, ℕ, ◌<◌, Bool, List, length, slice_index_or}
+use Rattle.std.specs.Prelude.{◌≡◌, ℕ, ◌<◌, ◌≤◌, Bool, List, [], ◌∷◌, ◌++◌, length, slice_index_or, Result, MatchResult}
 use denote.RawPtr.{Ptr}
 use Rattle.rtrb.specs.Shared.{Names}
 use Rattle.rtrb.specs.Ring.{sent, received, known_free, known_items, producer_capacity}
@@ -48,6 +48,10 @@ module _ {A : Type 0} where
   -- how many requests the ring holds
   abbrev pub port_capacity : Port A → ℕ
   port_capacity p = producer_capacity p.requests
+
+  -- at least as many requests were sent as the ring holds
+  abbrev pub HasFilled : Port A → Type 0
+  HasFilled p = port_capacity p ≤ length (port_sent p)
 
   abbrev pub closed_name : ClosedPort A → PairName A
   closed_name p = (producer_name p.requests, consumer_name p.verdicts)
@@ -102,3 +106,12 @@ module _ {A : Type 0} where
   -- all that a merger's end shows: which rings, what was taken and what was given, and the capacity
   abbrev pub end_view : MergerEnd A → PairName A × (List Request × List Verdict) × ℕ
   end_view e = (end_name e, (end_taken e, end_given e), end_capacity e)
+
+-- A send: the request follows what was sent before where the answer is Ok, and nothing was sent where it is a fault. Which
+-- rings they are, their capacity, and the verdicts got and known stay.
+pub record Sends {A E : Type 0} (old new : Port A) (request : Request) (answer : Result (Unit {0}) E) : Type 0 where
+  pub pair : port_name new ≡ port_name old
+  pub capacity : port_capacity new ≡ port_capacity old
+  pub sent : MatchResult answer (λ _. port_sent new ≡ port_sent old ++ request ∷ []) (λ _. port_sent new ≡ port_sent old)
+  pub got : port_got new ≡ port_got old
+  pub known : port_known new ≡ port_known old

@@ -1,6 +1,7 @@
 -- Why there is no pair of rings, and why a request was not sent: each fault with all that it says.
 use Rattle.std.specs.Prelude.{ℕ, ◌≡◌, ◌<◌, ◌≤◌, ◌⊎◌}
 use Rattle.page_model.specs.Faults.{Fits, RefusedFor}
+use Rattle.page_model.specs.declared.limits.TheConstants.{MAX_RING_CAPACITY}
 use Rattle.page_model.specs.declared.request.RequestFault.{RequestFault}
 use Rattle.page_model.specs.declared.request.RequestFault.TheVariants as refused
 use Rattle.share_rings.specs.declared.pair.RingFault.{RingFault}
@@ -10,11 +11,11 @@ use Rattle.share_rings.specs.declared.fault.SendFault.TheVariants.{Length, Cross
 
 -- rings may have this capacity
 abbrev pub IsCapacity : ℕ → Type 0
-IsCapacity capacity = (1 ≤ capacity) × (capacity ≤ 65536)
+IsCapacity capacity = (1 ≤ capacity) × (capacity ≤ MAX_RING_CAPACITY)
 
 -- the first cause for which there is no pair of this capacity
 abbrev pub NoPairFor : ℕ → RingFault → Type 0
-NoPairFor capacity Ring = (capacity ≡ 0) ⊎ (65536 < capacity)
+NoPairFor capacity Ring = (capacity ≡ 0) ⊎ (MAX_RING_CAPACITY < capacity)
 NoPairFor capacity OutOfMemory = IsCapacity capacity
 
 -- what a request's fault is to one who sends it

@@ -3,7 +3,6 @@ ghost use Rattle.std.specs.Prelude.{◌≡◌, false, true};
 ghost use Rattle.rtrb.specs.Ring.{sent, received};
 ghost use Rattle.share_rings.specs.Closing.{has_close, last_closed, front};
 
-use crate::kinds::is_closed;
 use page_model::{Request, Verdict};
 use rtrb::{Consumer, Producer};
 use std::alloc::{Allocator, Global};
@@ -40,7 +39,7 @@ impl<A: Allocator> ClosedPort<A> {
         let Ok(verdict) = self.verdicts.pop() else {
             return None;
         };
-        self.drained = is_closed(&verdict);
+        self.drained = verdict.is_closed();
         Some(verdict)
     }
 

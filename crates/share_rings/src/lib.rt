@@ -8,13 +8,10 @@
 mod closed_port;
 mod fault;
 mod gather;
-mod kinds;
 mod merger_end;
 mod pair;
 mod port;
 mod scan;
-#[cfg(test)]
-mod tests;
 
 pub use closed_port::ClosedPort;
 pub use fault::{Busy, SendFault};

@@ -1,9 +1,9 @@
 //! The merger's side.
 ghost use Rattle.std.specs.Prelude.{◌≡◌, ◌+◌, ◌≤◌, false, true, length};
 ghost use Rattle.rtrb.specs.Ring.{sent, received, known_free, producer_capacity};
+ghost use Rattle.page_model.specs.declared.limits.TheConstants.{MAX_RING_CAPACITY};
 ghost use Rattle.share_rings.specs.Closing.{has_close, has_closed, front, matched};
 
-use crate::kinds::{is_close, is_closed};
 use page_model::{Request, Verdict};
 use rtrb::{Consumer, Producer};
 use std::alloc::{Allocator, Global};
@@ -21,7 +21,7 @@ pub struct MergerEnd<A: Allocator = Global> {
     pub ghost ended_is: { ended ≡ has_closed (sent verdicts) },
     pub ghost answered: { matched (sent verdicts) (received requests) ≡ true },
     pub ghost room: { producer_capacity verdicts ≤ known_free verdicts + length (sent verdicts) },
-    pub ghost small: { producer_capacity verdicts ≤ 65536 },
+    pub ghost small: { producer_capacity verdicts ≤ MAX_RING_CAPACITY },
 }
 
 impl<A: Allocator> MergerEnd<A> {
@@ -59,7 +59,7 @@ impl<A: Allocator> MergerEnd<A> {
         let Ok(request) = self.requests.pop() else {
             return None;
         };
-        self.closing = is_close(&request);
+        self.closing = request.is_close();
         Some(request)
     }
 
@@ -74,7 +74,7 @@ impl<A: Allocator> MergerEnd<A> {
         ensures known { end_known self.new ≡ end_known self.old }
         ensures free { end_free self.old ≤ end_free self.new + 1 }
     {
-        self.ended = is_closed(&verdict);
+        self.ended = verdict.is_closed();
         self.verdicts.push_reserved(verdict);
     }
 

@@ -8,13 +8,16 @@ use crate::port::Port;
 use page_model::MAX_RING_CAPACITY;
 use rtrb::RingBuffer;
 use std::alloc::{AllocError, Allocator};
+use thiserror::Error;
 
 /// Why no pair was made, in the order in which the causes are looked at.
-#[derive(Clone, Copy, Debug, PartialEq, Eq)]
+#[derive(Clone, Copy, Debug, PartialEq, Eq, Error)]
 pub enum RingFault {
     /// A capacity of 0, or above 65,536.
+    #[error("give a ring room for 1 to 65,536 items")]
     Ring,
     /// Memory ran out.
+    #[error("the rings' memory was refused: free some, or make smaller rings")]
     OutOfMemory,
 }
 

@@ -5,7 +5,6 @@ ghost use Rattle.share_rings.specs.Closing.{has_close, last_closed};
 
 use crate::closed_port::ClosedPort;
 use crate::fault::{Busy, SendFault};
-use crate::kinds::is_closed;
 use page_model::{Request, Verdict};
 use rtrb::{Consumer, Producer, PushError};
 use std::alloc::{Allocator, Global};
@@ -26,18 +25,14 @@ impl<A: Allocator> Port<A> {
     ghost use mathlib.Core.List.{IsPrefix};
     ghost use Rattle.page_model.specs.Faults.{Fits};
     ghost use Rattle.share_rings.specs.Closing.{is_close};
-    ghost use Rattle.share_rings.specs.Ends.{port_sent, port_got, port_name, port_capacity, port_known, closed_sent, closed_got, closed_name, closed_capacity, closed_known};
+    ghost use Rattle.share_rings.specs.Ends.{Sends, HasFilled, port_sent, port_got, port_name, port_capacity, port_known, closed_sent, closed_got, closed_name, closed_capacity, closed_known};
     ghost use Rattle.share_rings.specs.Faults.{NotSentFor};
 
     /// Sends a request, or hands it back where no slot is known to be free.
     pub fn send(&mut self, request: Request) -> Result<(), (Request, Busy)>
         requires { is_close request ≡ false }
-        ensures pair { port_name self.new ≡ port_name self.old }
-        ensures capacity { port_capacity self.new ≡ port_capacity self.old }
-        ensures sent { MatchResult result (λ _. port_sent self.new ≡ port_sent self.old ++ request ∷ []) (λ _. port_sent self.new ≡ port_sent self.old) }
-        ensures busy { IfErr result (λ unsent. (unsent.0 ≡ request) × (port_capacity self.old ≤ length (port_sent self.old))) }
-        ensures got { port_got self.new ≡ port_got self.old }
-        ensures known { port_known self.new ≡ port_known self.old }
+        ensures sends { Sends self.old self.new request result }
+        ensures busy { IfErr result (λ unsent. (unsent.0 ≡ request) × HasFilled self.old) }
     {
         match self.requests.push(request) {
             Ok(()) => Ok(()),
@@ -47,12 +42,8 @@ impl<A: Allocator> Port<A> {
 
     /// Sends a proposal of page `ppn`.
     pub fn propose(&mut self, ppn: u32) -> Result<(), SendFault>
-        ensures pair { port_name self.new ≡ port_name self.old }
-        ensures capacity { port_capacity self.new ≡ port_capacity self.old }
-        ensures sent { MatchResult result (λ _. port_sent self.new ≡ port_sent self.old ++ Request.Propose ppn ∷ []) (λ _. port_sent self.new ≡ port_sent self.old) }
-        ensures busy { IfErr result (λ fault. (fault ≡ SendFault.Busy) × (port_capacity self.old ≤ length (port_sent self.old))) }
-        ensures got { port_got self.new ≡ port_got self.old }
-        ensures known { port_known self.new ≡ port_known self.old }
+        ensures sends { Sends self.old self.new (Request.Propose ppn) result }
+        ensures busy { IfErr result (λ fault. (fault ≡ SendFault.Busy) × HasFilled self.old) }
     {
         self.send(Request::Propose(ppn))?;
         Ok(())
@@ -60,12 +51,8 @@ impl<A: Allocator> Port<A> {
 
     /// Sends a store of these bytes to page `ppn` from place `at` on.
     pub fn store(&mut self, ppn: u32, at: u32, bytes: &[u8]) -> Result<(), SendFault>
-        ensures pair { port_name self.new ≡ port_name self.old }
-        ensures capacity { port_capacity self.new ≡ port_capacity self.old }
-        ensures sent { MatchResult result (λ _. port_sent self.new ≡ port_sent self.old ++ Request.Store (record { ppn = ppn; at = at; bytes = bytes.now }) ∷ []) (λ _. port_sent self.new ≡ port_sent self.old) }
+        ensures sends { Sends self.old self.new (Request.Store (record { ppn = ppn; at = at; bytes = bytes.now })) result }
         ensures fault { MatchResult result (λ _. Fits at (length bytes.now)) (λ fault. NotSentFor at (length bytes.now) (port_capacity self.old) (length (port_sent self.old)) fault) }
-        ensures got { port_got self.new ≡ port_got self.old }
-        ensures known { port_known self.new ≡ port_known self.old }
     {
         let request = Request::store(ppn, at, bytes)?;
         self.send(request)?;
@@ -74,12 +61,8 @@ impl<A: Allocator> Port<A> {
 
     /// Sends a load of `len` bytes of page `ppn` from place `at` on.
     pub fn load(&mut self, ppn: u32, at: u32, len: u32) -> Result<(), SendFault>
-        ensures pair { port_name self.new ≡ port_name self.old }
-        ensures capacity { port_capacity self.new ≡ port_capacity self.old }
-        ensures sent { MatchResult result (λ _. port_sent self.new ≡ port_sent self.old ++ Request.Load (record { ppn = ppn; at = at; len = len }) ∷ []) (λ _. port_sent self.new ≡ port_sent self.old) }
+        ensures sends { Sends self.old self.new (Request.Load (record { ppn = ppn; at = at; len = len })) result }
         ensures fault { MatchResult result (λ _. Fits at len) (λ fault. NotSentFor at len (port_capacity self.old) (length (port_sent self.old)) fault) }
-        ensures got { port_got self.new ≡ port_got self.old }
-        ensures known { port_known self.new ≡ port_known self.old }
     {
         let request = Request::load(ppn, at, len)?;
         self.send(request)?;
@@ -88,12 +71,8 @@ impl<A: Allocator> Port<A> {
 
     /// Sends a release of page `ppn`.
     pub fn release(&mut self, ppn: u32) -> Result<(), SendFault>
-        ensures pair { port_name self.new ≡ port_name self.old }
-        ensures capacity { port_capacity self.new ≡ port_capacity self.old }
-        ensures sent { MatchResult result (λ _. port_sent self.new ≡ port_sent self.old ++ Request.Release ppn ∷ []) (λ _. port_sent self.new ≡ port_sent self.old) }
-        ensures busy { IfErr result (λ fault. (fault ≡ SendFault.Busy) × (port_capacity self.old ≤ length (port_sent self.old))) }
-        ensures got { port_got self.new ≡ port_got self.old }
-        ensures known { port_known self.new ≡ port_known self.old }
+        ensures sends { Sends self.old self.new (Request.Release ppn) result }
+        ensures busy { IfErr result (λ fault. (fault ≡ SendFault.Busy) × HasFilled self.old) }
     {
         self.send(Request::Release(ppn))?;
         Ok(())
@@ -101,12 +80,8 @@ impl<A: Allocator> Port<A> {
 
     /// Asks what the machine counts.
     pub fn count(&mut self) -> Result<(), SendFault>
-        ensures pair { port_name self.new ≡ port_name self.old }
-        ensures capacity { port_capacity self.new ≡ port_capacity self.old }
-        ensures sent { MatchResult result (λ _. port_sent self.new ≡ port_sent self.old ++ Request.Count ∷ []) (λ _. port_sent self.new ≡ port_sent self.old) }
-        ensures busy { IfErr result (λ fault. (fault ≡ SendFault.Busy) × (port_capacity self.old ≤ length (port_sent self.old))) }
-        ensures got { port_got self.new ≡ port_got self.old }
-        ensures known { port_known self.new ≡ port_known self.old }
+        ensures sends { Sends self.old self.new Request.Count result }
+        ensures busy { IfErr result (λ fault. (fault ≡ SendFault.Busy) × HasFilled self.old) }
     {
         self.send(Request::Count)?;
         Ok(())
@@ -123,7 +98,7 @@ impl<A: Allocator> Port<A> {
         let Ok(verdict) = self.verdicts.pop() else {
             return None;
         };
-        self.drained = is_closed(&verdict);
+        self.drained = verdict.is_closed();
         Some(verdict)
     }
 
@@ -132,7 +107,7 @@ impl<A: Allocator> Port<A> {
         ensures pair { MatchResult result (λ closed. closed_name closed ≡ port_name self) (λ port. port_name port ≡ port_name self) }
         ensures capacity { MatchResult result (λ closed. closed_capacity closed ≡ port_capacity self) (λ port. port_capacity port ≡ port_capacity self) }
         ensures sent { MatchResult result (λ closed. closed_sent closed ≡ port_sent self ++ Request.Close ∷ []) (λ port. port_sent port ≡ port_sent self) }
-        ensures busy { IfErr result (λ _. port_capacity self ≤ length (port_sent self)) }
+        ensures busy { IfErr result (λ _. HasFilled self) }
         ensures got { MatchResult result (λ closed. closed_got closed ≡ port_got self) (λ port. port_got port ≡ port_got self) }
         ensures known { MatchResult result (λ closed. closed_known closed ≡ port_known self) (λ port. port_known port ≡ port_known self) }
     {
