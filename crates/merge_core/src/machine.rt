@@ -92,10 +92,13 @@ impl<H: PageHash + Drop, A: Allocator + Clone> Core<H, A> {
 
 impl<H: PageHash, A: Allocator> Core<H, A> {
     /// Serves one request of a guest, and tells the verdict. It takes no memory.
+    ///
+    /// Every page but the named one keeps its frame. So does the named one, but at `Mapped` and `Copied` (it gets a frame
+    /// that was free), at `Joined` and `Paired` (that of the pages with which it is now shared) and at `Released` (none).
     #[tactic(auto, unfolding(page_model::specs::Steps::step, page_model::specs::Steps::answered))]
     pub fn apply(&mut self, guest: u8, request: &Request) -> Verdict
         requires guest { guest < length (state_of self.old).guests }
-        requires room { self.old.entries < 16777216 }
+        requires room { self.old.entries < 4294967295 }
         ensures step { record { state = state_of self.new; verdict = result } ≡ step H.hash_of (state_of self.old) guest request.now }
         ensures stay { FramesStay guest request.now result self.old self.new }
         ensures entries { self.new.entries ≡ self.old.entries + 1 }
@@ -111,6 +114,15 @@ impl<H: PageHash, A: Allocator> Core<H, A> {
             Request::Count => Verdict::Totals(report(&self.held, self.entries)),
             Request::Close => Verdict::Closed,
         }
+    }
+
+    /// Begins the count of requests anew, for a machine that serves more than the count can hold.
+    ///
+    /// Its pages, frames and table stay as they are.
+    pub fn restart_count(&mut self)
+        ensures { self.new ≡ record { entries = 0; names = self.old.names; frames = self.old.frames; table = self.old.table } }
+    {
+        self.entries = 0;
     }
 
     /// What the machine counts.
