@@ -1,4 +1,5 @@
 pub mod Names
+pub mod Noted
 pub mod Ties
 pub mod View
 pub mod Shown

@@ -14,14 +14,14 @@ ghost use Rattle.merge_core.specs.Stays.{frame_at, FramesStay};
 
 use crate::fault::CoreFault;
 use crate::held::{Held, PageEntry};
-use crate::make::{check_limits, new_held};
+use crate::make::new_held;
 use crate::moves::find;
 use crate::offer::propose;
 use crate::serve::{bytes_at, load, release, store};
 use crate::tally::report;
 use machine_frames::Frames;
 use page_digest::PageHash;
-use page_model::{Report, Request, Verdict};
+use page_model::{MachineShape, Report, Request, ShapeFault, Verdict};
 use share_table::Table;
 use std::alloc::{AllocError, Allocator, Global};
 use std::marker::Model;
@@ -64,14 +64,22 @@ impl<H: PageHash + Drop, A: Allocator + Clone> Core<H, A> {
         ensures table { IfOk result (λ core. core.table ≡ empty_table frames) }
         ensures fault { MatchResult result (λ _. AreLimits frames pages.now salts.now) (λ fault. NoCoreFor frames pages.now salts.now fault) }
     {
-        check_limits(frames, pages, salts)?;
-        match Core::open(alloc, frames, pages, salts, hash) {
-            Err(_) => Err(CoreFault::OutOfMemory),
-            Ok(core) => Ok(core),
-        }
+        let shape = MachineShape::new(frames, pages, salts)?;
+        Ok(Core::with_shape(alloc, &shape, hash)?)
     }
 
-    /// The same for a machine that is known to be within the limits (see [`check_limits`]).
+    /// The same for a shape, which is known to be within the limits.
+    pub fn with_shape(alloc: A, shape: &MachineShape<'_>, hash: H) -> Result<Core<H, A>, AllocError>
+        ensures empty { IfOk result (λ core. state_of core ≡ empty_state shape.now.frames (shapes shape.now.salts shape.now.pages)) }
+        ensures guests { IfOk result (λ core. length (state_of core).guests ≡ length shape.now.pages) }
+        ensures frames { IfOk result (λ core. core.frames ≡ no_frames shape.now.frames) }
+        ensures table { IfOk result (λ core. core.table ≡ empty_table shape.now.frames) }
+    {
+        let held = new_held(alloc, shape, hash)?;
+        Ok(Core { entries: 0, held })
+    }
+
+    /// The same for a machine that is known to be within the limits (see [`check_limits`](crate::check_limits)).
     pub fn open(
         alloc: A,
         frames: u32,
@@ -85,8 +93,12 @@ impl<H: PageHash + Drop, A: Allocator + Clone> Core<H, A> {
         ensures frames { IfOk result (λ core. core.frames ≡ no_frames frames) }
         ensures table { IfOk result (λ core. core.table ≡ empty_table frames) }
     {
-        let held = new_held(alloc, frames, pages, salts, hash)?;
-        Ok(Core { entries: 0, held })
+        match MachineShape::new(frames, pages, salts) {
+            Ok(shape) => Core::with_shape(alloc, &shape, hash),
+            Err(ShapeFault::Frames) => unreachable!(),
+            Err(ShapeFault::Guests) => unreachable!(),
+            Err(ShapeFault::Pages) => unreachable!(),
+        }
     }
 }
 

@@ -3,11 +3,11 @@ ghost use Rattle.std.specs.Prelude.{◌≡◌, ◌+◌, ◌<◌, ◌≤◌, ◌=
 ghost use Rattle.page_model.specs.Pages.{blank, written, with_slot, page_at, used, peers};
 ghost use Rattle.page_model.specs.Pages as s;
 ghost use Rattle.merge_core.specs.Names.{bytes_in, slot_in, known_at};
-ghost use Rattle.merge_core.specs.View.{slot_of, names_in, names_of, guests_of, notes_in, notes_of, Whole};
+ghost use Rattle.merge_core.specs.View.{slot_of, names_in, names_of, guests_of, notes_of, Whole};
 ghost use Rattle.machine_frames.specs.FrameMap as fm;
 ghost use Rattle.share_table.specs.TableMaps.{shared_at, hint_at, count_at, without_hint};
 
-use crate::held::{GuestPages, Held, Note, PageEntry, Place};
+use crate::held::{GuestPages, Held, PageEntry, Place};
 use machine_frames::Frames;
 use page_digest::PageHash;
 use std::alloc::Allocator;
@@ -67,14 +67,6 @@ fn new_frame<A: Allocator>(frames: &mut Frames<A>) -> u32
     }
 }
 
-/// Notes a frame's salt, and that its hash isn't known.
-fn set_note<A: Allocator>(notes: &mut Vec<Note, A>, mpn: u32, salt: u32)
-    requires mpn { mpn < length (notes_in notes.old.items) }
-    ensures notes { notes_in notes.new.items ≡ slice_set (notes_in notes.old.items) mpn (record { salt = salt; hash = None }) }
-{
-    notes[mpn as usize] = Note { salt, hash: None };
-}
-
 /// Maps a page to a frame of zeros.
 pub fn map_zeroed<H: PageHash, A: Allocator>(held: &mut Held<H, A>, page: Place) -> u32
     requires whole { Whole H.hash_of held.old }
@@ -89,7 +81,7 @@ pub fn map_zeroed<H: PageHash, A: Allocator>(held: &mut Held<H, A>, page: Place)
     ensures guests { guests_of held.new ≡ with_slot (guests_of held.old) page.guest page.ppn (s.Private blank None) }
 {
     let mpn = new_frame(&mut held.frames);
-    set_note(&mut held.notes, mpn, page.salt);
+    held.notes.forget(mpn, page.salt);
     set_page(&mut held.guests, page, PageEntry::Private(mpn, None));
     mpn
 }
@@ -121,7 +113,7 @@ pub fn write<H: PageHash, A: Allocator>(
     ensures guests { guests_of held.new ≡ with_slot (guests_of held.old) page.guest page.ppn (s.Private (written (bytes_in held.old.frames mpn) at bytes.now) hint) }
 {
     held.frames.write(mpn, at, bytes);
-    set_note(&mut held.notes, mpn, page.salt);
+    held.notes.forget(mpn, page.salt);
 }
 
 /// Takes a free frame with the bytes of another.
@@ -153,7 +145,7 @@ pub fn map_copy<H: PageHash, A: Allocator>(held: &mut Held<H, A>, page: Place, f
     ensures guests { guests_of held.new ≡ with_slot (guests_of held.old) page.guest page.ppn (s.Private (bytes_in held.old.frames from) None) }
 {
     let mpn = new_copy(&mut held.frames, from);
-    set_note(&mut held.notes, mpn, page.salt);
+    held.notes.forget(mpn, page.salt);
     set_page(&mut held.guests, page, PageEntry::Private(mpn, None));
     mpn
 }
@@ -204,7 +196,7 @@ pub fn hash_frame<H: PageHash, A: Allocator>(held: &mut Held<H, A>, mpn: u32, sa
     ensures names { names_of held.new ≡ names_of held.old }
     ensures shown { guests_of held.new ≡ guests_of held.old }
 {
-    if let Some(code) = known_hash(&held.notes, mpn) {
+    if let Some(code) = held.notes.known_hash(mpn) {
         return code;
     }
     let code = held.hash.hash(salt, held.frames.bytes(mpn));
@@ -225,24 +217,7 @@ pub fn learn<H: PageHash, A: Allocator>(held: &mut Held<H, A>, mpn: u32, salt: u
     ensures shown { guests_of held.new ≡ guests_of held.old }
     ensures known { known_at (notes_of held.new) mpn ≡ record { salt = salt; hash = Some code } }
 {
-    note_hash(&mut held.notes, mpn, salt, code);
-}
-
-fn known_hash<A: Allocator>(notes: &Vec<Note, A>, mpn: u32) -> Option<u64>
-    requires mpn { mpn < length (notes_in notes.now.items) }
-    ensures hash { result ≡ (known_at (notes_in notes.now.items) mpn).hash }
-{
-    notes[mpn as usize].hash
-}
-
-fn note_hash<A: Allocator>(notes: &mut Vec<Note, A>, mpn: u32, salt: u32, code: u64)
-    requires mpn { mpn < length (notes_in notes.old.items) }
-    ensures notes { notes_in notes.new.items ≡ slice_set (notes_in notes.old.items) mpn (record { salt = salt; hash = Some code }) }
-{
-    notes[mpn as usize] = Note {
-        salt,
-        hash: Some(code),
-    };
+    held.notes.learn(mpn, salt, code);
 }
 
 /// How many pages share a page's frame.

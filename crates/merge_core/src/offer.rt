@@ -7,11 +7,11 @@ ghost use Rattle.page_model.specs.declared.verdict.Verdict.TheVariants.{Paired};
 ghost use Rattle.merge_core.specs.Names.{bytes_in, known_at};
 ghost use Rattle.merge_core.specs.Stays.{AllKeep, OthersKeep};
 ghost use Rattle.share_table.specs.TableMaps.{hint_at, shared_at, count_at};
-ghost use Rattle.merge_core.specs.View.{names_of, guests_of, notes_in, notes_of, Whole};
+ghost use Rattle.merge_core.specs.View.{names_of, guests_of, notes_of, Whole};
 ghost use Rattle.machine_frames.specs.FrameMap as fm;
 ghost use Rattle.std.specs.Str.{bytes_eq};
 
-use crate::held::{Held, Note, PageEntry, Place};
+use crate::held::{Held, PageEntry, Place};
 use crate::moves::{drop_hint, find, hash_frame, join, learn, put_hint, share, unmap};
 use crate::serve::{bytes_at, clear_hint};
 use machine_frames::Frames;
@@ -140,7 +140,7 @@ fn same_content<H: PageHash, A: Allocator>(
     requires theirs { fm.IsTaken held.now.frames theirs }
     ensures { result ≡ ((known_at (notes_of held.now) theirs).salt == salt && bytes_eq (bytes_in held.now.frames theirs) (bytes_in held.now.frames mpn)) }
 {
-    salt_of(&held.notes, theirs) == salt && same_bytes(&held.frames, theirs, mpn)
+    held.notes.salt(theirs) == salt && same_bytes(&held.frames, theirs, mpn)
 }
 
 /// Whether two frames have the same bytes.
@@ -229,7 +229,7 @@ fn weigh<H: PageHash, A: Allocator>(
         ≡ offered H.hash_of (guests_of held.old) page.guest page.ppn page.salt (bytes_in held.old.frames mpn) (key_of code) }
 {
     let theirs = hint.mpn;
-    let salt = salt_of(&held.notes, theirs);
+    let salt = held.notes.salt(theirs);
     let other = Place {
         guest: hint.guest as usize,
         ppn: hint.ppn as usize,
@@ -274,11 +274,4 @@ fn pair<H: PageHash, A: Allocator>(
     unmap(held, page, mpn);
     learn(held, theirs, page.salt, code);
     share(held, first, theirs, page, code);
-}
-
-fn salt_of<A: Allocator>(notes: &Vec<Note, A>, mpn: u32) -> u32
-    requires mpn { mpn < length (notes_in notes.now.items) }
-    ensures salt { result ≡ (known_at (notes_in notes.now.items) mpn).salt }
-{
-    notes[mpn as usize].salt
 }

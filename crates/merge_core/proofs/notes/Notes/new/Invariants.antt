@@ -1,7 +1,7 @@
 use Rattle.std.proofs.Common.{◌≡◌, replicate, vec_len}
 use Rattle.merge_core.specs.Names.{unknown}
-use Rattle.merge_core.specs.View.{notes_in}
-use Rattle.merge_core.proofs.make.new_notes.Given as goal
+use Rattle.merge_core.specs.Noted.{notes_in}
+use Rattle.merge_core.proofs.notes.Notes.new.Given as goal
 
 abbrev pub invariant-loop : goal.invariant-loop
 invariant-loop g l = record {
