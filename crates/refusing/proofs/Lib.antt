@@ -1,1 +1,2 @@
 mod RequestCalls
+mod Handle
