@@ -1,5 +1,5 @@
 -- The stated functions of the hash types: each a function of a salt and the bytes of a page.
-use Rattle.std.specs.Prelude.{ℕ, ◌+◌, ◌*◌, ◌^◌, ◌==◌, if◌then◌else◌, List, ◌++◌, take, slice_index}
+use Rattle.std.specs.Prelude.{ℕ, ◌+◌, ◌*◌, ◌^◌, ◌==◌, if◌then◌else◌, List, [], ◌∷◌, ◌++◌, take, slice_index}
 use Rattle.std.specs.Int.{w32, w64, from_be_bytes, to_be_bytes}
 use Rattle.sha2.specs.Sha256.{sha256}
 
@@ -18,3 +18,8 @@ first_byte_hash salt page = slice_index page 0
 -- byte 0 above byte 1, with 32 bits for the latter
 abbrev pub two_byte_hash : ℕ → List ℕ → ℕ
 two_byte_hash salt page = slice_index page 0 * 2 ^ 32 + slice_index page 1
+
+-- the hashes of four pages, each under the salt at its place
+abbrev pub four_hashes : (ℕ → List ℕ → ℕ) → List ℕ → List ℕ → List ℕ → List ℕ → List ℕ → List ℕ
+four_hashes hash salts a b c d =
+    hash (slice_index salts 0) a ∷ hash (slice_index salts 1) b ∷ hash (slice_index salts 2) c ∷ hash (slice_index salts 3) d ∷ []

@@ -3,11 +3,10 @@
 //! Nothing is assumed about collisions: pages are compared in full before they share a frame.
 #![tactic(auto)]
 
+mod message;
 mod page_hash;
 mod sha256;
 mod short;
-#[cfg(test)]
-mod tests;
 
 pub use page_hash::PageHash;
 pub use sha256::Sha256Hash;

@@ -1,5 +1,6 @@
-//! What can hash a page.
+//! What can hash pages.
 ghost use Rattle.std.specs.Prelude.{◌≡◌};
+ghost use Rattle.page_digest.specs.Hashes.{four_hashes};
 
 use page_model::{HashFunction, Page};
 
@@ -8,4 +9,17 @@ pub trait PageHash: HashFunction + Sync {
     /// The type's stated function of the salt and the page's bytes. It takes no memory.
     fn hash(&self, salt: u32, page: &Page) -> u64
         ensures { result ≡ Self.hash_of salt page.now };
+
+    /// The same of four pages, each under the salt at its place. A type that hashes four pages faster together than
+    /// one by one says so here.
+    fn hash_four(&self, salts: [u32; 4], a: &Page, b: &Page, c: &Page, d: &Page) -> [u64; 4]
+        ensures { result ≡ four_hashes Self.hash_of salts a.now b.now c.now d.now }
+    {
+        [
+            self.hash(salts[0], a),
+            self.hash(salts[1], b),
+            self.hash(salts[2], c),
+            self.hash(salts[3], d),
+        ]
+    }
 }

@@ -5,6 +5,7 @@ ghost use Rattle.sha2.specs.Sha256.{sha256};
 ghost use Rattle.page_digest.specs.Hashes.{salted};
 
 use crate::PageHash;
+use crate::message::padded;
 use page_model::{HashFunction, Page};
 use sha2::{Digest, Sha256};
 
@@ -22,6 +23,15 @@ impl HashFunction for Sha256Hash {
 impl PageHash for Sha256Hash {
     fn hash(&self, salt: u32, page: &Page) -> u64 {
         leading_number(&digest(salt, page))
+    }
+
+    fn hash_four(&self, salts: [u32; 4], a: &Page, b: &Page, c: &Page, d: &Page) -> [u64; 4] {
+        sha256_lanes::hash_four(
+            &padded(salts[0], a),
+            &padded(salts[1], b),
+            &padded(salts[2], c),
+            &padded(salts[3], d),
+        )
     }
 }
 

@@ -1,0 +1,4 @@
+pub mod Lanes
+pub mod Bits
+pub mod Words
+pub mod Messages

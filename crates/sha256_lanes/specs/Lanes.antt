@@ -1,0 +1,13 @@
+-- Four messages side by side: each word is a vector of four numbers, one for each message.
+use Rattle.std.specs.Prelude.{ℕ, zero, suc, List, map, slice_index}
+
+-- the words of message j
+abbrev pub lane : ℕ → List (List ℕ) → List ℕ
+lane j vectors = map (λ v. slice_index v j) vectors
+
+-- the one of four that stands at place j
+abbrev pub one_of : {A : Type 0} → ℕ → A → A → A → A → A
+one_of zero a b c d = a
+one_of (suc zero) a b c d = b
+one_of (suc (suc zero)) a b c d = c
+one_of (suc (suc (suc _))) a b c d = d

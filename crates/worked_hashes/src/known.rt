@@ -1,0 +1,59 @@
+//! Hashes of known pages.
+use page_digest::{FirstByteHash, PageHash, Sha256Hash, TwoByteHash};
+use page_model::Page;
+
+fn page_of(first: u8, second: u8, last: u8) -> Page {
+    let mut page = [0; 4096];
+    page[0] = first;
+    page[1] = second;
+    page[4095] = last;
+    page
+}
+
+// By sha256sum: of 4,096 zeros, of the page that begins with 0x41, and of the latter after 00000001.
+#[test]
+fn sha256_hashes(rt: HostRuntime) {
+    let blank = page_of(0, 0, 0);
+    let letter = page_of(0x41, 0, 0);
+    assert_eq!(rt; Sha256Hash.hash(0, &blank), 0xad7f_acb2_586f_c6e9);
+    assert_eq!(rt; Sha256Hash.hash(0, &letter), 0x9aab_2ec0_0da3_0c5d);
+    assert_eq!(rt; Sha256Hash.hash(1, &letter), 0x2ec9_ff62_4454_1407);
+}
+
+#[test]
+fn four_sha256_hashes(rt: HostRuntime) {
+    let blank = page_of(0, 0, 0);
+    let letter = page_of(0x41, 0, 0);
+    let hashes = Sha256Hash.hash_four([0, 1, 0, 1], &blank, &letter, &letter, &letter);
+    assert_eq!(rt; hashes[0], 0xad7f_acb2_586f_c6e9);
+    assert_eq!(rt; hashes[1], 0x2ec9_ff62_4454_1407);
+    assert_eq!(rt; hashes[2], 0x9aab_2ec0_0da3_0c5d);
+    assert_eq!(rt; hashes[3], 0x2ec9_ff62_4454_1407);
+}
+
+#[test]
+fn four_as_each_alone(rt: HostRuntime) {
+    let pages = [
+        page_of(1, 2, 3),
+        page_of(4, 5, 6),
+        page_of(7, 8, 9),
+        page_of(10, 11, 12),
+    ];
+    let salts = [0, 9, 0xffff_ffff, 0];
+    let hashes = Sha256Hash.hash_four(salts, &pages[0], &pages[1], &pages[2], &pages[3]);
+    for place in 0..4usize {
+        assert_eq!(rt; hashes[place], Sha256Hash.hash(salts[place], &pages[place]));
+    }
+}
+
+#[test]
+fn weak_hashes(rt: HostRuntime) {
+    let page = page_of(0x41, 0x07, 0);
+    let other = page_of(0x42, 0x08, 0);
+    for salt in [0, 1] {
+        assert_eq!(rt; FirstByteHash.hash(salt, &page), 0x41);
+        assert_eq!(rt; TwoByteHash.hash(salt, &page), 0x41_0000_0007);
+    }
+    let hashes = FirstByteHash.hash_four([0, 1, 2, 3], &page, &other, &page, &other);
+    assert!(rt; hashes == [0x41, 0x42, 0x41, 0x42]);
+}
