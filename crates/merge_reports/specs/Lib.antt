@@ -1,0 +1,7 @@
+pub mod Reports
+pub mod Notes
+pub mod Counting
+pub mod Showing
+pub mod Lists
+pub mod Publishing
+pub mod Watching

@@ -1,0 +1,37 @@
+-- What a contract sees of a publisher, of a watch, and of what is told.
+use Rattle.std.specs.Prelude.{List}
+use Rattle.logbook.specs.Pages.{Book}
+use Rattle.page_model.specs.Parts.{Totals}
+use Rattle.merge_reports.specs.declared.told.Told.{Told}
+use Rattle.merge_reports.specs.declared.publisher.Publisher.{Publisher}
+use Rattle.merge_reports.specs.declared.watch.Watch.{Watch}
+use Rattle.merge_reports.specs.Notes.{published_in}
+
+-- the list that is told
+abbrev pub list_told : Told → List Totals
+list_told t = published_in t.history.log
+
+-- by which publisher it is told
+abbrev pub told_id : Told → Book
+told_id t = t.history.book
+
+module _ {A : Type 0} where
+  -- all reports that were published, in order
+  abbrev pub published : Publisher A → List Totals
+  published p = published_in p.told.history.log
+
+  -- which publisher it is
+  abbrev pub publisher_id : Publisher A → Book
+  publisher_id p = p.history.book
+
+  -- the reports that the watch saw, in order
+  abbrev pub seen : Watch A → List Totals
+  seen w = w.seen.log
+
+  -- the lists that it was told, in order
+  abbrev pub heard : Watch A → List (List Totals)
+  heard w = w.heard.log
+
+  -- whose watch it is
+  abbrev pub watch_id : Watch A → Book
+  watch_id w = w.longest.history.book

@@ -1,0 +1,31 @@
+-- What the calls of a publisher do.
+use Rattle.std.specs.Prelude.{◌≡◌, [], ◌∷◌, ◌++◌}
+use Rattle.page_model.specs.Parts.{Totals}
+use Rattle.merge_reports.specs.declared.told.Told.{Told}
+use Rattle.merge_reports.specs.declared.publisher.Publisher.{Publisher}
+use Rattle.merge_reports.specs.declared.watch.Watch.{Watch}
+use Rattle.merge_reports.specs.Reports.{NeverFalls}
+use Rattle.merge_reports.specs.Lists.{published, publisher_id, list_told, told_id, seen, heard, watch_id}
+
+module _ {A : Type 0} where
+  -- what is told is the whole list as it is, in which the entry counts never fall
+  pub record TellsAll (p : Publisher A) (t : Told) : Type 0 where
+    pub list : list_told t ≡ published p
+    pub never_falls : NeverFalls (list_told t)
+    pub same : told_id t ≡ publisher_id p
+
+  -- the report stands behind all that were published before, and the whole list is told
+  pub record Publishes (before after : Publisher A) (r : Totals) (t : Told) : Type 0 where
+    pub list : published after ≡ published before ++ r ∷ []
+    pub told : TellsAll after t
+
+  -- nothing was published
+  pub record Unchanged (before after : Publisher A) : Type 0 where
+    pub list : published after ≡ published before
+    pub same : publisher_id after ≡ publisher_id before
+
+  -- the watch saw nothing yet, and was told all that was published
+  pub record IsNewWatch (p : Publisher A) (w : Watch A) : Type 0 where
+    pub reports : seen w ≡ []
+    pub lists : heard w ≡ published p ∷ []
+    pub same : watch_id w ≡ publisher_id p

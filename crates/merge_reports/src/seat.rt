@@ -1,0 +1,64 @@
+//! The rule by which `left_right` shows reports: it speaks of lists of reports alone.
+use crate::history::History;
+use crate::shown::Shown;
+use atomic_table::{Join, Split};
+use crossbeam_utils::rule::{Outcome, Protocol};
+use page_model::Report;
+use std::collections::LinkedList;
+
+/// What the publisher, or a watch, knows of what is shown. No value of it is made.
+pub struct Seat {
+    /// Whether it knows the history.
+    pub is_tied: bool,
+    pub history: History,
+    /// The list whose last report it saw.
+    pub seen: LinkedList<Report>,
+}
+
+/// The last report of a list is shown, and every list that was seen is a front of it.
+pub struct LastShown;
+
+impl Protocol<Shown, Seat> for LastShown {
+    ghost use Rattle.merge_reports.specs.Showing.{ShowsLast, newcomer};
+
+    ghost holds = { ShowsLast };
+
+    ghost first = { newcomer };
+}
+
+/// A watch looks at what is shown.
+pub struct Looked;
+
+impl Outcome<Shown, Seat> for Looked {
+    ghost use Rattle.merge_reports.specs.Showing.{Looks};
+
+    ghost then = { Looks };
+}
+
+/// The publisher shows something.
+pub struct Replaced;
+
+impl Outcome<Shown, Seat> for Replaced {
+    ghost use Rattle.merge_reports.specs.Showing.{Replaces};
+
+    ghost then = { Replaces };
+}
+
+/// A new watch is told which history it is, and no more.
+pub struct Tied;
+
+impl Split<Seat> for Tied {
+    ghost use Rattle.merge_reports.specs.Showing.{tied_only};
+
+    ghost left = { λ seat. seat };
+
+    ghost right = { tied_only };
+}
+
+impl Join<Seat> for Tied {
+    ghost use Rattle.merge_reports.specs.Showing.{newcomer};
+
+    ghost both = { λ seat told. told };
+
+    ghost spent = { newcomer };
+}

@@ -1,0 +1,115 @@
+//! The half that reads.
+ghost use Rattle.std.specs.Prelude.{◌≡◌, [], ◌∷◌, true, IfSome, All};
+ghost use Rattle.left_right.specs.Sides.{view};
+ghost use Rattle.merge_reports.specs.Notes.{published_in};
+ghost use Rattle.merge_reports.specs.Reports.{StartsWith, NeverFalls, last_of};
+
+use crate::proof_list::{ProofList, heard_also, nothing_heard, nothing_seen, seen_now};
+use crate::seat::{LastShown, Looked, Seat};
+use crate::shown::Shown;
+use crate::told::Told;
+use core::mem::replace_with;
+use left_right::reader::Reader;
+use page_model::Report;
+use std::alloc::{Allocator, Global};
+use std::collections::LinkedList;
+use thiserror::Error;
+
+/// Eight watches are there, or `left_right` gave no place.
+#[derive(Clone, Copy, Debug, PartialEq, Eq, Error)]
+#[error("no place for one more watch: drop one of those that there are, at most 8, then call again")]
+pub struct NoWatch;
+
+type Place<A> = Reader<Shown, Seat, LastShown, A>;
+
+/// What reads the report that was published last, in any thread.
+///
+/// It has the list of reports that it saw, of which it read the last one, and the lists that it was told. It keeps none
+/// of them in memory.
+#[derive(Drop)]
+pub struct Watch<A: Allocator = Global> {
+    reader: Place<A>,
+    // The longest list that it was told.
+    longest: Told,
+    pub(crate) seen: ProofList<Report>,
+    pub(crate) heard: ProofList<LinkedList<Report>>,
+    pub ghost tied: { (view reader.place).is_tied ≡ true },
+    pub ghost tied_here: { (view reader.place).history.book ≡ longest.history.book },
+    pub ghost saw: { StartsWith (view reader.place).seen seen.log },
+    pub ghost heard_no_longer: { All (StartsWith (published_in longest.history.log)) heard.log },
+}
+
+impl<A: Allocator> Watch<A> {
+    ghost use Rattle.merge_reports.specs.Lists.{list_told, told_id, watch_id, seen, heard};
+    ghost use Rattle.merge_reports.specs.Watching.{Hears, Reads};
+
+    pub(crate) fn starting(reader: Place<A>, told: Told) -> Watch<A>
+        requires { ((view reader.place).is_tied ≡ true) × ((view reader.place).history.book ≡ told_id told) }
+        ensures { (seen result ≡ []) × (heard result ≡ list_told told ∷ []) × (watch_id result ≡ told_id told) }
+    {
+        let (heard, longest) = heard_also(nothing_heard(), told);
+        Watch {
+            reader,
+            longest,
+            seen: nothing_seen(),
+            heard,
+        }
+    }
+
+    /// Takes in what was told by the watch's publisher, so that no later read is older. Takes no memory.
+    pub fn learn(&mut self, told: Told)
+        requires same_publisher { told_id told ≡ watch_id self.old }
+        ensures { Hears self.old self.new told }
+    {
+        let mut history = self.longest.history.again();
+        history.learn(&told.history);
+        let (heard, told) = heard_also(self.heard.again(), told);
+        self.heard = heard;
+        if self.longest.before < told.before {
+            self.longest = told;
+        }
+    }
+
+    /// The report that was published last; all zeros before the first. Waits for nobody, and takes no memory.
+    ///
+    /// A `None` changes nothing. It comes where the publisher was ended, since `left_right` then shows no report.
+    pub fn read(&mut self) -> Option<Report>
+        ensures same { watch_id self.new ≡ watch_id self.old }
+        ensures heard { heard self.new ≡ heard self.old }
+        ensures read { IfSome result (Reads self.old self.new) }
+        ensures none { result ≡ None → seen self.new ≡ seen self.old }
+    {
+        let (report, seen) = replace_with(&mut self.reader, &self.longest, |reader, told| {
+            look(reader, told)
+        })?;
+        self.seen = seen;
+        Some(report)
+    }
+}
+
+// Reads what is shown, with the list whose last report it is, where that list is no shorter than what was told.
+fn look<A: Allocator>(
+    reader: Place<A>,
+    told: &Told,
+) -> (Place<A>, Option<(Report, ProofList<Report>)>)
+    requires { ((view reader.place).is_tied ≡ true) × ((view reader.place).history.book ≡ told.now.history.book) }
+    ensures tied { ((view result.0.place).is_tied ≡ true) × ((view result.0.place).history.book ≡ told.now.history.book) }
+    ensures later { StartsWith (view result.0.place).seen (view reader.place).seen }
+    ensures report { IfSome result.1 (λ sight. (sight.1.log ≡ (view result.0.place).seen) × (sight.0 ≡ last_of sight.1.log)) }
+    ensures list { IfSome result.1 (λ sight. StartsWith sight.1.log (published_in told.now.history.log) × NeverFalls sight.1.log) }
+{
+    match reader.enter_as::<Looked>() {
+        Ok(reading) => {
+            let shown = reading.get();
+            let mut history = shown.history.again();
+            history.learn(&told.history);
+            let sight = if told.before <= shown.notes {
+                Some((shown.report, seen_now(shown)))
+            } else {
+                None
+            };
+            (reading.leave(), sight)
+        }
+        Err(reader) => (reader, None),
+    }
+}

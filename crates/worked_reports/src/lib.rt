@@ -1,0 +1,13 @@
+//! Worked publishers and watches, in one thread and in several. This crate has tests alone.
+#![tactic(auto)]
+
+#[cfg(test)]
+mod console;
+#[cfg(test)]
+mod makes;
+#[cfg(test)]
+mod places;
+#[cfg(test)]
+mod refused;
+#[cfg(test)]
+mod watching;

@@ -1,0 +1,49 @@
+//! How many watches there are, and what they read in the end.
+use crate::makes::one_page;
+use merge_reports::{NoWatch, Publisher};
+use page_model::MAX_WATCHES;
+use std::test::Fail;
+
+// A ninth watch is none; where one of the eight is dropped, its place is free again.
+#[test]
+fn nine_watches(rt: HostRuntime) -> Result<(), Fail> {
+    let mut publisher = Publisher::new(rt.alloc(), &rt)?;
+    let mut watches = Vec::new(rt.alloc());
+    for _ in 0..MAX_WATCHES {
+        let watch = publisher.watch().expect(&rt, "a watch");
+        watches.push(watch).expect(&rt, "memory");
+    }
+    assert_eq!(rt; publisher.watch().err(), Some(NoWatch));
+    drop(watches.pop());
+    assert!(rt; publisher.watch().is_ok());
+    publisher.end(&rt);
+    Ok(())
+}
+
+// What was told by one answer goes to two watches.
+#[test]
+fn one_answer_for_two_watches(rt: HostRuntime) -> Result<(), Fail> {
+    let mut publisher = Publisher::new(rt.alloc(), &rt)?;
+    let mut first = publisher.watch().expect(&rt, "a watch");
+    let mut second = publisher.watch().expect(&rt, "a watch");
+    let told = publisher.publish(&rt, one_page(3)).expect(&rt, "memory");
+    first.learn(told.again());
+    second.learn(told);
+    assert_eq!(rt; first.read(), Some(one_page(3)));
+    assert_eq!(rt; second.read(), Some(one_page(3)));
+    publisher.end(&rt);
+    Ok(())
+}
+
+#[test]
+fn nothing_is_read_after_the_end(rt: HostRuntime) -> Result<(), Fail> {
+    let mut publisher = Publisher::new(rt.alloc(), &rt)?;
+    let mut watch = publisher.watch().expect(&rt, "a watch");
+    let told = publisher.publish(&rt, one_page(3)).expect(&rt, "memory");
+    assert_eq!(rt; watch.read(), Some(one_page(3)));
+    publisher.end(&rt);
+    assert_eq!(rt; watch.read(), None);
+    watch.learn(told);
+    assert_eq!(rt; watch.read(), None);
+    Ok(())
+}

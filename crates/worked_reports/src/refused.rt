@@ -1,0 +1,103 @@
+//! Memory that is refused to a publisher.
+ghost use Rattle.std.specs.Prelude.{◌≡◌, ◌≤◌, ◌++◌, ◌∷◌, []};
+ghost use Rattle.merge_reports.specs.Reports.{last_of};
+ghost use Rattle.merge_reports.specs.Lists.{published, publisher_id, watch_id, told_id};
+
+use crate::makes::{all_zeros, one_page};
+use merge_reports::{OutOfMemory, Publisher, Told, Watch};
+use page_model::Report;
+use refusing::Refusing;
+use std::alloc::Allocator;
+use std::process::Abort;
+use std::sync::Wait;
+use std::test::Fail;
+
+const MOST: u64 = 100;
+
+// Publishes a report, once more where the first time was refused. After a refusal the watch reads what it read before.
+fn publish<R: Abort + Wait, A: Allocator>(
+    rt: &R,
+    publisher: &mut Publisher<A>,
+    watch: &mut Watch<A>,
+    report: Report,
+    before: Report,
+) -> Told
+    requires not_older { (last_of (published publisher.old)).entries ≤ report.entries }
+    requires same { watch_id watch.old ≡ publisher_id publisher.old }
+    ensures publisher { (published publisher.new ≡ published publisher.old ++ report ∷ []) × (publisher_id publisher.new ≡ publisher_id publisher.old) }
+    ensures watch { watch_id watch.new ≡ watch_id watch.old }
+    ensures told { told_id result ≡ publisher_id publisher.old }
+{
+    if let Ok(told) = publisher.publish(rt, report) {
+        return told;
+    }
+    watch.learn(publisher.tell());
+    assert_eq!(rt; watch.read(), Some(before));
+    match publisher.publish(rt, report) {
+        Ok(told) => told,
+        Err(OutOfMemory) => panic!(rt; "refused with memory"),
+    }
+}
+
+// A watch that was made at first, one that was made at last, and two reports.
+fn run_to_the_end<R: Abort + Wait, A: Allocator>(rt: &R, publisher: Publisher<A>)
+    requires { published publisher ≡ [] }
+{
+    let mut publisher = publisher;
+    let mut watch = publisher.watch().expect(rt, "a first watch");
+    let told = publish(rt, &mut publisher, &mut watch, one_page(1), all_zeros());
+    watch.learn(told);
+    assert_eq!(rt; watch.read(), Some(one_page(1)));
+    let told = publish(rt, &mut publisher, &mut watch, one_page(2), one_page(1));
+    let mut late = publisher.watch().expect(rt, "a second watch");
+    late.learn(told);
+    assert_eq!(rt; late.read(), Some(one_page(2)));
+    publisher.end(rt);
+}
+
+// The nth request for memory is refused, n counting up until a run has no refusal: first those of the new publisher,
+// then those of a publish. A watch asks for none.
+#[test]
+fn each_growth_refused_in_turn(rt: HostRuntime) -> Result<(), Fail> {
+    let mut whole_at = None;
+    for n in 0..MOST {
+        let heap = Refusing::new(rt.alloc(), n, 0);
+        match Publisher::new(&heap, &rt) {
+            Ok(publisher) => run_to_the_end(&rt, publisher),
+            Err(OutOfMemory) => assert!(rt; heap.has_refused(), "at {n}"),
+        }
+        assert!(rt; heap.holds_nothing(), "at {n}");
+        if !heap.has_refused() {
+            whole_at = Some(n);
+            break;
+        }
+    }
+    assert!(rt; whole_at.is_some());
+    Ok(())
+}
+
+// A new publisher, and then no memory at all: watches, what is told, what is read and the end take none.
+#[test]
+fn no_memory_but_for_publishing(rt: HostRuntime) -> Result<(), Fail> {
+    let heap = Refusing::new(rt.alloc(), u64::MAX, 0);
+    let mut publisher = Publisher::new(&heap, &rt).expect(&rt, "memory");
+    heap.refuse_all();
+    let mut watch = publisher.watch().expect(&rt, "a watch");
+    watch.learn(publisher.tell());
+    assert_eq!(rt; watch.read(), Some(all_zeros()));
+    assert!(rt; !heap.has_refused());
+    assert_eq!(rt;
+        publisher.publish(&rt, one_page(1)).err(),
+        Some(OutOfMemory)
+    );
+    assert_eq!(rt;
+        publisher.publish(&rt, one_page(1)).err(),
+        Some(OutOfMemory)
+    );
+    watch.learn(publisher.tell());
+    assert_eq!(rt; watch.read(), Some(all_zeros()));
+    publisher.end(&rt);
+    drop(watch);
+    assert!(rt; heap.holds_nothing());
+    Ok(())
+}
