@@ -2,4 +2,5 @@ pub mod Names
 pub mod Ties
 pub mod View
 pub mod Shown
+pub mod Stays
 pub mod Refusals

@@ -82,6 +82,7 @@ pub fn map_zeroed<H: PageHash, A: Allocator>(held: &mut Held<H, A>, page: Place)
     requires room { (fm.used held.old.frames == length held.old.frames) ≡ false }
     ensures whole { Whole H.hash_of held.new }
     ensures total { length held.new.frames ≡ length held.old.frames }
+    ensures free { fm.frame held.old.frames result ≡ None }
     ensures name { names_of held.new ≡ with_slot (names_of held.old) page.guest page.ppn (s.Private result None) }
     ensures bytes { bytes_in held.new.frames result ≡ blank }
     ensures page { page_at (names_of held.new) page.guest page.ppn ≡ Some (page.salt, s.Private result None) }
@@ -145,6 +146,8 @@ pub fn map_copy<H: PageHash, A: Allocator>(held: &mut Held<H, A>, page: Place, f
     requires room { (fm.used held.old.frames == length held.old.frames) ≡ false }
     ensures whole { Whole H.hash_of held.new }
     ensures total { length held.new.frames ≡ length held.old.frames }
+    ensures free { fm.frame held.old.frames result ≡ None }
+    ensures name { names_of held.new ≡ with_slot (names_of held.old) page.guest page.ppn (s.Private result None) }
     ensures bytes { bytes_in held.new.frames result ≡ bytes_in held.old.frames from }
     ensures page { page_at (names_of held.new) page.guest page.ppn ≡ Some (page.salt, s.Private result None) }
     ensures guests { guests_of held.new ≡ with_slot (guests_of held.old) page.guest page.ppn (s.Private (bytes_in held.old.frames from) None) }
@@ -266,6 +269,7 @@ pub fn keep<H: PageHash, A: Allocator>(held: &mut Held<H, A>, page: Place, mpn: 
     requires found { shared_at held.old.table code ≡ Some (record { mpn = mpn; count = 1 }) }
     ensures whole { Whole H.hash_of held.new }
     ensures frames { held.new.frames ≡ held.old.frames }
+    ensures name { names_of held.new ≡ with_slot (names_of held.old) page.guest page.ppn (s.Private mpn None) }
     ensures page { page_at (names_of held.new) page.guest page.ppn ≡ Some (page.salt, s.Private mpn None) }
     ensures guests { guests_of held.new ≡ with_slot (guests_of held.old) page.guest page.ppn (s.Private (bytes_in held.old.frames mpn) None) }
 {
@@ -287,6 +291,7 @@ pub fn leave<H: PageHash, A: Allocator>(
     requires several { 2 ≤ count }
     ensures whole { Whole H.hash_of held.new }
     ensures frames { held.new.frames ≡ held.old.frames }
+    ensures name { names_of held.new ≡ with_slot (names_of held.old) page.guest page.ppn s.Unmapped }
     ensures page { page_at (names_of held.new) page.guest page.ppn ≡ Some (page.salt, s.Unmapped) }
     ensures guests { guests_of held.new ≡ with_slot (guests_of held.old) page.guest page.ppn s.Unmapped }
 {
@@ -301,6 +306,7 @@ pub fn put_hint<H: PageHash, A: Allocator>(held: &mut Held<H, A>, page: Place, m
     requires absent { hint_at held.old.table key ≡ None }
     ensures whole { Whole H.hash_of held.new }
     ensures frames { held.new.frames ≡ held.old.frames }
+    ensures name { names_of held.new ≡ with_slot (names_of held.old) page.guest page.ppn (s.Private mpn (Some key)) }
     ensures page { page_at (names_of held.new) page.guest page.ppn ≡ Some (page.salt, s.Private mpn (Some key)) }
     ensures guests { guests_of held.new ≡ with_slot (guests_of held.old) page.guest page.ppn (s.Private (bytes_in held.old.frames mpn) (Some key)) }
 {
@@ -323,6 +329,7 @@ pub fn join<H: PageHash, A: Allocator>(
     requires salt { (known_at (notes_of held.old) mpn).salt ≡ page.salt }
     ensures whole { Whole H.hash_of held.new }
     ensures frames { held.new.frames ≡ held.old.frames }
+    ensures name { names_of held.new ≡ with_slot (names_of held.old) page.guest page.ppn (s.Shared mpn) }
     ensures count { result ≡ peers page.salt (bytes_in held.old.frames mpn) (guests_of held.new) }
     ensures guests { guests_of held.new ≡ with_slot (guests_of held.old) page.guest page.ppn (s.Shared (bytes_in held.old.frames mpn)) }
 {
@@ -346,6 +353,7 @@ pub fn share<H: PageHash, A: Allocator>(
     requires code { H.hash_of first.salt (bytes_in held.old.frames mpn) ≡ code }
     ensures whole { Whole H.hash_of held.new }
     ensures frames { held.new.frames ≡ held.old.frames }
+    ensures names { names_of held.new ≡ with_slot (with_slot (names_of held.old) first.guest first.ppn (s.Shared mpn)) second.guest second.ppn (s.Shared mpn) }
     ensures guests { guests_of held.new ≡ with_slot (with_slot (guests_of held.old) first.guest first.ppn (s.Shared (bytes_in held.old.frames mpn))) second.guest second.ppn (s.Shared (bytes_in held.old.frames mpn)) }
 {
     held.table.add_shared(code, mpn);

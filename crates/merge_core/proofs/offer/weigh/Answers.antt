@@ -1,10 +1,12 @@
-use Rattle.std.proofs.Common.{◌≡◌, ℕ, Some, None, ap, sym, ◌∙◌}
-use Rattle.page_model.specs.Pages.{Private, page_at}
+use Rattle.merge_core.proofs.Staying.{moved_to, moves_nowhere, all_stay, none_moves, frame_is, one_keeps, keep_keep}
+use Rattle.merge_core.specs.Stays.{AllKeep}
+use Rattle.std.proofs.Common.{◌≡◌, ℕ, Some, None, ap, sym, ◌∙◌, refl}
+use Rattle.page_model.specs.Pages.{Private, page_at, with_slot}
 use Rattle.page_model.specs.Steps.{key_of}
 use Rattle.page_model.specs.declared.verdict.Verdict.TheVariants as v
 use Rattle.page_model.proofs.Places.{at_other}
 use Rattle.merge_core.proofs.Maps.{gone_same}
-use Rattle.merge_core.specs.Names.{bytes_in, slot_in}
+use Rattle.merge_core.specs.Names.{bytes_in, slot_in, Names}
 use Rattle.merge_core.specs.View.{names_of, guests_of, notes_of}
 use Rattle.merge_core.proofs.Views.{page_in_is}
 use Rattle.merge_core.proofs.Holders.{found_is}
@@ -86,3 +88,21 @@ returns-clause-step g c =
     outcome v.Ineligible _ _ c.hash_frame-present.ensures.shown
     ∙ sym (offered_other g.H.HashFunction.hash_of (guests_of held) c.args.page.guest c.args.page.ppn c.args.page.salt (bytes_in held.frames c.args.mpn) key c.args.hint.guest c.args.hint.ppn c.salt_of-salt.result (slot_in held.frames (Private c.args.hint.mpn (Some key))) found (λ p q. apart (sym p) (sym q)) (page_in_is held.frames (names_of held) c.args.hint.guest c.args.hint.ppn c.salt_of-salt.result (Private c.args.hint.mpn (Some key)) theirs)
     ∙ weighed_ineligible g.H.HashFunction.hash_of (guests_of held) c.args.page.guest c.args.page.ppn c.args.page.salt (bytes_in held.frames c.args.mpn) key c.args.hint.guest c.args.hint.ppn c.salt_of-salt.result (bytes_in held.frames c.args.hint.mpn) keys (sym differ))
+
+pub returns-then-key_of-key-clause-stay : goal.returns-then-key_of-key-clause-stay
+returns-then-key_of-key-clause-stay g c =
+    let held = c.args.held.now in
+    let key : ℕ = c.key_of-key.result in
+    let mine = c.args.page in
+    let theirs : page_at (names_of held) c.args.hint.guest c.args.hint.ppn ≡ Some (c.salt_of-salt.result, Private c.args.hint.mpn (Some (key_of c.args.code))) = hint_page g.H.HashFunction.hash_of (names_of held) held.frames held.table (notes_of held) (key_of c.args.code) c.args.hint.guest c.args.hint.ppn c.args.hint.mpn c.requires.whole.ties c.requires.hint c.salt_of-salt.result c.salt_of-salt.ensures.salt in
+    let dropped : Names = with_slot (names_of held) c.args.hint.guest c.args.hint.ppn (Private c.args.hint.mpn None) in
+    let first : AllKeep (names_of held) dropped = one_keeps (names_of held) c.args.hint.guest c.args.hint.ppn c.salt_of-salt.result (Private c.args.hint.mpn (Some (key_of c.args.code))) (Private c.args.hint.mpn None) theirs refl in
+    let name = rw (c.drop_hint.ensures.name, c.hash_frame-present.ensures.names) at c.put_hint.ensures.name in
+    let one = moved_to dropped _ mine.guest mine.ppn mine.salt (Private c.args.mpn (Some key)) name c.put_hint.ensures.page in
+    let second = moves_nowhere mine.guest mine.ppn (Some c.args.mpn) dropped _ one (first.keeps mine.guest mine.ppn ∙ frame_is (names_of held) mine.guest mine.ppn mine.salt (Private c.args.mpn None) c.requires.page) in
+    all_stay held.frames mine.guest mine.ppn v.Replaced (names_of held) _ refl (keep_keep (names_of held) dropped _ first second)
+
+pub returns-clause-stay : goal.returns-clause-stay
+returns-clause-stay g c =
+    let held = c.args.held.now in
+    rw c.hash_frame-present.ensures.names (none_moves held.frames c.args.page.guest c.args.page.ppn v.Ineligible (names_of held) refl)

@@ -1,4 +1,4 @@
-use Rattle.std.proofs.Common.{ℕ, List, length, Option, None, refl, ◌∙◌}
+use Rattle.std.proofs.Common.{ℕ, List, Option, None, refl, ◌∙◌}
 use Rattle.std.proofs.lemmas.List.{length-replicate, length-map}
 use Rattle.page_model.specs.Limits.{shapes}
 use Rattle.machine_frames.specs.FrameMap.{no_frames}
