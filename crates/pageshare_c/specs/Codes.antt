@@ -20,10 +20,10 @@ abbrev pub status_told : {X : Type 0} → Result X Refusal → ℕ
 status_told (Ok x) = 0
 status_told (Err refusal) = status_of refusal
 
--- the status of a free: 6 where nothing was held
-abbrev pub freed : {X : Type 0} → Option X → ℕ
-freed None = 6
-freed (Some x) = 0
+-- the status of a call that asks for a machine and for nothing else
+abbrev pub held_status : {X : Type 0} → Option X → ℕ
+held_status None = 6
+held_status (Some x) = 0
 
 -- the verdict's number
 abbrev pub code_of : Verdict → ℕ

@@ -24,12 +24,12 @@ abbrev pub stepped : State → ℕ → Result Request Refusal → State
 stepped s guest (Ok request) = (step sha256_hash s guest request).state
 stepped s guest (Err refusal) = s
 
--- what a machine in the state s answers: it has such a guest, and hasn't served as many requests as it counts
+-- what a machine in the state s answers: it has such a guest, and can count one more request
 abbrev pub answered : State → ℕ → Result Request Refusal → Result Verdict Refusal
 answered s guest asked =
     if nat_le (length s.guests) guest
     then Err NoGuest
-    else if nat_le 16777216 s.entries
+    else if nat_le 4294967295 s.entries
     then Err Full
     else verdict_of s guest asked
 
@@ -38,7 +38,7 @@ abbrev pub answered_state : State → ℕ → Result Request Refusal → State
 answered_state s guest asked =
     if nat_le (length s.guests) guest
     then s
-    else if nat_le 16777216 s.entries
+    else if nat_le 4294967295 s.entries
     then s
     else stepped s guest asked
 

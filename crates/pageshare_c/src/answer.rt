@@ -37,7 +37,7 @@ pub enum Refusal {
     NoMachine,
     /// There is no such guest.
     NoGuest,
-    /// The machine has served as many requests as it counts.
+    /// The machine has counted 4,294,967,295 requests, as many as it can.
     Full,
     /// No byte, or more than 64.
     Length,

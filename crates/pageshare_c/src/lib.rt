@@ -9,11 +9,13 @@
 #![tactic(auto)]
 
 ghost use Rattle.std.specs.Prelude.{◌≡◌, ◌≢◌, length, None, Some, Ok};
+ghost use Rattle.std.specs.Option.{option_map};
 ghost use Rattle.page_model.specs.Limits.{shapes};
 ghost use Rattle.page_model.specs.Replay.{empty_state};
 ghost use Rattle.pageshare_c.specs.Access.{store_of, load_of};
-ghost use Rattle.pageshare_c.specs.Codes.{freed, status_told};
+ghost use Rattle.pageshare_c.specs.Codes.{held_status, status_told};
 ghost use Rattle.pageshare_c.specs.Found.{text_of, frame_found, HoldsText};
+ghost use Rattle.pageshare_c.specs.Kept.{FramesKept, restarted};
 ghost use Rattle.pageshare_c.specs.Made.{Makes};
 ghost use Rattle.pageshare_c.specs.Outcomes.{outcome, state_after, seen};
 ghost use Rattle.pageshare_c.specs.Told.{told, counted, loaded, counts, value_or};
@@ -59,7 +61,7 @@ pub extern "C" fn pageshare_make(
 #[unsafe(no_mangle)]
 pub extern "C" fn pageshare_free(alloc: Global, machine: &mut Machine) -> u32
     ensures none { machine.new.slot.core ≡ None }
-    ensures status { result ≡ freed machine.old.slot.core }
+    ensures status { result ≡ held_status machine.old.slot.core }
 {
     match machine.take(alloc) {
         None => 6,
@@ -77,6 +79,7 @@ pub extern "C" fn pageshare_propose(
 ) -> Answer
     ensures answer { result ≡ told (outcome (seen machine.old.slot.core) guest (Ok (Request.Propose ppn))) }
     ensures state { seen machine.new.slot.core ≡ state_after (seen machine.old.slot.core) guest (Ok (Request.Propose ppn)) }
+    ensures frames { FramesKept guest (Ok (Request.Propose ppn)) (outcome (seen machine.old.slot.core) guest (Ok (Request.Propose ppn))) machine.old.slot.core machine.new.slot.core }
 {
     answer_of(&serve(alloc, machine, guest, &Ok(Request::Propose(ppn))))
 }
@@ -93,6 +96,7 @@ pub extern "C" fn pageshare_store(
 ) -> Answer
     ensures answer { result ≡ told (outcome (seen machine.old.slot.core) guest (store_of ppn at bytes.now)) }
     ensures state { seen machine.new.slot.core ≡ state_after (seen machine.old.slot.core) guest (store_of ppn at bytes.now) }
+    ensures frames { FramesKept guest (store_of ppn at bytes.now) (outcome (seen machine.old.slot.core) guest (store_of ppn at bytes.now)) machine.old.slot.core machine.new.slot.core }
 {
     answer_of(&serve(alloc, machine, guest, &store_request(ppn, at, bytes)))
 }
@@ -109,6 +113,7 @@ pub extern "C" fn pageshare_load(
 ) -> Answer
     ensures answer { result ≡ told (outcome (seen machine.old.slot.core) guest (load_of ppn at (length room.old))) }
     ensures state { seen machine.new.slot.core ≡ state_after (seen machine.old.slot.core) guest (load_of ppn at (length room.old)) }
+    ensures frames { FramesKept guest (load_of ppn at (length room.old)) (outcome (seen machine.old.slot.core) guest (load_of ppn at (length room.old))) machine.old.slot.core machine.new.slot.core }
     ensures bytes { room.new ≡ loaded room.old (outcome (seen machine.old.slot.core) guest (load_of ppn at (length room.old))) }
 {
     let outcome = serve(alloc, machine, guest, &load_request(ppn, at, room.len()));
@@ -128,6 +133,7 @@ pub extern "C" fn pageshare_release(
 ) -> Answer
     ensures answer { result ≡ told (outcome (seen machine.old.slot.core) guest (Ok (Request.Release ppn))) }
     ensures state { seen machine.new.slot.core ≡ state_after (seen machine.old.slot.core) guest (Ok (Request.Release ppn)) }
+    ensures frames { FramesKept guest (Ok (Request.Release ppn)) (outcome (seen machine.old.slot.core) guest (Ok (Request.Release ppn))) machine.old.slot.core machine.new.slot.core }
 {
     answer_of(&serve(alloc, machine, guest, &Ok(Request::Release(ppn))))
 }
@@ -142,6 +148,7 @@ pub extern "C" fn pageshare_count(
 ) -> Answer
     ensures answer { result ≡ told (outcome (seen machine.old.slot.core) guest (Ok Request.Count)) }
     ensures state { seen machine.new.slot.core ≡ state_after (seen machine.old.slot.core) guest (Ok Request.Count) }
+    ensures frames { FramesKept guest (Ok Request.Count) (outcome (seen machine.old.slot.core) guest (Ok Request.Count)) machine.old.slot.core machine.new.slot.core }
     ensures totals { totals.new ≡ counted totals.old (outcome (seen machine.old.slot.core) guest (Ok Request.Count)) }
 {
     let outcome = serve(alloc, machine, guest, &Ok(Request::Count));
@@ -149,6 +156,23 @@ pub extern "C" fn pageshare_count(
         *totals = totals_of(report);
     }
     answer_of(&outcome)
+}
+
+/// Begins the count of requests anew, so that a machine that has counted 4,294,967,295 of them serves again. All else stays.
+/// The status is 6 where the handle holds no machine.
+#[unsafe(no_mangle)]
+pub extern "C" fn pageshare_restart_count(alloc: Global, machine: &mut Machine) -> u32
+    ensures count { machine.new.slot.core ≡ option_map restarted machine.old.slot.core }
+    ensures status { result ≡ held_status machine.old.slot.core }
+{
+    match machine.take(alloc) {
+        None => 6,
+        Some(mut core) => {
+            core.restart_count();
+            machine.put(core);
+            0
+        }
+    }
 }
 
 /// Tells what the machine counts, and is no request. The status is 6 where the handle holds no machine.

@@ -2,6 +2,7 @@
 ghost use Rattle.std.specs.Prelude.{◌≡◌, length};
 ghost use Rattle.merge_core.specs.Shown.{state_of};
 ghost use Rattle.pageshare_c.specs.Access.{store_of, load_of};
+ghost use Rattle.pageshare_c.specs.Kept.{CoreKeeps, FramesKept};
 ghost use Rattle.pageshare_c.specs.Told.{overlaid};
 ghost use Rattle.pageshare_c.specs.Outcomes.{outcome, state_after, seen, answered, answered_state};
 
@@ -9,8 +10,11 @@ use crate::answer::Refusal;
 use crate::machine::Machine;
 use merge_core::Core;
 use page_digest::Sha256Hash;
-use page_model::{MAX_ENTRIES, Request, RequestFault, Verdict};
+use page_model::{Request, RequestFault, Verdict};
 use std::alloc::Global;
+
+/// How many requests a machine counts.
+const MOST_REQUESTS: u32 = 4_294_967_295;
 
 /// A store's request.
 #[tactic(auto, using(crate::proofs::Accesses::access_fits, crate::proofs::Accesses::access_length, crate::proofs::Accesses::access_crosses))]
@@ -46,11 +50,12 @@ fn answer(
 ) -> Result<Verdict, Refusal>
     ensures verdict { result ≡ answered (state_of core.old) guest asked.now }
     ensures state { state_of core.new ≡ answered_state (state_of core.old) guest asked.now }
+    ensures frames { CoreKeeps guest asked.now result core.old core.new }
 {
     if guest >= u32::from(core.guests()) {
         return Err(Refusal::NoGuest);
     }
-    if core.entries() >= MAX_ENTRIES {
+    if core.entries() >= MOST_REQUESTS {
         return Err(Refusal::Full);
     }
     match asked {
@@ -68,6 +73,7 @@ pub(crate) fn serve(
 ) -> Result<Verdict, Refusal>
     ensures verdict { result ≡ outcome (seen machine.old.slot.core) guest asked.now }
     ensures state { seen machine.new.slot.core ≡ state_after (seen machine.old.slot.core) guest asked.now }
+    ensures frames { FramesKept guest asked.now result machine.old.slot.core machine.new.slot.core }
 {
     match machine.take(alloc) {
         None => Err(Refusal::NoMachine),
