@@ -1,5 +1,5 @@
 //! What C is told.
-ghost use Rattle.std.specs.Prelude.{◌≡◌};
+ghost use Rattle.std.specs.Prelude.{◌≡◌, Ok, Err};
 ghost use Rattle.pageshare_c.specs.Codes.{code_of, count_of, status_of as status_number};
 ghost use Rattle.pageshare_c.specs.Told.{told, numbers};
 
@@ -100,21 +100,25 @@ fn count_in(verdict: &Verdict) -> u32
     }
 }
 
-/// What C is told of an outcome.
-pub(crate) fn answer_of(outcome: &Result<Verdict, Refusal>) -> Answer
-    ensures { result ≡ told outcome.now }
+/// What C is told of a request that was not served.
+pub(crate) fn refuse(refusal: Refusal) -> Answer
+    ensures { result ≡ told (Err refusal) }
 {
-    match outcome {
-        Err(refusal) => Answer {
-            status: status_of(*refusal),
-            verdict: 0,
-            count: 0,
-        },
-        Ok(verdict) => Answer {
-            status: 0,
-            verdict: verdict_number(verdict),
-            count: count_in(verdict),
-        },
+    Answer {
+        status: status_of(refusal),
+        verdict: 0,
+        count: 0,
+    }
+}
+
+/// What C is told of a verdict.
+pub(crate) fn answer_of(verdict: &Verdict) -> Answer
+    ensures { result ≡ told (Ok verdict.now) }
+{
+    Answer {
+        status: 0,
+        verdict: verdict_number(verdict),
+        count: count_in(verdict),
     }
 }
 

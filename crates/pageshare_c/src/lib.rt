@@ -29,12 +29,12 @@ mod serve;
 mod slot;
 
 pub use answer::{Answer, Refusal, Totals};
-use answer::{answer_of, status_of, totals_of};
+use answer::{status_of, totals_of};
 use find::{copy_page, find_frame, put_address};
 pub use machine::Machine;
 use make::make;
-use page_model::{Request, Verdict};
-use serve::{load_request, put_bytes, serve, store_request};
+use page_model::Request;
+use serve::{load_request, serve, serve_count, serve_load, store_request};
 use std::alloc::Global;
 
 /// Makes a machine of `frames` frames, in which guest i has `pages[i]` pages and the salt `salts[i]`.
@@ -81,7 +81,7 @@ pub extern "C" fn pageshare_propose(
     ensures state { seen machine.new.slot.core ≡ state_after (seen machine.old.slot.core) guest (Ok (Request.Propose ppn)) }
     ensures frames { FramesKept guest (Ok (Request.Propose ppn)) (outcome (seen machine.old.slot.core) guest (Ok (Request.Propose ppn))) machine.old.slot.core machine.new.slot.core }
 {
-    answer_of(&serve(alloc, machine, guest, &Ok(Request::Propose(ppn))))
+    serve(alloc, machine, guest, &Ok(Request::Propose(ppn)))
 }
 
 /// Stores 1 to 64 bytes in a page, from place `at` on.
@@ -98,7 +98,7 @@ pub extern "C" fn pageshare_store(
     ensures state { seen machine.new.slot.core ≡ state_after (seen machine.old.slot.core) guest (store_of ppn at bytes.now) }
     ensures frames { FramesKept guest (store_of ppn at bytes.now) (outcome (seen machine.old.slot.core) guest (store_of ppn at bytes.now)) machine.old.slot.core machine.new.slot.core }
 {
-    answer_of(&serve(alloc, machine, guest, &store_request(ppn, at, bytes)))
+    serve(alloc, machine, guest, &store_request(ppn, at, bytes))
 }
 
 /// Loads as many bytes of a page as the room holds, 1 to 64, from place `at` on. The room stays as it is where none are loaded.
@@ -116,11 +116,8 @@ pub extern "C" fn pageshare_load(
     ensures frames { FramesKept guest (load_of ppn at (length room.old)) (outcome (seen machine.old.slot.core) guest (load_of ppn at (length room.old))) machine.old.slot.core machine.new.slot.core }
     ensures bytes { room.new ≡ loaded room.old (outcome (seen machine.old.slot.core) guest (load_of ppn at (length room.old))) }
 {
-    let outcome = serve(alloc, machine, guest, &load_request(ppn, at, room.len()));
-    if let Ok(Verdict::Bytes(bytes)) = &outcome {
-        put_bytes(room, bytes.as_slice());
-    }
-    answer_of(&outcome)
+    let asked = load_request(ppn, at, room.len());
+    serve_load(alloc, machine, guest, &asked, room)
 }
 
 /// Releases a page: it has no frame from then on, and reads as zeros.
@@ -135,7 +132,7 @@ pub extern "C" fn pageshare_release(
     ensures state { seen machine.new.slot.core ≡ state_after (seen machine.old.slot.core) guest (Ok (Request.Release ppn)) }
     ensures frames { FramesKept guest (Ok (Request.Release ppn)) (outcome (seen machine.old.slot.core) guest (Ok (Request.Release ppn))) machine.old.slot.core machine.new.slot.core }
 {
-    answer_of(&serve(alloc, machine, guest, &Ok(Request::Release(ppn))))
+    serve(alloc, machine, guest, &Ok(Request::Release(ppn)))
 }
 
 /// Tells what the machine counts, as a request of the guest: it is among the entries itself.
@@ -151,11 +148,7 @@ pub extern "C" fn pageshare_count(
     ensures frames { FramesKept guest (Ok Request.Count) (outcome (seen machine.old.slot.core) guest (Ok Request.Count)) machine.old.slot.core machine.new.slot.core }
     ensures totals { totals.new ≡ counted totals.old (outcome (seen machine.old.slot.core) guest (Ok Request.Count)) }
 {
-    let outcome = serve(alloc, machine, guest, &Ok(Request::Count));
-    if let Ok(Verdict::Totals(report)) = &outcome {
-        *totals = totals_of(report);
-    }
-    answer_of(&outcome)
+    serve_count(alloc, machine, guest, &Ok(Request::Count), totals)
 }
 
 /// Begins the count of requests anew, so that a machine that has counted 4,294,967,295 of them serves again. All else stays.
