@@ -1,4 +1,4 @@
-.PHONY: test build demo no-thread
+.PHONY: test build demo no-thread embed
 
 # The gate: every proof from nothing, the edits that must be refused, the tests and the programs.
 test:
@@ -27,3 +27,15 @@ out/run_bench: $(SOURCES)
 	cd crates/run_bench && rt run > /dev/null
 	mkdir -p out
 	cp crates/run_bench/out/run_bench $@
+
+# Outside the gate: the library for C and Rust, left at out/libpageshare.a, with its examples and tests. What this machine has no
+# program for is left out, and told.
+embed: out/libpageshare.a
+	checks/embed.sh out/libpageshare.a
+
+# The proved library, and the kit's two calls of malloc and free.
+out/libpageshare.a: $(SOURCES)
+	cd crates/pageshare_c && rt lib > /dev/null
+	mkdir -p out
+	rm -f $@
+	printf 'create $@\naddlib crates/pageshare_c/out/libpageshare_c.a\naddlib %s/c/liblibc_c.a\nsave\nend\n' "$$(dirname "$$(rt doc)")" | ar -M

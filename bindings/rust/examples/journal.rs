@@ -1,0 +1,94 @@
+//! Replays a journal text by calls of the wrapper: reads standard input, and writes what `pageshare replay` writes.
+//!
+//! For `checks/embed.py`, whose journals are well formed and have no close, which a program that embeds a machine doesn't ask.
+use pageshare::{Guest, LoadVerdict, Machine};
+use std::error::Error;
+use std::io::{self, BufWriter, Write};
+use std::str::SplitAsciiWhitespace;
+
+type Done<T> = Result<T, Box<dyn Error>>;
+
+fn number(words: &mut SplitAsciiWhitespace) -> Done<u32> {
+    Ok(words.next().ok_or("a number is missing")?.parse()?)
+}
+
+fn numbers(words: SplitAsciiWhitespace) -> Done<Vec<u32>> {
+    words.map(|word| Ok(word.parse()?)).collect()
+}
+
+fn bytes(words: &mut SplitAsciiWhitespace) -> Done<Vec<u8>> {
+    let word = words.next().ok_or("bytes are missing")?;
+    (0..word.len() / 2)
+        .map(|i| {
+            Ok(u8::from_str_radix(
+                word.get(2 * i..2 * i + 2).ok_or("half a byte")?,
+                16,
+            )?)
+        })
+        .collect()
+}
+
+/// One request, and the words of its verdict.
+fn serve(machine: &mut Machine, guest: u32, words: &mut SplitAsciiWhitespace) -> Done<String> {
+    Ok(match words.next() {
+        Some("propose") => machine.propose(guest, number(words)?)?.to_string(),
+        Some("release") => machine.release(guest, number(words)?)?.to_string(),
+        Some("count") => format!("totals {}", machine.count(guest)?),
+        Some("store") => {
+            let (ppn, at) = (number(words)?, number(words)?);
+            machine.store(guest, ppn, at, &bytes(words)?)?.to_string()
+        }
+        Some("load") => {
+            let (ppn, at) = (number(words)?, number(words)?);
+            let mut room = vec![0; usize::try_from(number(words)?)?];
+            match machine.load(guest, ppn, at, &mut room)? {
+                LoadVerdict::NoPage => "no-page".to_owned(),
+                LoadVerdict::Bytes => room.iter().fold("bytes ".to_owned(), |text, byte| {
+                    format!("{text}{byte:02x}")
+                }),
+            }
+        }
+        _ => return Err("an unknown request".into()),
+    })
+}
+
+fn main() -> Done<()> {
+    let text = io::read_to_string(io::stdin())?;
+    let mut out = BufWriter::new(io::stdout().lock());
+    let mut lines = text
+        .lines()
+        .skip(1)
+        .map(str::split_ascii_whitespace)
+        .peekable();
+    let mut header = |name: &str| -> Done<Option<Vec<u32>>> {
+        match lines.next_if(|words| words.clone().next() == Some(name)) {
+            None => Ok(None),
+            Some(mut words) => {
+                words.next();
+                Ok(Some(numbers(words)?))
+            }
+        }
+    };
+    let frames = header("frames")?
+        .and_then(|frames| frames.first().copied())
+        .ok_or("no frames")?;
+    let pages = header("pages")?.ok_or("no pages")?;
+    let salts = header("salts")?.unwrap_or_else(|| vec![0; pages.len()]);
+    let guests: Vec<Guest> = pages
+        .iter()
+        .zip(&salts)
+        .map(|(&pages, &salt)| Guest { pages, salt })
+        .collect();
+    let mut machine = Machine::new(frames, &guests)?;
+    for mut words in lines {
+        match words.next() {
+            None | Some("end") => break,
+            Some(guest) => {
+                let verdict = serve(&mut machine, guest.parse()?, &mut words)?;
+                writeln!(out, "{guest} {verdict}")?;
+            }
+        }
+    }
+    writeln!(out, "report {}", machine.report())?;
+    Ok(out.flush()?)
+}

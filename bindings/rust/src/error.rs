@@ -1,0 +1,101 @@
+//! Why a call was refused. A refused call has changed nothing.
+use std::error::Error;
+use std::fmt;
+
+/// Why no machine was made.
+#[derive(Clone, Copy, Debug, PartialEq, Eq, Hash)]
+#[non_exhaustive]
+pub enum MakeError {
+    /// No frame, or more than 1,048,576.
+    Frames,
+    /// No guest, or more than 64.
+    Guests,
+    /// A guest with no page, or more than 1,048,576 pages in total.
+    Pages,
+    /// The memory was refused.
+    OutOfMemory,
+    /// A status that this wrapper does not know: it is of another version than the library.
+    Unknown(u32),
+}
+
+impl MakeError {
+    pub(crate) fn of(status: u32) -> MakeError {
+        match status {
+            1 => MakeError::Frames,
+            2 => MakeError::Guests,
+            3 => MakeError::Pages,
+            4 => MakeError::OutOfMemory,
+            _ => MakeError::Unknown(status),
+        }
+    }
+}
+
+impl fmt::Display for MakeError {
+    fn fmt(&self, f: &mut fmt::Formatter<'_>) -> fmt::Result {
+        match self {
+            MakeError::Frames => f.write_str("a machine has 1 to 1,048,576 frames"),
+            MakeError::Guests => f.write_str("a machine has 1 to 64 guests"),
+            MakeError::Pages => {
+                f.write_str("each guest has a page, and all together at most 1,048,576")
+            }
+            MakeError::OutOfMemory => f.write_str("out of memory"),
+            MakeError::Unknown(status) => write!(f, "unknown status {status}"),
+        }
+    }
+}
+
+impl Error for MakeError {}
+
+/// Why a request was not served.
+#[derive(Clone, Copy, Debug, PartialEq, Eq, Hash)]
+#[non_exhaustive]
+pub enum RequestError {
+    /// There is no such guest.
+    NoGuest,
+    /// 4,294,967,295 requests are counted: see [`Machine::restart_count`](crate::Machine::restart_count).
+    Full,
+    /// A store or load of no byte, or of more than 64.
+    Length,
+    /// A store or load whose last byte would stand past the page's end.
+    Crosses,
+    /// A status or verdict that this wrapper does not know: it is of another version than the library.
+    Unknown(u32),
+}
+
+impl RequestError {
+    pub(crate) fn of(status: u32) -> RequestError {
+        match status {
+            7 => RequestError::NoGuest,
+            8 => RequestError::Full,
+            9 => RequestError::Length,
+            10 => RequestError::Crosses,
+            _ => RequestError::Unknown(status),
+        }
+    }
+}
+
+impl fmt::Display for RequestError {
+    fn fmt(&self, f: &mut fmt::Formatter<'_>) -> fmt::Result {
+        match self {
+            RequestError::NoGuest => f.write_str("no such guest"),
+            RequestError::Full => f.write_str("as many requests are counted as there can be"),
+            RequestError::Length => f.write_str("a store or load has 1 to 64 bytes"),
+            RequestError::Crosses => f.write_str("a store or load stays within one page"),
+            RequestError::Unknown(number) => write!(f, "unknown answer {number}"),
+        }
+    }
+}
+
+impl Error for RequestError {}
+
+/// There is no such guest, or it has no such page.
+#[derive(Clone, Copy, Debug, PartialEq, Eq, Hash)]
+pub struct NoSuchPage;
+
+impl fmt::Display for NoSuchPage {
+    fn fmt(&self, f: &mut fmt::Formatter<'_>) -> fmt::Result {
+        f.write_str("no such page")
+    }
+}
+
+impl Error for NoSuchPage {}

@@ -1,0 +1,82 @@
+//! The functions of `libpageshare.a`, as `include/pageshare.h` declares them. Nothing compares the two.
+use std::ffi::c_void;
+
+#[repr(C)]
+pub(crate) struct Handle {
+    at: *mut c_void,
+    live: bool,
+}
+
+impl Handle {
+    /// A handle that holds no machine.
+    pub(crate) const NONE: Handle = Handle {
+        at: std::ptr::null_mut(),
+        live: false,
+    };
+}
+
+#[repr(C)]
+#[derive(Clone, Copy)]
+pub(crate) struct Answer {
+    pub(crate) status: u32,
+    pub(crate) verdict: u32,
+    pub(crate) count: u32,
+}
+
+#[repr(C)]
+#[derive(Clone, Copy, Default)]
+pub(crate) struct Totals {
+    pub(crate) entries: u32,
+    pub(crate) mapped: u32,
+    pub(crate) shared: u32,
+    pub(crate) frames: u32,
+    pub(crate) reclaimed: u32,
+    pub(crate) hints: u32,
+}
+
+extern "C" {
+    pub(crate) fn pageshare_make(
+        machine: *mut Handle,
+        frames: u32,
+        pages: *const u32,
+        guests: usize,
+        salts: *const u32,
+        salts_count: usize,
+    ) -> u32;
+    pub(crate) fn pageshare_free(machine: *mut Handle) -> u32;
+    pub(crate) fn pageshare_propose(machine: *mut Handle, guest: u32, ppn: u32) -> Answer;
+    pub(crate) fn pageshare_store(
+        machine: *mut Handle,
+        guest: u32,
+        ppn: u32,
+        at: u32,
+        bytes: *const u8,
+        length: usize,
+    ) -> Answer;
+    pub(crate) fn pageshare_load(
+        machine: *mut Handle,
+        guest: u32,
+        ppn: u32,
+        at: u32,
+        room: *mut u8,
+        length: usize,
+    ) -> Answer;
+    pub(crate) fn pageshare_release(machine: *mut Handle, guest: u32, ppn: u32) -> Answer;
+    pub(crate) fn pageshare_count(machine: *mut Handle, guest: u32, totals: *mut Totals) -> Answer;
+    pub(crate) fn pageshare_restart_count(machine: *mut Handle) -> u32;
+    pub(crate) fn pageshare_report(machine: *mut Handle, totals: *mut Totals) -> u32;
+    pub(crate) fn pageshare_read(
+        machine: *mut Handle,
+        guest: u32,
+        ppn: u32,
+        room: *mut [u8; 4096],
+    ) -> u32;
+    pub(crate) fn pageshare_frame(machine: *mut Handle, guest: u32, ppn: u32, mpn: *mut u32)
+        -> u32;
+    pub(crate) fn pageshare_page(
+        machine: *mut Handle,
+        guest: u32,
+        ppn: u32,
+        at: *mut *const u8,
+    ) -> u32;
+}

@@ -1,0 +1,247 @@
+//! The machine.
+use crate::error::{MakeError, NoSuchPage, RequestError};
+use crate::ffi::{self, Handle, Totals};
+use crate::verdict::{LoadVerdict, ProposeVerdict, ReleaseVerdict, Report, StoreVerdict};
+use std::cell::UnsafeCell;
+use std::fmt;
+use std::marker::PhantomData;
+
+/// The bytes of a page.
+pub const PAGE_BYTES: usize = 4096;
+
+/// The most bytes that one store or load names.
+pub const MAX_ACCESS: usize = 64;
+
+/// The bytes of one page.
+pub type Page = [u8; PAGE_BYTES];
+
+/// The most guests of a machine, and one more, which the library refuses.
+const TOO_MANY_GUESTS: usize = 65;
+
+/// A guest of a new machine.
+#[derive(Clone, Copy, Debug, PartialEq, Eq, Hash)]
+pub struct Guest {
+    /// How many pages it has.
+    pub pages: u32,
+    /// Pages of guests with different salts are never shared.
+    pub salt: u32,
+}
+
+/// A machine: guests with pages of 4,096 bytes, in frames that equal pages share.
+///
+/// Guests are numbered from 0 in the order in which the machine was given them, and so are a guest's pages, whose numbers are
+/// its physical page numbers (PPN). All memory is taken when the machine is made.
+///
+/// A machine stays on its thread: it is neither `Send` nor `Sync`.
+///
+/// ```compile_fail
+/// # use pageshare::{Guest, Machine};
+/// let machine = Machine::new(1, &[Guest { pages: 1, salt: 0 }]).unwrap();
+/// std::thread::spawn(move || drop(machine));
+/// ```
+pub struct Machine {
+    /// It holds a machine from `new` to `drop`, and is never copied.
+    ///
+    /// In a cell, since calls that only read write it too, and leave it as it was. No reference to it outlives a call, and no
+    /// other thread has one.
+    handle: UnsafeCell<Handle>,
+    stays: PhantomData<*mut ()>,
+}
+
+impl Machine {
+    /// Makes a machine with so many frames for the pages of these guests.
+    ///
+    /// # Errors
+    ///
+    /// The first of the causes of [`MakeError`], in their order.
+    pub fn new(frames: u32, guests: &[Guest]) -> Result<Machine, MakeError> {
+        let mut pages = [0; TOO_MANY_GUESTS];
+        let mut salts = [0; TOO_MANY_GUESTS];
+        let count = guests.len().min(TOO_MANY_GUESTS);
+        for (guest, (pages, salt)) in guests.iter().zip(pages.iter_mut().zip(&mut salts)) {
+            *pages = guest.pages;
+            *salt = guest.salt;
+        }
+        let machine = Machine {
+            handle: UnsafeCell::new(Handle::NONE),
+            stays: PhantomData,
+        };
+        // SAFETY: the handle holds no machine, and both lists have at least `count` numbers.
+        let status = unsafe {
+            ffi::pageshare_make(
+                machine.handle.get(),
+                frames,
+                pages.as_ptr(),
+                count,
+                salts.as_ptr(),
+                count,
+            )
+        };
+        match status {
+            0 => Ok(machine),
+            _ => Err(MakeError::of(status)),
+        }
+    }
+
+    /// Proposes a page for sharing.
+    ///
+    /// # Errors
+    ///
+    /// [`RequestError::NoGuest`] and [`RequestError::Full`].
+    pub fn propose(&mut self, guest: u32, ppn: u32) -> Result<ProposeVerdict, RequestError> {
+        // SAFETY: the handle is this machine's, and nobody else has it during the call. So in each call below.
+        ProposeVerdict::of(unsafe { ffi::pageshare_propose(self.handle.get(), guest, ppn) })
+    }
+
+    /// Stores 1 to 64 bytes in a page, from place `at` on.
+    ///
+    /// # Errors
+    ///
+    /// The first of the causes of [`RequestError`], in their order.
+    pub fn store(
+        &mut self,
+        guest: u32,
+        ppn: u32,
+        at: u32,
+        bytes: &[u8],
+    ) -> Result<StoreVerdict, RequestError> {
+        // SAFETY: the bytes are lent for the call.
+        StoreVerdict::of(unsafe {
+            ffi::pageshare_store(
+                self.handle.get(),
+                guest,
+                ppn,
+                at,
+                bytes.as_ptr(),
+                bytes.len(),
+            )
+        })
+    }
+
+    /// Fills the room, of 1 to 64 bytes, with bytes of a page from place `at` on. An unmapped page holds zeros.
+    ///
+    /// It is a request, which is counted. [`Machine::read`] is none.
+    ///
+    /// # Errors
+    ///
+    /// The first of the causes of [`RequestError`], in their order.
+    pub fn load(
+        &mut self,
+        guest: u32,
+        ppn: u32,
+        at: u32,
+        room: &mut [u8],
+    ) -> Result<LoadVerdict, RequestError> {
+        // SAFETY: the room is lent for the call.
+        LoadVerdict::of(unsafe {
+            ffi::pageshare_load(
+                self.handle.get(),
+                guest,
+                ppn,
+                at,
+                room.as_mut_ptr(),
+                room.len(),
+            )
+        })
+    }
+
+    /// Releases a page: it has no frame then, and reads as zeros.
+    ///
+    /// # Errors
+    ///
+    /// [`RequestError::NoGuest`] and [`RequestError::Full`].
+    pub fn release(&mut self, guest: u32, ppn: u32) -> Result<ReleaseVerdict, RequestError> {
+        // SAFETY: as above.
+        ReleaseVerdict::of(unsafe { ffi::pageshare_release(self.handle.get(), guest, ppn) })
+    }
+
+    /// What the machine counts, this request among the entries. [`Machine::report`] is no request.
+    ///
+    /// # Errors
+    ///
+    /// [`RequestError::NoGuest`] and [`RequestError::Full`].
+    pub fn count(&mut self, guest: u32) -> Result<Report, RequestError> {
+        let mut totals = Totals::default();
+        // SAFETY: the totals are lent for the call.
+        let answer = unsafe { ffi::pageshare_count(self.handle.get(), guest, &mut totals) };
+        Report::counted(answer, totals)
+    }
+
+    /// Begins the count of requests anew, for a machine that serves more than 4,294,967,295. All else stays.
+    pub fn restart_count(&mut self) {
+        // SAFETY: as above. The status is 0, since the handle holds a machine.
+        let _status = unsafe { ffi::pageshare_restart_count(self.handle.get()) };
+    }
+
+    /// What the machine counts.
+    pub fn report(&self) -> Report {
+        let mut totals = Totals::default();
+        // SAFETY: as above. The status is 0, since the handle holds a machine.
+        let _status = unsafe { ffi::pageshare_report(self.handle.get(), &mut totals) };
+        Report::of(totals)
+    }
+
+    /// Copies a page to the room. An unmapped page reads as zeros.
+    ///
+    /// # Errors
+    ///
+    /// [`NoSuchPage`]; the room is then as it was.
+    pub fn read(&self, guest: u32, ppn: u32, room: &mut Page) -> Result<(), NoSuchPage> {
+        // SAFETY: the room is lent for the call.
+        match unsafe { ffi::pageshare_read(self.handle.get(), guest, ppn, room) } {
+            0 => Ok(()),
+            _ => Err(NoSuchPage),
+        }
+    }
+
+    /// The number of a page's frame (its machine page number, MPN), `None` where the page is unmapped.
+    ///
+    /// A page keeps its frame but at the verdicts `Mapped`, `Copied`, `Joined`, `Paired` and `Released` of a request that names
+    /// it.
+    ///
+    /// # Errors
+    ///
+    /// [`NoSuchPage`].
+    pub fn frame(&self, guest: u32, ppn: u32) -> Result<Option<u32>, NoSuchPage> {
+        let mut mpn = 0;
+        // SAFETY: the number is lent for the call.
+        match unsafe { ffi::pageshare_frame(self.handle.get(), guest, ppn, &mut mpn) } {
+            0 => Ok(Some(mpn)),
+            12 => Ok(None),
+            _ => Err(NoSuchPage),
+        }
+    }
+
+    /// The bytes of a page where they stand, `None` where the page is unmapped. The machine is lent as long as they are.
+    ///
+    /// No proof says what stands there: it is tested alone. [`Machine::read`] copies the bytes.
+    ///
+    /// # Errors
+    ///
+    /// [`NoSuchPage`].
+    pub fn page(&mut self, guest: u32, ppn: u32) -> Result<Option<&Page>, NoSuchPage> {
+        let mut at = std::ptr::null();
+        // SAFETY: the address is lent for the call.
+        match unsafe { ffi::pageshare_page(self.handle.get(), guest, ppn, &mut at) } {
+            // SAFETY: 4,096 bytes stand there until the next call, which the borrow of the machine puts off.
+            0 => Ok(Some(unsafe { &*at.cast::<Page>() })),
+            12 => Ok(None),
+            _ => Err(NoSuchPage),
+        }
+    }
+}
+
+impl fmt::Debug for Machine {
+    fn fmt(&self, f: &mut fmt::Formatter<'_>) -> fmt::Result {
+        f.debug_struct("Machine")
+            .field("report", &self.report())
+            .finish_non_exhaustive()
+    }
+}
+
+impl Drop for Machine {
+    fn drop(&mut self) {
+        // SAFETY: as above. A handle that holds no machine, as where `new` was refused, stays as it is.
+        let _status = unsafe { ffi::pageshare_free(self.handle.get()) };
+    }
+}

@@ -1,0 +1,135 @@
+//! Each call on its happy path, and each error where it is due.
+use pageshare::{
+    Guest, LoadVerdict, Machine, MakeError, NoSuchPage, ProposeVerdict, ReleaseVerdict, Report,
+    RequestError, StoreVerdict, PAGE_BYTES,
+};
+
+fn machine(frames: u32, shapes: &[(u32, u32)]) -> Result<Machine, MakeError> {
+    let guests: Vec<Guest> = shapes
+        .iter()
+        .map(|&(pages, salt)| Guest { pages, salt })
+        .collect();
+    Machine::new(frames, &guests)
+}
+
+#[test]
+fn makes() {
+    let full = [(1, 7); 65];
+    for (frames, shapes, fault) in [
+        (0, &[(0, 0)][..], MakeError::Frames),
+        (1_048_577, &full[..1], MakeError::Frames),
+        (0, &full[..65], MakeError::Frames),
+        (1, &[][..], MakeError::Guests),
+        (1, &full[..65], MakeError::Guests),
+        (1, &[(1, 0), (0, 0)][..], MakeError::Pages),
+        (1, &[(1_048_576, 0), (1, 0)][..], MakeError::Pages),
+    ] {
+        assert_eq!(machine(frames, shapes).map(|_| ()), Err(fault));
+    }
+    assert_eq!(
+        machine(1, &full[..64]).map(|made| made.report()),
+        Ok(Report::default())
+    );
+    assert!(machine(1_048_576, &[(1_048_576, 0)]).is_ok());
+}
+
+#[test]
+fn shares_and_copies() -> Result<(), Box<dyn std::error::Error>> {
+    let mut m = machine(3, &[(2, 0), (1, 0)])?;
+    for (guest, ppn) in [(0, 0), (0, 1), (1, 0)] {
+        assert_eq!(m.store(guest, ppn, 0, b"A")?, StoreVerdict::Mapped);
+    }
+    assert_ne!(m.frame(0, 0)?, m.frame(1, 0)?);
+    assert_eq!(m.propose(0, 0)?, ProposeVerdict::Hinted);
+    assert_eq!(m.propose(0, 0)?, ProposeVerdict::Kept);
+    assert_eq!(m.propose(0, 1)?, ProposeVerdict::Paired);
+    assert_eq!(m.propose(1, 0)?, ProposeVerdict::Joined { pages: 3 });
+    assert_eq!(m.propose(1, 0)?, ProposeVerdict::Already);
+    assert_eq!(m.frame(0, 0)?, m.frame(1, 0)?);
+    let mut room = [0xee; 4];
+    assert_eq!(m.load(1, 0, 0, &mut room)?, LoadVerdict::Bytes);
+    assert_eq!(room, [0x41, 0, 0, 0]);
+    assert_eq!(m.store(1, 0, 4095, b"B")?, StoreVerdict::Copied);
+    let mut page = [0xee; PAGE_BYTES];
+    m.read(1, 0, &mut page)?;
+    assert_eq!((page[0], page[1], page[4095]), (0x41, 0, 0x42));
+    assert_eq!(m.page(1, 0)?, Some(&page));
+    assert_eq!(m.release(0, 0)?, ReleaseVerdict::Released { freed: false });
+    assert_eq!(m.store(0, 1, 0, b"A")?, StoreVerdict::Taken);
+    assert_eq!(m.store(0, 1, 0, b"A")?, StoreVerdict::Stored);
+    assert_eq!(m.release(0, 1)?, ReleaseVerdict::Released { freed: true });
+    let report = Report {
+        entries: 15,
+        mapped: 1,
+        shared: 0,
+        frames: 1,
+        reclaimed: 0,
+        hints: 0,
+    };
+    assert_eq!(m.count(1)?, report);
+    m.restart_count();
+    assert_eq!(
+        m.report(),
+        Report {
+            entries: 0,
+            ..report
+        }
+    );
+    assert_eq!(
+        format!("{m:?}"),
+        format!("Machine {{ report: {:?}, .. }}", m.report())
+    );
+    Ok(())
+}
+
+#[test]
+fn refuses() -> Result<(), Box<dyn std::error::Error>> {
+    let mut m = machine(1, &[(2, 0)])?;
+    let (mut room, mut page) = ([0xee; 65], [0xee; PAGE_BYTES]);
+    assert_eq!(m.propose(1, 0), Err(RequestError::NoGuest));
+    assert_eq!(m.release(256, 0), Err(RequestError::NoGuest));
+    assert_eq!(m.count(u32::MAX), Err(RequestError::NoGuest));
+    assert_eq!(m.store(1, 0, 0, &[]), Err(RequestError::NoGuest));
+    assert_eq!(m.store(0, 0, 4096, &[]), Err(RequestError::Length));
+    assert_eq!(m.store(0, 0, 0, &room), Err(RequestError::Length));
+    assert_eq!(m.store(0, 0, 4095, b"AB"), Err(RequestError::Crosses));
+    assert_eq!(m.load(0, 0, 0, &mut []), Err(RequestError::Length));
+    assert_eq!(m.load(0, 0, 0, &mut room), Err(RequestError::Length));
+    assert_eq!(
+        m.load(0, 0, u32::MAX, &mut room[..1]),
+        Err(RequestError::Crosses)
+    );
+    assert_eq!(
+        (m.read(0, 2, &mut page), m.frame(1, 0)),
+        (Err(NoSuchPage), Err(NoSuchPage))
+    );
+    assert_eq!(m.page(0, u32::MAX), Err(NoSuchPage));
+    assert_eq!((m.frame(0, 1)?, m.page(0, 1)?), (None, None));
+    assert_eq!((room, page), ([0xee; 65], [0xee; PAGE_BYTES]));
+    assert_eq!(m.report().entries, 0);
+    assert_eq!(m.store(0, 0, 0, b"A")?, StoreVerdict::Mapped);
+    assert_eq!(m.store(0, 1, 0, b"A")?, StoreVerdict::NoFrame);
+    assert_eq!(m.store(0, 2, 0, b"A")?, StoreVerdict::NoPage);
+    assert_eq!(m.load(0, 2, 0, &mut room[..1])?, LoadVerdict::NoPage);
+    assert_eq!(m.propose(0, 1)?, ProposeVerdict::Unmapped);
+    assert_eq!(m.release(0, 1)?, ReleaseVerdict::Unmapped);
+    assert_eq!(m.release(0, 2)?, ReleaseVerdict::NoPage);
+    Ok(())
+}
+
+#[test]
+fn displays() {
+    assert_eq!(ProposeVerdict::Joined { pages: 3 }.to_string(), "joined 3");
+    assert_eq!(
+        ReleaseVerdict::Released { freed: false }.to_string(),
+        "released held"
+    );
+    assert_eq!(
+        RequestError::Crosses.to_string(),
+        "a store or load stays within one page"
+    );
+    assert_eq!(
+        MakeError::Guests.to_string(),
+        "a machine has 1 to 64 guests"
+    );
+}

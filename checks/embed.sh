@@ -1,0 +1,85 @@
+#!/bin/sh
+# Builds what C and Rust link, and runs the examples and tests of it, each as far as this machine can.
+#
+#     checks/embed.sh [LIBRARY]
+#
+# LIBRARY is libpageshare.a, by default out/libpageshare.a at the repository's top, which `make embed` builds. All that is built
+# here goes to out/embed. CC, CXX and CARGO name other programs than cc, c++ and cargo. The C programs run under valgrind, or
+# with the address sanitizer where there is no valgrind.
+#
+# Prints a line for each part, and what was left out; the last line is "ok" (status 0) or says what failed (status 1).
+
+top=$(cd "$(dirname "$0")/.." && pwd)
+library=${1:-$top/out/libpageshare.a}
+built=$top/out/embed
+flags='-O2 -g -Wall -Wextra -Wconversion -Werror'
+checker=
+
+fail() {
+    printf '%s\n' "$@"
+    exit 1
+}
+
+has() {
+    command -v "$1" > /dev/null 2>&1
+}
+
+# Compiles C source $1 (without its suffix) to a program of that name.
+compile() {
+    # shellcheck disable=SC2086
+    ${CC:-cc} -std=c11 -D_POSIX_C_SOURCE=200809L $flags -I"$top/include" -o "$built/$(basename "$1")" "$top/$1.c" "$library" ||
+        fail "$1.c does not compile"
+}
+
+# Runs a program, which must print the text $2.
+run() {
+    # shellcheck disable=SC2086
+    text=$($checker "$built/$1") || fail "$1 failed:" "$text"
+    [ "$text" = "$2" ] || fail "$1 printed:" "$text"
+    echo "$1: as it should be"
+}
+
+[ -f "$library" ] || fail "there is no library $library"
+mkdir -p "$built"
+folder=$(cd "$(dirname "$library")" && pwd)
+
+if ! has "${CC:-cc}"; then
+    echo 'left out: all of C, since there is no C compiler'
+else
+    if has valgrind; then
+        checker='valgrind -q --leak-check=full --error-exitcode=9'
+    elif printf 'int main(void){return 0;}' | ${CC:-cc} -fsanitize=address,undefined -x c -o "$built/probe" - 2> /dev/null; then
+        flags="$flags -fsanitize=address,undefined"
+    else
+        echo 'left out: valgrind and the address sanitizer'
+    fi
+    for source in examples/three_share checks/embed/calls checks/embed/refused_memory checks/embed/journal; do
+        compile "$source"
+    done
+    run three_share "$(cat "$top/checks/embed/three_share.out")"
+    run calls ok
+    run refused_memory ok
+    if has "${CXX:-c++}"; then
+        # shellcheck disable=SC2086
+        ${CXX:-c++} -std=c++11 $flags -I"$top/include" -o "$built/cpp" "$top/checks/embed/cpp.cpp" "$library" ||
+            fail 'the header does not compile as C++'
+        run cpp ok
+    else
+        echo 'left out: C++'
+    fi
+fi
+
+if has "${CARGO:-cargo}"; then
+    checker=
+    export CARGO_TARGET_DIR="$built/cargo" PAGESHARE_LIB="$folder" CARGO_NET_OFFLINE=true
+    cd "$top/bindings/rust" || exit 1
+    "${CARGO:-cargo}" test --quiet > "$built/cargo.log" 2>&1 || fail "$(cat "$built/cargo.log")" 'the tests of bindings/rust failed'
+    echo 'bindings/rust: its tests and the examples in its documents pass'
+    text=$("${CARGO:-cargo}" build --quiet --release --examples 2>&1) || fail "$text" 'its examples do not compile'
+    text=$("$built/cargo/release/examples/three_share" 2>&1) || fail "$text" 'its example failed'
+    [ "$text" = "$(cat "$top/checks/embed/three_share.out")" ] || fail "its example printed:" "$text"
+    echo 'bindings/rust: its example prints what the C example does'
+else
+    echo 'left out: all of Rust, since there is no cargo'
+fi
+echo ok

@@ -1,0 +1,13 @@
+// The header compiles as C++, and the library links. Prints "ok".
+#include "pageshare.h"
+#include <cstdio>
+
+int main() {
+    pageshare machine = PAGESHARE_NONE;
+    const uint32_t pages[] = {1}, salts[] = {0};
+    if (pageshare_make(&machine, 1, pages, 1, salts, 1) != PAGESHARE_OK) return 1;
+    const pageshare_answer answer = pageshare_release(&machine, 0, 0);
+    if (pageshare_free(&machine) != PAGESHARE_OK || answer.verdict != PAGESHARE_VERDICT_UNMAPPED) return 1;
+    std::puts("ok");
+    return 0;
+}

@@ -1,0 +1,136 @@
+/*
+ * Replays a journal text by calls of the C library: reads standard input, and writes what `pageshare replay` writes. For
+ * checks/embed.py, whose journals are well formed and have no close, which C doesn't ask. Stops with status 2 at a text that it
+ * does not know.
+ */
+#include "pageshare.h"
+#include <inttypes.h>
+#include <stdio.h>
+#include <stdlib.h>
+#include <string.h>
+
+static const char *const VERDICTS[] = {
+    NULL,     "no-page", "unmapped", "already", "joined",   "paired", "hinted",   "kept",   "replaced", "ineligible",
+    "mapped", "stored",  "copied",   "taken",   "no-frame", "bytes",  "released", "totals", "closed",
+};
+
+static void stop(const char *what) {
+    fprintf(stderr, "journal: %s\n", what);
+    exit(2);
+}
+
+/* The next word of the line that strtok_r walks, as a number. */
+static uint32_t number(char **line) {
+    char *word = strtok_r(NULL, " ", line);
+    if (word == NULL) stop("a number is missing");
+    return (uint32_t)strtoul(word, NULL, 10);
+}
+
+/* The numbers up to the line's end. */
+static size_t numbers(char **line, uint32_t list[64]) {
+    size_t count = 0;
+    for (char *word = strtok_r(NULL, " ", line); word != NULL; word = strtok_r(NULL, " ", line)) {
+        if (count == 64) stop("more than 64 guests");
+        list[count++] = (uint32_t)strtoul(word, NULL, 10);
+    }
+    return count;
+}
+
+static size_t bytes(char **line, uint8_t list[64]) {
+    char *word = strtok_r(NULL, " ", line);
+    size_t count = word == NULL ? 0 : strlen(word) / 2;
+    if (count < 1 || count > 64) stop("not 1 to 64 bytes");
+    for (size_t i = 0; i < count; i++) {
+        const char pair[] = {word[2 * i], word[2 * i + 1], 0};
+        list[i] = (uint8_t)strtoul(pair, NULL, 16);
+    }
+    return count;
+}
+
+static void print_totals(const struct pageshare_totals *t) {
+    printf(" entries %" PRIu32 " mapped %" PRIu32 " shared %" PRIu32 " frames %" PRIu32 " reclaimed %" PRIu32 " hints %" PRIu32,
+           t->entries, t->mapped, t->shared, t->frames, t->reclaimed, t->hints);
+}
+
+static void print_answer(uint32_t guest, struct pageshare_answer answer, const uint8_t *room,
+                         const struct pageshare_totals *totals) {
+    if (answer.status != PAGESHARE_OK) stop("a request was refused");
+    printf("%" PRIu32 " %s", guest, VERDICTS[answer.verdict]);
+    switch (answer.verdict) {
+    case PAGESHARE_VERDICT_JOINED:
+        printf(" %" PRIu32, answer.count);
+        break;
+    case PAGESHARE_VERDICT_BYTES:
+        putchar(' ');
+        for (uint32_t i = 0; i < answer.count; i++) printf("%02x", room[i]);
+        break;
+    case PAGESHARE_VERDICT_RELEASED:
+        printf(answer.count == 1 ? " freed" : " held");
+        break;
+    case PAGESHARE_VERDICT_TOTALS:
+        print_totals(totals);
+        break;
+    default:
+        break;
+    }
+    putchar('\n');
+}
+
+static void serve(struct pageshare *machine, uint32_t guest, char **line) {
+    struct pageshare_answer answer;
+    struct pageshare_totals totals;
+    uint8_t room[64];
+    const char *word = strtok_r(NULL, " ", line);
+    if (word == NULL) {
+        stop("a request is missing");
+    } else if (strcmp(word, "propose") == 0) {
+        answer = pageshare_propose(machine, guest, number(line));
+    } else if (strcmp(word, "release") == 0) {
+        answer = pageshare_release(machine, guest, number(line));
+    } else if (strcmp(word, "count") == 0) {
+        answer = pageshare_count(machine, guest, &totals);
+    } else if (strcmp(word, "store") == 0) {
+        uint32_t ppn = number(line), at = number(line);
+        size_t length = bytes(line, room);
+        answer = pageshare_store(machine, guest, ppn, at, room, length);
+    } else if (strcmp(word, "load") == 0) {
+        uint32_t ppn = number(line), at = number(line), length = number(line);
+        answer = pageshare_load(machine, guest, ppn, at, room, length);
+    } else {
+        stop("an unknown request");
+    }
+    print_answer(guest, answer, room, &totals);
+}
+
+int main(void) {
+    struct pageshare machine = PAGESHARE_NONE;
+    struct pageshare_totals totals;
+    static char text[65536];
+    uint32_t frames = 0, pages[64] = {0}, salts[64] = {0};
+    size_t guests = 0;
+    bool made = false;
+    while (fgets(text, sizeof text, stdin) != NULL) {
+        char *line = text;
+        text[strcspn(text, "\n")] = 0;
+        const char *word = strtok_r(text, " ", &line);
+        if (word == NULL || strcmp(word, "pageshare") == 0) continue;
+        if (strcmp(word, "frames") == 0) {
+            frames = number(&line);
+        } else if (strcmp(word, "pages") == 0) {
+            guests = numbers(&line, pages);
+        } else if (strcmp(word, "salts") == 0) {
+            if (numbers(&line, salts) != guests) stop("not as many salts as guests");
+        } else {
+            if (!made && pageshare_make(&machine, frames, pages, guests, salts, guests) != PAGESHARE_OK) stop("no machine");
+            made = true;
+            if (strcmp(word, "end") == 0) break;
+            serve(&machine, (uint32_t)strtoul(word, NULL, 10), &line);
+        }
+    }
+    if (pageshare_report(&machine, &totals) != PAGESHARE_OK) stop("no machine");
+    printf("report");
+    print_totals(&totals);
+    putchar('\n');
+    pageshare_free(&machine);
+    return 0;
+}

@@ -1,0 +1,73 @@
+/*
+ * Refuses each allocation of pageshare_make in turn: the status is 4, nothing stays allocated, and the handle still serves.
+ * Once a machine is made, no call asks for memory. Its rattle_alloc and rattle_dealloc take the place of the library's own,
+ * which call malloc and free. Prints "ok", or what failed.
+ */
+#include "pageshare.h"
+#include <stdio.h>
+#include <stdlib.h>
+
+struct tried {
+    bool ok;
+    void *at;
+};
+
+/* How many blocks may still be had, and how many are held. */
+static long left, held;
+
+struct tried rattle_alloc(size_t bytes, size_t align);
+void rattle_dealloc(void *at);
+
+struct tried rattle_alloc(size_t bytes, size_t align) {
+    static _Alignas(16) unsigned char nothing[16];
+    (void)align;
+    void *block = left > 0 ? malloc(bytes > 0 ? bytes : 1) : NULL;
+    if (block == NULL) return (struct tried){false, nothing};
+    left--;
+    held++;
+    return (struct tried){true, block};
+}
+
+void rattle_dealloc(void *at) {
+    held--;
+    free(at);
+}
+
+/* Whether the machine serves with no memory to be had. */
+static bool serves(struct pageshare *machine) {
+    const uint8_t letter = 0x41;
+    struct pageshare_totals totals;
+    uint8_t room[64];
+    for (uint32_t i = 0; i < 3; i++)
+        if (pageshare_store(machine, i / 2, i % 2, 0, &letter, 1).verdict != PAGESHARE_VERDICT_MAPPED) return false;
+    for (uint32_t i = 0; i < 3; i++)
+        if (pageshare_propose(machine, i / 2, i % 2).status != PAGESHARE_OK) return false;
+    if (pageshare_store(machine, 0, 0, 1, &letter, 1).verdict != PAGESHARE_VERDICT_COPIED) return false;
+    if (pageshare_load(machine, 0, 0, 0, room, 64).count != 64) return false;
+    if (pageshare_release(machine, 0, 0).count != 1) return false;
+    return pageshare_count(machine, 0, &totals).verdict == PAGESHARE_VERDICT_TOTALS && totals.shared == 2;
+}
+
+static int fail(long allowed, const char *what) {
+    printf("with %ld blocks: %s\n", allowed, what);
+    return 1;
+}
+
+int main(void) {
+    const uint32_t pages[] = {2, 1}, salts[] = {0, 0};
+    struct pageshare machine = PAGESHARE_NONE;
+    for (long allowed = 0; allowed < 1000; allowed++) {
+        left = allowed;
+        uint32_t status = pageshare_make(&machine, 3, pages, 2, salts, 2);
+        if (status == PAGESHARE_OK) {
+            if (allowed < 5 || left != 0) return fail(allowed, "made too early");
+            if (!serves(&machine)) return fail(allowed, "it does not serve without more memory");
+            if (pageshare_free(&machine) != PAGESHARE_OK || held != 0) return fail(allowed, "not all was freed");
+            puts("ok");
+            return 0;
+        }
+        if (status != PAGESHARE_ERROR_MEMORY) return fail(allowed, "another status than 4");
+        if (held != 0) return fail(allowed, "blocks stay allocated");
+    }
+    return fail(1000, "no machine");
+}

@@ -1,0 +1,4 @@
+pub mod Accesses
+pub mod Finds
+pub mod Held
+pub mod Parcels

@@ -1,0 +1,16 @@
+-- Why a machine is or is not made.
+use Rattle.std.specs.Prelude.{◌≡◌, ◌≤◌, ℕ, List, Option, None, IsSome}
+use Rattle.merge_core.specs.Shown.{Shown}
+use Rattle.merge_core.specs.Refusals.{AreLimits, NoCoreFor}
+use Rattle.merge_core.specs.declared.CoreFault.TheVariants.{Frames, Guests, Pages}
+
+-- what each status says of the frames, pages and salts, and of what the handle held
+pub record Makes (frames : ℕ) (pages salts : List ℕ) (held : Option Shown) (status : ℕ) : Type 0 where
+  pub made : status ≡ 0 → AreLimits frames pages salts × (held ≡ None)
+  pub frames_fault : status ≡ 1 → NoCoreFor frames pages salts Frames
+  pub guests_fault : status ≡ 2 → NoCoreFor frames pages salts Guests
+  pub pages_fault : status ≡ 3 → NoCoreFor frames pages salts Pages
+  pub memory_fault : status ≡ 4 → AreLimits frames pages salts
+  pub in_use : IsSome held → status ≡ 5
+  pub unused : status ≡ 5 → IsSome held
+  pub known : status ≤ 5

@@ -1,0 +1,137 @@
+//! What C is told.
+ghost use Rattle.std.specs.Prelude.{◌≡◌, Ok, Err};
+ghost use Rattle.pageshare_c.specs.Codes.{code_of, count_of, status_of as status_number};
+ghost use Rattle.pageshare_c.specs.Told.{told, numbers};
+
+use page_model::{Report, Verdict};
+
+/// The answer to one request.
+#[repr(C)]
+#[derive(Clone, Copy)]
+pub struct Answer {
+    /// 0 where the request was served, and else why it was not.
+    pub status: u32,
+    /// The verdict's number, 1 to 18, and 0 where the request was not served.
+    pub verdict: u32,
+    /// At a join how many pages share the frame, at a load how many bytes were loaded, at a release 1 where the frame is
+    /// free now, and else 0.
+    pub count: u32,
+}
+
+/// What a machine counts, as in a [`Report`].
+#[repr(C)]
+#[derive(Clone, Copy)]
+pub struct Totals {
+    pub entries: u32,
+    pub mapped: u32,
+    pub shared: u32,
+    pub frames: u32,
+    pub reclaimed: u32,
+    pub hints: u32,
+}
+
+/// Why a call was refused, in the order in which the causes are looked at.
+#[derive(Clone, Copy)]
+pub enum Refusal {
+    /// The handle holds no machine.
+    NoMachine,
+    /// There is no such guest.
+    NoGuest,
+    /// The machine has counted 4,294,967,295 requests, as many as it can.
+    Full,
+    /// No byte, or more than 64.
+    Length,
+    /// The last byte would stand past the page's end.
+    Crosses,
+    /// There is no such page.
+    NoPage,
+    /// The page has no frame.
+    Unmapped,
+}
+
+/// The number of a refusal.
+pub(crate) fn status_of(refusal: Refusal) -> u32
+    ensures { result ≡ status_number refusal }
+{
+    match refusal {
+        Refusal::NoMachine => 6,
+        Refusal::NoGuest => 7,
+        Refusal::Full => 8,
+        Refusal::Length => 9,
+        Refusal::Crosses => 10,
+        Refusal::NoPage => 11,
+        Refusal::Unmapped => 12,
+    }
+}
+
+fn verdict_number(verdict: &Verdict) -> u32
+    ensures { result ≡ code_of verdict.now }
+{
+    match verdict {
+        Verdict::NoPage => 1,
+        Verdict::Unmapped => 2,
+        Verdict::Already => 3,
+        Verdict::Joined(_) => 4,
+        Verdict::Paired => 5,
+        Verdict::Hinted => 6,
+        Verdict::Kept => 7,
+        Verdict::Replaced => 8,
+        Verdict::Ineligible => 9,
+        Verdict::Mapped => 10,
+        Verdict::Stored => 11,
+        Verdict::Copied => 12,
+        Verdict::Taken => 13,
+        Verdict::NoFrame => 14,
+        Verdict::Bytes(_) => 15,
+        Verdict::Released(_) => 16,
+        Verdict::Totals(_) => 17,
+        Verdict::Closed => 18,
+    }
+}
+
+fn count_in(verdict: &Verdict) -> u32
+    ensures { result ≡ count_of verdict.now }
+{
+    match verdict {
+        Verdict::Joined(pages) => *pages,
+        Verdict::Bytes(bytes) => bytes.len() as u32,
+        Verdict::Released(true) => 1,
+        _ => 0,
+    }
+}
+
+/// What C is told of a request that was not served.
+pub(crate) fn refuse(refusal: Refusal) -> Answer
+    ensures { result ≡ told (Err refusal) }
+{
+    Answer {
+        status: status_of(refusal),
+        verdict: 0,
+        count: 0,
+    }
+}
+
+/// What C is told of a verdict.
+pub(crate) fn answer_of(verdict: &Verdict) -> Answer
+    ensures { result ≡ told (Ok verdict.now) }
+{
+    Answer {
+        status: 0,
+        verdict: verdict_number(verdict),
+        count: count_in(verdict),
+    }
+}
+
+/// The numbers of a report.
+pub(crate) fn totals_of(report: &Report) -> Totals
+    ensures { result ≡ numbers report.now }
+{
+    Totals {
+        entries: report.entries(),
+        mapped: report.mapped(),
+        shared: report.shared(),
+        frames: report.frames(),
+        reclaimed: report.reclaimed(),
+        hints: report.hints(),
+    }
+}

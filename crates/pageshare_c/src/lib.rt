@@ -1,0 +1,268 @@
+//! Page sharing for C: each function that a program in C, C++ or Rust calls.
+//!
+//! C makes room for a [`Machine`], a handle that holds no machine while its bytes are 0, and gives its address to each call.
+//! A call asks nothing of its arguments but that its references are valid: what is wrong with them is told by a status, and
+//! then nothing has changed. A status above 0 is the first cause that holds, in the order of the numbers; a handle that holds
+//! a machine already is the exception, which [`pageshare_make`] looks at first.
+//!
+//! `include/pageshare.h` declares the same functions in C, and says what its callers owe.
+#![tactic(auto)]
+
+ghost use Rattle.std.specs.Prelude.{◌≡◌, ◌≢◌, length, None, Some, Ok};
+ghost use Rattle.std.specs.Option.{option_map};
+ghost use Rattle.page_model.specs.Limits.{shapes};
+ghost use Rattle.page_model.specs.Replay.{empty_state};
+ghost use Rattle.pageshare_c.specs.Access.{store_of, load_of};
+ghost use Rattle.pageshare_c.specs.Codes.{held_status, status_told};
+ghost use Rattle.pageshare_c.specs.Found.{text_of, frame_found, HoldsText};
+ghost use Rattle.pageshare_c.specs.Kept.{FramesKept, restarted};
+ghost use Rattle.pageshare_c.specs.Made.{Makes};
+ghost use Rattle.pageshare_c.specs.Outcomes.{outcome, state_after, seen};
+ghost use Rattle.pageshare_c.specs.Told.{told, counted, loaded, counts, value_or};
+
+mod answer;
+mod find;
+mod machine;
+mod make;
+mod parcel;
+mod serve;
+mod slot;
+
+pub use answer::{Answer, Refusal, Totals};
+use answer::{status_of, totals_of};
+use find::{copy_page, find_frame, put_address};
+pub use machine::Machine;
+use make::make;
+use page_model::Request;
+use serve::{load_request, serve, serve_count, serve_load, store_request};
+use std::alloc::Global;
+
+/// Makes a machine of `frames` frames, in which guest i has `pages[i]` pages and the salt `salts[i]`.
+///
+/// The status is 0 where it is made, 5 where the handle holds a machine already, and else 1 (0 frames, or more than 1,048,576),
+/// 2 (no guest, more than 64, or not as many salts as guests), 3 (a guest with no page, or more than 1,048,576 pages in total)
+/// or 4 (the memory was refused). All memory of the machine is taken here: no other call asks for any.
+#[unsafe(no_mangle)]
+pub extern "C" fn pageshare_make(
+    alloc: Global,
+    machine: &mut Machine,
+    frames: u32,
+    pages: &[u32],
+    salts: &[u32],
+) -> u32
+    ensures made { result ≡ 0 → seen machine.new.slot.core ≡ Some (empty_state frames (shapes salts.now pages.now)) }
+    ensures kept { result ≢ 0 → machine.new.slot.core ≡ machine.old.slot.core }
+    ensures cause { Makes frames pages.now salts.now machine.old.slot.core result }
+{
+    make(alloc, machine, frames, pages, salts)
+}
+
+/// Frees the machine. The status is 6 where the handle holds none.
+#[unsafe(no_mangle)]
+pub extern "C" fn pageshare_free(alloc: Global, machine: &mut Machine) -> u32
+    ensures none { machine.new.slot.core ≡ None }
+    ensures status { result ≡ held_status machine.old.slot.core }
+{
+    match machine.take(alloc) {
+        None => 6,
+        Some(_core) => 0,
+    }
+}
+
+/// Proposes a page for sharing.
+#[unsafe(no_mangle)]
+pub extern "C" fn pageshare_propose(
+    alloc: Global,
+    machine: &mut Machine,
+    guest: u32,
+    ppn: u32,
+) -> Answer
+    ensures answer { result ≡ told (outcome (seen machine.old.slot.core) guest (Ok (Request.Propose ppn))) }
+    ensures state { seen machine.new.slot.core ≡ state_after (seen machine.old.slot.core) guest (Ok (Request.Propose ppn)) }
+    ensures frames { FramesKept guest (Ok (Request.Propose ppn)) (outcome (seen machine.old.slot.core) guest (Ok (Request.Propose ppn))) machine.old.slot.core machine.new.slot.core }
+{
+    serve(alloc, machine, guest, &Ok(Request::Propose(ppn)))
+}
+
+/// Stores 1 to 64 bytes in a page, from place `at` on.
+#[unsafe(no_mangle)]
+pub extern "C" fn pageshare_store(
+    alloc: Global,
+    machine: &mut Machine,
+    guest: u32,
+    ppn: u32,
+    at: u32,
+    bytes: &[u8],
+) -> Answer
+    ensures answer { result ≡ told (outcome (seen machine.old.slot.core) guest (store_of ppn at bytes.now)) }
+    ensures state { seen machine.new.slot.core ≡ state_after (seen machine.old.slot.core) guest (store_of ppn at bytes.now) }
+    ensures frames { FramesKept guest (store_of ppn at bytes.now) (outcome (seen machine.old.slot.core) guest (store_of ppn at bytes.now)) machine.old.slot.core machine.new.slot.core }
+{
+    serve(alloc, machine, guest, &store_request(ppn, at, bytes))
+}
+
+/// Loads as many bytes of a page as the room holds, 1 to 64, from place `at` on. The room stays as it is where none are loaded.
+#[unsafe(no_mangle)]
+pub extern "C" fn pageshare_load(
+    alloc: Global,
+    machine: &mut Machine,
+    guest: u32,
+    ppn: u32,
+    at: u32,
+    room: &mut [u8],
+) -> Answer
+    ensures answer { result ≡ told (outcome (seen machine.old.slot.core) guest (load_of ppn at (length room.old))) }
+    ensures state { seen machine.new.slot.core ≡ state_after (seen machine.old.slot.core) guest (load_of ppn at (length room.old)) }
+    ensures frames { FramesKept guest (load_of ppn at (length room.old)) (outcome (seen machine.old.slot.core) guest (load_of ppn at (length room.old))) machine.old.slot.core machine.new.slot.core }
+    ensures bytes { room.new ≡ loaded room.old (outcome (seen machine.old.slot.core) guest (load_of ppn at (length room.old))) }
+{
+    let asked = load_request(ppn, at, room.len());
+    serve_load(alloc, machine, guest, &asked, room)
+}
+
+/// Releases a page: it has no frame from then on, and reads as zeros.
+#[unsafe(no_mangle)]
+pub extern "C" fn pageshare_release(
+    alloc: Global,
+    machine: &mut Machine,
+    guest: u32,
+    ppn: u32,
+) -> Answer
+    ensures answer { result ≡ told (outcome (seen machine.old.slot.core) guest (Ok (Request.Release ppn))) }
+    ensures state { seen machine.new.slot.core ≡ state_after (seen machine.old.slot.core) guest (Ok (Request.Release ppn)) }
+    ensures frames { FramesKept guest (Ok (Request.Release ppn)) (outcome (seen machine.old.slot.core) guest (Ok (Request.Release ppn))) machine.old.slot.core machine.new.slot.core }
+{
+    serve(alloc, machine, guest, &Ok(Request::Release(ppn)))
+}
+
+/// Tells what the machine counts, as a request of the guest: it is among the entries itself.
+#[unsafe(no_mangle)]
+pub extern "C" fn pageshare_count(
+    alloc: Global,
+    machine: &mut Machine,
+    guest: u32,
+    totals: &mut Totals,
+) -> Answer
+    ensures answer { result ≡ told (outcome (seen machine.old.slot.core) guest (Ok Request.Count)) }
+    ensures state { seen machine.new.slot.core ≡ state_after (seen machine.old.slot.core) guest (Ok Request.Count) }
+    ensures frames { FramesKept guest (Ok Request.Count) (outcome (seen machine.old.slot.core) guest (Ok Request.Count)) machine.old.slot.core machine.new.slot.core }
+    ensures totals { totals.new ≡ counted totals.old (outcome (seen machine.old.slot.core) guest (Ok Request.Count)) }
+{
+    serve_count(alloc, machine, guest, &Ok(Request::Count), totals)
+}
+
+/// Begins the count of requests anew, so that a machine that has counted 4,294,967,295 of them serves again. All else stays.
+/// The status is 6 where the handle holds no machine.
+#[unsafe(no_mangle)]
+pub extern "C" fn pageshare_restart_count(alloc: Global, machine: &mut Machine) -> u32
+    ensures count { machine.new.slot.core ≡ option_map restarted machine.old.slot.core }
+    ensures status { result ≡ held_status machine.old.slot.core }
+{
+    match machine.take(alloc) {
+        None => 6,
+        Some(mut core) => {
+            core.restart_count();
+            machine.put(core);
+            0
+        }
+    }
+}
+
+/// Tells what the machine counts, and is no request. The status is 6 where the handle holds no machine.
+#[unsafe(no_mangle)]
+pub extern "C" fn pageshare_report(alloc: Global, machine: &mut Machine, totals: &mut Totals) -> u32
+    ensures same { machine.new.slot.core ≡ machine.old.slot.core }
+    ensures status { result ≡ status_told (counts (seen machine.old.slot.core)) }
+    ensures totals { totals.new ≡ value_or totals.old (counts (seen machine.old.slot.core)) }
+{
+    match machine.take(alloc) {
+        None => 6,
+        Some(core) => {
+            *totals = totals_of(&core.report());
+            machine.put(core);
+            0
+        }
+    }
+}
+
+/// Copies a page to the room. The status is 6 where the handle holds no machine, and 11 where there is no such page.
+#[unsafe(no_mangle)]
+pub extern "C" fn pageshare_read(
+    alloc: Global,
+    machine: &mut Machine,
+    guest: u32,
+    ppn: u32,
+    room: &mut [u8; 4096],
+) -> u32
+    ensures same { machine.new.slot.core ≡ machine.old.slot.core }
+    ensures status { result ≡ status_told (text_of (seen machine.old.slot.core) guest ppn) }
+    ensures bytes { room.new ≡ value_or room.old (text_of (seen machine.old.slot.core) guest ppn) }
+{
+    match machine.take(alloc) {
+        None => 6,
+        Some(core) => {
+            let copied = copy_page(&core, guest, ppn, room);
+            machine.put(core);
+            if copied { 0 } else { 11 }
+        }
+    }
+}
+
+/// Tells the number of a page's frame. The status is 6 where the handle holds no machine, 11 where there is no such page, and
+/// 12 where it is unmapped.
+#[unsafe(no_mangle)]
+pub extern "C" fn pageshare_frame(
+    alloc: Global,
+    machine: &mut Machine,
+    guest: u32,
+    ppn: u32,
+    mpn: &mut u32,
+) -> u32
+    ensures same { machine.new.slot.core ≡ machine.old.slot.core }
+    ensures status { result ≡ status_told (frame_found machine.old.slot.core guest ppn) }
+    ensures frame { mpn.new ≡ value_or mpn.old (frame_found machine.old.slot.core guest ppn) }
+    ensures bytes { result ≡ 0 → HoldsText machine.old.slot.core guest ppn mpn.new }
+{
+    match machine.take(alloc) {
+        None => 6,
+        Some(core) => {
+            let found = find_frame(&core, guest, ppn);
+            machine.put(core);
+            match found {
+                Err(refusal) => status_of(refusal),
+                Ok(frame) => {
+                    *mpn = frame;
+                    0
+                }
+            }
+        }
+    }
+}
+
+/// Tells where a page's 4,096 bytes stand, to be read until the next call with this handle. The status is 6 where the handle
+/// holds no machine, 11 where there is no such page, and 12 where it is unmapped.
+///
+/// No contract says what stands at the address. [`pageshare_read`] copies the bytes.
+#[unsafe(no_mangle)]
+pub extern "C" fn pageshare_page(
+    alloc: Global,
+    machine: &mut Machine,
+    guest: u32,
+    ppn: u32,
+    at: &mut *const u8,
+) -> u32
+    ensures same { machine.new.slot.core ≡ machine.old.slot.core }
+    ensures status { result ≡ status_told (frame_found machine.old.slot.core guest ppn) }
+{
+    match machine.take(alloc) {
+        None => 6,
+        Some(core) => {
+            let found = put_address(&core, guest, ppn, at);
+            machine.put(core);
+            match found {
+                Err(refusal) => status_of(refusal),
+                Ok(_) => 0,
+            }
+        }
+    }
+}

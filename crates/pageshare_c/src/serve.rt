@@ -1,0 +1,208 @@
+//! Requests to the machine of a handle.
+ghost use Rattle.std.specs.Prelude.{◌≡◌, ◌<◌, length, Ok, Err, IfOk, MatchResult};
+ghost use Rattle.merge_core.specs.Shown.{state_of};
+ghost use Rattle.pageshare_c.specs.Access.{store_of, load_of};
+ghost use Rattle.pageshare_c.specs.Kept.{CoreKeeps, FramesKept};
+ghost use Rattle.pageshare_c.specs.Outcomes.{accepted, answered, answered_state, outcome, state_after, seen};
+ghost use Rattle.pageshare_c.specs.Told.{told, counted, loaded, overlaid};
+
+use crate::answer::{Answer, Refusal, Totals, answer_of, refuse, totals_of};
+use crate::machine::Machine;
+use merge_core::Core;
+use page_digest::Sha256Hash;
+use page_model::{Request, RequestFault, Verdict};
+use std::alloc::Global;
+
+/// How many requests a machine counts.
+const MOST_REQUESTS: u32 = 4_294_967_295;
+
+/// A store's request.
+#[tactic(auto, using(crate::proofs::Accesses::access_is))]
+pub(crate) fn store_request(ppn: u32, at: u32, bytes: &[u8]) -> Result<Request, RequestFault>
+    ensures { result ≡ store_of ppn at bytes.now }
+{
+    Request::store(ppn, at, bytes)
+}
+
+/// A load's request. A length above 64 is refused whatever it is.
+#[tactic(auto, using(crate::proofs::Accesses::access_is, crate::proofs::Accesses::access_long))]
+pub(crate) fn load_request(ppn: u32, at: u32, len: usize) -> Result<Request, RequestFault>
+    ensures { result ≡ load_of ppn at len }
+{
+    if len > 64 {
+        return Err(RequestFault::Length);
+    }
+    Request::load(ppn, at, len as u32)
+}
+
+/// The request, where the machine accepts it.
+fn accept<'a>(
+    core: &Core<Sha256Hash>,
+    guest: u32,
+    asked: &'a Result<Request, RequestFault>,
+) -> Result<&'a Request, Refusal>
+    ensures told { MatchResult result (λ request. accepted (state_of core.now) guest asked.now ≡ Ok request.now) (λ refusal. accepted (state_of core.now) guest asked.now ≡ Err refusal) }
+    ensures asked { IfOk result (λ request. asked.now ≡ Ok request.now) }
+    ensures guest { IfOk result (λ _. guest < length (state_of core.now).guests) }
+    ensures few { IfOk result (λ _. guest < 256) }
+    ensures room { IfOk result (λ _. core.now.entries < 4294967295) }
+{
+    if guest >= u32::from(core.guests()) {
+        return Err(Refusal::NoGuest);
+    }
+    if core.entries() >= MOST_REQUESTS {
+        return Err(Refusal::Full);
+    }
+    match asked {
+        Ok(request) => Ok(request),
+        Err(RequestFault::Length) => Err(Refusal::Length),
+        Err(RequestFault::Crosses) => Err(Refusal::Crosses),
+    }
+}
+
+fn answer(core: &mut Core<Sha256Hash>, guest: u32, asked: &Result<Request, RequestFault>) -> Answer
+    ensures answer { result ≡ told (answered (state_of core.old) guest asked.now) }
+    ensures state { state_of core.new ≡ answered_state (state_of core.old) guest asked.now }
+    ensures frames { CoreKeeps guest asked.now (answered (state_of core.old) guest asked.now) core.old core.new }
+{
+    match accept(core, guest, asked) {
+        Err(refusal) => refuse(refusal),
+        Ok(request) => answer_of(&core.apply(guest as u8, request)),
+    }
+}
+
+fn answer_load(
+    core: &mut Core<Sha256Hash>,
+    guest: u32,
+    asked: &Result<Request, RequestFault>,
+    room: &mut [u8],
+) -> Answer
+    ensures answer { result ≡ told (answered (state_of core.old) guest asked.now) }
+    ensures state { state_of core.new ≡ answered_state (state_of core.old) guest asked.now }
+    ensures frames { CoreKeeps guest asked.now (answered (state_of core.old) guest asked.now) core.old core.new }
+    ensures bytes { room.new ≡ loaded room.old (answered (state_of core.old) guest asked.now) }
+{
+    match accept(core, guest, asked) {
+        Err(refusal) => refuse(refusal),
+        Ok(request) => {
+            let verdict = core.apply(guest as u8, request);
+            put_loaded(room, &verdict);
+            answer_of(&verdict)
+        }
+    }
+}
+
+fn answer_count(
+    core: &mut Core<Sha256Hash>,
+    guest: u32,
+    asked: &Result<Request, RequestFault>,
+    totals: &mut Totals,
+) -> Answer
+    ensures answer { result ≡ told (answered (state_of core.old) guest asked.now) }
+    ensures state { state_of core.new ≡ answered_state (state_of core.old) guest asked.now }
+    ensures frames { CoreKeeps guest asked.now (answered (state_of core.old) guest asked.now) core.old core.new }
+    ensures totals { totals.new ≡ counted totals.old (answered (state_of core.old) guest asked.now) }
+{
+    match accept(core, guest, asked) {
+        Err(refusal) => refuse(refusal),
+        Ok(request) => {
+            let verdict = core.apply(guest as u8, request);
+            put_counted(totals, &verdict);
+            answer_of(&verdict)
+        }
+    }
+}
+
+/// Serves a request of a guest, of whose verdict C is told no more than the answer.
+pub(crate) fn serve(
+    alloc: Global,
+    machine: &mut Machine,
+    guest: u32,
+    asked: &Result<Request, RequestFault>,
+) -> Answer
+    ensures answer { result ≡ told (outcome (seen machine.old.slot.core) guest asked.now) }
+    ensures state { seen machine.new.slot.core ≡ state_after (seen machine.old.slot.core) guest asked.now }
+    ensures frames { FramesKept guest asked.now (outcome (seen machine.old.slot.core) guest asked.now) machine.old.slot.core machine.new.slot.core }
+{
+    match machine.take(alloc) {
+        None => refuse(Refusal::NoMachine),
+        Some(mut core) => {
+            let answer = answer(&mut core, guest, asked);
+            machine.put(core);
+            answer
+        }
+    }
+}
+
+/// The same for a load.
+pub(crate) fn serve_load(
+    alloc: Global,
+    machine: &mut Machine,
+    guest: u32,
+    asked: &Result<Request, RequestFault>,
+    room: &mut [u8],
+) -> Answer
+    ensures answer { result ≡ told (outcome (seen machine.old.slot.core) guest asked.now) }
+    ensures state { seen machine.new.slot.core ≡ state_after (seen machine.old.slot.core) guest asked.now }
+    ensures frames { FramesKept guest asked.now (outcome (seen machine.old.slot.core) guest asked.now) machine.old.slot.core machine.new.slot.core }
+    ensures bytes { room.new ≡ loaded room.old (outcome (seen machine.old.slot.core) guest asked.now) }
+{
+    match machine.take(alloc) {
+        None => refuse(Refusal::NoMachine),
+        Some(mut core) => {
+            let answer = answer_load(&mut core, guest, asked, room);
+            machine.put(core);
+            answer
+        }
+    }
+}
+
+/// The same for a count.
+pub(crate) fn serve_count(
+    alloc: Global,
+    machine: &mut Machine,
+    guest: u32,
+    asked: &Result<Request, RequestFault>,
+    totals: &mut Totals,
+) -> Answer
+    ensures answer { result ≡ told (outcome (seen machine.old.slot.core) guest asked.now) }
+    ensures state { seen machine.new.slot.core ≡ state_after (seen machine.old.slot.core) guest asked.now }
+    ensures frames { FramesKept guest asked.now (outcome (seen machine.old.slot.core) guest asked.now) machine.old.slot.core machine.new.slot.core }
+    ensures totals { totals.new ≡ counted totals.old (outcome (seen machine.old.slot.core) guest asked.now) }
+{
+    match machine.take(alloc) {
+        None => refuse(Refusal::NoMachine),
+        Some(mut core) => {
+            let answer = answer_count(&mut core, guest, asked, totals);
+            machine.put(core);
+            answer
+        }
+    }
+}
+
+/// Puts what a verdict loaded at the start of the room.
+fn put_loaded(room: &mut [u8], verdict: &Verdict)
+    ensures { room.new ≡ loaded room.old (Ok verdict.now) }
+{
+    if let Verdict::Bytes(bytes) = verdict {
+        put_bytes(room, bytes.as_slice());
+    }
+}
+
+/// Puts bytes at the start of the room, where they fit.
+fn put_bytes(room: &mut [u8], bytes: &[u8])
+    ensures { room.new ≡ overlaid room.old bytes.now }
+{
+    if bytes.len() <= room.len() {
+        room[..bytes.len()].copy_from_slice(bytes);
+    }
+}
+
+/// Puts what a verdict counted into the totals.
+fn put_counted(totals: &mut Totals, verdict: &Verdict)
+    ensures { totals.new ≡ counted totals.old (Ok verdict.now) }
+{
+    if let Verdict::Totals(report) = verdict {
+        *totals = totals_of(report);
+    }
+}

@@ -1,0 +1,47 @@
+//! A core behind an address that says nothing of its type.
+ghost use Rattle.std.specs.Prelude.{◌≡◌, Option, Some, None, IsSome};
+ghost use Rattle.std.specs.Coded.{coded_option};
+ghost use Rattle.merge_core.specs.Shown.{Shown, shown_code};
+
+use crate::parcel::Parcel;
+use merge_core::Core;
+use page_digest::Sha256Hash;
+use std::alloc::Global;
+use std::marker::Model;
+
+/// Room for the address of a core in a block of the heap, which the slot owns where it holds one.
+///
+/// C sees a pointer, and never follows it.
+#[repr(C)]
+pub struct Slot {
+    at: *mut u8,
+    pub ghost core: { Option Shown } by { coded_option shown_code },
+}
+
+impl Model for Slot {
+    ghost use Rattle.pageshare_c.specs.Held.{held_owns};
+
+    ghost also_owns = { λ s. held_owns s.at s.core };
+}
+
+impl Slot {
+    /// Puts a core into an empty slot.
+    pub(crate) fn fill(&mut self, core: Parcel<Core<Sha256Hash>, Global>)
+        requires { self.old.core ≡ None }
+        ensures { self.new.core ≡ Some core.value }
+    {
+        let Parcel { at, heap: _ } = core;
+        self.at = at as *mut u8;
+    }
+
+    /// Takes the core out of the slot.
+    pub(crate) fn empty(&mut self, heap: Global) -> Parcel<Core<Sha256Hash>, Global>
+        requires { IsSome self.old.core }
+        ensures { (self.old.core ≡ Some result.value) × (self.new.core ≡ None) }
+    {
+        Parcel {
+            at: self.at as *mut Core<Sha256Hash>,
+            heap,
+        }
+    }
+}

@@ -1,0 +1,174 @@
+/*
+ * Content-based page sharing for virtual machine monitors, in C11 or C++11: the functions of libpageshare.a.
+ *
+ * A machine has guests with pages of 4,096 bytes, and frames that these pages are kept in. Pages that are proposed and hold
+ * the same bytes come to share one frame; a store to a shared page gives the writer a copy. docs/MODEL.md tells the rules,
+ * and docs/EMBEDDING.md what is proved of each call.
+ *
+ *     struct pageshare machine = PAGESHARE_NONE;
+ *     const uint32_t pages[] = {512, 512}, salts[] = {0, 0};
+ *     if (pageshare_make(&machine, 1024, pages, 2, salts, 2) != PAGESHARE_OK) ..
+ *     struct pageshare_answer answer = pageshare_propose(&machine, 0, 17);
+ *     ..
+ *     pageshare_free(&machine);
+ *
+ * No call has a condition on its numbers: a wrong one is answered by a status above 0, and then nothing has changed. A status
+ * is the first cause that holds, in the order of the numbers; only pageshare_make looks at PAGESHARE_ERROR_IN_USE first.
+ *
+ * What the caller owes, and nothing checks:
+ *
+ * - A handle begins as PAGESHARE_NONE or as zeros, and these calls alone read and write its members. It may be moved while no
+ *   call runs, but is not copied: one of two copies would free the other's machine. It is freed by pageshare_free.
+ * - One call at a time works on a handle, and a handle stays on the thread that made its machine. Different handles have
+ *   nothing to do with each other.
+ * - Each pointer is not null, also where its count is 0, is aligned for its type, and points to as many elements as are named
+ *   beside it, for as long as the call runs. What a call writes to (the handle, room, totals, mpn, at) overlaps no other
+ *   argument of it, and nobody else reads or writes it meanwhile; what it only reads, nobody writes meanwhile.
+ * - A count of elements makes less than 2^63 bytes.
+ * - malloc and free are one allocator's, and align a block to 16 bytes. No call is made from a signal handler, nor in the
+ *   child of a fork of a process with threads.
+ *
+ * pageshare_make takes all memory that a machine needs; no other call asks for any.
+ */
+#ifndef PAGESHARE_H
+#define PAGESHARE_H
+
+#include <stdbool.h>
+#include <stddef.h>
+#include <stdint.h>
+
+#ifdef __cplusplus
+extern "C" {
+#endif
+
+/* A handle: room for one machine. Its members are the library's. */
+struct pageshare {
+    void *private_at;
+    bool private_live;
+};
+
+/* What a handle begins as: it holds no machine. */
+#define PAGESHARE_NONE {NULL, false}
+
+/* The bytes of a page, and the most that one store or load names. */
+#define PAGESHARE_PAGE_BYTES 4096
+#define PAGESHARE_MAX_ACCESS 64
+
+enum pageshare_status {
+    PAGESHARE_OK = 0,
+    PAGESHARE_ERROR_FRAMES = 1,     /* 0 frames, or more than 1,048,576 */
+    PAGESHARE_ERROR_GUESTS = 2,     /* no guest, more than 64, or not as many salts as guests */
+    PAGESHARE_ERROR_PAGES = 3,      /* a guest with no page, or more than 1,048,576 pages in total */
+    PAGESHARE_ERROR_MEMORY = 4,     /* memory was refused */
+    PAGESHARE_ERROR_IN_USE = 5,     /* the handle holds a machine already */
+    PAGESHARE_ERROR_NO_MACHINE = 6, /* the handle holds no machine */
+    PAGESHARE_ERROR_NO_GUEST = 7,   /* there is no such guest */
+    PAGESHARE_ERROR_FULL = 8,       /* 4,294,967,295 requests are counted: see pageshare_restart_count */
+    PAGESHARE_ERROR_LENGTH = 9,     /* no byte, or more than 64 */
+    PAGESHARE_ERROR_CROSSES = 10,   /* the last byte would stand past the page's end */
+    PAGESHARE_ERROR_NO_PAGE = 11,   /* there is no such page (of a request it is a verdict) */
+    PAGESHARE_ERROR_UNMAPPED = 12   /* the page has no frame (of a request it is a verdict) */
+};
+
+enum pageshare_verdict {
+    PAGESHARE_VERDICT_NONE = 0,        /* the request was not served: see the status */
+    PAGESHARE_VERDICT_NO_PAGE = 1,     /* the guest has no such page */
+    PAGESHARE_VERDICT_UNMAPPED = 2,    /* propose, release: the page has no frame */
+    PAGESHARE_VERDICT_ALREADY = 3,     /* propose: the page is shared already */
+    PAGESHARE_VERDICT_JOINED = 4,      /* propose: it now shares the frame of equal shared pages. count: how many share it */
+    PAGESHARE_VERDICT_PAIRED = 5,      /* propose: it and the hint page, which was equal, now share one frame */
+    PAGESHARE_VERDICT_HINTED = 6,      /* propose: no equal page is known, and it is the hint under its key */
+    PAGESHARE_VERDICT_KEPT = 7,        /* propose: it was that hint already */
+    PAGESHARE_VERDICT_REPLACED = 8,    /* propose: the hint under its key was stale, and it takes its place */
+    PAGESHARE_VERDICT_INELIGIBLE = 9,  /* propose: another content has the same hash or key, and it stays as it is */
+    PAGESHARE_VERDICT_MAPPED = 10,     /* store: the page got a frame */
+    PAGESHARE_VERDICT_STORED = 11,     /* store: into the page's own frame */
+    PAGESHARE_VERDICT_COPIED = 12,     /* store: the page got a copy of the shared frame; the others keep theirs */
+    PAGESHARE_VERDICT_TAKEN = 13,      /* store: the page was the shared frame's last, which is its own again */
+    PAGESHARE_VERDICT_NO_FRAME = 14,   /* store: no frame is free, and nothing changed */
+    PAGESHARE_VERDICT_BYTES = 15,      /* load: the bytes stand in room. count: how many */
+    PAGESHARE_VERDICT_RELEASED = 16,   /* release: the page has no frame now. count: 1 where that frame is free now */
+    PAGESHARE_VERDICT_TOTALS = 17,     /* count: the numbers stand in totals */
+    PAGESHARE_VERDICT_CLOSED = 18      /* no request of C has it */
+};
+
+/* The answer to a request. */
+struct pageshare_answer {
+    uint32_t status;  /* an enum pageshare_status: PAGESHARE_OK where the request was served */
+    uint32_t verdict; /* an enum pageshare_verdict */
+    uint32_t count;   /* as the verdict says, and else 0 */
+};
+
+/* What a machine counts. */
+struct pageshare_totals {
+    uint32_t entries;   /* the requests served, whatever their verdicts, since the count began */
+    uint32_t mapped;    /* the pages that have a frame, their own or a shared one */
+    uint32_t shared;    /* the pages that have a shared frame */
+    uint32_t frames;    /* the frames in use */
+    uint32_t reclaimed; /* mapped less frames: what sharing saves */
+    uint32_t hints;     /* the pages that are hints */
+};
+
+/*
+ * Makes a machine with `frames` frames (1 to 1,048,576). Guest i has pages[i] pages (1 or more, at most 1,048,576 in total) and
+ * the salt salts[i]: pages of guests with different salts are never shared. guests and salts_count are the lengths of the
+ * lists, both the same, 1 to 64. Answers PAGESHARE_OK or a status of 1 to 5.
+ */
+uint32_t pageshare_make(struct pageshare *machine, uint32_t frames, const uint32_t *pages, size_t guests,
+                        const uint32_t *salts, size_t salts_count);
+
+/* Frees the machine. Answers PAGESHARE_OK or PAGESHARE_ERROR_NO_MACHINE; the handle holds none afterwards. */
+uint32_t pageshare_free(struct pageshare *machine);
+
+/*
+ * The requests of a guest. Guests count from 0, a guest's pages (by their physical page numbers, PPN) from 0, and the bytes of
+ * a page from 0. Each answers a status (0, or 6 to 10), and at status 0 a verdict.
+ *
+ * A page changes its frame at five verdicts alone: MAPPED and COPIED (a frame that was free), JOINED and PAIRED (the frame of
+ * the pages with which it is now shared), and RELEASED (none). Every other page keeps its frame. A monitor that maps pages to
+ * frames changes one mapping after each of these, and maps shared frames for reading alone.
+ */
+
+/* Proposes a page for sharing. */
+struct pageshare_answer pageshare_propose(struct pageshare *machine, uint32_t guest, uint32_t ppn);
+
+/* Stores 1 to 64 bytes in a page, from place `at` on. */
+struct pageshare_answer pageshare_store(struct pageshare *machine, uint32_t guest, uint32_t ppn, uint32_t at,
+                                        const uint8_t *bytes, size_t length);
+
+/* Loads 1 to 64 bytes of a page, from place `at` on. The room stays as it is but at verdict BYTES. */
+struct pageshare_answer pageshare_load(struct pageshare *machine, uint32_t guest, uint32_t ppn, uint32_t at,
+                                       uint8_t *room, size_t length);
+
+/* Releases a page: it has no frame then, and reads as zeros. */
+struct pageshare_answer pageshare_release(struct pageshare *machine, uint32_t guest, uint32_t ppn);
+
+/* Tells what the machine counts, this request among the entries. totals stays as it is but at verdict TOTALS. */
+struct pageshare_answer pageshare_count(struct pageshare *machine, uint32_t guest, struct pageshare_totals *totals);
+
+/* What follows is no request: it counts as none, and changes no page. */
+
+/* Begins the count of requests anew, for a machine that serves more than 4,294,967,295. Answers 0 or 6. */
+uint32_t pageshare_restart_count(struct pageshare *machine);
+
+/* Tells what the machine counts. Answers 0 or 6. */
+uint32_t pageshare_report(struct pageshare *machine, struct pageshare_totals *totals);
+
+/* Copies a page to the room; an unmapped page reads as zeros. Answers 0, 6 or 11. */
+uint32_t pageshare_read(struct pageshare *machine, uint32_t guest, uint32_t ppn,
+                        uint8_t room[PAGESHARE_PAGE_BYTES]);
+
+/* Tells the number of a page's frame (its machine page number, MPN), 0 to frames - 1. Answers 0, 6, 11 or 12. */
+uint32_t pageshare_frame(struct pageshare *machine, uint32_t guest, uint32_t ppn, uint32_t *mpn);
+
+/*
+ * Tells where a page's 4,096 bytes stand: to be read, never written, and only until the next call with this handle. Answers 0,
+ * 6, 11 or 12. No proof says what stands there; pageshare_read copies the bytes.
+ */
+uint32_t pageshare_page(struct pageshare *machine, uint32_t guest, uint32_t ppn, const uint8_t **at);
+
+#ifdef __cplusplus
+}
+#endif
+
+#endif
