@@ -20,7 +20,7 @@ pub use event::Event;
 pub use hashing::HashFunction;
 pub use limits::{
     MAX_ACCESS_BYTES, MAX_ENTRIES, MAX_FRAMES, MAX_GUESTS, MAX_PAGES, MAX_RING_CAPACITY,
-    MAX_TEXT_BYTES, PAGE_BYTES, Page,
+    MAX_TEXT_BYTES, MAX_WATCHES, MAX_WORKERS, PAGE_BYTES, Page,
 };
 pub use load::LoadReq;
 pub use machine_shape::{MachineShape, ShapeFault};

@@ -1,4 +1,4 @@
-//! The greatest sizes of a machine. Each least size is 1, but that of a text, which is 0.
+//! The greatest sizes of a machine. Each least size is 1, but those of watches and texts, which are 0.
 
 /// The bytes of one page.
 pub type Page = [u8; PAGE_BYTES];
@@ -23,6 +23,12 @@ pub const MAX_RING_CAPACITY: u32 = 65_536;
 
 /// The most entries of a journal.
 pub const MAX_ENTRIES: u32 = 16_777_216;
+
+/// The most threads that hash pages.
+pub const MAX_WORKERS: u32 = 64;
+
+/// The most watches of a machine's published reports.
+pub const MAX_WATCHES: u32 = 8;
 
 /// The most bytes of an input text.
 pub const MAX_TEXT_BYTES: usize = 67_108_864;
