@@ -1,0 +1,8 @@
+//! The calls of `share_text` on worked values, and over readers and writers that fail.
+//! This crate has tests alone.
+#![tactic(auto)]
+
+#[cfg(test)]
+mod ends;
+#[cfg(test)]
+mod lines;
