@@ -6,6 +6,7 @@
 
 mod ends;
 mod engine;
+mod expect;
 mod fault;
 mod header;
 mod journal;
@@ -16,6 +17,7 @@ mod word;
 
 pub use ends::{Noted, Sink, Source};
 pub use engine::replay;
+pub use expect::expectation;
 pub use fault::{Cause, TextFault};
 pub use journal::{Journal, read_journal};
 pub use print::{fault_line, report_line, verdict_line};
