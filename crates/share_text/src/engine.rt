@@ -14,9 +14,10 @@ ghost use Rattle.share_text.specs.Replayed.{report_text, printed_from, printed, 
 
 use crate::ends::{Sink, Source, read_all, write_all};
 use crate::fault::TextFault;
-use crate::journal::{Journal, read_journal};
+use crate::journal::Journal;
 use crate::output::{LINE_BYTES, buffer, make_room, put_report, put_verdict};
 use crate::print::fault_line;
+use crate::reader::read_journal;
 use merge_core::Core;
 use page_digest::PageHash;
 use page_model::Entry;
@@ -28,9 +29,6 @@ fn core_of<H: PageHash + Drop, A: Allocator + Clone>(
     journal: &Journal<A>,
     hash: H,
 ) -> Result<Core<H, A>, TextFault>
-    requires frames { AreFrames journal.now.frames }
-    requires guests { AreGuests journal.now.salts.items journal.now.pages.items }
-    requires pages { ArePages journal.now.pages.items }
     ensures empty { IfOk result (λ core. state_of core ≡ empty_state journal.now.frames (shapes journal.now.salts.items journal.now.pages.items)) }
     ensures guests { IfOk result (λ core. length (state_of core).guests ≡ length journal.now.pages.items) }
     ensures fault { IfErr result (λ e. e ≡ OutOfMemory) }
@@ -116,11 +114,6 @@ fn print_journal<H: PageHash + Drop, W: Sink, A: Allocator + Clone>(
     writer: &mut W,
     hash: H,
 ) -> Result<(), TextFault>
-    requires frames { AreFrames journal.now.frames }
-    requires guests { AreGuests journal.now.salts.items journal.now.pages.items }
-    requires pages { ArePages journal.now.pages.items }
-    requires entries { AreBelow (length journal.now.pages.items) journal.now.entries.items }
-    requires few { length journal.now.entries.items ≤ 16777216 }
     requires fine { W.has_failed writer.old ≡ false }
     ensures ok { OnOk result (Appends (W.contents writer.old) (W.contents writer.new) (printed H.hash_of (journal_seen journal.now))) }
     ensures err { IfErr result (λ e. NotPrinted (W.contents writer.old) (W.contents writer.new) (printed H.hash_of (journal_seen journal.now)) e) }

@@ -9,11 +9,13 @@ fn line_form(n: u32) -> &'static str
     ensures { result.now ≡ line_form n }
 {
     if n == 1 {
-        "\"pageshare journal 1\""
+        "\"pageshare journal 1\" or \"pageshare journal 2\""
     } else if n == 2 {
         "\"frames NUMBER\""
     } else if n == 3 {
         "\"pages NUMBER ..\""
+    } else if n == 4 {
+        "a request line, as \"GUEST propose PPN\", or \"end NUMBER\" with nothing behind that line; in version 2 \"salts NUMBER ..\""
     } else {
         "a request line, as \"GUEST propose PPN\", or \"end NUMBER\" with nothing behind that line"
     }

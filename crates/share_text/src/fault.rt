@@ -10,7 +10,7 @@ use thiserror::Error;
 #[derive(Clone, Copy, Debug, PartialEq, Eq, Error)]
 pub enum Cause {
     /// The first line is none that the call reads.
-    #[error("begin with the line \"pageshare journal 1\"")]
+    #[error("begin with the line \"pageshare journal 1\" or \"pageshare journal 2\"")]
     Header,
     /// The words are not those that the line's place asks for.
     #[error("give the words of this line's form, with one space between them")]
