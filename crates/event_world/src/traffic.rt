@@ -3,7 +3,7 @@ ghost use Rattle.std.specs.Prelude.{◌≡◌, ◌++◌, OnOk, OnErr, IfOk};
 ghost use Rattle.page_model.specs.Journal.{places};
 ghost use Rattle.page_model.specs.Events.{no_traffic, next, sends, takes, gives, gets, entries_of};
 
-use crate::looks::{copy_of, has_close, place_of};
+use crate::looks::{has_close, place_of};
 use page_model::{Entry, Request};
 use std::alloc::{AllocError, Allocator, Global};
 use std::marker::Model;
@@ -67,8 +67,8 @@ impl<A: Allocator> Traffic<A> {
         let Some(next) = self.sent.get(self.taken.len()) else {
             return Ok(());
         };
-        let taken = copy_of(next)?;
-        let request = copy_of(next)?;
+        let taken = next.clone()?;
+        let request = next.clone()?;
         self.taken.reserve(1)?;
         journal.reserve(1)?;
         self.taken.push_reserved(taken);

@@ -4,7 +4,6 @@ ghost use Rattle.page_model.specs.Events.{start, happens};
 ghost use Rattle.event_world.specs.Played.{world_of, AreAlike, guest_of};
 
 use crate::Traffic;
-use crate::looks::copy_of;
 use page_model::{Entry, Event};
 use std::alloc::{AllocError, Allocator, Global};
 use std::marker::Model;
@@ -54,7 +53,7 @@ impl<A: Allocator> World<A> {
     {
         match event {
             Event::Send(guest, request) => {
-                let request = copy_of(request)?;
+                let request = request.clone()?;
                 self.guests[*guest as usize].send(request)
             }
             Event::Take(guest) => self.guests[*guest as usize].take(*guest, &mut self.journal),

@@ -1,5 +1,7 @@
 pub mod Names
+pub mod Noted
 pub mod Ties
 pub mod View
 pub mod Shown
+pub mod Stays
 pub mod Refusals

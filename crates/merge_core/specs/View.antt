@@ -8,7 +8,6 @@ use Rattle.merge_core.specs.Ties.{Ties, Few}
 use Rattle.merge_core.specs.declared.held.PageEntry.{PageEntry}
 use Rattle.merge_core.specs.declared.held.PageEntry.TheVariants.{Unmapped, Private, Shared}
 use Rattle.merge_core.specs.declared.held.GuestPages.{GuestPages}
-use Rattle.merge_core.specs.declared.held.Note.{Note}
 use Rattle.merge_core.specs.declared.held.Held.{Held}
 
 abbrev pub slot_of : PageEntry → SlotOf ℕ
@@ -25,17 +24,11 @@ guest_of g = record { salt = g.salt; slots = slots_of g.pages.items }
 abbrev pub names_in : {A : Type 0} → List (GuestPages A) → Names
 names_in guests = map_list guest_of guests
 
-abbrev pub known_of : Note → Known
-known_of n = record { salt = n.salt; hash = n.hash }
-
-abbrev pub notes_in : List Note → List Known
-notes_in notes = map_list known_of notes
-
 abbrev pub names_of : {H A : Type 0} → Held H A → Names
 names_of held = names_in held.guests.items
 
 abbrev pub notes_of : {H A : Type 0} → Held H A → List Known
-notes_of held = notes_in held.notes.items
+notes_of held = held.notes
 
 -- the guests of the model
 abbrev pub guests_of : {H A : Type 0} → Held H A → List Guest

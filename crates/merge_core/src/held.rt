@@ -1,4 +1,5 @@
 //! What a core keeps.
+use crate::notes::Notes;
 use machine_frames::Frames;
 use share_table::Table;
 use std::alloc::{Allocator, Global};
@@ -26,13 +27,6 @@ pub struct GuestPages<A: Allocator = Global> {
     pub pages: Vec<PageEntry, A>,
 }
 
-/// What is known of a frame.
-#[derive(Clone, Copy)]
-pub struct Note {
-    pub salt: u32,
-    pub hash: Option<u64>,
-}
-
 /// The parts of a core.
 #[derive(Drop)]
 pub struct Held<H, A: Allocator = Global> {
@@ -40,7 +34,7 @@ pub struct Held<H, A: Allocator = Global> {
     pub frames: Frames<A>,
     pub table: Table<A>,
     pub guests: Vec<GuestPages<A>, A>,
-    pub notes: Vec<Note, A>,
+    pub notes: Notes<A>,
     /// How many hints the table has.
     pub hints: u32,
 }

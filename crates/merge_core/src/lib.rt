@@ -9,11 +9,10 @@ mod held;
 mod machine;
 mod make;
 mod moves;
+mod notes;
 mod offer;
 mod serve;
 mod tally;
-#[cfg(test)]
-mod tests;
 
 pub use fault::CoreFault;
 pub use machine::Core;

@@ -1,6 +1,6 @@
 //! The core.
 ghost use Rattle.std.specs.Prelude.{◌≡◌, ◌+◌, ◌<◌, length, slice_get, is_some, Some, IsSome, IfOk, IfSome, MatchResult};
-ghost use Rattle.std.specs.Option.{option_map, option_and_then};
+ghost use Rattle.std.specs.Option.{option_map};
 ghost use Rattle.page_model.specs.Limits.{shapes};
 ghost use Rattle.page_model.specs.Pages.{page_at, totals, is_mapped};
 ghost use Rattle.page_model.specs.Replay.{empty_state};
@@ -8,20 +8,20 @@ ghost use Rattle.page_model.specs.Steps.{step};
 ghost use Rattle.page_model.specs.Stored.{byte_at, text_at};
 ghost use Rattle.machine_frames.specs.FrameMap.{frame, no_frames};
 ghost use Rattle.share_table.specs.TableMaps.{empty_table};
-ghost use Rattle.merge_core.specs.Names.{frame_of};
 ghost use Rattle.merge_core.specs.Refusals.{AreLimits, NoCoreFor};
 ghost use Rattle.merge_core.specs.Shown.{state_of, FramesOfPages, TableOfPages};
+ghost use Rattle.merge_core.specs.Stays.{frame_at, FramesStay};
 
 use crate::fault::CoreFault;
 use crate::held::{Held, PageEntry};
-use crate::make::{check_limits, new_held};
+use crate::make::new_held;
 use crate::moves::find;
 use crate::offer::propose;
 use crate::serve::{bytes_at, load, release, store};
 use crate::tally::report;
 use machine_frames::Frames;
 use page_digest::PageHash;
-use page_model::{Report, Request, Verdict};
+use page_model::{MachineShape, Report, Request, ShapeFault, Verdict};
 use share_table::Table;
 use std::alloc::{AllocError, Allocator, Global};
 use std::marker::Model;
@@ -64,14 +64,22 @@ impl<H: PageHash + Drop, A: Allocator + Clone> Core<H, A> {
         ensures table { IfOk result (λ core. core.table ≡ empty_table frames) }
         ensures fault { MatchResult result (λ _. AreLimits frames pages.now salts.now) (λ fault. NoCoreFor frames pages.now salts.now fault) }
     {
-        check_limits(frames, pages, salts)?;
-        match Core::open(alloc, frames, pages, salts, hash) {
-            Err(_) => Err(CoreFault::OutOfMemory),
-            Ok(core) => Ok(core),
-        }
+        let shape = MachineShape::new(frames, pages, salts)?;
+        Ok(Core::with_shape(alloc, &shape, hash)?)
     }
 
-    /// The same for a machine that is known to be within the limits (see [`check_limits`]).
+    /// The same for a shape, which is known to be within the limits.
+    pub fn with_shape(alloc: A, shape: &MachineShape<'_>, hash: H) -> Result<Core<H, A>, AllocError>
+        ensures empty { IfOk result (λ core. state_of core ≡ empty_state shape.now.frames (shapes shape.now.salts shape.now.pages)) }
+        ensures guests { IfOk result (λ core. length (state_of core).guests ≡ length shape.now.pages) }
+        ensures frames { IfOk result (λ core. core.frames ≡ no_frames shape.now.frames) }
+        ensures table { IfOk result (λ core. core.table ≡ empty_table shape.now.frames) }
+    {
+        let held = new_held(alloc, shape, hash)?;
+        Ok(Core { entries: 0, held })
+    }
+
+    /// The same for a machine that is known to be within the limits (see [`check_limits`](crate::check_limits)).
     pub fn open(
         alloc: A,
         frames: u32,
@@ -85,18 +93,26 @@ impl<H: PageHash + Drop, A: Allocator + Clone> Core<H, A> {
         ensures frames { IfOk result (λ core. core.frames ≡ no_frames frames) }
         ensures table { IfOk result (λ core. core.table ≡ empty_table frames) }
     {
-        let held = new_held(alloc, frames, pages, salts, hash)?;
-        Ok(Core { entries: 0, held })
+        match MachineShape::new(frames, pages, salts) {
+            Ok(shape) => Core::with_shape(alloc, &shape, hash),
+            Err(ShapeFault::Frames) => unreachable!(),
+            Err(ShapeFault::Guests) => unreachable!(),
+            Err(ShapeFault::Pages) => unreachable!(),
+        }
     }
 }
 
 impl<H: PageHash, A: Allocator> Core<H, A> {
     /// Serves one request of a guest, and tells the verdict. It takes no memory.
+    ///
+    /// Every page but the named one keeps its frame. So does the named one, but at `Mapped` and `Copied` (it gets a frame
+    /// that was free), at `Joined` and `Paired` (that of the pages with which it is now shared) and at `Released` (none).
     #[tactic(auto, unfolding(page_model::specs::Steps::step, page_model::specs::Steps::answered))]
     pub fn apply(&mut self, guest: u8, request: &Request) -> Verdict
         requires guest { guest < length (state_of self.old).guests }
-        requires room { self.old.entries < 16777216 }
+        requires room { self.old.entries < 4294967295 }
         ensures step { record { state = state_of self.new; verdict = result } ≡ step H.hash_of (state_of self.old) guest request.now }
+        ensures stay { FramesStay guest request.now result self.old self.new }
         ensures entries { self.new.entries ≡ self.old.entries + 1 }
         ensures guests { length (state_of self.new).guests ≡ length (state_of self.old).guests }
     {
@@ -110,6 +126,15 @@ impl<H: PageHash, A: Allocator> Core<H, A> {
             Request::Count => Verdict::Totals(report(&self.held, self.entries)),
             Request::Close => Verdict::Closed,
         }
+    }
+
+    /// Begins the count of requests anew, for a machine that serves more than the count can hold.
+    ///
+    /// Its pages, frames and table stay as they are.
+    pub fn restart_count(&mut self)
+        ensures { self.new ≡ record { entries = 0; names = self.old.names; frames = self.old.frames; table = self.old.table } }
+    {
+        self.entries = 0;
     }
 
     /// What the machine counts.
@@ -157,7 +182,7 @@ impl<H: PageHash, A: Allocator> Core<H, A> {
     /// The machine page number (MPN) of a page's frame, `None` where the page is unmapped.
     pub fn frame(&self, guest: u8, ppn: u32) -> Option<u32>
         requires { IsSome (page_at (state_of self.now).guests guest ppn) }
-        ensures name { result ≡ option_and_then (λ x. frame_of x.1) (page_at self.now.names guest ppn) }
+        ensures name { result ≡ frame_at self.now.names guest ppn }
         ensures mapped { Some (is_some result) ≡ option_map (λ x. is_mapped x.1) (page_at (state_of self.now).guests guest ppn) }
         ensures bytes { IfSome result (λ mpn. frame self.now.frames mpn ≡ text_at (state_of self.now).guests guest ppn) }
     {

@@ -1,48 +1,27 @@
 //! The parts of a new core.
-ghost use Rattle.std.specs.Prelude.{◌≡◌, ◌≢◌, ◌+◌, ◌<◌, ◌≤◌, ◌↔◌, length, sum, replicate, IfOk, IsTrue, MatchResult};
-ghost use Rattle.page_model.specs.Limits.{ArePages, shapes};
+ghost use Rattle.std.specs.Prelude.{◌≡◌, ◌≢◌, length, IfOk, MatchResult};
+ghost use Rattle.page_model.specs.Limits.{shapes};
 ghost use Rattle.machine_frames.specs.FrameMap.{no_frames};
 ghost use Rattle.share_table.specs.TableMaps.{empty_table};
-ghost use Rattle.merge_core.specs.Names.{unknown, empty_names, empty_name};
+ghost use Rattle.merge_core.specs.Names.{empty_names, empty_name};
 ghost use Rattle.merge_core.specs.Refusals.{AreLimits, NoCoreFor};
 ghost use Rattle.merge_core.specs.declared.fault.CoreFault.TheVariants.{OutOfMemory};
-ghost use Rattle.merge_core.specs.View.{guest_of, names_in, names_of, notes_in, Whole};
+ghost use Rattle.merge_core.specs.View.{guest_of, names_in, names_of, Whole};
 
 use crate::fault::CoreFault;
-use crate::held::{GuestPages, Held, Note, PageEntry};
+use crate::held::{GuestPages, Held, PageEntry};
+use crate::notes::Notes;
 use machine_frames::Frames;
 use page_digest::PageHash;
-use page_model::{MAX_FRAMES, MAX_GUESTS};
+use page_model::MachineShape;
 use share_table::Table;
 use std::alloc::{AllocError, Allocator};
-
-/// Whether each guest has a page, and all together at most 1,048,576.
-pub fn are_pages(pages: &[u32]) -> bool
-    ensures { IsTrue result ↔ ArePages pages.now }
-{
-    let mut left = 1_048_576;
-    for n in pages {
-        if *n == 0 || *n > left {
-            return false;
-        }
-        left -= *n;
-    }
-    true
-}
 
 /// Whether there may be a machine of these frames, pages and salts, and the first cause for which there is none.
 pub fn check_limits(frames: u32, pages: &[u32], salts: &[u32]) -> Result<(), CoreFault>
     ensures { MatchResult result (λ _. AreLimits frames pages.now salts.now) (λ fault. NoCoreFor frames pages.now salts.now fault × (fault ≢ OutOfMemory)) }
 {
-    if frames == 0 || frames > MAX_FRAMES {
-        return Err(CoreFault::Frames);
-    }
-    if pages.is_empty() || pages.len() > MAX_GUESTS || salts.len() != pages.len() {
-        return Err(CoreFault::Guests);
-    }
-    if !are_pages(pages) {
-        return Err(CoreFault::Pages);
-    }
+    let _shape = MachineShape::new(frames, pages, salts)?;
     Ok(())
 }
 
@@ -76,38 +55,23 @@ fn new_guests<A: Allocator + Clone>(
     Ok(guests)
 }
 
-/// One note for each frame, of which nothing is known.
-fn new_notes<A: Allocator>(alloc: A, frames: u32) -> Result<Vec<Note, A>, AllocError>
-    ensures { IfOk result (λ v. notes_in v.items ≡ replicate frames unknown) }
-{
-    let mut notes = Vec::with_capacity(alloc, frames as usize)?;
-    for _ in 0..frames {
-        notes.push_reserved(Note {
-            salt: 0,
-            hash: None,
-        });
-    }
-    Ok(notes)
-}
-
 /// The parts of a core with no page mapped, and all the room that they ever need.
 pub fn new_held<H: PageHash + Drop, A: Allocator + Clone>(
     alloc: A,
-    frames: u32,
-    pages: &[u32],
-    salts: &[u32],
+    shape: &MachineShape<'_>,
     hash: H,
 ) -> Result<Held<H, A>, AllocError>
-    requires { AreLimits frames pages.now salts.now }
     ensures whole { IfOk result (λ held. Whole H.hash_of held) }
-    ensures names { IfOk result (λ held. names_of held ≡ empty_names (shapes salts.now pages.now)) }
-    ensures frames { IfOk result (λ held. held.frames ≡ no_frames frames) }
-    ensures table { IfOk result (λ held. held.table ≡ empty_table frames) }
+    ensures names { IfOk result (λ held. names_of held ≡ empty_names (shapes shape.now.salts shape.now.pages)) }
+    ensures guests { IfOk result (λ held. length (names_of held) ≡ length shape.now.pages) }
+    ensures frames { IfOk result (λ held. held.frames ≡ no_frames shape.now.frames) }
+    ensures table { IfOk result (λ held. held.table ≡ empty_table shape.now.frames) }
 {
-    let guests = new_guests(alloc.clone()?, salts, pages)?;
-    let notes = new_notes(alloc.clone()?, frames)?;
-    let table = Table::new(alloc.clone()?, frames)?;
-    match Frames::new(alloc, frames) {
+    let total = shape.frames();
+    let guests = new_guests(alloc.clone()?, shape.salts(), shape.pages())?;
+    let notes = Notes::new(alloc.clone()?, total)?;
+    let table = Table::new(alloc.clone()?, total)?;
+    match Frames::new(alloc, total) {
         Err(_) => Err(AllocError),
         Ok(frames) => Ok(Held {
             hash,

@@ -3,11 +3,11 @@ ghost use Rattle.std.specs.Prelude.{◌≡◌, ◌+◌, ◌<◌, ◌≤◌, ◌=
 ghost use Rattle.page_model.specs.Pages.{blank, written, with_slot, page_at, used, peers};
 ghost use Rattle.page_model.specs.Pages as s;
 ghost use Rattle.merge_core.specs.Names.{bytes_in, slot_in, known_at};
-ghost use Rattle.merge_core.specs.View.{slot_of, names_in, names_of, guests_of, notes_in, notes_of, Whole};
+ghost use Rattle.merge_core.specs.View.{slot_of, names_in, names_of, guests_of, notes_of, Whole};
 ghost use Rattle.machine_frames.specs.FrameMap as fm;
 ghost use Rattle.share_table.specs.TableMaps.{shared_at, hint_at, count_at, without_hint};
 
-use crate::held::{GuestPages, Held, Note, PageEntry, Place};
+use crate::held::{GuestPages, Held, PageEntry, Place};
 use machine_frames::Frames;
 use page_digest::PageHash;
 use std::alloc::Allocator;
@@ -67,14 +67,6 @@ fn new_frame<A: Allocator>(frames: &mut Frames<A>) -> u32
     }
 }
 
-/// Notes a frame's salt, and that its hash isn't known.
-fn set_note<A: Allocator>(notes: &mut Vec<Note, A>, mpn: u32, salt: u32)
-    requires mpn { mpn < length (notes_in notes.old.items) }
-    ensures notes { notes_in notes.new.items ≡ slice_set (notes_in notes.old.items) mpn (record { salt = salt; hash = None }) }
-{
-    notes[mpn as usize] = Note { salt, hash: None };
-}
-
 /// Maps a page to a frame of zeros.
 pub fn map_zeroed<H: PageHash, A: Allocator>(held: &mut Held<H, A>, page: Place) -> u32
     requires whole { Whole H.hash_of held.old }
@@ -82,13 +74,14 @@ pub fn map_zeroed<H: PageHash, A: Allocator>(held: &mut Held<H, A>, page: Place)
     requires room { (fm.used held.old.frames == length held.old.frames) ≡ false }
     ensures whole { Whole H.hash_of held.new }
     ensures total { length held.new.frames ≡ length held.old.frames }
+    ensures free { fm.frame held.old.frames result ≡ None }
     ensures name { names_of held.new ≡ with_slot (names_of held.old) page.guest page.ppn (s.Private result None) }
     ensures bytes { bytes_in held.new.frames result ≡ blank }
     ensures page { page_at (names_of held.new) page.guest page.ppn ≡ Some (page.salt, s.Private result None) }
     ensures guests { guests_of held.new ≡ with_slot (guests_of held.old) page.guest page.ppn (s.Private blank None) }
 {
     let mpn = new_frame(&mut held.frames);
-    set_note(&mut held.notes, mpn, page.salt);
+    held.notes.forget(mpn, page.salt);
     set_page(&mut held.guests, page, PageEntry::Private(mpn, None));
     mpn
 }
@@ -120,7 +113,7 @@ pub fn write<H: PageHash, A: Allocator>(
     ensures guests { guests_of held.new ≡ with_slot (guests_of held.old) page.guest page.ppn (s.Private (written (bytes_in held.old.frames mpn) at bytes.now) hint) }
 {
     held.frames.write(mpn, at, bytes);
-    set_note(&mut held.notes, mpn, page.salt);
+    held.notes.forget(mpn, page.salt);
 }
 
 /// Takes a free frame with the bytes of another.
@@ -145,12 +138,14 @@ pub fn map_copy<H: PageHash, A: Allocator>(held: &mut Held<H, A>, page: Place, f
     requires room { (fm.used held.old.frames == length held.old.frames) ≡ false }
     ensures whole { Whole H.hash_of held.new }
     ensures total { length held.new.frames ≡ length held.old.frames }
+    ensures free { fm.frame held.old.frames result ≡ None }
+    ensures name { names_of held.new ≡ with_slot (names_of held.old) page.guest page.ppn (s.Private result None) }
     ensures bytes { bytes_in held.new.frames result ≡ bytes_in held.old.frames from }
     ensures page { page_at (names_of held.new) page.guest page.ppn ≡ Some (page.salt, s.Private result None) }
     ensures guests { guests_of held.new ≡ with_slot (guests_of held.old) page.guest page.ppn (s.Private (bytes_in held.old.frames from) None) }
 {
     let mpn = new_copy(&mut held.frames, from);
-    set_note(&mut held.notes, mpn, page.salt);
+    held.notes.forget(mpn, page.salt);
     set_page(&mut held.guests, page, PageEntry::Private(mpn, None));
     mpn
 }
@@ -201,7 +196,7 @@ pub fn hash_frame<H: PageHash, A: Allocator>(held: &mut Held<H, A>, mpn: u32, sa
     ensures names { names_of held.new ≡ names_of held.old }
     ensures shown { guests_of held.new ≡ guests_of held.old }
 {
-    if let Some(code) = known_hash(&held.notes, mpn) {
+    if let Some(code) = held.notes.known_hash(mpn) {
         return code;
     }
     let code = held.hash.hash(salt, held.frames.bytes(mpn));
@@ -222,24 +217,7 @@ pub fn learn<H: PageHash, A: Allocator>(held: &mut Held<H, A>, mpn: u32, salt: u
     ensures shown { guests_of held.new ≡ guests_of held.old }
     ensures known { known_at (notes_of held.new) mpn ≡ record { salt = salt; hash = Some code } }
 {
-    note_hash(&mut held.notes, mpn, salt, code);
-}
-
-fn known_hash<A: Allocator>(notes: &Vec<Note, A>, mpn: u32) -> Option<u64>
-    requires mpn { mpn < length (notes_in notes.now.items) }
-    ensures hash { result ≡ (known_at (notes_in notes.now.items) mpn).hash }
-{
-    notes[mpn as usize].hash
-}
-
-fn note_hash<A: Allocator>(notes: &mut Vec<Note, A>, mpn: u32, salt: u32, code: u64)
-    requires mpn { mpn < length (notes_in notes.old.items) }
-    ensures notes { notes_in notes.new.items ≡ slice_set (notes_in notes.old.items) mpn (record { salt = salt; hash = Some code }) }
-{
-    notes[mpn as usize] = Note {
-        salt,
-        hash: Some(code),
-    };
+    held.notes.learn(mpn, salt, code);
 }
 
 /// How many pages share a page's frame.
@@ -266,6 +244,7 @@ pub fn keep<H: PageHash, A: Allocator>(held: &mut Held<H, A>, page: Place, mpn: 
     requires found { shared_at held.old.table code ≡ Some (record { mpn = mpn; count = 1 }) }
     ensures whole { Whole H.hash_of held.new }
     ensures frames { held.new.frames ≡ held.old.frames }
+    ensures name { names_of held.new ≡ with_slot (names_of held.old) page.guest page.ppn (s.Private mpn None) }
     ensures page { page_at (names_of held.new) page.guest page.ppn ≡ Some (page.salt, s.Private mpn None) }
     ensures guests { guests_of held.new ≡ with_slot (guests_of held.old) page.guest page.ppn (s.Private (bytes_in held.old.frames mpn) None) }
 {
@@ -287,6 +266,7 @@ pub fn leave<H: PageHash, A: Allocator>(
     requires several { 2 ≤ count }
     ensures whole { Whole H.hash_of held.new }
     ensures frames { held.new.frames ≡ held.old.frames }
+    ensures name { names_of held.new ≡ with_slot (names_of held.old) page.guest page.ppn s.Unmapped }
     ensures page { page_at (names_of held.new) page.guest page.ppn ≡ Some (page.salt, s.Unmapped) }
     ensures guests { guests_of held.new ≡ with_slot (guests_of held.old) page.guest page.ppn s.Unmapped }
 {
@@ -301,6 +281,7 @@ pub fn put_hint<H: PageHash, A: Allocator>(held: &mut Held<H, A>, page: Place, m
     requires absent { hint_at held.old.table key ≡ None }
     ensures whole { Whole H.hash_of held.new }
     ensures frames { held.new.frames ≡ held.old.frames }
+    ensures name { names_of held.new ≡ with_slot (names_of held.old) page.guest page.ppn (s.Private mpn (Some key)) }
     ensures page { page_at (names_of held.new) page.guest page.ppn ≡ Some (page.salt, s.Private mpn (Some key)) }
     ensures guests { guests_of held.new ≡ with_slot (guests_of held.old) page.guest page.ppn (s.Private (bytes_in held.old.frames mpn) (Some key)) }
 {
@@ -323,6 +304,7 @@ pub fn join<H: PageHash, A: Allocator>(
     requires salt { (known_at (notes_of held.old) mpn).salt ≡ page.salt }
     ensures whole { Whole H.hash_of held.new }
     ensures frames { held.new.frames ≡ held.old.frames }
+    ensures name { names_of held.new ≡ with_slot (names_of held.old) page.guest page.ppn (s.Shared mpn) }
     ensures count { result ≡ peers page.salt (bytes_in held.old.frames mpn) (guests_of held.new) }
     ensures guests { guests_of held.new ≡ with_slot (guests_of held.old) page.guest page.ppn (s.Shared (bytes_in held.old.frames mpn)) }
 {
@@ -346,6 +328,7 @@ pub fn share<H: PageHash, A: Allocator>(
     requires code { H.hash_of first.salt (bytes_in held.old.frames mpn) ≡ code }
     ensures whole { Whole H.hash_of held.new }
     ensures frames { held.new.frames ≡ held.old.frames }
+    ensures names { names_of held.new ≡ with_slot (with_slot (names_of held.old) first.guest first.ppn (s.Shared mpn)) second.guest second.ppn (s.Shared mpn) }
     ensures guests { guests_of held.new ≡ with_slot (with_slot (guests_of held.old) first.guest first.ppn (s.Shared (bytes_in held.old.frames mpn))) second.guest second.ppn (s.Shared (bytes_in held.old.frames mpn)) }
 {
     held.table.add_shared(code, mpn);

@@ -3,13 +3,15 @@ ghost use Rattle.std.specs.Prelude.{◌≡◌, ◌<◌, ◌==◌, ◌&&◌, leng
 ghost use Rattle.page_model.specs.Steps.{proposed, matched, offered, at_page, key_of, kept_hint};
 ghost use Rattle.page_model.specs.Pages.{page_at, with_slot};
 ghost use Rattle.page_model.specs.Pages as s;
+ghost use Rattle.page_model.specs.declared.verdict.Verdict.TheVariants.{Paired};
 ghost use Rattle.merge_core.specs.Names.{bytes_in, known_at};
+ghost use Rattle.merge_core.specs.Stays.{AllKeep, OthersKeep};
 ghost use Rattle.share_table.specs.TableMaps.{hint_at, shared_at, count_at};
-ghost use Rattle.merge_core.specs.View.{names_of, guests_of, notes_in, notes_of, Whole};
+ghost use Rattle.merge_core.specs.View.{names_of, guests_of, notes_of, Whole};
 ghost use Rattle.machine_frames.specs.FrameMap as fm;
 ghost use Rattle.std.specs.Str.{bytes_eq};
 
-use crate::held::{Held, Note, PageEntry, Place};
+use crate::held::{Held, PageEntry, Place};
 use crate::moves::{drop_hint, find, hash_frame, join, learn, put_hint, share, unmap};
 use crate::serve::{bytes_at, clear_hint};
 use machine_frames::Frames;
@@ -31,6 +33,7 @@ pub fn propose<H: PageHash, A: Allocator>(held: &mut Held<H, A>, guest: usize, p
     requires whole { Whole H.hash_of held.old }
     ensures whole { Whole H.hash_of held.new }
     ensures total { length held.new.frames ≡ length held.old.frames }
+    ensures stay { OthersKeep held.old.frames guest ppn result (names_of held.old) (names_of held.new) }
     ensures step { record { guests = guests_of held.new; verdict = result }
         ≡ at_page (guests_of held.old) guest ppn (λ salt slot. proposed H.hash_of (guests_of held.old) guest ppn salt slot) }
 {
@@ -57,6 +60,7 @@ fn propose_private<H: PageHash, A: Allocator>(
     requires page { page_at (names_of held.old) page.guest page.ppn ≡ Some (page.salt, s.Private mpn hint) }
     ensures whole { Whole H.hash_of held.new }
     ensures total { length held.new.frames ≡ length held.old.frames }
+    ensures stay { OthersKeep held.old.frames page.guest page.ppn result (names_of held.old) (names_of held.new) }
     ensures step { record { guests = guests_of held.new; verdict = result }
         ≡ proposed H.hash_of (guests_of held.old) page.guest page.ppn page.salt (s.Private (bytes_in held.old.frames mpn) hint) }
 {
@@ -78,6 +82,7 @@ fn settle_hint<H: PageHash, A: Allocator>(
     requires page { page_at (names_of held.old) page.guest page.ppn ≡ Some (page.salt, s.Private mpn hint) }
     ensures whole { Whole H.hash_of held.new }
     ensures frames { held.new.frames ≡ held.old.frames }
+    ensures stay { AllKeep (names_of held.old) (names_of held.new) }
     ensures kept { result ≡ kept_hint key hint }
     ensures page { page_at (names_of held.new) page.guest page.ppn ≡ Some (page.salt, s.Private mpn result) }
     ensures guests { guests_of held.new ≡ with_slot (guests_of held.old) page.guest page.ppn (s.Private (bytes_in held.old.frames mpn) result) }
@@ -108,6 +113,7 @@ fn find_match<H: PageHash, A: Allocator>(
     requires code { code ≡ H.hash_of page.salt (bytes_in held.old.frames mpn) }
     ensures whole { Whole H.hash_of held.new }
     ensures total { length held.new.frames ≡ length held.old.frames }
+    ensures stay { OthersKeep held.old.frames page.guest page.ppn result (names_of held.old) (names_of held.new) }
     ensures step { record { guests = guests_of held.new; verdict = result }
         ≡ matched H.hash_of (guests_of held.old) page.guest page.ppn page.salt (bytes_in held.old.frames mpn) code }
 {
@@ -134,7 +140,7 @@ fn same_content<H: PageHash, A: Allocator>(
     requires theirs { fm.IsTaken held.now.frames theirs }
     ensures { result ≡ ((known_at (notes_of held.now) theirs).salt == salt && bytes_eq (bytes_in held.now.frames theirs) (bytes_in held.now.frames mpn)) }
 {
-    salt_of(&held.notes, theirs) == salt && same_bytes(&held.frames, theirs, mpn)
+    held.notes.salt(theirs) == salt && same_bytes(&held.frames, theirs, mpn)
 }
 
 /// Whether two frames have the same bytes.
@@ -162,6 +168,7 @@ fn join_match<H: PageHash, A: Allocator>(
     requires bytes { bytes_in held.old.frames theirs ≡ bytes_in held.old.frames mpn }
     ensures whole { Whole H.hash_of held.new }
     ensures total { length held.new.frames ≡ length held.old.frames }
+    ensures stay { OthersKeep held.old.frames page.guest page.ppn result (names_of held.old) (names_of held.new) }
     ensures step { record { guests = guests_of held.new; verdict = result }
         ≡ matched H.hash_of (guests_of held.old) page.guest page.ppn page.salt (bytes_in held.old.frames mpn) code }
 {
@@ -185,6 +192,7 @@ fn offer<H: PageHash, A: Allocator>(
     requires absent { shared_at held.old.table code ≡ None }
     ensures whole { Whole H.hash_of held.new }
     ensures total { length held.new.frames ≡ length held.old.frames }
+    ensures stay { OthersKeep held.old.frames page.guest page.ppn result (names_of held.old) (names_of held.new) }
     ensures step { record { guests = guests_of held.new; verdict = result }
         ≡ offered H.hash_of (guests_of held.old) page.guest page.ppn page.salt (bytes_in held.old.frames mpn) (key_of code) }
 {
@@ -216,11 +224,12 @@ fn weigh<H: PageHash, A: Allocator>(
     requires absent { shared_at held.old.table code ≡ None }
     ensures whole { Whole H.hash_of held.new }
     ensures total { length held.new.frames ≡ length held.old.frames }
+    ensures stay { OthersKeep held.old.frames page.guest page.ppn result (names_of held.old) (names_of held.new) }
     ensures step { record { guests = guests_of held.new; verdict = result }
         ≡ offered H.hash_of (guests_of held.old) page.guest page.ppn page.salt (bytes_in held.old.frames mpn) (key_of code) }
 {
     let theirs = hint.mpn;
-    let salt = salt_of(&held.notes, theirs);
+    let salt = held.notes.salt(theirs);
     let other = Place {
         guest: hint.guest as usize,
         ppn: hint.ppn as usize,
@@ -258,17 +267,11 @@ fn pair<H: PageHash, A: Allocator>(
     requires absent { shared_at held.old.table code ≡ None }
     ensures whole { Whole H.hash_of held.new }
     ensures total { length held.new.frames ≡ length held.old.frames }
+    ensures stay { OthersKeep held.old.frames page.guest page.ppn Paired (names_of held.old) (names_of held.new) }
     ensures guests { guests_of held.new ≡ with_slot (with_slot (guests_of held.old) first.guest first.ppn (s.Shared (bytes_in held.old.frames theirs))) page.guest page.ppn (s.Shared (bytes_in held.old.frames mpn)) }
 {
     drop_hint(held, first, theirs, key_of(code));
     unmap(held, page, mpn);
     learn(held, theirs, page.salt, code);
     share(held, first, theirs, page, code);
-}
-
-fn salt_of<A: Allocator>(notes: &Vec<Note, A>, mpn: u32) -> u32
-    requires mpn { mpn < length (notes_in notes.now.items) }
-    ensures salt { result ≡ (known_at (notes_in notes.now.items) mpn).salt }
-{
-    notes[mpn as usize].salt
 }

@@ -4,6 +4,7 @@ ghost use Rattle.page_model.specs.Steps.{stored, released, loaded, at_page};
 ghost use Rattle.page_model.specs.Pages.{page_at, with_slot, blank};
 ghost use Rattle.page_model.specs.Pages as s;
 ghost use Rattle.merge_core.specs.Names.{bytes_in};
+ghost use Rattle.merge_core.specs.Stays.{AllKeep, OthersKeep};
 ghost use Rattle.machine_frames.specs.FrameMap as fm;
 ghost use Rattle.merge_core.specs.View.{names_of, guests_of, Whole};
 
@@ -26,6 +27,7 @@ pub fn store<H: PageHash, A: Allocator>(
     requires whole { Whole H.hash_of held.old }
     ensures whole { Whole H.hash_of held.new }
     ensures total { length held.new.frames ≡ length held.old.frames }
+    ensures stay { OthersKeep held.old.frames guest request.now.ppn result (names_of held.old) (names_of held.new) }
     ensures step { record { guests = guests_of held.new; verdict = result }
         ≡ at_page (guests_of held.old) guest request.now.ppn (λ salt slot. stored (length held.old.frames) (guests_of held.old) guest request.now.ppn request.now.at request.now.bytes salt slot) }
 {
@@ -67,6 +69,7 @@ fn store_shared<H: PageHash, A: Allocator>(
     requires fits { at + length bytes.now ≤ 4096 }
     ensures whole { Whole H.hash_of held.new }
     ensures total { length held.new.frames ≡ length held.old.frames }
+    ensures stay { OthersKeep held.old.frames page.guest page.ppn result (names_of held.old) (names_of held.new) }
     ensures step { record { guests = guests_of held.new; verdict = result }
         ≡ stored (length held.old.frames) (guests_of held.old) page.guest page.ppn at bytes.now page.salt (s.Shared (bytes_in held.old.frames mpn)) }
 {
@@ -98,6 +101,7 @@ pub fn clear_hint<H: PageHash, A: Allocator>(
     requires page { page_at (names_of held.old) page.guest page.ppn ≡ Some (page.salt, s.Private mpn hint) }
     ensures whole { Whole H.hash_of held.new }
     ensures frames { held.new.frames ≡ held.old.frames }
+    ensures stay { AllKeep (names_of held.old) (names_of held.new) }
     ensures page { page_at (names_of held.new) page.guest page.ppn ≡ Some (page.salt, s.Private mpn None) }
     ensures guests { guests_of held.new ≡ with_slot (guests_of held.old) page.guest page.ppn (s.Private (bytes_in held.old.frames mpn) None) }
     ensures shared { held.new.table.shared ≡ held.old.table.shared }
@@ -120,6 +124,7 @@ fn release_shared<H: PageHash, A: Allocator>(
     requires page { page_at (names_of held.old) page.guest page.ppn ≡ Some (page.salt, s.Shared mpn) }
     ensures whole { Whole H.hash_of held.new }
     ensures total { length held.new.frames ≡ length held.old.frames }
+    ensures stay { OthersKeep held.old.frames page.guest page.ppn result (names_of held.old) (names_of held.new) }
     ensures step { record { guests = guests_of held.new; verdict = result }
         ≡ released (guests_of held.old) page.guest page.ppn page.salt (s.Shared (bytes_in held.old.frames mpn)) }
 {
@@ -140,6 +145,7 @@ pub fn release<H: PageHash, A: Allocator>(held: &mut Held<H, A>, guest: usize, p
     requires whole { Whole H.hash_of held.old }
     ensures whole { Whole H.hash_of held.new }
     ensures total { length held.new.frames ≡ length held.old.frames }
+    ensures stay { OthersKeep held.old.frames guest ppn result (names_of held.old) (names_of held.new) }
     ensures step { record { guests = guests_of held.new; verdict = result }
         ≡ at_page (guests_of held.old) guest ppn (λ salt slot. released (guests_of held.old) guest ppn salt slot) }
 {

@@ -6,7 +6,8 @@ use Rattle.std.proofs.lemmas.Bool.{eqb-true, eqb-false, ne_eqb, eq-eqb}
 use Rattle.std.proofs.Math.Seq.{drop-append_seam}
 use Rattle.std.proofs.lemmas.List.{take-append-drop, append-nil}
 use Rattle.page_model.specs.Journal.{places_from, places, asked}
-use Rattle.page_model.specs.Events.{Traffic, World, start, is_close, next, sends, takes, gives, gets, at_guest, entries_of, happens, world_from, world_after, Begins, ClosesLast, GotBeforeSent}
+use Rattle.page_model.specs.Closing.{is_close}
+use Rattle.page_model.specs.Events.{Traffic, World, start, next, sends, takes, gives, gets, at_guest, entries_of, happens, world_from, world_after, Begins, ClosesLast, GotBeforeSent}
 use Rattle.page_model.proofs.Journals.{asked-append, places_from-append, length-places}
 use Rattle.page_model.specs.declared.event.Event.{Event}
 use Rattle.page_model.specs.declared.event.Event.TheVariants.{Send, Take, Give, Get}

@@ -1,13 +1,13 @@
 -- What passes between the guests and the merger, one event after another. Verdicts stand here by the places of their
 -- entries in the journal, so a world of events is the same for every hash, number of frames and ring capacity.
 use Rattle.std.specs.Prelude.{◌≡◌, ℕ, ◌<◌, ◌≤◌, ◌==◌, Bool, true, false, if◌then◌else◌, List, [], ◌∷◌, ◌++◌, length, take, drop, map, Some, slice_get}
-use Rattle.std.specs.List.{list_any}
+use Rattle.page_model.specs.Closing.{is_close, has_close}
 use Rattle.page_model.specs.Journal.{places}
 use Rattle.page_model.specs.declared.event.Event.{Event}
 use Rattle.page_model.specs.declared.event.Event.TheVariants.{Send, Take, Give, Get}
 use Rattle.page_model.specs.declared.request.Entry.{Entry}
 use Rattle.page_model.specs.declared.request.Request.{Request}
-use Rattle.page_model.specs.declared.request.Request.TheVariants.{Propose, Store, Load, Release, Count, Close}
+use Rattle.page_model.specs.declared.request.Request.TheVariants.{Count}
 
 -- What has passed between one guest and the merger: the requests that the guest sent and those that the merger took,
 -- and the verdicts that the merger gave and those that the guest got, by their places in the journal.
@@ -30,22 +30,13 @@ pub record World : Type 0 where
 abbrev pub start : World
 start = record { traffic = λ guest. no_traffic; journal = [] }
 
--- the request is a close
-abbrev pub is_close : Request → Bool
-is_close (Propose ppn) = false
-is_close (Store r) = false
-is_close (Load r) = false
-is_close (Release ppn) = false
-is_close Count = false
-is_close Close = true
-
 -- what comes next in ys after as many as xs has: one element, or none
 abbrev pub next : {X : Type 0} → List X → List X → List X
 next xs ys = take 1 (drop (length xs) ys)
 
 -- the guest sends a request, unless it sent a close before
 abbrev pub sends : Request → Traffic → Traffic
-sends r t = record { sent = if list_any is_close t.sent then t.sent else t.sent ++ r ∷ []; taken = t.taken; given = t.given; got = t.got }
+sends r t = record { sent = if has_close t.sent then t.sent else t.sent ++ r ∷ []; taken = t.taken; given = t.given; got = t.got }
 
 -- the merger takes the next request that was sent
 abbrev pub takes : Traffic → Traffic
@@ -91,7 +82,7 @@ pub record Begins {X : Type 0} (xs ys : List X) : Type 0 where
 
 -- only the last of these requests may be a close
 abbrev pub ClosesLast : List Request → Type 0
-ClosesLast rs = (front : List Request) (last : Request) → front ++ last ∷ [] ≡ rs → list_any is_close front ≡ false
+ClosesLast rs = (front : List Request) (last : Request) → front ++ last ∷ [] ≡ rs → has_close front ≡ false
 
 -- Where guest a had got its kth place before guest b's mth request was sent, both counted from 0,
 -- a's kth place stands before b's mth.

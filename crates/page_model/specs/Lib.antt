@@ -4,6 +4,7 @@ pub mod Pages
 pub mod Steps
 pub mod Replay
 pub mod Limits
+pub mod Closing
 pub mod Journal
 pub mod Stored
 pub mod Placed

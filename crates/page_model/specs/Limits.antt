@@ -1,6 +1,8 @@
 -- Which machines there are.
 use Rattle.std.specs.Prelude.{ℕ, ◌≡◌, ◌≤◌, List, [], ◌∷◌, length, sum, All}
 use Rattle.page_model.specs.Replay.{Shape}
+use Rattle.page_model.specs.declared.machine_shape.ShapeFault.{ShapeFault}
+use Rattle.page_model.specs.declared.machine_shape.ShapeFault.TheVariants.{Frames, Guests, Pages}
 
 -- the guests by their salts and their numbers of pages, guest 0 first
 abbrev pub shapes : List ℕ → List ℕ → List Shape
@@ -19,3 +21,13 @@ AreGuests salts pages = (1 ≤ length pages) × (length pages ≤ 64) × (length
 -- these may be the guests' numbers of pages, as far as these numbers go
 abbrev pub ArePages : List ℕ → Type 0
 ArePages pages = All (λ n. 1 ≤ n) pages × (sum pages ≤ 1048576)
+
+-- there may be a machine of these frames, pages and salts
+abbrev pub AreLimits : ℕ → List ℕ → List ℕ → Type 0
+AreLimits frames pages salts = AreFrames frames × AreGuests salts pages × ArePages pages
+
+-- the first cause for which there is no machine of these frames, pages and salts
+abbrev pub NoShapeFor : ℕ → List ℕ → List ℕ → ShapeFault → Type 0
+NoShapeFor frames pages salts Frames = ¬ AreFrames frames
+NoShapeFor frames pages salts Guests = AreFrames frames × ¬ AreGuests salts pages
+NoShapeFor frames pages salts Pages = AreFrames frames × AreGuests salts pages × ¬ ArePages pages

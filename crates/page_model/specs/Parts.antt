@@ -1,4 +1,4 @@
--- Stores, loads and reports as contracts see them: their parts, with no fact about them.
+-- Stores, loads, reports and machines as contracts see them: their parts, with no fact about them.
 use Rattle.std.specs.Prelude.{ℕ, List}
 
 -- a store of bytes at a place of page ppn
@@ -21,3 +21,9 @@ pub record Totals : Type 0 where
   pub frames : ℕ
   pub reclaimed : ℕ
   pub hints : ℕ
+
+-- a machine's total of frames, and each guest's number of pages and salt, guest 0 first
+pub record MachineParts : Type 0 where
+  pub frames : ℕ
+  pub pages : List ℕ
+  pub salts : List ℕ

@@ -10,6 +10,7 @@ mod hashing;
 pub mod laws;
 mod limits;
 mod load;
+mod machine_shape;
 mod report;
 mod request;
 mod store;
@@ -24,6 +25,7 @@ pub use limits::{
     MAX_ROUND_REQUESTS, MAX_TEXT_BYTES, MAX_WATCHES, MAX_WORKERS, PAGE_BYTES, Page,
 };
 pub use load::LoadReq;
+pub use machine_shape::{MachineShape, ShapeFault};
 pub use report::Report;
 pub use request::{Entry, Request, RequestFault};
 pub use store::StoreReq;

@@ -1,12 +1,15 @@
 //! What a guest asks.
-ghost use Rattle.std.specs.Prelude.{◌≡◌, ◌+◌, ◌≤◌, length, IfOk, MatchResult};
+ghost use Rattle.std.specs.Prelude.{◌≡◌, ◌+◌, ◌≤◌, ⊤, length, IfOk, MatchResult};
+ghost use Rattle.page_model.specs.Closing.{is_close};
 ghost use Rattle.page_model.specs.Faults.{Fits, RefusedFor};
 
 use crate::{LoadReq, StoreReq};
 use arrayvec::ArrayVec;
+use std::alloc::AllocError;
+use thiserror::Error;
 
 /// What a guest asks. A page is named by its physical page number (PPN), counted from 0.
-#[derive(Clone, Debug, PartialEq, Eq, Drop)]
+#[derive(Debug, PartialEq, Eq, Drop)]
 pub enum Request {
     /// Look for pages with the same content, and share a frame with them.
     Propose(u32),
@@ -23,12 +26,32 @@ pub enum Request {
 }
 
 /// Why there is no such store or load, in the order in which the causes are looked at.
-#[derive(Clone, Copy, Debug, PartialEq, Eq)]
+#[derive(Clone, Copy, Debug, PartialEq, Eq, Error)]
 pub enum RequestFault {
     /// No byte, or more than 64.
+    #[error("a store or load is of 1 to 64 bytes: split a longer one")]
     Length,
     /// The last byte would stand past the page's end.
+    #[error("a store or load ends within its page of 4,096 bytes: split it at the page's end")]
     Crosses,
+}
+
+/// The same request once more. It takes no memory, so it never fails.
+impl Clone for Request {
+    ghost is_clone = { λ request copy. copy ≡ request };
+
+    ghost is_infallible = { λ _. ⊤ };
+
+    fn clone(&self) -> Result<Request, AllocError> {
+        match self {
+            Request::Propose(ppn) => Ok(Request::Propose(*ppn)),
+            Request::Store(store) => Ok(Request::Store(store.clone()?)),
+            Request::Load(load) => Ok(Request::Load(*load)),
+            Request::Release(ppn) => Ok(Request::Release(*ppn)),
+            Request::Count => Ok(Request::Count),
+            Request::Close => Ok(Request::Close),
+        }
+    }
 }
 
 impl Request {
@@ -68,6 +91,13 @@ impl Request {
             return Err(RequestFault::Crosses);
         }
         Ok(Request::Load(LoadReq { ppn, at, len }))
+    }
+
+    /// Whether this is a guest's last request.
+    pub fn is_close(&self) -> bool
+        ensures { result ≡ is_close self.now }
+    {
+        matches!(self, Request::Close)
     }
 }
 

@@ -1,4 +1,7 @@
 //! What a guest is told.
+ghost use Rattle.std.specs.Prelude.{◌≡◌};
+ghost use Rattle.page_model.specs.Closing.{is_closed};
+
 use crate::Report;
 use arrayvec::ArrayVec;
 
@@ -41,4 +44,13 @@ pub enum Verdict {
     Totals(Report),
     /// The guest asks nothing more.
     Closed,
+}
+
+impl Verdict {
+    /// Whether this is the answer to a guest's last request.
+    pub fn is_closed(&self) -> bool
+        ensures { result ≡ is_closed self.now }
+    {
+        matches!(self, Verdict::Closed)
+    }
 }

@@ -3,9 +3,8 @@
 use Rattle.std.specs.Prelude.{◌<◌, ℕ, ◌+◌, ◌^◌, ◌==◌, ◌&&◌, nat_lt, Bool, true, false, if◌then◌else◌, List, [], ◌∷◌, length, replicate, Result, Ok, Err, slice_set, codes}
 use Rattle.std.specs.List.{All}
 use Rattle.std.specs.Str.{bytes_eq}
+use Rattle.page_model.specs.Closing.{is_close}
 use Rattle.page_model.specs.declared.request.Entry.{Entry}
-use Rattle.page_model.specs.declared.request.Request.{Request}
-use Rattle.page_model.specs.declared.request.Request.TheVariants.{Propose, Store, Load, Release, Count, Close}
 use Rattle.share_text.specs.declared.fault.Cause.{Cause}
 use Rattle.share_text.specs.declared.fault.Cause.TheVariants as causes
 use Rattle.share_text.specs.declared.fault.TextFault.{TextFault}
@@ -58,18 +57,9 @@ is_whole [] = true
 is_whole (b ∷ []) = is_feed b
 is_whole (b ∷ c ∷ text) = is_whole (c ∷ text)
 
--- the request is a close
-abbrev pub closes : Request → Bool
-closes (Propose ppn) = false
-closes (Store r) = false
-closes (Load r) = false
-closes (Release ppn) = false
-closes Count = false
-closes Close = true
-
 -- who has closed after an entry
 abbrev pub closed_after : List Bool → Entry → List Bool
-closed_after closed e = if closes e.request then slice_set closed e.guest true else closed
+closed_after closed e = if is_close e.request then slice_set closed e.guest true else closed
 
 -- Line n is the end line. It tells how many entries came before it, which are k; then it is to be the last.
 abbrev pub ended : ℕ → ℕ → Bool → ℕ → Result (List Entry) TextFault

@@ -2,7 +2,7 @@
 ghost use Rattle.std.specs.Prelude.{◌≡◌, ◌+◌, ◌<◌, ◌≤◌, ◌++◌, [], length, codes, true, false, string_bytes, string_len, string_capacity, IfOk, OnOk, OnErr, IfErr, IsErr};
 ghost use Rattle.std.specs.Io.KnownBytes.{Appends};
 ghost use Rattle.merge_core.specs.Shown.{state_of};
-ghost use Rattle.page_model.specs.Limits.{shapes, AreFrames, AreGuests, ArePages};
+ghost use Rattle.page_model.specs.Limits.{shapes};
 ghost use Rattle.page_model.specs.Replay.{empty_state};
 ghost use Rattle.page_model.specs.Steps.{step};
 ghost use Rattle.share_text.specs.declared.fault.TextFault.TheVariants.{OutOfMemory};
@@ -33,7 +33,8 @@ fn core_of<H: PageHash + Drop, A: Allocator + Clone>(
     ensures guests { IfOk result (λ core. length (state_of core).guests ≡ length journal.now.pages.items) }
     ensures fault { IfErr result (λ e. e ≡ OutOfMemory) }
 {
-    let core = Core::open(alloc, journal.frames, &journal.pages, &journal.salts, hash)?;
+    let shape = journal.shape();
+    let core = Core::with_shape(alloc, &shape, hash)?;
     Ok(core)
 }
 

@@ -2,7 +2,7 @@
 ghost use Rattle.std.specs.Prelude.{◌≡◌, ◌+◌, ◌*◌, ◌<◌, ◌≤◌, ◌^◌, ◌++◌, ℕ, List, [], Option, Some, None, Ok, Err, false, length, replicate, IfOk, IfErr, OnOk, IsTrue};
 ghost use Rattle.share_text.specs.declared.fault.TextFault.TheVariants.{OutOfMemory};
 ghost use Rattle.share_text.specs.Words.{with_front};
-ghost use Rattle.share_text.specs.Texts.{header_of, entries_from, is_whole, lines_of, journal_in, journal_of, salts_at, closes, closed_after, ended, entries_in, AreBelow};
+ghost use Rattle.share_text.specs.Texts.{header_of, entries_from, is_whole, lines_of, journal_in, journal_of, salts_at, closed_after, ended, entries_in, AreBelow};
 ghost use Rattle.share_text.specs.Views.{Gives, journal_seen};
 
 use crate::fault::{Cause, TextFault};
@@ -10,7 +10,7 @@ use crate::header::{at_line, frames, next_line, pages, salts};
 use crate::journal::Journal;
 use crate::request::{Line, read_line};
 use crate::word::cut;
-use page_model::{Entry, MAX_GUESTS, MAX_TEXT_BYTES, Request};
+use page_model::{Entry, MAX_GUESTS, MAX_TEXT_BYTES};
 use std::alloc::Allocator;
 
 /// Whether the first line is that of version 2, which has a line of salts.
@@ -27,25 +27,12 @@ fn header(line: &[u8]) -> Result<bool, Cause>
     }
 }
 
-fn closes(request: &Request) -> bool
-    ensures { result ≡ closes request.now }
-{
-    match request {
-        Request::Propose(_) => false,
-        Request::Store(_) => false,
-        Request::Load(_) => false,
-        Request::Release(_) => false,
-        Request::Count => false,
-        Request::Close => true,
-    }
-}
-
 /// Notes who has closed.
 fn note(closed: &mut [bool], entry: &Entry)
     requires { entry.now.guest < length closed.old }
     ensures { closed.new ≡ closed_after closed.old entry.now }
 {
-    if closes(&entry.request) {
+    if entry.request.is_close() {
         closed[entry.guest as usize] = true;
     }
 }

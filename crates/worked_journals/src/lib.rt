@@ -1,9 +1,7 @@
-//! Worked journals, read and replayed by the public calls of `share_text`, and served by both cores side by side.
+//! Worked journals, read and replayed by the public calls of `share_text`.
 //! This crate has tests alone.
 #![tactic(auto)]
 
-#[cfg(test)]
-mod cores;
 #[cfg(test)]
 mod ends;
 #[cfg(test)]

@@ -8,3 +8,5 @@ mod ends;
 mod faults;
 #[cfg(test)]
 mod lines;
+#[cfg(test)]
+mod versions;

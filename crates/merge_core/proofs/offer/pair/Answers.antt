@@ -1,8 +1,11 @@
-use Rattle.std.proofs.Common.{◌≡◌, ◌≢◌, None, ap, sym, ◌∙◌}
-use Rattle.page_model.specs.Pages.{Private, Shared, Slot, with_slot}
-use Rattle.page_model.proofs.Places.{at_other}
+use Rattle.merge_core.proofs.Staying.{one_keeps, one_moves, keep_move, move_move, move_keep, joins_another, frame_is}
+use Rattle.page_model.specs.declared.verdict.Verdict.TheVariants as v
+use Rattle.merge_core.specs.Stays.{AllKeep}
+use Rattle.std.proofs.Common.{◌≡◌, ◌≢◌, None, ap, sym, ◌∙◌, ℕ, refl, Some}
+use Rattle.page_model.specs.Pages.{Private, Shared, Slot, with_slot, page_at, Unmapped}
+use Rattle.page_model.proofs.Places.{at_other, at_same}
 use Rattle.page_model.specs.Steps.{key_of}
-use Rattle.merge_core.specs.Names.{bytes_in}
+use Rattle.merge_core.specs.Names.{bytes_in, Names}
 use Rattle.merge_core.specs.View.{names_of, guests_of}
 use Rattle.merge_core.proofs.FrameLemmas.{bytes_other}
 use Rattle.merge_core.proofs.Hints.{hint_apart, hint_frame_apart, changed_twice}
@@ -40,3 +43,26 @@ returns-clause-guests g c =
     let e = rw (c.learn.ensures.shown, c.unmap.ensures.guests, c.drop_hint.ensures.guests, c.learn.ensures.frames, c.unmap.ensures.frames, c.drop_hint.ensures.frames, bytes_other held.frames c.args.mpn c.args.theirs None differ) at c.share.ensures.guests in
     e ∙ changed_twice (guests_of held) c.args.first.guest c.args.first.ppn c.args.page.guest c.args.page.ppn _ _ (Shared (bytes_in held.frames c.args.theirs)) (Shared (bytes_in held.frames c.args.theirs)) apart
     ∙ ap (λ (x : Slot). with_slot (with_slot (guests_of held) c.args.first.guest c.args.first.ppn (Shared (bytes_in held.frames c.args.theirs))) c.args.page.guest c.args.page.ppn x) (ap Shared c.requires.bytes)
+
+pub returns-clause-stay : goal.returns-clause-stay
+returns-clause-stay g c =
+    let held = c.args.held.now in
+    let a : ℕ = c.args.page.guest in
+    let b : ℕ = c.args.page.ppn in
+    let x : ℕ = c.args.first.guest in
+    let y : ℕ = c.args.first.ppn in
+    let m : ℕ = c.args.theirs in
+    let apart : a ≡ x → b ≡ y → ⊥ = hint_apart (names_of held) a b x y c.args.page.salt c.args.first.salt c.args.mpn m (key_of c.args.code) c.requires.page c.requires.first in
+    let back : x ≡ a → y ≡ b → ⊥ = λ e f. apart (sym e) (sym f) in
+    let dropped : Names = with_slot (names_of held) x y (Private m None) in
+    let gone : Names = with_slot dropped a b Unmapped in
+    let shared : Names = with_slot gone x y (Shared m) in
+    let keeps : AllKeep (names_of held) dropped = one_keeps (names_of held) x y c.args.first.salt (Private m (Some (key_of c.args.code))) (Private m None) c.requires.first refl in
+    let mine : page_at dropped a b ≡ Some (c.args.page.salt, Private c.args.mpn None) = at_other (names_of held) x y (Private m None) a b apart ∙ c.requires.page in
+    let theirs : page_at gone x y ≡ Some (c.args.first.salt, Private m None) = at_other dropped a b Unmapped x y back ∙ at_same (names_of held) x y c.args.first.salt (Private m (Some (key_of c.args.code))) (Private m None) c.requires.first in
+    let empty : page_at shared a b ≡ Some (c.args.page.salt, Unmapped) = at_other gone x y (Shared m) a b apart ∙ at_same dropped a b c.args.page.salt (Private c.args.mpn None) Unmapped mine in
+    let leaves = one_moves dropped a b c.args.page.salt (Private c.args.mpn None) Unmapped mine in
+    let shares = one_keeps gone x y c.args.first.salt (Private m None) (Shared m) theirs refl in
+    let joins = one_moves shared a b c.args.page.salt Unmapped (Shared m) empty in
+    let all = keep_move a b (Some m) (names_of held) dropped (with_slot shared a b (Shared m)) keeps (move_move a b None (Some m) dropped shared (with_slot shared a b (Shared m)) (move_keep a b None dropped gone shared leaves shares) joins) in
+    rw (c.share.ensures.names, c.learn.ensures.names, c.unmap.ensures.name, c.drop_hint.ensures.name) (joins_another held.frames a b x y m v.Paired (names_of held) (with_slot shared a b (Shared m)) refl back (frame_is (names_of held) x y c.args.first.salt (Private m (Some (key_of c.args.code))) c.requires.first) all)

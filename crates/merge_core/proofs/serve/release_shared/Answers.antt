@@ -1,11 +1,12 @@
-use Rattle.std.proofs.Common.{◌≡◌, ap, sym, ◌∙◌, List, true, false}
-use Rattle.page_model.specs.Pages.{Guest}
+use Rattle.merge_core.proofs.Staying.{gives_up, one_moves, moved_twice}
+use Rattle.std.proofs.Common.{◌≡◌, ap, sym, ◌∙◌, List, true, false, refl, None}
+use Rattle.page_model.specs.Pages.{Guest, with_slot, Unmapped, Private, Shared}
 use Rattle.page_model.specs.Steps.{stays}
 use Rattle.page_model.specs.declared.verdict.Verdict.{Verdict}
 use Rattle.page_model.specs.declared.verdict.Verdict.TheVariants as v
 use Rattle.page_model.proofs.Places.{again}
 use Rattle.merge_core.specs.Names.{bytes_in}
-use Rattle.merge_core.specs.View.{guests_of}
+use Rattle.merge_core.specs.View.{guests_of, names_of}
 use Rattle.merge_core.proofs.Arms.{released_last, released_more}
 use Rattle.merge_core.proofs.serve.release_shared.Goals as goal
 
@@ -25,3 +26,13 @@ returns-clause-step g c =
     let p = rw (c.hash_frame-code.ensures.shown, c.hash_frame-code.ensures.frames) at c.peers_of-count.ensures.peers in
     let e = rw c.hash_frame-code.ensures.shown at c.leave.ensures.guests in
     outcome (v.Released false) _ _ e ∙ sym (released_more (guests_of held) c.args.page.guest c.args.page.ppn c.args.page.salt (bytes_in held.frames c.args.mpn) (λ e. c.if-count-eq1.false (p ∙ e)))
+
+pub returns-then-count-eq1-clause-stay : goal.returns-then-count-eq1-clause-stay
+returns-then-count-eq1-clause-stay g c =
+    let held = c.args.held.now in
+    rw (c.unmap.ensures.name, c.keep.ensures.name, c.hash_frame-code.ensures.names) (gives_up held.frames c.args.page.guest c.args.page.ppn (v.Released true) (names_of held) (with_slot (with_slot (names_of held) c.args.page.guest c.args.page.ppn (Private c.args.mpn None)) c.args.page.guest c.args.page.ppn Unmapped) refl (moved_twice (names_of held) c.args.page.guest c.args.page.ppn c.args.page.salt (Shared c.args.mpn) (Private c.args.mpn None) Unmapped c.requires.page))
+
+pub returns-clause-stay : goal.returns-clause-stay
+returns-clause-stay g c =
+    let held = c.args.held.now in
+    rw (c.leave.ensures.name, c.hash_frame-code.ensures.names) (gives_up held.frames c.args.page.guest c.args.page.ppn (v.Released false) (names_of held) (with_slot (names_of held) c.args.page.guest c.args.page.ppn Unmapped) refl (one_moves (names_of held) c.args.page.guest c.args.page.ppn c.args.page.salt (Shared c.args.mpn) Unmapped c.requires.page))

@@ -1,11 +1,12 @@
-use Rattle.std.proofs.Common.{◌≡◌, ap, sym, ◌∙◌, List, length}
-use Rattle.page_model.specs.Pages.{Guest, with_slot, Unmapped}
+use Rattle.merge_core.proofs.Staying.{all_stay, one_keeps, none_moves, takes_free, moved_twice}
+use Rattle.std.proofs.Common.{◌≡◌, ap, sym, ◌∙◌, List, length, refl, None}
+use Rattle.page_model.specs.Pages.{Guest, with_slot, Unmapped, Private, Shared}
 use Rattle.page_model.specs.Steps.{stays}
 use Rattle.page_model.specs.declared.verdict.Verdict.{Verdict}
 use Rattle.page_model.specs.declared.verdict.Verdict.TheVariants as v
 use Rattle.page_model.proofs.Places.{again}
 use Rattle.merge_core.specs.Names.{bytes_in}
-use Rattle.merge_core.specs.View.{guests_of}
+use Rattle.merge_core.specs.View.{guests_of, names_of}
 use Rattle.merge_core.proofs.Arms.{stored_taken, stored_full, stored_copied}
 use Rattle.merge_core.proofs.serve.store_shared.Goals as goal
 
@@ -33,3 +34,19 @@ returns-clause-step g c =
     let full = rw (c.if-is_full.false, c.hash_frame-code.ensures.shown, c.hash_frame-code.ensures.frames) at c.is_full.ensures.full in
     let e = rw (c.map_copy-copy.ensures.guests, c.map_copy-copy.ensures.bytes, c.leave.ensures.guests, c.leave.ensures.frames, c.hash_frame-code.ensures.shown, c.hash_frame-code.ensures.frames) at c.write-2.ensures.guests in
     outcome v.Copied _ _ (e ∙ again (with_slot (guests_of held) c.args.page.guest c.args.page.ppn Unmapped) c.args.page.guest c.args.page.ppn _ _ ∙ again (guests_of held) c.args.page.guest c.args.page.ppn _ _) ∙ sym (stored_copied (length held.frames) (guests_of held) c.args.page.guest c.args.page.ppn c.args.at c.args.bytes.now c.args.page.salt (bytes_in held.frames c.args.mpn) (λ e. c.if-count-eq1.false (p ∙ e)) (sym full))
+
+pub returns-then-count-eq1-clause-stay : goal.returns-then-count-eq1-clause-stay
+returns-then-count-eq1-clause-stay g c =
+    let held = c.args.held.now in
+    rw (c.write.ensures.name, c.keep.ensures.name, c.hash_frame-code.ensures.names) (all_stay held.frames c.args.page.guest c.args.page.ppn v.Taken (names_of held) (with_slot (names_of held) c.args.page.guest c.args.page.ppn (Private c.args.mpn None)) refl (one_keeps (names_of held) c.args.page.guest c.args.page.ppn c.args.page.salt (Shared c.args.mpn) (Private c.args.mpn None) c.requires.page refl))
+
+pub returns-then-is_full-clause-stay : goal.returns-then-is_full-clause-stay
+returns-then-is_full-clause-stay g c =
+    let held = c.args.held.now in
+    rw c.hash_frame-code.ensures.names (none_moves held.frames c.args.page.guest c.args.page.ppn v.NoFrame (names_of held) refl)
+
+pub returns-clause-stay : goal.returns-clause-stay
+returns-clause-stay g c =
+    let held = c.args.held.now in
+    let free = rw (c.leave.ensures.frames, c.hash_frame-code.ensures.frames) at c.map_copy-copy.ensures.free in
+    rw (c.write-2.ensures.name, c.map_copy-copy.ensures.name, c.leave.ensures.name, c.hash_frame-code.ensures.names) (takes_free held.frames c.args.page.guest c.args.page.ppn c.map_copy-copy.result v.Copied (names_of held) (with_slot (with_slot (names_of held) c.args.page.guest c.args.page.ppn Unmapped) c.args.page.guest c.args.page.ppn (Private c.map_copy-copy.result None)) refl free (moved_twice (names_of held) c.args.page.guest c.args.page.ppn c.args.page.salt (Shared c.args.mpn) Unmapped (Private c.map_copy-copy.result None) c.requires.page))

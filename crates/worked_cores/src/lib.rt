@@ -1,0 +1,20 @@
+//! Worked machines on one thread, served by the public calls of `merge_core`: their verdicts, reports, frames and tables.
+//! This crate has tests alone.
+#![tactic(auto)]
+
+#[cfg(test)]
+mod asks;
+#[cfg(test)]
+mod counts;
+#[cfg(test)]
+mod frames;
+#[cfg(test)]
+mod hashes;
+#[cfg(test)]
+mod limits;
+#[cfg(test)]
+mod refused;
+#[cfg(test)]
+mod salts;
+#[cfg(test)]
+mod tables;
