@@ -1,5 +1,5 @@
 -- How a replay ends.
-use Rattle.std.proofs.Common.{◌≡◌, inl, inr, ◌<◌, ◌^◌, ◌++◌, ℕ, List, length, Option, Some, None, Result, Ok, Err, Bool, true, refl, ap, sym, subst, nat_lt}
+use Rattle.std.proofs.Common.{◌≡◌, inl, inr, ◌<◌, ◌^◌, ◌++◌, ℕ, List, length, Option, Some, None, Result, Ok, Err, true, refl, ap, sym, subst, nat_lt}
 use Rattle.std.specs.Prelude.{IfSome, IfErr, OnOk, IsOk, IsErr, codes}
 use Rattle.std.specs.Io.KnownBytes.{Appends}
 use Rattle.std.proofs.KnownBytes.{Keeps-refl}
@@ -23,14 +23,14 @@ longer None P f h = tt
 longer (Some text) P f h = f text h
 
 -- where reading failed, nothing was written
-pub unread : (hash : ℕ → List ℕ → ℕ) (input old : Option (List ℕ)) (reads writes : Bool) (e : TextFault) → NotRead reads input e → Replays hash input old old reads writes (Err e)
-unread hash input old reads writes faults.OutOfMemory h = Keeps-refl old
-unread hash input old reads writes faults.Read h = (h, Keeps-refl old)
-unread hash input old reads writes faults.Long h = (longer input (λ text. answer_of hash text ≡ Err faults.Long) (too_long hash) h.1, Keeps-refl old)
-unread hash input old reads writes (faults.Line n cause) h = absurd h
-unread hash input old reads writes (faults.Truncated n) h = absurd h
-unread hash input old reads writes faults.Count h = absurd h
-unread hash input old reads writes faults.Write h = absurd h
+pub unread : (hash : ℕ → List ℕ → ℕ) (input old : Option (List ℕ)) (e : TextFault) → NotRead input e → Replays hash input old old (Err e)
+unread hash input old faults.OutOfMemory h = Keeps-refl old
+unread hash input old faults.Read h = Keeps-refl old
+unread hash input old faults.Long h = (longer input (λ text. answer_of hash text ≡ Err faults.Long) (too_long hash) h, Keeps-refl old)
+unread hash input old (faults.Line n cause) h = absurd h
+unread hash input old (faults.Truncated n) h = absurd h
+unread hash input old faults.Count h = absurd h
+unread hash input old faults.Write h = absurd h
 
 -- what holds of the text that was read holds of the input
 on_input : (input : Option (List ℕ)) (text : List ℕ) (P : List ℕ → Type 0) → IfSome input (λ bytes. text ≡ bytes) → P text → IfSome input P
@@ -48,23 +48,23 @@ unfolding answer_of
 answer_err hash text fault h = let f : Result Journal TextFault → Result (List ℕ) TextFault = λ r. r >>= λ x. Ok (printed hash x) in ap f h
 
 -- where a journal was read, it was printed, or why it wasn't is told
-pub prints : (hash : ℕ → List ℕ → ℕ) (input old new : Option (List ℕ)) (reads writes : Bool) (text : List ℕ) (j : Journal) (r : Result (Unit {0}) TextFault)
-    → IfSome input (λ bytes. text ≡ bytes) → journal_of text ≡ Ok j → OnOk r (Appends old new (printed hash j)) → IfErr r (λ e. NotPrinted old new writes (printed hash j) e)
-    → Replays hash input old new reads writes r
-prints hash input old new reads writes text j (Ok done) same read ok err =
+pub prints : (hash : ℕ → List ℕ → ℕ) (input old new : Option (List ℕ)) (text : List ℕ) (j : Journal) (r : Result (Unit {0}) TextFault)
+    → IfSome input (λ bytes. text ≡ bytes) → journal_of text ≡ Ok j → OnOk r (Appends old new (printed hash j)) → IfErr r (λ e. NotPrinted old new (printed hash j) e)
+    → Replays hash input old new r
+prints hash input old new text j (Ok done) same read ok err =
     let P : Result (List ℕ) TextFault → Type 0 = λ a. IsOk a × Appends old new (written_for a) in
     let Q : List ℕ → Type 0 = λ bytes. IsOk (answer_of hash bytes) × Appends old new (written_for (answer_of hash bytes)) in
     on_input input text Q same (subst P (sym (answer_ok hash text j read)) (refl, ok))
-prints hash input old new reads writes text j (Err faults.Write) same read ok err =
+prints hash input old new text j (Err faults.Write) same read ok err =
     let P : Result (List ℕ) TextFault → Type 0 = λ a. AppendsFront old new (written_for a) in
     let Q : List ℕ → Type 0 = λ bytes. AppendsFront old new (written_for (answer_of hash bytes)) in
-    (err.0, on_input input text Q same (subst P (sym (answer_ok hash text j read)) err.1))
-prints hash input old new reads writes text j (Err faults.OutOfMemory) same read ok err = err
-prints hash input old new reads writes text j (Err (faults.Line n cause)) same read ok err = absurd err
-prints hash input old new reads writes text j (Err (faults.Truncated n)) same read ok err = absurd err
-prints hash input old new reads writes text j (Err faults.Count) same read ok err = absurd err
-prints hash input old new reads writes text j (Err faults.Read) same read ok err = absurd err
-prints hash input old new reads writes text j (Err faults.Long) same read ok err = absurd err
+    on_input input text Q same (subst P (sym (answer_ok hash text j read)) err)
+prints hash input old new text j (Err faults.OutOfMemory) same read ok err = err
+prints hash input old new text j (Err (faults.Line n cause)) same read ok err = absurd err
+prints hash input old new text j (Err (faults.Truncated n)) same read ok err = absurd err
+prints hash input old new text j (Err faults.Count) same read ok err = absurd err
+prints hash input old new text j (Err faults.Read) same read ok err = absurd err
+prints hash input old new text j (Err faults.Long) same read ok err = absurd err
 
 -- a fault of which a line tells
 abbrev pub IsTold : TextFault → Type 0
@@ -85,36 +85,36 @@ told_on hash input old new text fault same read h =
     let Q : List ℕ → Type 0 = λ bytes. Told fault old new (answer_of hash bytes) in
     on_input input text Q same (told_as old new fault (answer_of hash text) read h)
 
-tells : (hash : ℕ → List ℕ → ℕ) (input old new : Option (List ℕ)) (reads writes : Bool) (text : List ℕ) (fault : TextFault) → IsTold fault
-    → IfSome input (λ bytes. text ≡ bytes) → answer_of hash text ≡ Err fault → Appends old new (fault_line fault ++ codes "\n") → Replays hash input old new reads writes (Err fault)
-tells hash input old new reads writes text (faults.Line n cause) is same read h = told_on hash input old new text (faults.Line n cause) same read h
-tells hash input old new reads writes text (faults.Truncated n) is same read h = told_on hash input old new text (faults.Truncated n) same read h
-tells hash input old new reads writes text faults.Count is same read h = told_on hash input old new text faults.Count same read h
-tells hash input old new reads writes text faults.OutOfMemory is same read h = absurd is
-tells hash input old new reads writes text faults.Read is same read h = absurd is
-tells hash input old new reads writes text faults.Write is same read h = absurd is
-tells hash input old new reads writes text faults.Long is same read h = absurd is
+tells : (hash : ℕ → List ℕ → ℕ) (input old new : Option (List ℕ)) (text : List ℕ) (fault : TextFault) → IsTold fault
+    → IfSome input (λ bytes. text ≡ bytes) → answer_of hash text ≡ Err fault → Appends old new (fault_line fault ++ codes "\n") → Replays hash input old new (Err fault)
+tells hash input old new text (faults.Line n cause) is same read h = told_on hash input old new text (faults.Line n cause) same read h
+tells hash input old new text (faults.Truncated n) is same read h = told_on hash input old new text (faults.Truncated n) same read h
+tells hash input old new text faults.Count is same read h = told_on hash input old new text faults.Count same read h
+tells hash input old new text faults.OutOfMemory is same read h = absurd is
+tells hash input old new text faults.Read is same read h = absurd is
+tells hash input old new text faults.Write is same read h = absurd is
+tells hash input old new text faults.Long is same read h = absurd is
 
 -- where the text is at fault, the fault's line was written, or why it wasn't is told
-pub refuses : (hash : ℕ → List ℕ → ℕ) (input old new : Option (List ℕ)) (reads writes : Bool) (text : List ℕ) (fault : TextFault) (r : Result (Unit {0}) TextFault) → IsTold fault
-    → IfSome input (λ bytes. text ≡ bytes) → journal_of text ≡ Err fault → IsErr r → IfErr r (λ e. Refuses fault old new writes e) → Replays hash input old new reads writes r
-refuses hash input old new reads writes text fault (Ok done) is same read err told = cc
-refuses hash input old new reads writes text fault (Err e) is same read err told =
-    let R : TextFault → Type 0 = λ x. Replays hash input old new reads writes (Err x) in
+pub refuses : (hash : ℕ → List ℕ → ℕ) (input old new : Option (List ℕ)) (text : List ℕ) (fault : TextFault) (r : Result (Unit {0}) TextFault) → IsTold fault
+    → IfSome input (λ bytes. text ≡ bytes) → journal_of text ≡ Err fault → IsErr r → IfErr r (λ e. Refuses fault old new e) → Replays hash input old new r
+refuses hash input old new text fault (Ok done) is same read err told = cc
+refuses hash input old new text fault (Err e) is same read err told =
+    let R : TextFault → Type 0 = λ x. Replays hash input old new (Err x) in
     let answer : answer_of hash text ≡ Err fault = answer_err hash text fault read in
     let P : Result (List ℕ) TextFault → Type 0 = λ a. AppendsFront old new (written_for a) in
     let Q : List ℕ → Type 0 = λ bytes. AppendsFront old new (written_for (answer_of hash bytes)) in
     elim told [
-      | inl line ↦ subst R (sym line.0) (tells hash input old new reads writes text fault is same answer line.1)
+      | inl line ↦ subst R (sym line.0) (tells hash input old new text fault is same answer line.1)
       | inr other ↦ elim other [
-        | inl front ↦ subst R (sym front.0) (front.1, on_input input text Q same (subst P (sym answer) front.2))
+        | inl front ↦ subst R (sym front.0) (on_input input text Q same (subst P (sym answer) front.1))
         | inr memory ↦ subst R (sym memory.0) memory.1
       ]
     ]
 
 -- where the text is too long, nothing was written
-pub longs : (hash : ℕ → List ℕ → ℕ) (input old : Option (List ℕ)) (reads writes : Bool) (text : List ℕ) → IfSome input (λ bytes. text ≡ bytes) → journal_of text ≡ Err faults.Long
-    → Replays hash input old old reads writes (Err faults.Long)
-longs hash input old reads writes text same read =
+pub longs : (hash : ℕ → List ℕ → ℕ) (input old : Option (List ℕ)) (text : List ℕ) → IfSome input (λ bytes. text ≡ bytes) → journal_of text ≡ Err faults.Long
+    → Replays hash input old old (Err faults.Long)
+longs hash input old text same read =
     let Q : List ℕ → Type 0 = λ bytes. answer_of hash bytes ≡ Err faults.Long in
     (on_input input text Q same (answer_err hash text faults.Long read), Keeps-refl old)

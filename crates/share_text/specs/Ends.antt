@@ -1,5 +1,5 @@
 -- Readers and writers: when a call on one failed, and what reading all and writing all do to their bytes.
-use Rattle.std.specs.Prelude.{◌≡◌, ℕ, ◌<◌, ◌^◌, ◌==◌, ◌&&◌, ◌++◌, nat_lt, Bool, true, false, List, length, take, Option, Result, Ok, Err, IfSome}
+use Rattle.std.specs.Prelude.{ℕ, ◌<◌, ◌^◌, ◌==◌, ◌&&◌, ◌++◌, ◌≡◌, nat_lt, is_some, Bool, true, false, List, length, take, Option, Result, Ok, Err, IfSome}
 use Rattle.std.specs.Io.KnownBytes.{Appends}
 use Rattle.share_text.specs.declared.ends.Noted.{Noted}
 use Rattle.share_text.specs.declared.fault.TextFault.{TextFault}
@@ -11,7 +11,7 @@ inner_of noted = noted.inner
 
 -- whether a call on it failed
 abbrev pub failed_of : {T : Type 0} → Noted T → Bool
-failed_of noted = noted.failed
+failed_of noted = is_some noted.error
 
 -- a write failed: it answered an error, or took 0 of some bytes
 abbrev pub write_failed : {E : Type 0} → Result ℕ E → List ℕ → Bool
@@ -28,12 +28,41 @@ pub record Sends (old new : Option (List ℕ)) (ahead whole : List ℕ) : Type 0
   pub appends : Appends old new sent
   pub rest : sent ++ ahead ≡ whole
 
--- Why reading all failed: failed says whether the reader did, and known is what it had.
-abbrev pub NotRead : Bool → Option (List ℕ) → TextFault → Type 0
-NotRead failed known faults.OutOfMemory = failed ≡ false
-NotRead failed known faults.Read = failed ≡ true
-NotRead failed known faults.Long = (failed ≡ false) × IfSome known (λ text. 2 ^ 26 < length text)
-NotRead failed known (faults.Line n cause) = ⊥
-NotRead failed known (faults.Truncated n) = ⊥
-NotRead failed known faults.Count = ⊥
-NotRead failed known faults.Write = ⊥
+-- the fault tells of a failed read
+abbrev pub is_read_fault : TextFault → Bool
+is_read_fault faults.Read = true
+is_read_fault faults.Write = false
+is_read_fault (faults.Line n cause) = false
+is_read_fault (faults.Truncated n) = false
+is_read_fault faults.Count = false
+is_read_fault faults.OutOfMemory = false
+is_read_fault faults.Long = false
+
+-- the fault tells of a failed write
+abbrev pub is_write_fault : TextFault → Bool
+is_write_fault faults.Write = true
+is_write_fault faults.Read = false
+is_write_fault (faults.Line n cause) = false
+is_write_fault (faults.Truncated n) = false
+is_write_fault faults.Count = false
+is_write_fault faults.OutOfMemory = false
+is_write_fault faults.Long = false
+
+-- the answer is that a read failed, and that a write did
+abbrev pub tells_read : {X : Type 0} → Result X TextFault → Bool
+tells_read (Ok x) = false
+tells_read (Err fault) = is_read_fault fault
+
+abbrev pub tells_write : {X : Type 0} → Result X TextFault → Bool
+tells_write (Ok x) = false
+tells_write (Err fault) = is_write_fault fault
+
+-- Why reading all failed. known: what the reader had.
+abbrev pub NotRead : Option (List ℕ) → TextFault → Type 0
+NotRead known faults.OutOfMemory = Unit {0}
+NotRead known faults.Read = Unit {0}
+NotRead known faults.Long = IfSome known (λ text. 2 ^ 26 < length text)
+NotRead known (faults.Line n cause) = ⊥
+NotRead known (faults.Truncated n) = ⊥
+NotRead known faults.Count = ⊥
+NotRead known faults.Write = ⊥

@@ -69,3 +69,18 @@ pages_of line = do
   _ ← keyword (codes "pages") first.0
   pages ← numbers (words_in first.1)
   pages_in_limits pages
+
+-- one salt for each of so many guests. The form comes first
+abbrev pub salts_in_limits : ℕ → List ℕ → Result (List ℕ) Cause
+salts_in_limits guests salts =
+    if length salts == 0 then Err causes.Form
+    else if length salts == guests then Ok salts
+    else Err causes.Salts
+
+-- salts NUMBER .., for so many guests
+unfoldable pub salts_of : ℕ → List ℕ → Result (List ℕ) Cause
+salts_of guests line = do
+  first ← word_at (Some line)
+  _ ← keyword (codes "salts") first.0
+  salts ← numbers (words_in first.1)
+  salts_in_limits guests salts

@@ -7,3 +7,4 @@ pub mod Views
 pub mod Printed
 pub mod Ends
 pub mod Replayed
+pub mod Expected

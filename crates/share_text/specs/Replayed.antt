@@ -1,5 +1,5 @@
 -- What a replay writes.
-use Rattle.std.specs.Prelude.{◌≡◌, ◌⊎◌, ℕ, true, List, [], ◌∷◌, ◌++◌, codes, Bool, Option, Result, Ok, Err, IfSome, IsOk}
+use Rattle.std.specs.Prelude.{◌≡◌, ◌⊎◌, ℕ, List, [], ◌∷◌, ◌++◌, codes, Option, Result, Ok, Err, IfSome, IsOk}
 use Rattle.std.specs.Io.KnownBytes.{Appends, Keeps}
 use Rattle.page_model.specs.Limits.{shapes}
 use Rattle.page_model.specs.Pages.{State, totals}
@@ -41,34 +41,33 @@ written_for (Ok text) = text
 written_for (Err fault) = fault_line fault ++ codes "\n"
 
 -- Why printing a text failed: where memory ran out nothing went out, and where the writer failed a front did.
-abbrev pub NotPrinted : Option (List ℕ) → Option (List ℕ) → Bool → List ℕ → TextFault → Type 0
-NotPrinted old new failed text faults.OutOfMemory = Keeps old new
-NotPrinted old new failed text faults.Write = (failed ≡ true) × AppendsFront old new text
-NotPrinted old new failed text (faults.Line n cause) = ⊥
-NotPrinted old new failed text (faults.Truncated n) = ⊥
-NotPrinted old new failed text faults.Count = ⊥
-NotPrinted old new failed text faults.Read = ⊥
-NotPrinted old new failed text faults.Long = ⊥
+abbrev pub NotPrinted : Option (List ℕ) → Option (List ℕ) → List ℕ → TextFault → Type 0
+NotPrinted old new text faults.OutOfMemory = Keeps old new
+NotPrinted old new text faults.Write = AppendsFront old new text
+NotPrinted old new text (faults.Line n cause) = ⊥
+NotPrinted old new text (faults.Truncated n) = ⊥
+NotPrinted old new text faults.Count = ⊥
+NotPrinted old new text faults.Read = ⊥
+NotPrinted old new text faults.Long = ⊥
 
 -- a fault of the text, of which one line tells
 abbrev pub Told : TextFault → Option (List ℕ) → Option (List ℕ) → Result (List ℕ) TextFault → Type 0
 Told fault old new answer = (answer ≡ Err fault) × Appends old new (written_for answer)
 
 -- How a refusal for a fault ends: its line went out, or a front of it as the writer failed, or nothing as memory ran out.
-abbrev pub Refuses : TextFault → Option (List ℕ) → Option (List ℕ) → Bool → TextFault → Type 0
-Refuses fault old new writes e =
+abbrev pub Refuses : TextFault → Option (List ℕ) → Option (List ℕ) → TextFault → Type 0
+Refuses fault old new e =
     ((e ≡ fault) × Appends old new (fault_line fault ++ codes "\n"))
-    ⊎ ((e ≡ faults.Write) × (writes ≡ true) × AppendsFront old new (fault_line fault ++ codes "\n"))
+    ⊎ ((e ≡ faults.Write) × AppendsFront old new (fault_line fault ++ codes "\n"))
     ⊎ ((e ≡ faults.OutOfMemory) × Keeps old new)
 
--- What a replay does. input: what the reader had; old and new: what the writer holds; reads and writes: whether the
--- reader and the writer failed.
-abbrev pub Replays : (ℕ → List ℕ → ℕ) → Option (List ℕ) → Option (List ℕ) → Option (List ℕ) → Bool → Bool → Result (Unit {0}) TextFault → Type 0
-Replays hash input old new reads writes (Ok done) = IfSome input (λ text. IsOk (answer_of hash text) × Appends old new (written_for (answer_of hash text)))
-Replays hash input old new reads writes (Err (faults.Line n cause)) = IfSome input (λ text. Told (faults.Line n cause) old new (answer_of hash text))
-Replays hash input old new reads writes (Err (faults.Truncated n)) = IfSome input (λ text. Told (faults.Truncated n) old new (answer_of hash text))
-Replays hash input old new reads writes (Err faults.Count) = IfSome input (λ text. Told faults.Count old new (answer_of hash text))
-Replays hash input old new reads writes (Err faults.OutOfMemory) = Keeps old new
-Replays hash input old new reads writes (Err faults.Read) = (reads ≡ true) × Keeps old new
-Replays hash input old new reads writes (Err faults.Write) = (writes ≡ true) × IfSome input (λ text. AppendsFront old new (written_for (answer_of hash text)))
-Replays hash input old new reads writes (Err faults.Long) = IfSome input (λ text. answer_of hash text ≡ Err faults.Long) × Keeps old new
+-- What a replay does with the bytes. input: what the reader had; old and new: what the writer holds.
+abbrev pub Replays : (ℕ → List ℕ → ℕ) → Option (List ℕ) → Option (List ℕ) → Option (List ℕ) → Result (Unit {0}) TextFault → Type 0
+Replays hash input old new (Ok done) = IfSome input (λ text. IsOk (answer_of hash text) × Appends old new (written_for (answer_of hash text)))
+Replays hash input old new (Err (faults.Line n cause)) = IfSome input (λ text. Told (faults.Line n cause) old new (answer_of hash text))
+Replays hash input old new (Err (faults.Truncated n)) = IfSome input (λ text. Told (faults.Truncated n) old new (answer_of hash text))
+Replays hash input old new (Err faults.Count) = IfSome input (λ text. Told faults.Count old new (answer_of hash text))
+Replays hash input old new (Err faults.OutOfMemory) = Keeps old new
+Replays hash input old new (Err faults.Read) = Keeps old new
+Replays hash input old new (Err faults.Write) = IfSome input (λ text. AppendsFront old new (written_for (answer_of hash text)))
+Replays hash input old new (Err faults.Long) = IfSome input (λ text. answer_of hash text ≡ Err faults.Long) × Keeps old new

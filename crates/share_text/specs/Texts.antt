@@ -1,11 +1,10 @@
--- A journal's text, version 1: what it says, or its first fault. The lines are looked at in order, and the first faulty
+-- A journal's text, version 1 or 2: what it says, or its first fault. The lines are looked at in order, and the first faulty
 -- one decides; where no complete line is at fault and no end line has come, the text is cut off.
 use Rattle.std.specs.Prelude.{◌<◌, ℕ, ◌+◌, ◌^◌, ◌==◌, ◌&&◌, nat_lt, Bool, true, false, if◌then◌else◌, List, [], ◌∷◌, length, replicate, Result, Ok, Err, slice_set, codes}
 use Rattle.std.specs.List.{All}
 use Rattle.std.specs.Str.{bytes_eq}
+use Rattle.page_model.specs.Closing.{is_close}
 use Rattle.page_model.specs.declared.request.Entry.{Entry}
-use Rattle.page_model.specs.declared.request.Request.{Request}
-use Rattle.page_model.specs.declared.request.Request.TheVariants.{Propose, Store, Load, Release, Count, Close}
 use Rattle.share_text.specs.declared.fault.Cause.{Cause}
 use Rattle.share_text.specs.declared.fault.Cause.TheVariants as causes
 use Rattle.share_text.specs.declared.fault.TextFault.{TextFault}
@@ -13,7 +12,7 @@ use Rattle.share_text.specs.declared.fault.TextFault.TheVariants as faults
 use Rattle.share_text.specs.declared.request.Line.{Line}
 use Rattle.share_text.specs.declared.request.Line.TheVariants.{Enters, Ends}
 use Rattle.share_text.specs.Words.{◌>>=◌}
-use Rattle.share_text.specs.Headers.{is_feed, line_at, at_line, frames_of, pages_of}
+use Rattle.share_text.specs.Headers.{is_feed, line_at, at_line, frames_of, pages_of, salts_of}
 use Rattle.share_text.specs.Requests.{line_of}
 
 -- what a journal says: the machine's total of frames, each guest's number of pages and salt, and who asked what
@@ -23,9 +22,24 @@ pub record Journal : Type 0 where
   pub salts : List ℕ
   pub entries : List Entry
 
--- the first line
-unfoldable pub header_of : List ℕ → Result (Unit {0}) Cause
-header_of line = if bytes_eq line (codes "pageshare journal 1") then Ok tt else Err causes.Header
+-- The first line, which tells the version: only version 2 has a line of salts.
+unfoldable pub header_of : List ℕ → Result Bool Cause
+header_of line =
+    if bytes_eq line (codes "pageshare journal 1") then Ok false
+    else if bytes_eq line (codes "pageshare journal 2") then Ok true
+    else Err causes.Header
+
+-- the salts of so many guests, and what stands behind their line. Where there is none, every salt is 0
+unfoldable pub salts_at : Bool → ℕ → List ℕ → Result (List ℕ × List ℕ) TextFault
+salts_at false guests text = Ok (replicate guests 0, text)
+salts_at true guests text = do
+  line ← line_at 4 text
+  salts ← at_line 4 (salts_of guests line.0)
+  Ok (salts, line.1)
+
+-- the number of the line behind the head
+abbrev pub line_behind_head : Bool → ℕ
+line_behind_head has_salts = if has_salts then 5 else 4
 
 -- one byte before the first of some lines, where there is one
 abbrev pub onto_line : ℕ → List (List ℕ) → List (List ℕ)
@@ -43,18 +57,9 @@ is_whole [] = true
 is_whole (b ∷ []) = is_feed b
 is_whole (b ∷ c ∷ text) = is_whole (c ∷ text)
 
--- the request is a close
-abbrev pub closes : Request → Bool
-closes (Propose ppn) = false
-closes (Store r) = false
-closes (Load r) = false
-closes (Release ppn) = false
-closes Count = false
-closes Close = true
-
 -- who has closed after an entry
 abbrev pub closed_after : List Bool → Entry → List Bool
-closed_after closed e = if closes e.request then slice_set closed e.guest true else closed
+closed_after closed e = if is_close e.request then slice_set closed e.guest true else closed
 
 -- Line n is the end line. It tells how many entries came before it, which are k; then it is to be the last.
 abbrev pub ended : ℕ → ℕ → Bool → ℕ → Result (List Entry) TextFault
@@ -80,17 +85,18 @@ entries_from whole closed n k (line ∷ lines) = goes_on n k (is_none lines && w
 abbrev pub entries_in : List Bool → ℕ → ℕ → List ℕ → Result (List Entry) TextFault
 entries_in closed n k text = entries_from (is_whole text) closed n k (lines_of text)
 
--- a journal's text of any length: three lines at its head, and then the entries. Every salt is 0
+-- a journal's text of any length: the lines at its head, and then the entries
 unfoldable pub journal_in : List ℕ → Result Journal TextFault
 journal_in text = do
   first ← line_at 1 text
-  _ ← at_line 1 (header_of first.0)
+  has_salts ← at_line 1 (header_of first.0)
   second ← line_at 2 first.1
   frames ← at_line 2 (frames_of second.0)
   third ← line_at 3 second.1
   pages ← at_line 3 (pages_of third.0)
-  entries ← entries_in (replicate (length pages) false) 4 0 third.1
-  Ok (record { frames = frames; pages = pages; salts = replicate (length pages) 0; entries = entries })
+  salts ← salts_at has_salts (length pages) third.1
+  entries ← entries_in (replicate (length pages) false) (line_behind_head has_salts) 0 salts.1
+  Ok (record { frames = frames; pages = pages; salts = salts.0; entries = entries })
 
 -- What a text says: its one journal, or its first fault. A text has at most 67,108,864 bytes, and that comes first.
 unfoldable pub journal_of : List ℕ → Result Journal TextFault

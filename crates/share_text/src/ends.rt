@@ -1,13 +1,13 @@
 //! Readers and writers that remember whether they failed.
-ghost use Rattle.std.specs.Prelude.{◌≡◌, ◌+◌, ◌<◌, ◌≤◌, ◌++◌, ◌^◌, ◌||◌, ℕ, List, Option, Bool, true, false, length, vec_len, is_err, IfOk, IfErr, IfSome, OnOk, OnErr};
+ghost use Rattle.std.specs.Prelude.{◌≡◌, ◌+◌, ◌<◌, ◌≤◌, ◌++◌, ◌^◌, ◌||◌, ℕ, List, Option, Bool, true, false, length, vec_len, is_err, is_some, IfOk, IfErr, IfSome, OnOk, OnErr};
 ghost use Rattle.std.specs.Io.{ReadsAtMost, WritesAtMost};
 ghost use Rattle.std.specs.Io.KnownBytes.{Appends, Keeps, ReadConsumes, WriteAppends};
-ghost use Rattle.share_text.specs.Ends.{inner_of, failed_of, write_failed, AppendsFront, NotRead};
+ghost use Rattle.share_text.specs.Ends.{inner_of, failed_of, write_failed, tells_read, AppendsFront, NotRead};
 
 use crate::fault::TextFault;
 use page_model::MAX_TEXT_BYTES;
 use std::alloc::Allocator;
-use std::io::{self, Read, Write};
+use std::io::{self, ErrorKind, Read, Write};
 
 /// A reader that remembers whether a read failed.
 pub trait Source {
@@ -45,11 +45,14 @@ pub trait Sink {
         ensures { result ≡ has_failed self.now };
 }
 
-/// A reader or a writer of std, and whether a call on it failed.
+/// A reader or a writer of std, with the error of the last call on it that failed.
+///
+/// Each call makes one call of the inner reader or writer and hands its answer on. No contract says that, since
+/// none can count calls: tests do.
 #[derive(Drop)]
 pub struct Noted<T> {
     inner: T,
-    failed: bool,
+    error: Option<io::Error>,
 }
 
 impl<T> Noted<T> {
@@ -58,10 +61,15 @@ impl<T> Noted<T> {
         ensures inner { inner_of result ≡ inner }
         ensures failed { failed_of result ≡ false }
     {
-        Noted {
-            inner,
-            failed: false,
-        }
+        Noted { inner, error: None }
+    }
+
+    /// Why the last failed call failed; `None` where none has. A write that took none of some bytes has the
+    /// kind `WriteZero`.
+    pub fn error(&self) -> Option<io::Error>
+        ensures { is_some result ≡ failed_of self.now }
+    {
+        self.error
     }
 }
 
@@ -72,14 +80,14 @@ impl<R: Read> Source for Noted<R> {
 
     fn read(&mut self, buf: &mut [u8]) -> io::Result<usize> {
         let got = self.inner.read(buf);
-        if got.is_err() {
-            self.failed = true;
+        if let Err(error) = &got {
+            self.error = Some(*error);
         }
         got
     }
 
     fn failed(&self) -> bool {
-        self.failed
+        self.error.is_some()
     }
 }
 
@@ -90,24 +98,25 @@ impl<W: Write> Sink for Noted<W> {
 
     fn write(&mut self, buf: &[u8]) -> io::Result<usize> {
         let took = self.inner.write(buf);
-        if is_failure(&took, buf) {
-            self.failed = true;
+        if let Some(error) = write_error(&took, buf) {
+            self.error = Some(error);
         }
         took
     }
 
     fn failed(&self) -> bool {
-        self.failed
+        self.error.is_some()
     }
 }
 
-/// Whether a write of `buf` failed.
-fn is_failure(took: &io::Result<usize>, buf: &[u8]) -> bool
-    ensures { result ≡ write_failed took.now buf.now }
+/// Why a write of `buf` failed, if it did.
+fn write_error(took: &io::Result<usize>, buf: &[u8]) -> Option<io::Error>
+    ensures { is_some result ≡ write_failed took.now buf.now }
 {
     match took {
-        Ok(n) => *n == 0 && !buf.is_empty(),
-        Err(_) => true,
+        Ok(n) if *n == 0 && !buf.is_empty() => Some(io::Error::from(ErrorKind::WriteZero)),
+        Ok(_) => None,
+        Err(error) => Some(*error),
     }
 }
 
@@ -130,8 +139,8 @@ pub fn read_all<R: Source, A: Allocator + Clone>(
     requires { R.has_failed reader.old ≡ false }
     ensures ok { IfOk result (λ text. IfSome (R.remaining reader.old) (λ bytes. text.items ≡ bytes)) }
     ensures short { IfOk result (λ text. length text.items ≤ 2 ^ 26) }
-    ensures fine { OnOk result (R.has_failed reader.new ≡ false) }
-    ensures err { IfErr result (λ e. NotRead (R.has_failed reader.new) (R.remaining reader.old) e) }
+    ensures failed { R.has_failed reader.new ≡ tells_read result }
+    ensures err { IfErr result (λ e. NotRead (R.remaining reader.old) e) }
 {
     let mut text = Vec::new(alloc.clone()?);
     let mut piece = room(alloc, PIECE_BYTES)?;

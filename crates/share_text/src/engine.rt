@@ -2,21 +2,22 @@
 ghost use Rattle.std.specs.Prelude.{◌≡◌, ◌+◌, ◌<◌, ◌≤◌, ◌++◌, [], length, codes, true, false, string_bytes, string_len, string_capacity, IfOk, OnOk, OnErr, IfErr, IsErr};
 ghost use Rattle.std.specs.Io.KnownBytes.{Appends};
 ghost use Rattle.merge_core.specs.Shown.{state_of};
-ghost use Rattle.page_model.specs.Limits.{shapes, AreFrames, AreGuests, ArePages};
+ghost use Rattle.page_model.specs.Limits.{shapes};
 ghost use Rattle.page_model.specs.Replay.{empty_state};
 ghost use Rattle.page_model.specs.Steps.{step};
 ghost use Rattle.share_text.specs.declared.fault.TextFault.TheVariants.{OutOfMemory};
 ghost use Rattle.share_text.specs.Printed.{verdict_line};
 ghost use Rattle.share_text.specs.Texts.{AreBelow};
 ghost use Rattle.share_text.specs.Views.{journal_seen};
-ghost use Rattle.share_text.specs.Ends.{AppendsFront, Sends};
+ghost use Rattle.share_text.specs.Ends.{AppendsFront, Sends, is_read_fault, is_write_fault, tells_read, tells_write};
 ghost use Rattle.share_text.specs.Replayed.{report_text, printed_from, printed, Replays, Refuses, NotPrinted};
 
 use crate::ends::{Sink, Source, read_all, write_all};
 use crate::fault::TextFault;
-use crate::journal::{Journal, read_journal};
+use crate::journal::Journal;
 use crate::output::{LINE_BYTES, buffer, make_room, put_report, put_verdict};
 use crate::print::fault_line;
+use crate::reader::read_journal;
 use merge_core::Core;
 use page_digest::PageHash;
 use page_model::Entry;
@@ -28,14 +29,12 @@ fn core_of<H: PageHash + Drop, A: Allocator + Clone>(
     journal: &Journal<A>,
     hash: H,
 ) -> Result<Core<H, A>, TextFault>
-    requires frames { AreFrames journal.now.frames }
-    requires guests { AreGuests journal.now.salts.items journal.now.pages.items }
-    requires pages { ArePages journal.now.pages.items }
     ensures empty { IfOk result (λ core. state_of core ≡ empty_state journal.now.frames (shapes journal.now.salts.items journal.now.pages.items)) }
     ensures guests { IfOk result (λ core. length (state_of core).guests ≡ length journal.now.pages.items) }
     ensures fault { IfErr result (λ e. e ≡ OutOfMemory) }
 {
-    let core = Core::open(alloc, journal.frames, &journal.pages, &journal.salts, hash)?;
+    let shape = journal.shape();
+    let core = Core::with_shape(alloc, &shape, hash)?;
     Ok(core)
 }
 
@@ -76,6 +75,7 @@ fn print_report<H: PageHash, W: Sink, A: Allocator>(
     requires room { LINE_BYTES ≤ string_capacity out.old }
     ensures ok { OnOk result (Appends (W.contents writer.old) (W.contents writer.new) (string_bytes out.old ++ report_text (state_of core.now))) }
     ensures err { OnErr result (AppendsFront (W.contents writer.old) (W.contents writer.new) (string_bytes out.old ++ report_text (state_of core.now))) }
+    ensures fine { OnOk result (W.has_failed writer.new ≡ false) }
     ensures failed { OnErr result (W.has_failed writer.new ≡ true) }
     ensures fault { IfErr result (λ e. e ≡ TextFault.Write) }
 {
@@ -98,6 +98,7 @@ fn print_all<H: PageHash, W: Sink, A: Allocator>(
     requires room { LINE_BYTES ≤ string_capacity out.old }
     ensures ok { OnOk result (Appends (W.contents writer.old) (W.contents writer.new) (printed_from H.hash_of (state_of core.old) entries.now)) }
     ensures err { OnErr result (AppendsFront (W.contents writer.old) (W.contents writer.new) (printed_from H.hash_of (state_of core.old) entries.now)) }
+    ensures fine { OnOk result (W.has_failed writer.new ≡ false) }
     ensures failed { OnErr result (W.has_failed writer.new ≡ true) }
     ensures fault { IfErr result (λ e. e ≡ TextFault.Write) }
 {
@@ -114,14 +115,11 @@ fn print_journal<H: PageHash + Drop, W: Sink, A: Allocator + Clone>(
     writer: &mut W,
     hash: H,
 ) -> Result<(), TextFault>
-    requires frames { AreFrames journal.now.frames }
-    requires guests { AreGuests journal.now.salts.items journal.now.pages.items }
-    requires pages { ArePages journal.now.pages.items }
-    requires entries { AreBelow (length journal.now.pages.items) journal.now.entries.items }
-    requires few { length journal.now.entries.items ≤ 16777216 }
     requires fine { W.has_failed writer.old ≡ false }
     ensures ok { OnOk result (Appends (W.contents writer.old) (W.contents writer.new) (printed H.hash_of (journal_seen journal.now))) }
-    ensures err { IfErr result (λ e. NotPrinted (W.contents writer.old) (W.contents writer.new) (W.has_failed writer.new) (printed H.hash_of (journal_seen journal.now)) e) }
+    ensures err { IfErr result (λ e. NotPrinted (W.contents writer.old) (W.contents writer.new) (printed H.hash_of (journal_seen journal.now)) e) }
+    ensures reader { tells_read result ≡ false }
+    ensures writer { W.has_failed writer.new ≡ tells_write result }
 {
     let mut out = buffer(alloc.clone()?)?;
     let mut core = core_of(alloc, journal, hash)?;
@@ -134,9 +132,13 @@ fn refuse<W: Sink, A: Allocator>(
     writer: &mut W,
     fault: TextFault,
 ) -> Result<(), TextFault>
-    requires { W.has_failed writer.old ≡ false }
+    requires fine { W.has_failed writer.old ≡ false }
+    requires read { is_read_fault fault ≡ false }
+    requires written { is_write_fault fault ≡ false }
     ensures err { IsErr result }
-    ensures told { IfErr result (λ e. Refuses fault (W.contents writer.old) (W.contents writer.new) (W.has_failed writer.new) e) }
+    ensures told { IfErr result (λ e. Refuses fault (W.contents writer.old) (W.contents writer.new) e) }
+    ensures reader { tells_read result ≡ false }
+    ensures writer { W.has_failed writer.new ≡ tells_write result }
 {
     let mut line = fault_line(alloc, &fault)?;
     line.push_str("\n")?;
@@ -147,7 +149,8 @@ fn refuse<W: Sink, A: Allocator>(
 /// Reads a journal, and writes a verdict line for each entry and then the report line.
 ///
 /// Where the text is at fault, the fault's line is written and nothing else, and the fault is answered. On
-/// `OutOfMemory`, `Read` and `Long` nothing was written, and on `Write` a front of the output went out.
+/// `OutOfMemory`, `Read` and `Long` nothing was written, and on `Write` a front of the output went out. `Read`
+/// is answered exactly where the reader failed, and `Write` exactly where the writer did.
 pub fn replay<R: Source, W: Sink, H: PageHash + Drop, A: Allocator + Clone>(
     alloc: A,
     reader: &mut R,
@@ -156,7 +159,9 @@ pub fn replay<R: Source, W: Sink, H: PageHash + Drop, A: Allocator + Clone>(
 ) -> Result<(), TextFault>
     requires reader { R.has_failed reader.old ≡ false }
     requires writer { W.has_failed writer.old ≡ false }
-    ensures { Replays H.hash_of (R.remaining reader.old) (W.contents writer.old) (W.contents writer.new) (R.has_failed reader.new) (W.has_failed writer.new) result }
+    ensures bytes { Replays H.hash_of (R.remaining reader.old) (W.contents writer.old) (W.contents writer.new) result }
+    ensures reader { R.has_failed reader.new ≡ tells_read result }
+    ensures writer { W.has_failed writer.new ≡ tells_write result }
 {
     let text = match read_all(alloc.clone()?, reader) {
         Ok(text) => text,

@@ -1,7 +1,7 @@
 //! The lines at the head of a text.
 ghost use Rattle.std.specs.Prelude.{◌≡◌, ◌+◌, ◌<◌, ◌≤◌, ◌^◌, Option, Some, None, Ok, Err, length, IfOk, IfErr, OnOk};
 ghost use Rattle.page_model.specs.Limits.{AreFrames, ArePages};
-ghost use Rattle.share_text.specs.Headers.{line_at, keyword, frames_of, frames_in_limits, numbers, words_in, are_pages, pages_in_limits, pages_of, at_line};
+ghost use Rattle.share_text.specs.Headers.{line_at, keyword, frames_of, frames_in_limits, numbers, words_in, are_pages, pages_in_limits, pages_of, salts_in_limits, salts_of, at_line};
 ghost use Rattle.share_text.specs.Views.{Gives};
 ghost use Rattle.share_text.specs.Cursor.{left, seen};
 
@@ -131,5 +131,31 @@ pub fn pages<A: Allocator>(alloc: A, line: &[u8]) -> Result<Vec<u32, A>, TextFau
     at_line(3, keyword(b"pages", first))?;
     let found = numbers(alloc, 3, rest)?;
     at_line(3, pages_in_limits(&found))?;
+    Ok(found)
+}
+
+fn salts_in_limits(guests: usize, salts: &[u32]) -> Result<(), Cause>
+    ensures value { seen (λ _. salts.now) result ≡ salts_in_limits guests salts.now }
+    ensures count { OnOk result (length salts.now ≡ guests) }
+{
+    if salts.is_empty() {
+        return Err(Cause::Form);
+    }
+    if salts.len() != guests {
+        return Err(Cause::Salts);
+    }
+    Ok(())
+}
+
+/// The salts of so many guests, on line 4.
+#[tactic(auto, unfolding(crate::specs::Headers::salts_of))]
+pub fn salts<A: Allocator>(alloc: A, guests: usize, line: &[u8]) -> Result<Vec<u32, A>, TextFault>
+    ensures value { Gives (λ v. v.items) result (at_line 4 (salts_of guests line.now)) }
+    ensures count { IfOk result (λ v. length v.items ≡ guests) }
+{
+    let (first, rest) = at_line(4, word(Some(line)))?;
+    at_line(4, keyword(b"salts", first))?;
+    let found = numbers(alloc, 4, rest)?;
+    at_line(4, salts_in_limits(guests, &found))?;
     Ok(found)
 }

@@ -6,16 +6,20 @@
 
 mod ends;
 mod engine;
+mod expect;
 mod fault;
 mod header;
 mod journal;
 mod output;
 mod print;
+mod reader;
 mod request;
 mod word;
 
 pub use ends::{Noted, Sink, Source};
 pub use engine::replay;
+pub use expect::expectation;
 pub use fault::{Cause, TextFault};
-pub use journal::{Journal, read_journal};
+pub use journal::Journal;
 pub use print::{fault_line, report_line, verdict_line};
+pub use reader::read_journal;

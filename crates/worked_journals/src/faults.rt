@@ -90,7 +90,7 @@ fn a_store_that_crosses(rt: HostRuntime) -> Result<(), Fail> {
 fn head_faults(rt: HostRuntime) {
     for (text, n, cause, line) in [
         (
-            "pageshare journal 2\n",
+            "pageshare journal 3\n",
             1,
             Cause::Header,
             "fault line 1: header\n",

@@ -2,9 +2,7 @@
 use crate::rows::*;
 use page_digest::{FirstByteHash, PageHash, Sha256Hash, TwoByteHash};
 use page_model::{Entry, HashFunction, Page, Request, Verdict};
-use share_text::{
-    Cause, Noted, TextFault, fault_line, read_journal, replay, report_line, verdict_line,
-};
+use share_text::{Noted, TextFault, fault_line, read_journal, replay, report_line, verdict_line};
 use std::alloc::Global;
 use std::test::Fail;
 
@@ -100,8 +98,6 @@ fn text_calls(rt: HostRuntime) -> Result<(), Fail> {
     );
     let line = fault_line(rt.alloc(), &TextFault::Count)?;
     assert_eq!(rt; line.as_str(), "fault count");
-    let shown = format!(in rt.alloc(); "{}", TextFault::Line(4, Cause::NoGuest))?;
-    assert_eq!(rt; shown.as_str(), "line 4: no-guest");
     Ok(())
 }
 

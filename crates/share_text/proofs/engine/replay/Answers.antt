@@ -10,43 +10,43 @@ use Rattle.share_text.proofs.engine.replay.Goals as goal
 fails_as : (e fault : TextFault) (read : Result Journal TextFault) → e ≡ fault → Fails e read → Fails fault read
 fails_as e fault read same h = rw same at h
 
-pub returns-in-Err : goal.returns-in-Err
-returns-in-Err g c = unread _ _ _ _ _ c.in-Err.fault c.in-Err.ensures.err
+pub returns-in-Err-clause-bytes : goal.returns-in-Err-clause-bytes
+returns-in-Err-clause-bytes g c = unread _ _ _ c.in-Err.fault c.in-Err.ensures.err
 
-pub returns-in-Ok-read_journal : goal.returns-in-Ok-read_journal
-returns-in-Ok-read_journal g c =
+pub returns-in-Ok-read_journal-clause-bytes : goal.returns-in-Ok-read_journal-clause-bytes
+returns-in-Ok-read_journal-clause-bytes g c =
     let text = c.in-Ok.text.items in
-    let read : journal_of text ≡ Ok (journal_seen c.in-Ok-read_journal.journal) = ap journal_of (sym c.deref.ensures.value) ∙ c.in-Ok-read_journal.ensures.value in
-    prints g.H.HashFunction.hash_of (g.R.Source.remaining c.args.reader.now) (g.W.Sink.contents c.args.writer.now) (g.W.Sink.contents c.print_journal.new.writer) (g.R.Source.has_failed c.read_all.new.reader) (g.W.Sink.has_failed c.print_journal.new.writer)
+    let read : journal_of text ≡ Ok (journal_seen c.in-Ok-read_journal.journal) = ap journal_of (sym c.deref.ensures.value) ∙ c.in-Ok-read_journal.ensures in
+    prints g.H.HashFunction.hash_of (g.R.Source.remaining c.args.reader.now) (g.W.Sink.contents c.args.writer.now) (g.W.Sink.contents c.print_journal.new.writer)
     text (journal_seen c.in-Ok-read_journal.journal) c.print_journal.result c.in-Ok.ensures.ok read c.print_journal.ensures.ok c.print_journal.ensures.err
 
-pub returns-in-Err-Line : goal.returns-in-Err-Line
-returns-in-Err-Line g c =
+pub returns-in-Err-Line-clause-bytes : goal.returns-in-Err-Line-clause-bytes
+returns-in-Err-Line-clause-bytes g c =
     let text = c.in-Ok.text.items in
     let fault : TextFault = faults.Line c.in-Err-Line.n c.in-Err-Line.cause in
-    let read : journal_of text ≡ Err fault = ap journal_of (sym c.deref.ensures.value) ∙ fails_as _ fault _ c.in-Err-Line.field-0-is c.in-Err-Line.ensures.value in
-    refuses g.H.HashFunction.hash_of (g.R.Source.remaining c.args.reader.now) (g.W.Sink.contents c.args.writer.now) (g.W.Sink.contents c.refuse.new.writer) (g.R.Source.has_failed c.read_all.new.reader) (g.W.Sink.has_failed c.refuse.new.writer)
+    let read : journal_of text ≡ Err fault = ap journal_of (sym c.deref.ensures.value) ∙ fails_as _ fault _ c.in-Err-Line.field-0-is c.in-Err-Line.ensures in
+    refuses g.H.HashFunction.hash_of (g.R.Source.remaining c.args.reader.now) (g.W.Sink.contents c.args.writer.now) (g.W.Sink.contents c.refuse.new.writer)
     text fault c.refuse.result tt c.in-Ok.ensures.ok read c.refuse.ensures.err c.refuse.ensures.told
 
-pub returns-in-Err-Truncated : goal.returns-in-Err-Truncated
-returns-in-Err-Truncated g c =
+pub returns-in-Err-Truncated-clause-bytes : goal.returns-in-Err-Truncated-clause-bytes
+returns-in-Err-Truncated-clause-bytes g c =
     let text = c.in-Ok.text.items in
     let call = c.refuse-in-Err-Truncated in
     let fault : TextFault = faults.Truncated c.in-Err-Truncated.n in
-    let read : journal_of text ≡ Err fault = ap journal_of (sym c.deref.ensures.value) ∙ fails_as _ fault _ c.in-Err-Truncated.field-0-is c.in-Err-Truncated.ensures.value in
-    refuses g.H.HashFunction.hash_of (g.R.Source.remaining c.args.reader.now) (g.W.Sink.contents c.args.writer.now) (g.W.Sink.contents call.new.writer) (g.R.Source.has_failed c.read_all.new.reader) (g.W.Sink.has_failed call.new.writer)
+    let read : journal_of text ≡ Err fault = ap journal_of (sym c.deref.ensures.value) ∙ fails_as _ fault _ c.in-Err-Truncated.field-0-is c.in-Err-Truncated.ensures in
+    refuses g.H.HashFunction.hash_of (g.R.Source.remaining c.args.reader.now) (g.W.Sink.contents c.args.writer.now) (g.W.Sink.contents call.new.writer)
     text fault call.result tt c.in-Ok.ensures.ok read call.ensures.err call.ensures.told
 
-pub returns-in-Err-Count : goal.returns-in-Err-Count
-returns-in-Err-Count g c =
+pub returns-in-Err-Count-clause-bytes : goal.returns-in-Err-Count-clause-bytes
+returns-in-Err-Count-clause-bytes g c =
     let text = c.in-Ok.text.items in
     let call = c.refuse-in-Err-Count in
-    let read : journal_of text ≡ Err faults.Count = ap journal_of (sym c.deref.ensures.value) ∙ fails_as _ faults.Count _ c.in-Err-Count.field-0-is c.in-Err-Count.ensures.value in
-    refuses g.H.HashFunction.hash_of (g.R.Source.remaining c.args.reader.now) (g.W.Sink.contents c.args.writer.now) (g.W.Sink.contents call.new.writer) (g.R.Source.has_failed c.read_all.new.reader) (g.W.Sink.has_failed call.new.writer)
+    let read : journal_of text ≡ Err faults.Count = ap journal_of (sym c.deref.ensures.value) ∙ fails_as _ faults.Count _ c.in-Err-Count.field-0-is c.in-Err-Count.ensures in
+    refuses g.H.HashFunction.hash_of (g.R.Source.remaining c.args.reader.now) (g.W.Sink.contents c.args.writer.now) (g.W.Sink.contents call.new.writer)
     text faults.Count call.result tt c.in-Ok.ensures.ok read call.ensures.err call.ensures.told
 
-pub returns-in-Err-Long : goal.returns-in-Err-Long
-returns-in-Err-Long g c =
+pub returns-in-Err-Long-clause-bytes : goal.returns-in-Err-Long-clause-bytes
+returns-in-Err-Long-clause-bytes g c =
     let text = c.in-Ok.text.items in
-    let read : journal_of text ≡ Err faults.Long = ap journal_of (sym c.deref.ensures.value) ∙ fails_as _ faults.Long _ c.in-Err-Long.field-0-is c.in-Err-Long.ensures.value in
-    longs g.H.HashFunction.hash_of (g.R.Source.remaining c.args.reader.now) (g.W.Sink.contents c.args.writer.now) (g.R.Source.has_failed c.read_all.new.reader) (g.W.Sink.has_failed c.args.writer.now) text c.in-Ok.ensures.ok read
+    let read : journal_of text ≡ Err faults.Long = ap journal_of (sym c.deref.ensures.value) ∙ fails_as _ faults.Long _ c.in-Err-Long.field-0-is c.in-Err-Long.ensures in
+    longs g.H.HashFunction.hash_of (g.R.Source.remaining c.args.reader.now) (g.W.Sink.contents c.args.writer.now) text c.in-Ok.ensures.ok read

@@ -8,7 +8,7 @@ use Rattle.page_model.specs.declared.request.Entry.{Entry}
 use Rattle.share_text.specs.Headers.{is_feed}
 use Rattle.share_text.specs.Texts.{closed_after}
 use Rattle.share_text.proofs.Lines.{entries_end, entries_fault, entries_ended, entries_step, below_push}
-use Rattle.share_text.proofs.journal.entries.Goals as goal
+use Rattle.share_text.proofs.reader.entries.Goals as goal
 
 below_of : {n : ℕ} {l : Line} {e : Entry} → l ≡ Enters e → IsBelow n l → e.guest < n
 below_of same h = rw same at h

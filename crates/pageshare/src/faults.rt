@@ -1,0 +1,52 @@
+//! What is told of a fault, and the status that it gives.
+use share_text::TextFault;
+use std::io;
+use std::process::ExitCode;
+
+/// How the work ended, and where a read or a write failed, what of and the system's error.
+#[derive(Drop)]
+pub struct Ending<'a> {
+    pub done: Result<(), TextFault>,
+    pub failure: Option<(&'a str, io::Error)>,
+}
+
+/// The line on standard error of a fault of which the output can't tell; `None` where it does.
+fn line_of(fault: &TextFault) -> Option<&'static str> {
+    match fault {
+        TextFault::Line(_, _) => None,
+        TextFault::Truncated(_) => None,
+        TextFault::Count => None,
+        TextFault::OutOfMemory => Some("fault memory"),
+        TextFault::Read => Some("fault read"),
+        TextFault::Write => Some("fault write"),
+        TextFault::Long => Some("fault long"),
+    }
+}
+
+/// The status for how the work ended. A fault of which the output can't tell goes to standard error, and one
+/// line more on it explains any fault to a person, who is there where standard error is a terminal.
+pub fn tell(rt: &impl Eprint, is_terminal: bool, ending: &Ending<'_>) -> io::Result<ExitCode> {
+    let fault = match &ending.done {
+        Ok(()) => return Ok(ExitCode::SUCCESS),
+        Err(fault) => fault,
+    };
+    if let Some(line) = line_of(fault) {
+        eprintln!(rt; "{line}")?;
+    }
+    if is_terminal {
+        explain(rt, fault, &ending.failure)?;
+    }
+    Ok(ExitCode::FAILURE)
+}
+
+/// Why it is a fault: in the system's own words where there are some, and else by what was expected.
+fn explain(
+    rt: &impl Eprint,
+    fault: &TextFault,
+    failure: &Option<(&str, io::Error)>,
+) -> io::Result<()> {
+    match failure {
+        Some((name, error)) => eprintln!(rt; "{name}: {error}"),
+        None => eprintln!(rt; "{fault}"),
+    }
+}
