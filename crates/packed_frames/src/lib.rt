@@ -5,10 +5,16 @@
 //! of a shared frame or of a hint frame, and a link to the next frame of its chain.
 #![tactic(auto)]
 
+mod chains;
 mod entry;
+mod frame;
+mod key;
 mod numbers;
 mod packed;
+mod places;
 
+pub use chains::Chains;
 pub use entry::Entry;
+pub use key::Key;
 pub use numbers::{U23, U24};
 pub use packed::Packed;

@@ -1,5 +1,5 @@
 //! A frame of 16 bytes.
-ghost use Rattle.std.specs.Prelude.{◌≡◌, ◌+◌, ◌<◌, ◌≤◌, ◌^◌, ◌++◌, Some, IfSome, is_none, take, drop};
+ghost use Rattle.std.specs.Prelude.{◌≡◌, ◌+◌, ◌<◌, ◌≤◌, ◌^◌, ◌++◌, Some, IfSome, IsSome, is_none, take, drop};
 ghost use Rattle.std.specs.Int.{w64, to_be_bytes, from_be_bytes};
 ghost use Rattle.packed_frames.specs.Packing.{packed_bytes, packed_shared, packed_hint, unpacked, is_refused, tail_word, hint_word, bits_of, word_at};
 
@@ -100,6 +100,17 @@ impl Packed {
             mpn,
         };
         Some(Packed { entry, link })
+    }
+
+    // The frame of bytes that can be read.
+    pub(crate) fn of(bytes: &[u8; 16]) -> Packed
+        requires { IsSome (unpacked bytes.now) }
+        ensures { unpacked bytes.now ≡ Some result }
+    {
+        match Packed::read(bytes) {
+            Some(packed) => packed,
+            None => unreachable!(),
+        }
     }
 }
 
