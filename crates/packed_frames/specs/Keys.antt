@@ -36,3 +36,15 @@ with_other k new (e ∷ es) = if has_key k e then new ∷ es else e ∷ with_oth
 abbrev pub without_first : Key → List Entry → List Entry
 without_first k [] = []
 without_first k (e ∷ es) = if has_key k e then es else e ∷ without_first k es
+
+-- the MPN and the count of a shared frame
+abbrev pub shared_parts : Option Entry → Option (ℕ × ℕ)
+shared_parts None = None
+shared_parts (Some (Shared hash mpn count)) = Some (mpn, count)
+shared_parts (Some (Hint number guest ppn mpn)) = None
+
+-- the guest, the PPN and the MPN of a hint frame
+abbrev pub hint_parts : Option Entry → Option (ℕ × ℕ × ℕ)
+hint_parts None = None
+hint_parts (Some (Shared hash mpn count)) = None
+hint_parts (Some (Hint number guest ppn mpn)) = Some (guest, ppn, mpn)

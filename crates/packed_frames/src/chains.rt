@@ -1,6 +1,7 @@
 //! Chains of frames, in buckets by truncated hash.
-ghost use Rattle.std.specs.Prelude.{◌≡◌, ◌+◌, ◌*◌, ◌≤◌, ◌<◌, ◌∷◌, IfOk, IsSome, length};
-ghost use Rattle.packed_frames.specs.Keys.{key_of, first_with, with_other, without_first};
+ghost use Rattle.std.specs.Prelude.{◌≡◌, ◌+◌, ◌*◌, ◌≤◌, ◌<◌, ◌∷◌, ◌^◌, IfOk, IfSome, IsSome, length};
+ghost use Rattle.packed_frames.specs.Keys.{key_of, first_with, with_other, without_first, shared_parts, hint_parts};
+ghost use Rattle.packed_frames.specs.declared.key.Key.TheVariants as keys;
 ghost use Rattle.packed_frames.specs.Entries.{empty_chains, entry_count, home, chain_of, with_chain};
 
 use crate::places::Places;
@@ -50,8 +51,29 @@ impl<A: Allocator> Chains<A> {
         self.places.len()
     }
 
-    /// The first entry of its chain that the key finds.
-    pub fn find(&self, key: Key) -> Option<Entry>
+    /// The MPN and the count of the shared frame with this hash.
+    pub fn find_shared(&self, hash: u64) -> Option<(u32, u16)>
+        ensures found { result ≡ shared_parts (first_with (keys.Shared hash) (chain_of self.now (keys.Shared hash))) }
+        ensures fits { IfSome result (λ frame. frame.0 < 2 ^ 24) }
+    {
+        match self.find(Key::Shared(hash)) {
+            Some(entry) => entry.shared(),
+            None => None,
+        }
+    }
+
+    /// The guest, the PPN and the MPN of the hint frame with this key.
+    pub fn find_hint(&self, key: u32) -> Option<(u8, u32, u32)>
+        ensures { result ≡ hint_parts (first_with (keys.Hint key) (chain_of self.now (keys.Hint key))) }
+    {
+        match self.find(Key::Hint(key)) {
+            Some(entry) => entry.hint(),
+            None => None,
+        }
+    }
+
+    // The first entry of its chain that the key finds.
+    fn find(&self, key: Key) -> Option<Entry>
         ensures { result ≡ first_with key (chain_of self.now key) }
     {
         let place = self.places.find(self.bucket(key), key)?;

@@ -1,6 +1,6 @@
 //! What frames are found by.
-ghost use Rattle.std.specs.Prelude.{◌≡◌};
-ghost use Rattle.packed_frames.specs.Keys.{has_key, truncated, key_of};
+ghost use Rattle.std.specs.Prelude.{◌≡◌, ◌<◌, ◌^◌, Some, IfSome};
+ghost use Rattle.packed_frames.specs.Keys.{has_key, truncated, key_of, shared_parts, hint_parts};
 
 use crate::Entry;
 
@@ -33,6 +33,32 @@ impl Entry {
         match *self {
             Entry::Shared { hash, .. } => Key::Shared(hash),
             Entry::Hint { key, .. } => Key::Hint(key),
+        }
+    }
+
+    /// The MPN and the count of a shared frame.
+    pub fn shared(&self) -> Option<(u32, u16)>
+        ensures parts { result ≡ shared_parts (Some self.now) }
+        ensures fits { IfSome result (λ frame. frame.0 < 2 ^ 24) }
+    {
+        match *self {
+            Entry::Shared { mpn, count, .. } => Some((mpn.get(), count)),
+            Entry::Hint { .. } => None,
+        }
+    }
+
+    /// The guest, the PPN and the MPN of a hint frame.
+    pub fn hint(&self) -> Option<(u8, u32, u32)>
+        ensures { result ≡ hint_parts (Some self.now) }
+    {
+        match *self {
+            Entry::Shared { .. } => None,
+            Entry::Hint {
+                guest,
+                ppn,
+                mpn,
+                ..
+            } => Some((guest, ppn.get(), mpn.get())),
         }
     }
 

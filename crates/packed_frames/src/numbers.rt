@@ -36,8 +36,8 @@ impl U24 {
         }
     }
 
-    // A number that fits.
-    pub(crate) fn of(number: u32) -> U24
+    /// A number that is known to fit.
+    pub fn of(number: u32) -> U24
         requires { number < 2 ^ 24 }
         ensures { result ≡ number }
     {
@@ -86,8 +86,8 @@ impl U23 {
         }
     }
 
-    // A number that fits.
-    pub(crate) fn of(number: u32) -> U23
+    /// A number that is known to fit.
+    pub fn of(number: u32) -> U23
         requires { number < 2 ^ 23 }
         ensures { result ≡ number }
     {
