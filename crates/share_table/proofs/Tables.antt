@@ -1,25 +1,19 @@
--- What each change of a table's lists does to its maps, and that the lists stay kept.
-use Rattle.std.proofs.Common.{◌≡◌, ℕ, ◌+◌, ◌*◌, ◌<◌, ◌≤◌, Bool, true, false, cond, nat_lt, nat_le, nat_eq, List, [], ◌∷◌, ◌++◌, length, get_or, map, Option, Some, None, IsSome, sym, refl, ap, ◌∙◌, arith, rules, subst}
-use Rattle.std.proofs.Math.ListN.{set}
-use Rattle.std.specs.List.{sum_by, remove as removed, position}
+-- What each change of the shared frames does to their map and their counts.
+use Rattle.std.proofs.Common.{◌≡◌, ℕ, ◌+◌, ◌*◌, ◌≤◌, Bool, true, false, cond, nat_lt, nat_le, nat_eq, List, [], ◌∷◌, map, Option, Some, None, IsSome, sym, refl, ap, ◌∙◌, arith, rules, subst}
+use Rattle.std.specs.List.{sum_by}
 use Rattle.std.specs.Option.{option_map}
 use Rattle.std.specs.Ordering.{nat_cmp}
 use Rattle.std.specs.Cmp.{nat_cmp_total}
 use Rattle.std.specs.FinMap.{from_entries, entries, insert, remove, get, len, empty, get-empty, len-empty, nat_cmp-IsAntisymmetric, same_map, get-from_entries, get-insert, get-remove}
 use Rattle.std.proofs.lemmas.Bool.Decides.{nat_tests}
-use Rattle.std.proofs.lemmas.List.{length-map, length-set, length_push}
-use Rattle.std.proofs.lemmas.List.Edits.{length-remove}
 use Rattle.std.proofs.lemmas.List.Sums.{sum_by-cons}
 use Rattle.share_table.specs.TableMaps.{SharedFrame, SharedMap, field_of}
 use Rattle.share_table.specs.declared.entries.SharedEntry.{SharedEntry}
-use Rattle.share_table.specs.declared.entries.HintEntry.{HintEntry}
-use Rattle.share_table.specs.Stored.{WideMap, widened, frame_of, frame_pair, shared_pair, hint_pair, shared_in, hint_in, Agrees, rewidened, HasDistinctKeys, IsKept}
+use Rattle.share_table.specs.Stored.{WideMap, widened, frame_of, frame_pair, shared_in, Agrees, rewidened, IsCounted}
 use Rattle.share_table.proofs.Maps.{tied, found, tied_same, len_new, len_old, len_gone, sum_empty, sum_new, sum_old, sum_gone}
-use Rattle.share_table.proofs.Pairs.{len-from_entries}
-use Rattle.share_table.proofs.Keyed.{found_pushed, distinct_of_pushed, found_is, found_set, distinct_of_set, found_removed, distinct_of_removed, within, key_is}
 
 -- the map of a table's shared frames
-abbrev pub frames : WideMap → List SharedEntry → SharedMap
+abbrev pub frames : WideMap → List (ℕ × SharedEntry) → SharedMap
 frames wide es = from_entries (map (frame_pair wide) es)
 
 abbrev pub count_in : ℕ × SharedFrame → ℕ
@@ -29,40 +23,32 @@ count_in e = e.1.count
 abbrev pub width_in : ℕ × SharedFrame → ℕ
 width_in e = cond (nat_lt 65535 e.1.count) 1 0
 
-frame_step : (wide : WideMap) (e : SharedEntry) (q : ℕ) (b : Bool) (r : Option SharedFrame) (s : Option SharedEntry) → tied q e.hash ≡ b → r ≡ option_map (frame_of (get wide q)) s → cond b (Some (frame_of (get wide e.hash) e)) r ≡ option_map (frame_of (get wide q)) (cond b (Some e) s)
-frame_step wide e q true r s t h = ap (λ k. Some (frame_of (get wide k) e)) (sym (tied_same q e.hash t))
-frame_step wide e q false r s t h = h
+frame_step : (wide : WideMap) (p : ℕ × SharedEntry) (q : ℕ) (b : Bool) (r : Option SharedFrame) (s : Option SharedEntry) → tied q p.0 ≡ b → r ≡ option_map (frame_of (get wide q)) s → cond b (Some (frame_of (get wide p.0) p.1)) r ≡ option_map (frame_of (get wide q)) (cond b (Some p.1) s)
+frame_step wide p q true r s t h = ap (λ k. Some (frame_of (get wide k) p.1)) (sym (tied_same q p.0 t))
+frame_step wide p q false r s t h = h
 
-frame_found : (wide : WideMap) (es : List SharedEntry) (q : ℕ) → found q (map (frame_pair wide) es) ≡ option_map (frame_of (get wide q)) (shared_in es q)
+frame_found : (wide : WideMap) (es : List (ℕ × SharedEntry)) (q : ℕ) → found q (map (frame_pair wide) es) ≡ option_map (frame_of (get wide q)) (shared_in es q)
 frame_found wide [] q = refl
-frame_found wide (e ∷ es) q = frame_step wide e q (tied q e.hash) _ (shared_in es q) refl (frame_found wide es q)
+frame_found wide (p ∷ es) q = frame_step wide p q (tied q p.0) _ (shared_in es q) refl (frame_found wide es q)
 
 -- the shared frame with a hash, from the two lists
-pub frame_got : (wide : WideMap) (es : List SharedEntry) (q : ℕ) → get (frames wide es) q ≡ option_map (frame_of (get wide q)) (shared_in es q)
+pub frame_got : (wide : WideMap) (es : List (ℕ × SharedEntry)) (q : ℕ) → get (frames wide es) q ≡ option_map (frame_of (get wide q)) (shared_in es q)
 frame_got wide es q = get-from_entries nat_cmp_total (map (frame_pair wide) es) q ∙ frame_found wide es q
 
-distinct_frames : (wide : WideMap) (es : List SharedEntry) → HasDistinctKeys (map shared_pair es) → HasDistinctKeys (map (frame_pair wide) es)
-distinct_frames wide [] u = tt
-distinct_frames wide (e ∷ es) u =
-    (frame_found wide es e.hash ∙ ap (option_map (frame_of (get wide e.hash))) u.0, distinct_frames wide es u.1)
-
-pub len_of_frames : (wide : WideMap) (es : List SharedEntry) → HasDistinctKeys (map shared_pair es) → len (frames wide es) ≡ length es
-len_of_frames wide es u = len-from_entries (map (frame_pair wide) es) (distinct_frames wide es u) ∙ length-map es (frame_pair wide)
-
 -- a hash without an entry has no shared frame
-pub no_frame : (wide : WideMap) (es : List SharedEntry) (q : ℕ) → shared_in es q ≡ None → get (frames wide es) q ≡ None
+pub no_frame : (wide : WideMap) (es : List (ℕ × SharedEntry)) (q : ℕ) → shared_in es q ≡ None → get (frames wide es) q ≡ None
 no_frame wide es q n = frame_got wide es q ∙ ap (option_map (frame_of (get wide q))) n
 
 pub none_of_map : {A B : Type 0} (f : A → B) (o : Option A) → option_map f o ≡ None → o ≡ None
 none_of_map f None e = refl
 none_of_map f (Some x) e = absurd (cc)
 
-some_of_map : {A B : Type 0} (f : A → B) (o : Option A) → IsSome (option_map f o) → IsSome o
+pub some_of_map : {A B : Type 0} (f : A → B) (o : Option A) → IsSome (option_map f o) → IsSome o
 some_of_map f None h = h
 some_of_map f (Some x) h = search rules
 
 -- a hash with a shared frame has an entry
-pub entry_of_frame : (wide : WideMap) (es : List SharedEntry) (q : ℕ) → IsSome (get (frames wide es) q) → IsSome (shared_in es q)
+pub entry_of_frame : (wide : WideMap) (es : List (ℕ × SharedEntry)) (q : ℕ) → IsSome (get (frames wide es) q) → IsSome (shared_in es q)
 entry_of_frame wide es q h = some_of_map (frame_of (get wide q)) (shared_in es q) (rw (← frame_got wide es q) h)
 
 -- ---- a field and a wide count that agree
@@ -75,7 +61,7 @@ pub agrees_at : (o : Option SharedEntry) (w : Option ℕ) (e : SharedEntry) → 
 agrees_at o w e a is = let P : Option SharedEntry → Type 0 = λ p. Agrees p w in subst P is a
 
 -- ---- a change at one hash
-pub record Changes (old new : List SharedEntry) (wide wide' : WideMap) (hash : ℕ) (entry : Option SharedEntry) (count : Option ℕ) : Type 0 where
+pub record Changes (old new : List (ℕ × SharedEntry)) (wide wide' : WideMap) (hash : ℕ) (entry : Option SharedEntry) (count : Option ℕ) : Type 0 where
   pub entries : (q : ℕ) → shared_in new q ≡ cond (tied q hash) entry (shared_in old q)
   pub counts : (q : ℕ) → get wide' q ≡ cond (tied q hash) count (get wide q)
 
@@ -87,7 +73,7 @@ changed_agrees : (b : Bool) (entry old : Option SharedEntry) (count wide : Optio
 changed_agrees true entry old count wide a h = a
 changed_agrees false entry old count wide a h = h
 
-module _ (old new : List SharedEntry) (wide wide' : WideMap) (hash : ℕ) (entry : Option SharedEntry) (count : Option ℕ) (c : Changes old new wide wide' hash entry count) where
+module _ (old new : List (ℕ × SharedEntry)) (wide wide' : WideMap) (hash : ℕ) (entry : Option SharedEntry) (count : Option ℕ) (c : Changes old new wide wide' hash entry count) where
   got_changed : (q : ℕ) → get (frames wide' new) q ≡ cond (tied q hash) (option_map (frame_of count) entry) (get (frames wide old) q)
   got_changed q =
       frame_got wide' new q
@@ -102,12 +88,12 @@ module _ (old new : List SharedEntry) (wide wide' : WideMap) (hash : ℕ) (entry
       let Q : Option ℕ → Type 0 = λ w. Agrees (cond (tied q hash) entry (shared_in old q)) w in
       subst P (sym (c.entries q)) (subst Q (sym (c.counts q)) (changed_agrees (tied q hash) entry (shared_in old q) count (get wide q) a (h q)))
 
-module _ (old new : List SharedEntry) (wide wide' : WideMap) (hash : ℕ) (entry : SharedEntry) (count : Option ℕ) (c : Changes old new wide wide' hash (Some entry) count) where
+module _ (old new : List (ℕ × SharedEntry)) (wide wide' : WideMap) (hash : ℕ) (entry : SharedEntry) (count : Option ℕ) (c : Changes old new wide wide' hash (Some entry) count) where
   frames_inserted : frames wide' new ≡ insert (frames wide old) hash (frame_of count entry)
   frames_inserted =
       same_map nat_cmp_total nat_cmp-IsAntisymmetric _ _ (λ q. got_changed old new wide wide' hash (Some entry) count c q ∙ sym (get-insert nat_cmp_total (frames wide old) hash (frame_of count entry) q))
 
-frames_removed : (old new : List SharedEntry) (wide wide' : WideMap) (hash : ℕ) (count : Option ℕ) → Changes old new wide wide' hash None count → frames wide' new ≡ remove (frames wide old) hash
+frames_removed : (old new : List (ℕ × SharedEntry)) (wide wide' : WideMap) (hash : ℕ) (count : Option ℕ) → Changes old new wide wide' hash None count → frames wide' new ≡ remove (frames wide old) hash
 frames_removed old new wide wide' hash count c =
     same_map nat_cmp_total nat_cmp-IsAntisymmetric _ _ (λ q. got_changed old new wide wide' hash None count c q ∙ sym (get-remove nat_cmp_total (frames wide old) hash q))
 
@@ -132,24 +118,20 @@ wide_sum (x ∷ xs) =
     omega (arith, wide_sum xs, sum_by-cons width_in x xs, sum_by-cons count_in x xs, width_le x.1.count (nat_lt 65535 x.1.count) refl)
 
 -- sixteen places are enough: each has a count of 65,536 or more, of 1,048,576 references in all
-pub wide_fits : (capacity total : ℕ) (shared : List SharedEntry) (hints : List HintEntry) (wide : WideMap) → IsKept capacity total shared hints wide → len wide ≤ 16
-wide_fits capacity total shared hints wide k =
+pub wide_fits : (total : ℕ) (shared : List (ℕ × SharedEntry)) (wide : WideMap) → IsCounted total shared wide → len wide ≤ 16
+wide_fits total shared wide k =
     let all = entries (frames wide shared) in
     let sums : sum_by count_in all ≡ total = k.summed in
     let widths : len wide ≡ sum_by width_in all = k.widths in
     omega (arith, wide_sum all, sums, widths, k.bounded)
 
--- an empty table
-pub nothing_kept : (capacity : ℕ) → capacity ≤ 1048576 → IsKept capacity 0 [] [] empty
-nothing_kept capacity most = record {
-  distinct_hashes = tt;
-  distinct_keys = tt;
+-- no frames
+pub nothing_counted : IsCounted 0 [] empty
+nothing_counted = record {
   agrees = λ q. let P : Option ℕ → Type 0 = λ w. Agrees None w in subst P (sym (get-empty nat_cmp q)) tt;
   summed = sum_empty count_in;
   bounded = omega arith;
   widths = len-empty nat_cmp ℕ ∙ sym (sum_empty width_in);
-  room = omega arith;
-  limit = most;
 }
 
 -- ---- a new count
@@ -199,157 +181,114 @@ pub field_is_kept : (e : SharedEntry) (w : Option ℕ) → Agrees (Some e) w →
 field_is_kept e None a = let le : e.field ≤ 65535 = a.1 in grind (arith, nat_tests)
 field_is_kept e (Some c) a = let more : 65536 ≤ c = a.1 in let zero : e.field ≡ 0 = a.0 in grind (arith, nat_tests)
 
-module _ (capacity total : ℕ) (shared : List SharedEntry) (hints : List HintEntry) (wide : WideMap) (k : IsKept capacity total shared hints wide) where
-  pub entry_count_is : len (frames wide shared) + len (from_entries {R = nat_cmp} (map hint_pair hints)) ≡ length shared + length hints
-  entry_count_is =
-      omega (arith, len_of_frames wide shared k.distinct_hashes, len-from_entries (map hint_pair hints) k.distinct_keys, length-map hints hint_pair)
-
+module _ (total : ℕ) (shared : List (ℕ × SharedEntry)) (wide : WideMap) (k : IsCounted total shared wide) where
   -- a new frame, of two pages
-  module _ (new : SharedEntry) (two : new.field ≡ 2) (none : shared_in shared new.hash ≡ None) where
-    add_changes : Changes shared (shared ++ new ∷ []) wide wide new.hash (Some new) None
+  module _ (shared' : List (ℕ × SharedEntry)) (new : SharedEntry) (two : new.field ≡ 2) (none : shared_in shared new.hash ≡ None) (put : (q : ℕ) → shared_in shared' q ≡ cond (tied q new.hash) (Some new) (shared_in shared q)) where
+    add_changes : Changes shared shared' wide wide new.hash (Some new) None
     add_changes = record {
-      entries = found_pushed (λ e. e.hash) (λ e. e) shared new none;
+      entries = put;
       counts = λ q. same_here wide new.hash q (tied q new.hash) None refl (wide_of_absent (shared_in shared new.hash) (get wide new.hash) (k.agrees new.hash) none);
     }
 
-    pub added_frames : frames wide (shared ++ new ∷ []) ≡ insert (frames wide shared) new.hash (record { mpn = new.mpn; count = 2 })
+    pub added_frames : frames wide shared' ≡ insert (frames wide shared) new.hash (record { mpn = new.mpn; count = 2 })
     added_frames =
-        frames_inserted shared (shared ++ new ∷ []) wide wide new.hash new None add_changes
+        frames_inserted shared shared' wide wide new.hash new None add_changes
         ∙ ap (λ n. insert (frames wide shared) new.hash (record { mpn = new.mpn; count = n })) two
 
-    sum_of_added : (f : ℕ × SharedFrame → ℕ) → sum_by f (entries (frames wide (shared ++ new ∷ []))) ≡ f (new.hash, record { mpn = new.mpn; count = 2 }) + sum_by f (entries (frames wide shared))
+    sum_of_added : (f : ℕ × SharedFrame → ℕ) → sum_by f (entries (frames wide shared')) ≡ f (new.hash, record { mpn = new.mpn; count = 2 }) + sum_by f (entries (frames wide shared))
     sum_of_added f =
         ap (λ (n : SharedMap). sum_by f (entries n)) added_frames
         ∙ sum_new f (frames wide shared) new.hash (record { mpn = new.mpn; count = 2 }) (no_frame wide shared new.hash none)
 
-    pub added_kept : total + 2 ≤ 1048576 → length shared + length hints < capacity → IsKept capacity (total + 2) (shared ++ new ∷ []) hints wide
-    added_kept most room =
+    pub len_added : len (frames wide shared') ≡ len (frames wide shared) + 1
+    len_added = ap (λ (n : SharedMap). len n) added_frames ∙ len_new (frames wide shared) new.hash _ (no_frame wide shared new.hash none)
+
+    pub added_counted : total + 2 ≤ 1048576 → IsCounted (total + 2) shared' wide
+    added_counted most =
         let sums : sum_by count_in (entries (frames wide shared)) ≡ total = k.summed in
         let widths : len wide ≡ sum_by width_in (entries (frames wide shared)) = k.widths in
         record {
-          distinct_hashes = distinct_of_pushed (λ e. e.hash) (λ e. e) shared new none k.distinct_hashes;
-          distinct_keys = k.distinct_keys;
-          agrees = agrees_changed shared (shared ++ new ∷ []) wide wide new.hash (Some new) None add_changes k.agrees (omega arith, omega arith);
+          agrees = agrees_changed shared shared' wide wide new.hash (Some new) None add_changes k.agrees (omega arith, omega arith);
           summed = omega (arith, sum_of_added count_in, sums);
           bounded = most;
           widths = omega (arith, sum_of_added width_in, widths);
-          room = omega (arith, room, length_push shared new);
-          limit = k.limit;
         }
 
-  -- the frame that stands at a place
-  module _ (hash i : ℕ) (at : position (λ e. nat_eq e.hash hash) shared ≡ Some i) (e : SharedEntry) (read : e ≡ get_or shared i e) where
-    pub hash_is : e.hash ≡ hash
-    hash_is = key_is (λ e. e.hash) (λ e. e) shared hash i at e read
-
-    entry_is : shared_in shared hash ≡ Some e
-    entry_is = found_is (λ e. e.hash) (λ e. e) shared hash i at e read k.distinct_hashes
-
-    agrees_here : Agrees (Some e) (get wide hash)
-    agrees_here = agrees_at (shared_in shared hash) (get wide hash) e (k.agrees hash) entry_is
-
+  -- a frame that stands among them
+  module _ (e : SharedEntry) (entry_is : shared_in shared e.hash ≡ Some e) where
     pub agrees_entry : Agrees (Some e) (get wide e.hash)
-    agrees_entry = let P : ℕ → Type 0 = λ h. Agrees (Some e) (get wide h) in subst P (sym hash_is) agrees_here
+    agrees_entry = agrees_at (shared_in shared e.hash) (get wide e.hash) e (k.agrees e.hash) entry_is
 
-    pub frame_is : get (frames wide shared) hash ≡ Some (record { mpn = e.mpn; count = widened e.field (get wide e.hash) })
-    frame_is =
-        frame_got wide shared hash
-        ∙ ap (option_map (frame_of (get wide hash))) entry_is
-        ∙ ap (λ h. Some (frame_of (get wide h) e)) (sym hash_is)
+    pub frame_is : get (frames wide shared) e.hash ≡ Some (record { mpn = e.mpn; count = widened e.field (get wide e.hash) })
+    frame_is = frame_got wide shared e.hash ∙ ap (option_map (frame_of (get wide e.hash))) entry_is
 
     -- a count is at most the sum of all
     pub count_most : widened e.field (get wide e.hash) ≤ total
     count_most =
         let sums : sum_by count_in (entries (frames wide shared)) ≡ total = k.summed in
-        omega (arith, sums, sum_gone count_in (frames wide shared) hash _ frame_is)
+        omega (arith, sums, sum_gone count_in (frames wide shared) e.hash _ frame_is)
 
     -- another count
-    module _ (c : ℕ) (new : SharedEntry) (new_hash : new.hash ≡ e.hash) (new_mpn : new.mpn ≡ e.mpn) (new_field : new.field ≡ field_of c) (least : 1 ≤ c) where
-      recount_changes : Changes shared (set shared i new) wide (rewidened wide e.hash e.field c) hash (Some new) (cond (nat_le c 65535) None (Some c))
+    module _ (c : ℕ) (shared' : List (ℕ × SharedEntry)) (new : SharedEntry) (new_mpn : new.mpn ≡ e.mpn) (new_field : new.field ≡ field_of c) (least : 1 ≤ c) (put : (q : ℕ) → shared_in shared' q ≡ cond (tied q e.hash) (Some new) (shared_in shared q)) where
+      recount_changes : Changes shared shared' wide (rewidened wide e.hash e.field c) e.hash (Some new) (cond (nat_le c 65535) None (Some c))
       recount_changes = record {
-        entries = found_set (λ e. e.hash) (λ e. e) shared hash i at e read k.distinct_hashes new (new_hash ∙ hash_is);
-        counts = λ q. ap (λ h. get (rewidened wide h e.field c) q) hash_is ∙ stored_at e wide hash c q agrees_here (nat_le c 65535) (nat_eq e.field 0) refl;
+        entries = put;
+        counts = λ q. stored_at e wide e.hash c q agrees_entry (nat_le c 65535) (nat_eq e.field 0) refl;
       }
 
-      pub recounted_frames : frames (rewidened wide e.hash e.field c) (set shared i new) ≡ insert (frames wide shared) hash (record { mpn = e.mpn; count = c })
+      pub recounted_frames : frames (rewidened wide e.hash e.field c) shared' ≡ insert (frames wide shared) e.hash (record { mpn = e.mpn; count = c })
       recounted_frames =
-          frames_inserted shared (set shared i new) wide (rewidened wide e.hash e.field c) hash new (cond (nat_le c 65535) None (Some c)) recount_changes
-          ∙ ap (λ n. insert (frames wide shared) hash (record { mpn = new.mpn; count = n })) (stored_count new c (nat_le c 65535) new_field)
-          ∙ ap (λ n. insert (frames wide shared) hash (record { mpn = n; count = c })) new_mpn
+          frames_inserted shared shared' wide (rewidened wide e.hash e.field c) e.hash new (cond (nat_le c 65535) None (Some c)) recount_changes
+          ∙ ap (λ n. insert (frames wide shared) e.hash (record { mpn = new.mpn; count = n })) (stored_count new c (nat_le c 65535) new_field)
+          ∙ ap (λ n. insert (frames wide shared) e.hash (record { mpn = n; count = c })) new_mpn
 
-      sum_of_recounted : (f : ℕ × SharedFrame → ℕ) → sum_by f (entries (frames (rewidened wide e.hash e.field c) (set shared i new))) + f (hash, record { mpn = e.mpn; count = widened e.field (get wide e.hash) }) ≡ f (hash, record { mpn = e.mpn; count = c }) + sum_by f (entries (frames wide shared))
+      sum_of_recounted : (f : ℕ × SharedFrame → ℕ) → sum_by f (entries (frames (rewidened wide e.hash e.field c) shared')) + f (e.hash, record { mpn = e.mpn; count = widened e.field (get wide e.hash) }) ≡ f (e.hash, record { mpn = e.mpn; count = c }) + sum_by f (entries (frames wide shared))
       sum_of_recounted f =
-          ap (λ (n : SharedMap). sum_by f (entries n) + f (hash, record { mpn = e.mpn; count = widened e.field (get wide e.hash) })) recounted_frames
-          ∙ sum_old f (frames wide shared) hash (record { mpn = e.mpn; count = c }) _ frame_is
+          ap (λ (n : SharedMap). sum_by f (entries n) + f (e.hash, record { mpn = e.mpn; count = widened e.field (get wide e.hash) })) recounted_frames
+          ∙ sum_old f (frames wide shared) e.hash (record { mpn = e.mpn; count = c }) _ frame_is
 
-      pub recounted_kept : (rest : ℕ) → rest + widened e.field (get wide e.hash) ≡ c + total → rest ≤ 1048576 → IsKept capacity rest (set shared i new) hints (rewidened wide e.hash e.field c)
-      recounted_kept rest sum most =
+      pub len_recounted : len (frames (rewidened wide e.hash e.field c) shared') ≡ len (frames wide shared)
+      len_recounted = ap (λ (n : SharedMap). len n) recounted_frames ∙ len_old (frames wide shared) e.hash _ _ frame_is
+
+      pub recounted : (rest : ℕ) → rest + widened e.field (get wide e.hash) ≡ c + total → rest ≤ 1048576 → IsCounted rest shared' (rewidened wide e.hash e.field c)
+      recounted rest sum most =
           let sums : sum_by count_in (entries (frames wide shared)) ≡ total = k.summed in
           let widths : len wide ≡ sum_by width_in (entries (frames wide shared)) = k.widths in
           let lens = stored_len e wide e.hash c (get wide e.hash) refl agrees_entry (nat_le c 65535) (nat_eq e.field 0) refl refl in
           record {
-            distinct_hashes = distinct_of_set (λ e. e.hash) (λ e. e) shared hash i at e read k.distinct_hashes new (new_hash ∙ hash_is);
-            distinct_keys = k.distinct_keys;
-            agrees = agrees_changed shared (set shared i new) wide (rewidened wide e.hash e.field c) hash (Some new) (cond (nat_le c 65535) None (Some c)) recount_changes k.agrees (stored_agrees new c (nat_le c 65535) least refl new_field);
+            agrees = agrees_changed shared shared' wide (rewidened wide e.hash e.field c) e.hash (Some new) (cond (nat_le c 65535) None (Some c)) recount_changes k.agrees (stored_agrees new c (nat_le c 65535) least refl new_field);
             summed = omega (arith, sum_of_recounted count_in, sums, sum);
             bounded = most;
             widths = omega (arith, sum_of_recounted width_in, widths, lens);
-            room = omega (arith, k.room, length-set shared i new);
-            limit = k.limit;
           }
 
     -- the last page of the frame leaves it
-    module _ (one : widened e.field (get wide e.hash) ≡ 1) where
-      remove_changes : Changes shared (removed shared i) wide wide hash None None
+    module _ (one : widened e.field (get wide e.hash) ≡ 1) (shared' : List (ℕ × SharedEntry)) (gone : (q : ℕ) → shared_in shared' q ≡ cond (tied q e.hash) None (shared_in shared q)) where
+      remove_changes : Changes shared shared' wide wide e.hash None None
       remove_changes = record {
-        entries = found_removed (λ e. e.hash) (λ e. e) shared hash i at e read k.distinct_hashes;
-        counts = λ q. same_here wide hash q (tied q hash) None refl (ap (get wide) (sym hash_is) ∙ one_is_narrow e (get wide e.hash) agrees_entry one);
+        entries = gone;
+        counts = λ q. same_here wide e.hash q (tied q e.hash) None refl (one_is_narrow e (get wide e.hash) agrees_entry one);
       }
 
-      pub removed_frames : frames wide (removed shared i) ≡ remove (frames wide shared) hash
-      removed_frames = frames_removed shared (removed shared i) wide wide hash None remove_changes
+      pub removed_frames : frames wide shared' ≡ remove (frames wide shared) e.hash
+      removed_frames = frames_removed shared shared' wide wide e.hash None remove_changes
 
-      sum_of_removed : (f : ℕ × SharedFrame → ℕ) → sum_by f (entries (frames wide shared)) ≡ f (hash, record { mpn = e.mpn; count = 1 }) + sum_by f (entries (frames wide (removed shared i)))
+      sum_of_removed : (f : ℕ × SharedFrame → ℕ) → sum_by f (entries (frames wide shared)) ≡ f (e.hash, record { mpn = e.mpn; count = 1 }) + sum_by f (entries (frames wide shared'))
       sum_of_removed f =
-          sum_gone f (frames wide shared) hash _ frame_is
-          ∙ ap (λ n. f (hash, record { mpn = e.mpn; count = n }) + sum_by f (entries (remove (frames wide shared) hash))) one
-          ∙ ap (λ (n : SharedMap). f (hash, record { mpn = e.mpn; count = 1 }) + sum_by f (entries n)) (sym removed_frames)
+          sum_gone f (frames wide shared) e.hash _ frame_is
+          ∙ ap (λ n. f (e.hash, record { mpn = e.mpn; count = n }) + sum_by f (entries (remove (frames wide shared) e.hash))) one
+          ∙ ap (λ (n : SharedMap). f (e.hash, record { mpn = e.mpn; count = 1 }) + sum_by f (entries n)) (sym removed_frames)
 
-      pub removed_kept : (rest : ℕ) → rest + 1 ≡ total → IsKept capacity rest (removed shared i) hints wide
-      removed_kept rest sum =
+      pub len_removed : len (frames wide shared') + 1 ≡ len (frames wide shared)
+      len_removed = ap (λ (n : SharedMap). len n + 1) removed_frames ∙ len_gone (frames wide shared) e.hash _ frame_is
+
+      pub removed_counted : (rest : ℕ) → rest + 1 ≡ total → IsCounted rest shared' wide
+      removed_counted rest sum =
           let sums : sum_by count_in (entries (frames wide shared)) ≡ total = k.summed in
           let widths : len wide ≡ sum_by width_in (entries (frames wide shared)) = k.widths in
           record {
-            distinct_hashes = distinct_of_removed (λ e. e.hash) (λ e. e) shared hash i at e read k.distinct_hashes;
-            distinct_keys = k.distinct_keys;
-            agrees = agrees_changed shared (removed shared i) wide wide hash None None remove_changes k.agrees tt;
+            agrees = agrees_changed shared shared' wide wide e.hash None None remove_changes k.agrees tt;
             summed = omega (arith, sum_of_removed count_in, sums, sum);
             bounded = omega (arith, k.bounded, sum);
             widths = omega (arith, sum_of_removed width_in, widths);
-            room = omega (arith, k.room, length-remove shared i (within (λ e. e.hash) (λ e. e) shared hash i at));
-            limit = k.limit;
           }
-
-  pub hint_added_kept : (new : HintEntry) → hint_in hints new.key ≡ None → length shared + length hints < capacity → IsKept capacity total shared (hints ++ new ∷ []) wide
-  hint_added_kept new none room = record {
-    distinct_hashes = k.distinct_hashes;
-    distinct_keys = distinct_of_pushed (λ h. h.key) (λ h. h.frame) hints new none k.distinct_keys;
-    agrees = k.agrees;
-    summed = k.summed;
-    bounded = k.bounded;
-    widths = k.widths;
-    room = omega (arith, room, length_push hints new);
-    limit = k.limit;
-  }
-
-  pub hint_removed_kept : (key i : ℕ) → position (λ h. nat_eq h.key key) hints ≡ Some i → (h : HintEntry) → h ≡ get_or hints i h → IsKept capacity total shared (removed hints i) wide
-  hint_removed_kept key i at h read = record {
-    distinct_hashes = k.distinct_hashes;
-    distinct_keys = distinct_of_removed (λ h. h.key) (λ h. h.frame) hints key i at h read k.distinct_keys;
-    agrees = k.agrees;
-    summed = k.summed;
-    bounded = k.bounded;
-    widths = k.widths;
-    room = omega (arith, k.room, length-remove hints i (within (λ h. h.key) (λ h. h.frame) hints key i at));
-    limit = k.limit;
-  }

@@ -1,10 +1,13 @@
 -- The lists of a table as maps, and what ties them to each other.
-use Rattle.std.specs.Prelude.{◌≡◌, ℕ, ◌+◌, ◌≤◌, List, [], ◌∷◌, length, map, Option, Some, None, if◌then◌else◌, ◌==◌, nat_le}
+use Rattle.std.specs.Prelude.{◌≡◌, ℕ, ◌≤◌, List, [], ◌∷◌, ◌++◌, length, map, slice_index_or, Option, Some, None, if◌then◌else◌, ◌==◌, nat_le}
 use Rattle.std.specs.Ordering.{nat_cmp}
 use Rattle.std.specs.FinMap as maps
-use Rattle.share_table.specs.TableMaps.{SharedFrame, HintFrame, TableMaps, references, extended}
+use Rattle.packed_frames.specs.declared.entry.Entry.{Entry}
+use Rattle.packed_frames.specs.declared.entry.Entry.TheVariants.{Shared, Hint}
+use Rattle.packed_frames.specs.Keys.{key_of, first_with}
+use Rattle.packed_frames.specs.Entries.{EntryChains, home, entry_count as chained}
+use Rattle.share_table.specs.TableMaps.{SharedFrame, HintFrame, TableMaps, references, extended, entry_count}
 use Rattle.share_table.specs.declared.entries.SharedEntry.{SharedEntry}
-use Rattle.share_table.specs.declared.entries.HintEntry.{HintEntry}
 use Rattle.share_table.specs.declared.entries.WideCount.{WideCount}
 
 -- the overflow table: the counts above 65,535, by hash
@@ -14,12 +17,6 @@ WideMap = maps.FinMap nat_cmp ℕ
 abbrev pub wide_pair : WideCount → ℕ × ℕ
 wide_pair w = (w.hash, w.count)
 
-abbrev pub shared_pair : SharedEntry → ℕ × SharedEntry
-shared_pair e = (e.hash, e)
-
-abbrev pub hint_pair : HintEntry → ℕ × HintFrame
-hint_pair e = (e.key, e.frame)
-
 -- the count of a frame with this field, for which the overflow table has this count
 abbrev pub widened : ℕ → Option ℕ → ℕ
 widened field None = field
@@ -28,25 +25,69 @@ widened field (Some count) = count
 abbrev pub frame_of : Option ℕ → SharedEntry → SharedFrame
 frame_of wide e = record { mpn = e.mpn; count = widened e.field wide }
 
-abbrev pub frame_pair : WideMap → SharedEntry → ℕ × SharedFrame
-frame_pair wide e = (e.hash, frame_of (maps.get wide e.hash) e)
+-- the pair of a shared frame that stands in the chains
+abbrev pub frame_pair : WideMap → ℕ × SharedEntry → ℕ × SharedFrame
+frame_pair wide p = (p.0, frame_of (maps.get wide p.0) p.1)
 
-abbrev pub as_table : ℕ → List SharedEntry → List HintEntry → WideMap → TableMaps
+-- a shared frame, by its hash
+abbrev pub shared_of : Entry → Option (ℕ × SharedEntry)
+shared_of (Shared hash mpn count) = Some (hash, record { hash = hash; mpn = mpn; field = count })
+shared_of (Hint key guest ppn mpn) = None
+
+-- a hint frame, by its key
+abbrev pub hint_of : Entry → Option (ℕ × HintFrame)
+hint_of (Shared hash mpn count) = None
+hint_of (Hint key guest ppn mpn) = Some (key, record { guest = guest; ppn = ppn; mpn = mpn })
+
+abbrev pub before_pairs : {X : Type 0} → Option (ℕ × X) → List (ℕ × X) → List (ℕ × X)
+before_pairs None ps = ps
+before_pairs (Some p) ps = p ∷ ps
+
+-- the frames of one kind in a chain
+abbrev pub pairs : {X : Type 0} → (Entry → Option (ℕ × X)) → List Entry → List (ℕ × X)
+pairs kind [] = []
+pairs kind (e ∷ es) = before_pairs (kind e) (pairs kind es)
+
+abbrev pub second_of : {X : Type 0} → Option (ℕ × X) → Option X
+second_of None = None
+second_of (Some p) = Some p.1
+
+-- what a search for a frame of one kind found
+abbrev pub value_of : {X : Type 0} → (Entry → Option (ℕ × X)) → Option Entry → Option X
+value_of kind None = None
+value_of kind (Some e) = second_of (kind e)
+
+-- the frames of one kind in all chains
+abbrev pub all_pairs : {X : Type 0} → (Entry → Option (ℕ × X)) → List (List Entry) → List (ℕ × X)
+all_pairs kind [] = []
+all_pairs kind (c ∷ cs) = pairs kind c ++ all_pairs kind cs
+
+abbrev pub as_table : ℕ → List (ℕ × SharedEntry) → List (ℕ × HintFrame) → WideMap → TableMaps
 as_table capacity shared hints wide =
-    record { capacity = capacity; shared = maps.from_entries (map (frame_pair wide) shared); hints = maps.from_entries (map hint_pair hints) }
+    record { capacity = capacity; shared = maps.from_entries (map (frame_pair wide) shared); hints = maps.from_entries hints }
+
+-- the two maps of the chains and the overflow table
+abbrev pub maps_of : EntryChains → WideMap → TableMaps
+maps_of chains wide = as_table chains.capacity (all_pairs shared_of chains.chains) (all_pairs hint_of chains.chains) wide
+
+-- each of these entries belongs into this bucket
+abbrev pub BelongInto : ℕ → ℕ → List Entry → Type 0
+BelongInto buckets b [] = Unit {0}
+BelongInto buckets b (e ∷ es) = (home buckets (key_of e) ≡ b) × BelongInto buckets b es
+
+-- no two of these entries are found by one key
+abbrev pub HasEachOnce : List Entry → Type 0
+HasEachOnce [] = Unit {0}
+HasEachOnce (e ∷ es) = (first_with (key_of e) es ≡ None) × HasEachOnce es
 
 -- no key stands twice
 abbrev pub HasDistinctKeys : {X : Type 0} → List (ℕ × X) → Type 0
 HasDistinctKeys [] = Unit {0}
 HasDistinctKeys (e ∷ es) = (maps.find nat_cmp e.0 es ≡ None) × HasDistinctKeys es
 
--- the entry with this hash, if there is one
-abbrev pub shared_in : List SharedEntry → ℕ → Option SharedEntry
-shared_in entries hash = maps.find nat_cmp hash (map shared_pair entries)
-
--- the hint with this key, if there is one
-abbrev pub hint_in : List HintEntry → ℕ → Option HintFrame
-hint_in entries key = maps.find nat_cmp key (map hint_pair entries)
+-- the shared frame with this hash, if there is one
+abbrev pub shared_in : List (ℕ × SharedEntry) → ℕ → Option SharedEntry
+shared_in shared hash = maps.find nat_cmp hash shared
 
 -- a frame's field is 0 exactly where the overflow table has its count, which doesn't fit the field
 abbrev pub Agrees : Option SharedEntry → Option ℕ → Type 0
@@ -60,17 +101,27 @@ abbrev pub rewidened : WideMap → ℕ → ℕ → ℕ → WideMap
 rewidened wide hash field count =
     if nat_le count 65535 then (if field == 0 then maps.remove wide hash else wide) else maps.insert wide hash count
 
--- what a table's fields keep
-pub record IsKept (capacity total : ℕ) (shared : List SharedEntry) (hints : List HintEntry) (wide : WideMap) : Type 0 where
-  -- a hash has one shared frame, a key one hint
-  pub distinct_hashes : HasDistinctKeys (map shared_pair shared)
-  pub distinct_keys : HasDistinctKeys (map hint_pair hints)
+-- the counts of these shared frames, whose sum is the total
+pub record IsCounted (total : ℕ) (shared : List (ℕ × SharedEntry)) (wide : WideMap) : Type 0 where
   -- a count stands in its field or in the overflow table
   pub agrees : (hash : ℕ) → Agrees (shared_in shared hash) (maps.get wide hash)
   -- the running sum is that of all counts, each of which is of one page
-  pub summed : references (as_table capacity shared hints wide) ≡ total
+  pub summed : references (as_table 0 shared [] wide) ≡ total
   pub bounded : total ≤ 1048576
   -- the overflow table has the counts that don't fit, and no others
-  pub widths : maps.len wide ≡ extended (as_table capacity shared hints wide)
-  pub room : length shared + length hints ≤ capacity
-  pub limit : capacity ≤ 1048576
+  pub widths : maps.len wide ≡ extended (as_table 0 shared [] wide)
+
+-- the entries of these chains
+pub record IsFiled (chains : EntryChains) : Type 0 where
+  pub some : 1 ≤ length chains.chains
+  pub at_home : (b : ℕ) → BelongInto (length chains.chains) b (slice_index_or chains.chains b [])
+  pub once : (b : ℕ) → HasEachOnce (slice_index_or chains.chains b [])
+  pub limit : chains.capacity ≤ 1048576
+  pub room : chained chains ≤ chains.capacity
+
+-- what a table's fields keep
+pub record IsKept (total : ℕ) (chains : EntryChains) (wide : WideMap) : Type 0 where
+  pub filed : IsFiled chains
+  pub counted : IsCounted total (all_pairs shared_of chains.chains) wide
+  -- no entry stands for two
+  pub told : entry_count (maps_of chains wide) ≡ chained chains

@@ -1,4 +1,4 @@
-//! What the lists of a table hold.
+//! What a table knows of its frames.
 
 /// A page that a key was noted for, and the frame that it had then.
 #[derive(Clone, Copy, Debug, PartialEq, Eq)]
@@ -21,12 +21,6 @@ pub(crate) struct SharedEntry {
 
 // The field of a frame whose count does not fit it, and stands in the overflow table.
 pub(crate) const EXTENDED: u16 = 0;
-
-#[derive(Clone, Copy)]
-pub(crate) struct HintEntry {
-    pub(crate) key: u32,
-    pub(crate) frame: HintFrame,
-}
 
 // A count above 65,535.
 #[derive(Clone, Copy, Default)]

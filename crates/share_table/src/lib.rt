@@ -9,18 +9,19 @@
 //! not fit it stand in an overflow table.
 #![tactic(auto)]
 
+mod buckets;
 mod entries;
-mod places;
-#[cfg(test)]
-mod tests;
+mod frames;
 mod wide;
 
-ghost use Rattle.std.specs.Prelude.{◌≡◌, ◌+◌, ◌≤◌, ◌<◌, ◌^◌, None, IsSome, IfOk, option_map};
+ghost use Rattle.std.specs.Prelude.{◌≡◌, ◌+◌, ◌*◌, ◌≤◌, ◌<◌, ◌^◌, None, IsSome, IfOk, option_map};
 ghost use Rattle.share_table.specs.TableMaps.{shared_at, hint_at, entry_count, references, extended, field_of, count_at, with_shared, with_count, with_one_less, with_hint, without_hint, empty_table};
 
+use buckets::bucket_count;
 pub use entries::HintFrame;
-use entries::{HintEntry, SharedEntry};
-use places::{hint_place, shared_place};
+use frames::{hint_frame, shared_frame};
+pub use packed_frames::Packed;
+use packed_frames::{Chains, Entry, Key, U24};
 use std::alloc::{AllocError, Allocator, Global};
 use std::marker::Model;
 use wide::WideCounts;
@@ -31,26 +32,23 @@ use wide::WideCounts;
 /// are above 65,535. All room is taken when the table is made, and no other call takes memory.
 #[derive(Drop)]
 pub struct Table<A: Allocator = Global> {
-    capacity: u32,
+    chains: Chains<A>,
     references: u32,
-    shared: Vec<SharedEntry, A>,
-    hints: Vec<HintEntry, A>,
     wide: WideCounts,
 }
 
 impl<A: Allocator> Model for Table<A> {
-    ghost use Rattle.std.specs.Prelude.{◌≤◌, vec_capacity};
     ghost use Rattle.share_table.specs.TableMaps.{TableMaps, table_code};
 
     ghost Value = { TableMaps };
 
     ghost coded = { table_code };
 
-    ghost use Rattle.share_table.specs.Stored.{as_table, IsKept};
+    ghost use Rattle.share_table.specs.Stored.{maps_of, IsKept};
 
-    ghost view = { λ t. as_table t.capacity t.shared.items t.hints.items t.wide };
+    ghost view = { λ t. maps_of t.chains t.wide };
 
-    ghost invariant = { λ t. (t.capacity ≤ vec_capacity t.shared) × (t.capacity ≤ vec_capacity t.hints) × IsKept t.capacity t.references t.shared.items t.hints.items t.wide };
+    ghost invariant = { λ t. IsKept t.references t.chains t.wide };
 }
 
 impl<A: Allocator + Clone> Table<A> {
@@ -60,14 +58,10 @@ impl<A: Allocator + Clone> Table<A> {
         requires most { capacity ≤ 1048576 }
         ensures { IfOk result (λ table. table ≡ empty_table capacity) }
     {
-        let other = alloc.clone()?;
-        let shared = Vec::with_capacity(alloc, capacity as usize)?;
-        let hints = Vec::with_capacity(other, capacity as usize)?;
+        let chains = Chains::new(alloc, bucket_count(capacity), capacity)?;
         Ok(Table {
-            capacity,
+            chains,
             references: 0,
-            shared,
-            hints,
             wide: WideCounts::new(),
         })
     }
@@ -79,7 +73,7 @@ impl<A: Allocator> Table<A> {
         ensures value { result ≡ entry_count self.now }
         ensures room { result ≤ self.now.capacity }
     {
-        (self.shared.len() + self.hints.len()) as u32
+        self.chains.len()
     }
 
     /// The sum of the counts of all shared frames.
@@ -102,8 +96,7 @@ impl<A: Allocator> Table<A> {
     pub fn find_shared(&self, hash: u64) -> Option<(u32, u32)>
         ensures { result ≡ option_map (λ frame. (frame.mpn, frame.count)) (shared_at self.now hash) }
     {
-        let place = shared_place(self.shared.as_slice(), hash)?;
-        let entry = self.shared[place];
+        let entry = shared_frame(&self.chains, hash)?;
         Some((entry.mpn, self.wide.count_of(entry)))
     }
 
@@ -121,8 +114,8 @@ impl<A: Allocator> Table<A> {
     pub fn field(&self, hash: u64) -> Option<u16>
         ensures { result ≡ option_map (λ frame. field_of frame.count) (shared_at self.now hash) }
     {
-        let place = shared_place(self.shared.as_slice(), hash)?;
-        Some(self.shared[place].field)
+        let entry = shared_frame(&self.chains, hash)?;
+        Some(entry.field)
     }
 
     /// Adds a shared frame, of two pages.
@@ -133,10 +126,10 @@ impl<A: Allocator> Table<A> {
         requires mpn { mpn < 2 ^ 24 }
         ensures { self.new ≡ with_shared self.old hash mpn 2 }
     {
-        self.shared.push_reserved(SharedEntry {
+        self.chains.add(Entry::Shared {
             hash,
-            mpn,
-            field: 2,
+            mpn: U24::of(mpn),
+            count: 2,
         });
         self.references += 2;
     }
@@ -148,11 +141,14 @@ impl<A: Allocator> Table<A> {
         ensures count { result ≡ count_at self.old hash + 1 }
         ensures joined { self.new ≡ with_count self.old hash (count_at self.old hash + 1) }
     {
-        let place = shared_place(self.shared.as_slice(), hash).unwrap();
-        let entry = self.shared[place];
+        let entry = shared_frame(&self.chains, hash).unwrap();
         let count = self.wide.count_of(entry) + 1;
         let field = self.wide.store(entry, count);
-        self.shared[place] = SharedEntry { field, ..entry };
+        self.chains.replace(Entry::Shared {
+            hash: entry.hash,
+            mpn: U24::of(entry.mpn),
+            count: field,
+        });
         self.references += 1;
         count
     }
@@ -163,16 +159,19 @@ impl<A: Allocator> Table<A> {
         ensures count { result + 1 ≡ count_at self.old hash }
         ensures left { self.new ≡ with_one_less self.old hash }
     {
-        let place = shared_place(self.shared.as_slice(), hash).unwrap();
-        let entry = self.shared[place];
+        let entry = shared_frame(&self.chains, hash).unwrap();
         let count = self.wide.count_of(entry) - 1;
         self.references -= 1;
         if count == 0 {
-            self.shared.remove(place);
+            self.chains.remove(Key::Shared(entry.hash));
             return 0;
         }
         let field = self.wide.store(entry, count);
-        self.shared[place] = SharedEntry { field, ..entry };
+        self.chains.replace(Entry::Shared {
+            hash: entry.hash,
+            mpn: U24::of(entry.mpn),
+            count: field,
+        });
         count
     }
 
@@ -180,8 +179,7 @@ impl<A: Allocator> Table<A> {
     pub fn find_hint(&self, key: u32) -> Option<HintFrame>
         ensures { result ≡ hint_at self.now key }
     {
-        let place = hint_place(self.hints.as_slice(), key)?;
-        Some(self.hints[place].frame)
+        hint_frame(&self.chains, key)
     }
 
     /// Adds a hint frame.
@@ -192,9 +190,11 @@ impl<A: Allocator> Table<A> {
         requires mpn { mpn < 2 ^ 24 }
         ensures { self.new ≡ with_hint self.old key guest ppn mpn }
     {
-        self.hints.push_reserved(HintEntry {
+        self.chains.add(Entry::Hint {
             key,
-            frame: HintFrame { guest, ppn, mpn },
+            guest,
+            ppn: U24::of(ppn),
+            mpn: U24::of(mpn),
         });
     }
 
@@ -203,7 +203,6 @@ impl<A: Allocator> Table<A> {
         requires present { IsSome (hint_at self.old key) }
         ensures { self.new ≡ without_hint self.old key }
     {
-        let place = hint_place(self.hints.as_slice(), key).unwrap();
-        self.hints.remove(place);
+        self.chains.remove(Key::Hint(key));
     }
 }

@@ -1,11 +1,10 @@
 //! The overflow table: counts that do not fit a frame's field.
-ghost use Rattle.std.specs.Prelude.{◌≡◌, ◌≤◌, IsSome, Some};
+ghost use Rattle.std.specs.Prelude.{◌≡◌, ◌≤◌, ◌==◌, IsSome, Some, position};
 ghost use Rattle.std.specs.FinMap as map;
 ghost use Rattle.share_table.specs.Stored.{widened, Agrees, rewidened};
 ghost use Rattle.share_table.specs.TableMaps.{field_of};
 
 use crate::entries::{EXTENDED, SharedEntry, WideCount};
-use crate::places::wide_place;
 use arrayvec::ArrayVec;
 use std::marker::Model;
 
@@ -104,4 +103,11 @@ impl WideCounts {
             }
         }
     }
+}
+
+// Where a hash's count stands.
+fn wide_place(entries: &[WideCount], hash: u64) -> Option<usize>
+    ensures { result ≡ position (λ e. e.hash == hash) entries.now }
+{
+    entries.iter().position(|entry| entry.hash == hash)
 }

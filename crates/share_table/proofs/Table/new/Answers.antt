@@ -1,6 +1,10 @@
 use Rattle.std.proofs.Common.{arith}
-use Rattle.share_table.proofs.Tables.{nothing_kept}
+use Rattle.share_table.proofs.Kept.{nothing_shown, nothing_kept}
 use Rattle.share_table.proofs.Table.new.Goals as goal
 
 pub invariant_of-result : goal.invariant_of-result
-invariant_of-result g c = (omega (arith, c.in_ok-shared.ensures.exact), omega (arith, c.in_ok-hints.ensures.exact), rw (c.in_ok-shared.ensures.items, c.in_ok-hints.ensures.items, c.new.ensures) (nothing_kept c.args.capacity c.requires.most))
+invariant_of-result g c =
+    rw (c.in_ok-chains.ensures, c.new-2.ensures) (nothing_kept c.bucket_count.result c.args.capacity (omega (arith, c.bucket_count.ensures.least, c.requires.least)) c.requires.most)
+
+pub returns : goal.returns
+returns g c = rw (c.in_ok-chains.ensures, c.new-2.ensures) (nothing_shown c.bucket_count.result c.args.capacity)

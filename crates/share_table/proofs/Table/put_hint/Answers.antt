@@ -1,25 +1,22 @@
-use Rattle.std.proofs.Common.{◌≡◌, ◌+◌, ◌<◌, None, length, ap, refl, arith}
-use Rattle.share_table.specs.Stored.{hint_in}
-use Rattle.share_table.specs.declared.entries.HintEntry.{HintEntry}
-use Rattle.share_table.proofs.Pairs.{is_not_got}
-use Rattle.share_table.proofs.Keyed.{map_of_pushed}
-use Rattle.share_table.proofs.Tables.{entry_count_is, hint_added_kept}
+use Rattle.std.proofs.Common.{◌≡◌, ◌<◌, None, arith}
+use Rattle.packed_frames.specs.Entries.{entry_count as chained}
+use Rattle.share_table.specs.TableMaps.{HintFrame, hint_at, entry_count}
+use Rattle.share_table.specs.Stored.{maps_of}
+use Rattle.share_table.proofs.Kept.{count_is, hint_added, hint_kept}
 use Rattle.share_table.proofs.Table.put_hint.Goals as goal
-
-pub push_reserved-requires : goal.push_reserved-requires
-push_reserved-requires g c =
-    let room = rw (← c.self.view_is) at c.requires.room in
-    omega (arith, entry_count_is _ _ c.self.inside.shared.items c.self.inside.hints.items c.self.inside.wide c.self.invariant.2, room, c.self.invariant.1, c.self.inside.hints.ok.0)
 
 pub invariant_of-self : goal.invariant_of-self
 invariant_of-self g c =
-    let none : hint_in c.self.inside.hints.items c.args.key ≡ None = is_not_got _ _ c.args.key (ap (λ t. t.hints) c.self.view_is) c.requires.absent in
-    let k = c.self.invariant.2 in
-    let room : length c.self.inside.shared.items + length c.self.inside.hints.items < c.self.inside.capacity = omega (arith, entry_count_is _ _ c.self.inside.shared.items c.self.inside.hints.items c.self.inside.wide k, rw (← c.self.view_is) at c.requires.room) in
-    (omega arith, omega arith, rw c.push_reserved.ensures.items (hint_added_kept _ _ c.self.inside.shared.items c.self.inside.hints.items c.self.inside.wide k _ none room))
+    let frame : HintFrame = record { guest = c.args.guest; ppn = c.args.ppn; mpn = c.args.mpn } in
+    let absent : hint_at (maps_of c.self.inside.chains c.self.inside.wide) c.args.key ≡ None = rw (← c.self.view_is) at c.requires.absent in
+    let free : entry_count (maps_of c.self.inside.chains c.self.inside.wide) < c.self.inside.chains.capacity = rw (← c.self.view_is) at c.requires.room in
+    let room : chained c.self.inside.chains < c.self.inside.chains.capacity = omega (arith, free, count_is c.self.inside.references c.self.inside.chains c.self.inside.wide c.self.invariant) in
+    rw (c.add.ensures, c.of.ensures, c.of-2.ensures) (hint_kept c.self.inside.references c.self.inside.chains c.self.inside.wide c.self.invariant c.args.key frame absent room)
 
 pub returns : goal.returns
 returns g c =
-    let none : hint_in c.self.inside.hints.items c.args.key ≡ None = is_not_got _ _ c.args.key (ap (λ t. t.hints) c.self.view_is) c.requires.absent in
-    let new : HintEntry = record { key = c.args.key; frame = record { guest = c.args.guest; ppn = c.args.ppn; mpn = c.args.mpn } } in
-    rw (← c.self.view_is, c.push_reserved.ensures.items, map_of_pushed (λ h. h.key) (λ h. h.frame) c.self.inside.hints.items new none) refl
+    let frame : HintFrame = record { guest = c.args.guest; ppn = c.args.ppn; mpn = c.args.mpn } in
+    let absent : hint_at (maps_of c.self.inside.chains c.self.inside.wide) c.args.key ≡ None = rw (← c.self.view_is) at c.requires.absent in
+    let free : entry_count (maps_of c.self.inside.chains c.self.inside.wide) < c.self.inside.chains.capacity = rw (← c.self.view_is) at c.requires.room in
+    let room : chained c.self.inside.chains < c.self.inside.chains.capacity = omega (arith, free, count_is c.self.inside.references c.self.inside.chains c.self.inside.wide c.self.invariant) in
+    rw (← c.self.view_is, c.add.ensures, c.of.ensures, c.of-2.ensures) (hint_added c.self.inside.references c.self.inside.chains c.self.inside.wide c.self.invariant c.args.key frame absent room)

@@ -1,0 +1,5 @@
+pub mod Entries
+pub mod Keys
+pub mod Linked
+pub mod Packing
+pub mod Places

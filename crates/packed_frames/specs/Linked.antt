@@ -1,0 +1,122 @@
+-- Lists of places that are threaded through a table of links. A code is 0 for the end of a list, and
+-- n + 1 for place n; `next p` is the code that stands in place p.
+use Rattle.std.specs.Prelude.{◌≡◌, ℕ, ◌+◌, ◌≤◌, ◌<◌, Bool, List, [], ◌∷◌, length, Option, Some, None, if◌then◌else◌, ◌==◌, nat_lt, slice_index_or, map, replicate, slice_set as set}
+use Rattle.packed_frames.specs.declared.entry.Entry.{Entry}
+use Rattle.packed_frames.specs.Places.{no_entry}
+use Prim.Native.Nat.{suc, zero}
+
+-- how often a place stands in a list
+abbrev pub times : ℕ → List ℕ → ℕ
+times p [] = 0
+times p (q ∷ qs) = (if p == q then 1 else 0) + times p qs
+
+-- how often a place stands in all the lists
+abbrev pub times_in : ℕ → List (List ℕ) → ℕ
+times_in p [] = 0
+times_in p (c ∷ cs) = times p c + times_in p cs
+
+-- how many places stand in all the lists
+abbrev pub lengths : List (List ℕ) → ℕ
+lengths [] = 0
+lengths (c ∷ cs) = length c + lengths cs
+
+-- the list without the place, once
+abbrev pub without : ℕ → List ℕ → List ℕ
+without p [] = []
+without p (q ∷ qs) = if p == q then qs else q ∷ without p qs
+
+-- the place right before p in the list q ∷ qs
+abbrev pub before : ℕ → ℕ → List ℕ → ℕ
+before p q [] = q
+before p q (r ∷ rs) = if p == r then q else before p r rs
+
+-- the first place that the test accepts
+abbrev pub first_of : (ℕ → Bool) → List ℕ → Option ℕ
+first_of test [] = None
+first_of test (p ∷ ps) = if test p then Some p else first_of test ps
+
+-- the places from a code on, at most n of them
+abbrev pub walk : (ℕ → ℕ) → ℕ → ℕ → List ℕ
+walk next zero code = []
+walk next (suc n) zero = []
+walk next (suc n) (suc p) = p ∷ walk next n (next p)
+
+-- from the code on, the links go over exactly these places, and end
+abbrev pub Follows : (ℕ → ℕ) → ℕ → List ℕ → Type 0
+Follows next code [] = code ≡ 0
+Follows next code (p ∷ ps) = (code ≡ p + 1) × Follows next (next p) ps
+
+-- the same of each head and its list
+abbrev pub FollowAll : (ℕ → ℕ) → List ℕ → List (List ℕ) → Type 0
+FollowAll next [] [] = Unit {0}
+FollowAll next [] (c ∷ cs) = ⊥
+FollowAll next (h ∷ hs) [] = ⊥
+FollowAll next (h ∷ hs) (c ∷ cs) = Follows next h c × FollowAll next hs cs
+
+-- the spare places and the chains: each place below the capacity stands in one of them, once
+pub record Linked (next : ℕ → ℕ) (capacity free : ℕ) (heads spare : List ℕ) (chains : List (List ℕ)) : Type 0 where
+  pub spare_ends : Follows next free spare
+  pub chains_end : FollowAll next heads chains
+  pub each_once : (p : ℕ) → times p spare + times_in p chains ≡ (if nat_lt p capacity then 1 else 0)
+  pub all_told : length spare + lengths chains ≡ capacity
+
+-- each place's entry, and each bucket's chain of places
+pub record Chained : Type 0 where
+  pub entries : List Entry
+  pub chains : List (List ℕ)
+
+-- the entry of a place
+abbrev pub entry_at : Chained → ℕ → Entry
+entry_at c place = slice_index_or c.entries place no_entry
+
+-- a place has another entry
+abbrev pub with_entry_at : Chained → ℕ → Entry → Chained
+with_entry_at c place entry = record c { entries = set c.entries place entry }
+
+-- the chain of a bucket
+abbrev pub chain_at : Chained → ℕ → List ℕ
+chain_at c bucket = slice_index_or c.chains bucket []
+
+-- how many places stand in chains
+abbrev pub used : Chained → ℕ
+used c = lengths c.chains
+
+abbrev pub no_chains : ℕ → ℕ → Chained
+no_chains buckets capacity = record { entries = replicate capacity no_entry; chains = replicate buckets [] }
+
+-- a place is put at the head of a bucket's chain, with its entry
+abbrev pub with_place : Chained → ℕ → ℕ → Entry → Chained
+with_place c bucket place entry =
+    record { entries = set c.entries place entry; chains = set c.chains bucket (place ∷ chain_at c bucket) }
+
+-- a place is taken out of a bucket's chain
+abbrev pub without_place : Chained → ℕ → ℕ → Chained
+without_place c bucket place = record c { chains = set c.chains bucket (without place (chain_at c bucket)) }
+
+-- the code in a place of a list of links
+abbrev pub link_in : List ℕ → ℕ → ℕ
+link_in links p = slice_index_or links p 0
+
+-- the chains that start at the heads
+abbrev pub chains_from : List ℕ → List ℕ → List (List ℕ)
+chains_from links heads = map (walk (link_in links) (length links)) heads
+
+-- what the fields keep
+pub record IsKept (heads links : List ℕ) (free used : ℕ) : Type 0 where
+  pub limit : length links ≤ 1048576
+  pub linked : Linked (link_in links) (length links) free heads (walk (link_in links) (length links) free) (chains_from links heads)
+  pub counted : lengths (chains_from links heads) ≡ used
+
+-- a search for the place before p: `at` stands before it
+pub record IsBefore (links : List ℕ) (at p : ℕ) : Type 0 where
+  pub here : at < length links
+  pub ends : Follows (link_in links) (link_in links at) (walk (link_in links) (length links) (link_in links at))
+  pub within : (q : ℕ) → 1 ≤ times q (walk (link_in links) (length links) (link_in links at)) → q < length links
+  pub there : 1 ≤ times p (walk (link_in links) (length links) (link_in links at))
+
+-- a search of a chain: from the code on, the links go over places of the table, and the first of them
+-- that the test accepts is the answer
+pub record IsSearch (links : List ℕ) (code : ℕ) (test : ℕ → Bool) (answer : Option ℕ) : Type 0 where
+  pub ends : Follows (link_in links) code (walk (link_in links) (length links) code)
+  pub within : (q : ℕ) → 1 ≤ times q (walk (link_in links) (length links) code) → q < length links
+  pub same : first_of test (walk (link_in links) (length links) code) ≡ answer

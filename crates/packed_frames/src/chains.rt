@@ -1,0 +1,119 @@
+//! Chains of frames, in buckets by truncated hash.
+ghost use Rattle.std.specs.Prelude.{◌≡◌, ◌+◌, ◌*◌, ◌≤◌, ◌<◌, ◌∷◌, ◌^◌, IfOk, IfSome, IsSome, length};
+ghost use Rattle.packed_frames.specs.Keys.{key_of, first_with, with_other, without_first, shared_parts, hint_parts};
+ghost use Rattle.packed_frames.specs.declared.key.Key.TheVariants as keys;
+ghost use Rattle.packed_frames.specs.Entries.{empty_chains, entry_count, home, chain_of, with_chain};
+
+use crate::places::Places;
+use crate::{Entry, Key};
+use std::alloc::{AllocError, Allocator, Global};
+use std::marker::Model;
+
+/// A fixed number of frames of 16 bytes, in chains. A frame's bucket is its truncated hash modulo the
+/// number of buckets, so the frames of one truncated hash stand in one chain, whatever they are.
+///
+/// Each frame stands in one chain or is empty, and the empty ones are threaded through their links too:
+/// no entry moves when another comes or goes. All room is taken by `new`.
+#[derive(Drop)]
+pub struct Chains<A: Allocator = Global> {
+    places: Places<A>,
+    buckets: u32,
+}
+
+impl<A: Allocator> Model for Chains<A> {
+    ghost use Rattle.std.specs.Prelude.{◌≡◌, ◌≤◌, length};
+    ghost use Rattle.packed_frames.specs.Entries.{EntryChains, filed};
+
+    ghost Value = { EntryChains };
+
+    ghost view = { λ t. filed t.places };
+
+    ghost invariant = { λ t. (1 ≤ t.buckets) × (t.buckets ≡ length t.places.chains) };
+}
+
+impl<A: Allocator + Clone> Chains<A> {
+    /// Empty chains in `buckets` buckets, with room for `capacity` entries.
+    pub fn new(alloc: A, buckets: u32, capacity: u32) -> Result<Chains<A>, AllocError>
+        requires buckets { 1 ≤ buckets }
+        requires capacity { capacity ≤ 1048576 }
+        ensures { IfOk result (λ chains. chains ≡ empty_chains buckets capacity) }
+    {
+        let places = Places::new(alloc, buckets, capacity)?;
+        Ok(Chains { places, buckets })
+    }
+}
+
+impl<A: Allocator> Chains<A> {
+    /// The number of entries.
+    pub fn len(&self) -> u32
+        ensures { result ≡ entry_count self.now }
+    {
+        self.places.len()
+    }
+
+    /// The MPN and the count of the shared frame with this hash.
+    pub fn find_shared(&self, hash: u64) -> Option<(u32, u16)>
+        ensures found { result ≡ shared_parts (first_with (keys.Shared hash) (chain_of self.now (keys.Shared hash))) }
+        ensures fits { IfSome result (λ frame. frame.0 < 2 ^ 24) }
+    {
+        match self.find(Key::Shared(hash)) {
+            Some(entry) => entry.shared(),
+            None => None,
+        }
+    }
+
+    /// The guest, the PPN and the MPN of the hint frame with this key.
+    pub fn find_hint(&self, key: u32) -> Option<(u8, u32, u32)>
+        ensures { result ≡ hint_parts (first_with (keys.Hint key) (chain_of self.now (keys.Hint key))) }
+    {
+        match self.find(Key::Hint(key)) {
+            Some(entry) => entry.hint(),
+            None => None,
+        }
+    }
+
+    // The first entry of its chain that the key finds.
+    fn find(&self, key: Key) -> Option<Entry>
+        ensures { result ≡ first_with key (chain_of self.now key) }
+    {
+        let place = self.places.find(self.bucket(key), key)?;
+        Some(self.places.entry(place))
+    }
+
+    /// Puts an entry at the head of its chain.
+    pub fn add(&mut self, entry: Entry)
+        requires room { entry_count self.old < self.old.capacity }
+        ensures { self.new ≡ with_chain self.old (key_of entry) (entry ∷ chain_of self.old (key_of entry)) }
+    {
+        let bucket = self.bucket(entry.key());
+        self.places.add(bucket, entry);
+    }
+
+    /// Puts an entry in the place of the first that its key finds.
+    pub fn replace(&mut self, entry: Entry)
+        requires present { IsSome (first_with (key_of entry) (chain_of self.old (key_of entry))) }
+        ensures { self.new ≡ with_chain self.old (key_of entry) (with_other (key_of entry) entry (chain_of self.old (key_of entry))) }
+    {
+        let key = entry.key();
+        let place = self.places.find(self.bucket(key), key).unwrap();
+        self.places.set_entry(place, entry);
+    }
+
+    /// Takes the first entry of its chain that the key finds away.
+    pub fn remove(&mut self, key: Key)
+        requires present { IsSome (first_with key (chain_of self.old key)) }
+        ensures { self.new ≡ with_chain self.old key (without_first key (chain_of self.old key)) }
+    {
+        let bucket = self.bucket(key);
+        let place = self.places.find(bucket, key).unwrap();
+        self.places.remove(bucket, place);
+    }
+
+    // The bucket of a key.
+    fn bucket(&self, key: Key) -> usize
+        ensures value { result ≡ home (length self.now.chains) key }
+        ensures within { result < length self.now.chains }
+    {
+        (key.truncated() % self.buckets) as usize
+    }
+}

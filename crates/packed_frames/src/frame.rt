@@ -1,0 +1,74 @@
+//! A frame as it lies in memory.
+ghost use Rattle.std.specs.Prelude.{◌≡◌, ◌<◌, ◌^◌};
+ghost use Rattle.packed_frames.specs.Places.{with_link, with_entry};
+
+use crate::{Entry, Packed, U23};
+use std::marker::Model;
+
+// Sixteen bytes that `Packed::read` reads.
+#[derive(Drop)]
+pub(crate) struct Frame {
+    bytes: [u8; 16],
+}
+
+impl Model for Frame {
+    ghost use Rattle.std.specs.Prelude.{IsSome};
+    ghost use Rattle.packed_frames.specs.declared.packed.Packed.{Packed};
+    ghost use Rattle.packed_frames.specs.Packing.{unpacked};
+    ghost use Rattle.packed_frames.specs.Places.{frame_in};
+
+    ghost Value = { Packed };
+
+    ghost view = { λ f. frame_in f.bytes };
+
+    ghost invariant = { λ f. IsSome (unpacked f.bytes) };
+}
+
+impl Frame {
+    pub(crate) fn new(packed: Packed) -> Frame
+        ensures { result ≡ packed }
+    {
+        Frame {
+            bytes: packed.write(),
+        }
+    }
+
+    pub(crate) fn get(&self) -> Packed
+        ensures { result ≡ self.now }
+    {
+        Packed::of(&self.bytes)
+    }
+
+    pub(crate) fn set(&mut self, packed: Packed)
+        ensures { self.new ≡ packed }
+    {
+        self.bytes = packed.write();
+    }
+
+    // The code of the next place.
+    pub(crate) fn link(&self) -> u32
+        ensures value { result ≡ self.now.link }
+        ensures fits { result < 2 ^ 23 }
+    {
+        let packed = self.get();
+        packed.link.get()
+    }
+
+    // Writes the code of the next place.
+    pub(crate) fn set_link(&mut self, code: u32)
+        requires { code < 2 ^ 23 }
+        ensures { self.new ≡ with_link self.old code }
+    {
+        let entry = self.get().entry;
+        let link = U23::of(code);
+        self.bytes = Packed { entry, link }.write();
+    }
+
+    // Writes the entry.
+    pub(crate) fn set_entry(&mut self, entry: Entry)
+        ensures { self.new ≡ with_entry self.old entry }
+    {
+        let link = self.get().link;
+        self.bytes = Packed { entry, link }.write();
+    }
+}

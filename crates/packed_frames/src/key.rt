@@ -1,0 +1,76 @@
+//! What frames are found by.
+ghost use Rattle.std.specs.Prelude.{◌≡◌, ◌<◌, ◌^◌, Some, IfSome};
+ghost use Rattle.packed_frames.specs.Keys.{has_key, truncated, key_of, shared_parts, hint_parts};
+
+use crate::Entry;
+
+/// What a frame is found by.
+#[derive(Clone, Copy, Debug, PartialEq, Eq)]
+pub enum Key {
+    /// A shared frame, by the hash of its content.
+    Shared(u64),
+    /// A hint frame, by its key.
+    Hint(u32),
+}
+
+impl Key {
+    // The low 32 bits of a hash, or a hint's key.
+    pub(crate) fn truncated(self) -> u32
+        ensures { result ≡ truncated self }
+    {
+        match self {
+            Key::Shared(hash) => (hash % (1 << 32)) as u32,
+            Key::Hint(key) => key,
+        }
+    }
+}
+
+impl Entry {
+    /// What the frame is found by.
+    pub fn key(&self) -> Key
+        ensures { result ≡ key_of self.now }
+    {
+        match *self {
+            Entry::Shared { hash, .. } => Key::Shared(hash),
+            Entry::Hint { key, .. } => Key::Hint(key),
+        }
+    }
+
+    /// The MPN and the count of a shared frame.
+    pub fn shared(&self) -> Option<(u32, u16)>
+        ensures parts { result ≡ shared_parts (Some self.now) }
+        ensures fits { IfSome result (λ frame. frame.0 < 2 ^ 24) }
+    {
+        match *self {
+            Entry::Shared { mpn, count, .. } => Some((mpn.get(), count)),
+            Entry::Hint { .. } => None,
+        }
+    }
+
+    /// The guest, the PPN and the MPN of a hint frame.
+    pub fn hint(&self) -> Option<(u8, u32, u32)>
+        ensures { result ≡ hint_parts (Some self.now) }
+    {
+        match *self {
+            Entry::Shared { .. } => None,
+            Entry::Hint {
+                guest,
+                ppn,
+                mpn,
+                ..
+            } => Some((guest, ppn.get(), mpn.get())),
+        }
+    }
+
+    // Whether it is found by this key.
+    pub(crate) fn has_key(&self, key: Key) -> bool
+        ensures { result ≡ has_key key self.now }
+    {
+        match (key, *self) {
+            (Key::Shared(wanted), Entry::Shared { hash, .. }) => wanted == hash,
+            (Key::Hint(wanted), Entry::Hint { key, .. }) => wanted == key,
+            (Key::Shared(_), Entry::Hint { .. }) => false,
+            (Key::Hint(_), Entry::Shared { .. }) => false,
+        }
+    }
+}

@@ -1,0 +1,162 @@
+//! A frame of 16 bytes.
+ghost use Rattle.std.specs.Prelude.{◌≡◌, ◌+◌, ◌<◌, ◌≤◌, ◌^◌, ◌++◌, Some, IfSome, IsSome, is_none, take, drop};
+ghost use Rattle.std.specs.Int.{w64, to_be_bytes, from_be_bytes};
+ghost use Rattle.packed_frames.specs.Packing.{packed_bytes, packed_shared, packed_hint, unpacked, is_refused, tail_word, hint_word, bits_of, word_at};
+
+use crate::{Entry, U23, U24};
+
+/// An entry, and the link to the next frame of its chain.
+#[derive(Clone, Copy, Debug, PartialEq, Eq)]
+pub struct Packed {
+    /// What is known of the frame.
+    pub entry: Entry,
+    /// 0 where no frame comes next, or the next frame's place and 1.
+    pub link: U23,
+}
+
+impl Packed {
+    /// A shared frame; `None` where the MPN doesn't fit 24 bits, or the link 23.
+    pub fn shared(hash: u64, mpn: u32, count: u16, link: u32) -> Option<Packed>
+        ensures { result ≡ packed_shared hash mpn count link }
+    {
+        let mpn = U24::new(mpn)?;
+        let link = U23::new(link)?;
+        Some(Packed {
+            entry: Entry::Shared { hash, mpn, count },
+            link,
+        })
+    }
+
+    /// A hint frame; `None` where the PPN or the MPN doesn't fit 24 bits, or the link 23.
+    pub fn hint(key: u32, guest: u8, ppn: u32, mpn: u32, link: u32) -> Option<Packed>
+        ensures { result ≡ packed_hint key guest ppn mpn link }
+    {
+        let ppn = U24::new(ppn)?;
+        let mpn = U24::new(mpn)?;
+        let link = U23::new(link)?;
+        Some(Packed {
+            entry: Entry::Hint {
+                key,
+                guest,
+                ppn,
+                mpn,
+            },
+            link,
+        })
+    }
+
+    /// The frame's bytes: two big-endian words, with their fields from the most significant bit down.
+    /// Of a shared frame the first is the hash; of a hint frame it has the key, 32 bits, the guest, 8, and
+    /// the PPN, 24. The second has the MPN, 24 bits, the count, 16 (0 in a hint frame), the link, 23, and a
+    /// tag, 1 bit, which is 1 in a shared frame.
+    pub fn write(&self) -> [u8; 16]
+        ensures bytes { result ≡ packed_bytes self.now }
+        ensures read_back { unpacked result ≡ Some self.now }
+    {
+        let link = self.link.get();
+        match self.entry {
+            Entry::Shared { hash, mpn, count } => bytes_of(
+                hash,
+                tail_word(mpn.get(), count, link, 1),
+            ),
+            Entry::Hint {
+                key,
+                guest,
+                ppn,
+                mpn,
+            } => bytes_of(
+                hint_word(key, guest, ppn.get()),
+                tail_word(mpn.get(), 0, link, 0),
+            ),
+        }
+    }
+
+    /// The frame of these bytes: `None` exactly where the tag is 0 and the count isn't.
+    pub fn read(bytes: &[u8; 16]) -> Option<Packed>
+        ensures frame { result ≡ unpacked bytes.now }
+        ensures refused { is_none result ≡ is_refused bytes.now }
+        ensures written_back { IfSome result (λ p. packed_bytes p ≡ bytes.now) }
+    {
+        let first = word_at(bytes, 0);
+        let second = word_at(bytes, 8);
+        let mpn = U24::of(bits(second, 40, 24));
+        let count = bits(second, 24, 16) as u16;
+        let link = U23::of(bits(second, 1, 23));
+        if bits(second, 0, 1) == 1 {
+            let entry = Entry::Shared {
+                hash: first,
+                mpn,
+                count,
+            };
+            return Some(Packed { entry, link });
+        }
+        if count != 0 {
+            return None;
+        }
+        let entry = Entry::Hint {
+            key: bits(first, 32, 32),
+            guest: bits(first, 24, 8) as u8,
+            ppn: U24::of(bits(first, 0, 24)),
+            mpn,
+        };
+        Some(Packed { entry, link })
+    }
+
+    // The frame of bytes that can be read.
+    pub(crate) fn of(bytes: &[u8; 16]) -> Packed
+        requires { IsSome (unpacked bytes.now) }
+        ensures { unpacked bytes.now ≡ Some result }
+    {
+        match Packed::read(bytes) {
+            Some(packed) => packed,
+            None => unreachable!(),
+        }
+    }
+}
+
+// The word of an MPN of 24 bits, a count of 16, a link of 23 and a tag of 1.
+fn tail_word(mpn: u32, count: u16, link: u32, tag: u64) -> u64
+    requires mpn { mpn < 2 ^ 24 }
+    requires link { link < 2 ^ 23 }
+    requires tag { tag < 2 }
+    ensures value { result ≡ tail_word mpn count link tag }
+{
+    ((u64::from(mpn) * (1 << 16) + u64::from(count)) * (1 << 23) + u64::from(link)) * 2 + tag
+}
+
+// The word of a truncated hash of 32 bits, a guest of 8 and a PPN of 24.
+fn hint_word(key: u32, guest: u8, ppn: u32) -> u64
+    requires ppn { ppn < 2 ^ 24 }
+    ensures value { result ≡ hint_word key guest ppn }
+{
+    (u64::from(key) * (1 << 8) + u64::from(guest)) * (1 << 24) + u64::from(ppn)
+}
+
+// The bytes of two words.
+fn bytes_of(first: u64, second: u64) -> [u8; 16]
+    ensures { result ≡ to_be_bytes w64 first ++ to_be_bytes w64 second }
+{
+    let mut bytes = [0; 16];
+    bytes[..8].copy_from_slice(&first.to_be_bytes());
+    bytes[8..].copy_from_slice(&second.to_be_bytes());
+    bytes
+}
+
+// The word that begins at a byte.
+fn word_at(bytes: &[u8; 16], at: usize) -> u64
+    requires { at + 8 ≤ 16 }
+    ensures { result ≡ word_at bytes.now at }
+{
+    let mut word = [0; 8];
+    word.copy_from_slice(&bytes[at..at + 8]);
+    u64::from_be_bytes(word)
+}
+
+// The field of `width` bits of a word, with `low` bits below it.
+fn bits(word: u64, low: u32, width: u32) -> u32
+    requires low { low < 64 }
+    requires width { width ≤ 32 }
+    ensures { result ≡ bits_of word low width }
+{
+    ((word >> low) % (1 << width)) as u32
+}
