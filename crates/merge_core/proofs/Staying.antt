@@ -7,7 +7,7 @@ use Rattle.page_model.specs.declared.verdict.Verdict.{Verdict}
 use Rattle.page_model.proofs.Places.{at_same, at_other}
 use Rattle.machine_frames.specs.FrameMap.{FrameMap, frame}
 use Rattle.merge_core.specs.Names.{Names, frame_of}
-use Rattle.merge_core.specs.Stays.{frame_at, Change, Keeps, TakesFree, JoinsAnother, GivesUp, change_at, HasFree, HasTheirs, NamedFrame, AllKeep, OthersKeep}
+use Rattle.merge_core.specs.Stays.{frame_at, Change, Keeps, TakesFree, JoinsAnother, GivesUp, change_at, NamedFrame, AllKeep, OthersKeep}
 
 abbrev frame_in : Option (ℕ × SlotOf ℕ) → Option ℕ
 frame_in o = option_and_then (λ x. frame_of x.1) o

@@ -240,13 +240,28 @@ fn weigh<H: PageHash, A: Allocator>(
         return Verdict::Paired;
     }
     let key = key_of(code);
-    let present = hash_frame(held, theirs, salt);
-    if key_of(present) != key {
-        drop_hint(held, other, theirs, key);
-        put_hint(held, page, mpn, key);
-        return Verdict::Replaced;
+    if has_key(held, theirs, salt, key) {
+        return Verdict::Ineligible;
     }
-    Verdict::Ineligible
+    drop_hint(held, other, theirs, key);
+    put_hint(held, page, mpn, key);
+    Verdict::Replaced
+}
+
+/// Whether a frame's present content has this key.
+fn has_key<H: PageHash, A: Allocator>(held: &mut Held<H, A>, mpn: u32, salt: u32, key: u32) -> bool
+    requires whole { Whole H.hash_of held.old }
+    requires taken { fm.IsTaken held.old.frames mpn }
+    requires salt { (known_at (notes_of held.old) mpn).salt ≡ salt }
+    ensures key { result ≡ (key_of (H.hash_of salt (bytes_in held.old.frames mpn)) == key) }
+    ensures whole { Whole H.hash_of held.new }
+    ensures frames { held.new.frames ≡ held.old.frames }
+    ensures table { held.new.table ≡ held.old.table }
+    ensures names { names_of held.new ≡ names_of held.old }
+    ensures shown { guests_of held.new ≡ guests_of held.old }
+{
+    let code = hash_frame(held, mpn, salt);
+    key_of(code) == key
 }
 
 /// A private page leaves its frame, and shares that of the hint page under its key, which is equal.

@@ -1,6 +1,6 @@
 use Rattle.merge_core.proofs.Staying.{moved_to, moves_nowhere, all_stay, frame_is}
 use Rattle.page_model.specs.Pages.{Private}
-use Rattle.std.proofs.Common.{ℕ, sym, ◌∙◌, refl, Some, None}
+use Rattle.std.proofs.Common.{ℕ, sym, ◌∙◌, refl, Some}
 use Rattle.page_model.specs.Steps.{key_of}
 use Rattle.page_model.specs.declared.verdict.Verdict.TheVariants as v
 use Rattle.merge_core.specs.Names.{bytes_in}
