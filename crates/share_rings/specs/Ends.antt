@@ -107,8 +107,8 @@ module _ {A : Type 0} where
   abbrev pub end_view : MergerEnd A → PairName A × (List Request × List Verdict) × ℕ
   end_view e = (end_name e, (end_taken e, end_given e), end_capacity e)
 
--- A send: the request follows what was sent before where the answer is Ok, and nothing was sent where it is a fault. Which
--- rings they are, their capacity, and the verdicts got and known stay.
+-- A send: where the answer is Ok the request follows what was sent before, and where it is a fault nothing was sent.
+-- Which rings they are, their capacity, and the verdicts got and known stay.
 pub record Sends {A E : Type 0} (old new : Port A) (request : Request) (answer : Result (Unit {0}) E) : Type 0 where
   pub pair : port_name new ≡ port_name old
   pub capacity : port_capacity new ≡ port_capacity old

@@ -1,6 +1,6 @@
 //! The capacities of a pair, and what goes through its ring of requests.
 use page_model::{MAX_RING_CAPACITY, Request};
-use share_rings::{RingFault, SendFault, ring_pair};
+use share_rings::{Busy, RingFault, SendFault, ring_pair};
 use std::test::Fail;
 
 #[test]
@@ -43,5 +43,18 @@ fn ring_pair_of_six_slots(rt: HostRuntime) -> Result<(), Fail> {
         assert_eq!(rt; end.take(), Some(want));
     }
     assert_eq!(rt; end.take(), None);
+    Ok(())
+}
+
+#[test]
+fn faults_say_what_to_do(rt: HostRuntime) -> Result<(), Fail> {
+    let full = "the ring of requests is full: take verdicts, let the merger serve, and send again";
+    assert_eq!(rt; format!(in rt.alloc(); "{}", Busy)?.as_str(), full);
+    assert_eq!(rt;
+        format!(in rt.alloc(); "{}", SendFault::Busy)?.as_str(),
+        full
+    );
+    let none = format!(in rt.alloc(); "{}", RingFault::Ring)?;
+    assert_eq!(rt; none.as_str(), "give a ring room for 1 to 65,536 items");
     Ok(())
 }

@@ -118,3 +118,10 @@ fn no_memory_after_new(rt: HostRuntime) -> Result<(), Fail> {
     assert!(rt; heap.holds_nothing());
     Ok(())
 }
+
+#[test]
+fn frames_fault_says_what_to_do(rt: HostRuntime) -> Result<(), Fail> {
+    let said = format!(in rt.alloc(); "{}", FramesFault::Frames)?;
+    assert_eq!(rt; said.as_str(), "ask for 1 to 1,048,576 frames");
+    Ok(())
+}
