@@ -51,7 +51,7 @@ pub struct Publisher<A: Allocator = Global> {
     pub ghost tied_here: { (view writer.desk.place).history.book ≡ history.book },
 }
 
-// The most notes of a history. At a million a second they would take 146,000 years.
+// The most notes of a history. A publish makes two at most: at a million a second they last for 73,000 years.
 const MAX_NOTES: u64 = 1 << 62;
 
 // What is shown before the first publish.
@@ -105,7 +105,7 @@ impl<A: Allocator> Publisher<A> {
 
     /// Publishes a report, and tells the whole list with it. May wait for a watch that reads.
     ///
-    /// An Err changes nothing. It comes where memory is refused, and at the call number 2^60 or so.
+    /// An Err changes nothing. It comes where memory is refused, and after 2^61 calls.
     pub fn publish<R: Wait>(&mut self, rt: &R, report: Report) -> Result<Told, OutOfMemory>
         requires not_older { (last_of (published self.old)).entries ≤ report.entries }
         ensures same { publisher_id self.new ≡ publisher_id self.old }
@@ -114,13 +114,9 @@ impl<A: Allocator> Publisher<A> {
         if self.count >= MAX_NOTES {
             return Err(OutOfMemory);
         }
-        let mut offered = self.history.again();
-        if !add_note(
-            &self.counter,
-            &mut offered,
-            self.count,
-            Note::Offered(report),
-        ) {
+        // Nobody else has the counter, so it is always found as it was left; no clause can say so.
+        let (offer, mut offered) = (Note::Offered(report), self.history.again());
+        if !add_note(&self.counter, &mut offered, self.count, offer) {
             return Err(OutOfMemory);
         }
         let next = Shown {
@@ -131,20 +127,18 @@ impl<A: Allocator> Publisher<A> {
         let mut whole = offered.again();
         self.history = offered;
         self.count += 1;
-        match self.writer.append(next) {
-            Ok(()) => {}
-            Err(_) => return Err(OutOfMemory),
-        }
+        let Ok(()) = self.writer.append(next) else {
+            return Err(OutOfMemory);
+        };
         if !add_note(&self.counter, &mut whole, self.count, Note::Published) {
             return Err(OutOfMemory);
         }
         let shown = replace_with(&mut self.writer, rt, |writer, rt| {
             writer.publish_as::<Replaced, R>(rt)
         });
-        match shown {
-            Ok(()) => {}
-            Err(_) => unreachable!(),
-        }
+        let Ok(()) = shown else {
+            unreachable!();
+        };
         self.told = Told {
             before: self.count,
             history: whole.again(),

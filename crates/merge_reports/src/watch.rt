@@ -31,8 +31,8 @@ pub struct Watch<A: Allocator = Global> {
     reader: Place<A>,
     // The longest list that it was told.
     longest: Told,
-    pub(crate) seen: ProofList<Report>,
-    pub(crate) heard: ProofList<LinkedList<Report>>,
+    seen: ProofList<Report>,
+    heard: ProofList<LinkedList<Report>>,
     pub ghost tied: { (view reader.place).is_tied ≡ true },
     pub ghost tied_here: { (view reader.place).history.book ≡ longest.history.book },
     pub ghost saw: { StartsWith (view reader.place).seen seen.log },

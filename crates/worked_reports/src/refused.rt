@@ -76,7 +76,7 @@ fn each_growth_refused_in_turn(rt: HostRuntime) -> Result<(), Fail> {
     Ok(())
 }
 
-// A new publisher, and then no memory at all: watches, what is told, what is read and the end take none.
+// Once a publisher is made, watches, what is told, what is read and the end ask for no memory.
 #[test]
 fn no_memory_but_for_publishing(rt: HostRuntime) -> Result<(), Fail> {
     let heap = Refusing::new(rt.alloc(), u64::MAX, 0);
@@ -85,17 +85,43 @@ fn no_memory_but_for_publishing(rt: HostRuntime) -> Result<(), Fail> {
     let mut watch = publisher.watch().expect(&rt, "a watch");
     watch.learn(publisher.tell());
     assert_eq!(rt; watch.read(), Some(all_zeros()));
+    publisher.end(&rt);
+    assert_eq!(rt; watch.read(), None);
+    drop(watch);
     assert!(rt; !heap.has_refused());
-    assert_eq!(rt;
-        publisher.publish(&rt, one_page(1)).err(),
-        Some(OutOfMemory)
-    );
-    assert_eq!(rt;
-        publisher.publish(&rt, one_page(1)).err(),
-        Some(OutOfMemory)
-    );
+    assert!(rt; heap.holds_nothing());
+    Ok(())
+}
+
+// A first publish that is refused.
+fn publish_in_vain<R: Abort + Wait, A: Allocator>(
+    rt: &R,
+    publisher: &mut Publisher<A>,
+    watch: &mut Watch<A>,
+)
+    requires first { published publisher.old ≡ [] }
+    requires same { watch_id watch.old ≡ publisher_id publisher.old }
+    ensures publisher { (published publisher.new ≡ []) × (publisher_id publisher.new ≡ publisher_id publisher.old) }
+    ensures watch { watch_id watch.new ≡ watch_id watch.old }
+{
+    match publisher.publish(rt, one_page(1)) {
+        Ok(_told) => panic!(rt; "published with no memory"),
+        Err(OutOfMemory) => {}
+    }
     watch.learn(publisher.tell());
     assert_eq!(rt; watch.read(), Some(all_zeros()));
+}
+
+// Where no memory is left each publish is refused, and changes nothing.
+#[test]
+fn publish_refused_each_time(rt: HostRuntime) -> Result<(), Fail> {
+    let heap = Refusing::new(rt.alloc(), u64::MAX, 0);
+    let mut publisher = Publisher::new(&heap, &rt).expect(&rt, "memory");
+    let mut watch = publisher.watch().expect(&rt, "a watch");
+    heap.refuse_all();
+    publish_in_vain(&rt, &mut publisher, &mut watch);
+    publish_in_vain(&rt, &mut publisher, &mut watch);
+    assert!(rt; heap.has_refused());
     publisher.end(&rt);
     drop(watch);
     assert!(rt; heap.holds_nothing());

@@ -14,8 +14,8 @@ use Rattle.merge_reports.proofs.Publishing.{offer_alone, offer_published}
 use Rattle.merge_reports.proofs.Showing.{shows_next, last_operation}
 use Rattle.merge_reports.proofs.publisher.Publisher.publish.Goals as goal
 
-pub invariant_of-self-in-Err : goal.invariant_of-self-in-Err
-invariant_of-self-in-Err g c =
+pub invariant_of-self-in_default : goal.invariant_of-self-in_default
+invariant_of-self-in_default g c =
     let s = c.args.self.now in let r = c.args.report in let o = c.add_note.new.history in
     let log : o.log ≡ s.history.log ++ Offered r ∷ [] = c.if-not-add_note.ensures.added ∙ ap (λ h. h.log ++ Offered r ∷ []) c.again-offered.ensures in
     let book : o.book ≡ s.history.book = c.add_note.ensures.same ∙ ap (λ h. h.book) c.again-offered.ensures in
