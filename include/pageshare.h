@@ -19,13 +19,13 @@
  *
  * - A handle begins as PAGESHARE_NONE or as zeros, and these calls alone read and write its members. It may be moved while no
  *   call runs, but is not copied: one of two copies would free the other's machine. It is freed by pageshare_free.
- * - One call at a time works on a handle, and a handle stays on the thread that made its machine. Different handles have
- *   nothing to do with each other.
+ * - One call at a time works on a handle. It may go to another thread, or be used by several in turn, where a lock, a thread's
+ *   start or end, or the like orders their calls. Different handles have nothing to do with each other.
  * - Each pointer is not null, also where its count is 0, is aligned for its type, and points to as many elements as are named
  *   beside it, for as long as the call runs. What a call writes to (the handle, room, totals, mpn, at) overlaps no other
  *   argument of it, and nobody else reads or writes it meanwhile; what it only reads, nobody writes meanwhile.
  * - A count of elements makes less than 2^63 bytes.
- * - malloc and free are one allocator's, and align a block to 16 bytes. No call is made from a signal handler, nor in the
+ * - malloc and free are one allocator's, may be called on any thread, and align a block to 16 bytes. No call is made from a signal handler, nor in the
  *   child of a fork of a process with threads.
  *
  * pageshare_make takes all memory that a machine needs; no other call asks for any.

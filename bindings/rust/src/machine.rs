@@ -4,7 +4,6 @@ use crate::ffi::{self, Handle, Totals};
 use crate::verdict::{LoadVerdict, ProposeVerdict, ReleaseVerdict, Report, StoreVerdict};
 use std::cell::UnsafeCell;
 use std::fmt;
-use std::marker::PhantomData;
 
 /// The bytes of a page.
 pub const PAGE_BYTES: usize = 4096;
@@ -32,12 +31,14 @@ pub struct Guest {
 /// Guests are numbered from 0 in the order in which the machine was given them, and so are a guest's pages, whose numbers are
 /// its physical page numbers (PPN). All memory is taken when the machine is made.
 ///
-/// A machine stays on its thread: it is neither `Send` nor `Sync`.
+/// A machine may go to another thread, and is used by one at a time: it is `Send` and not `Sync`.
 ///
 /// ```compile_fail
 /// # use pageshare::{Guest, Machine};
-/// let machine = Machine::new(1, &[Guest { pages: 1, salt: 0 }]).unwrap();
-/// std::thread::spawn(move || drop(machine));
+/// # let Ok(machine) = Machine::new(1, &[Guest { pages: 1, salt: 0 }]) else { return };
+/// std::thread::scope(|scope| {
+///     scope.spawn(|| machine.report());
+/// });
 /// ```
 pub struct Machine {
     /// It holds a machine from `new` to `drop`, and is never copied.
@@ -45,8 +46,10 @@ pub struct Machine {
     /// In a cell, since calls that only read write it too, and leave it as it was. No reference to it outlives a call, and no
     /// other thread has one.
     handle: UnsafeCell<Handle>,
-    stays: PhantomData<*mut ()>,
 }
+
+// SAFETY: the library's handle may go to another thread, with the machine that it holds, which nobody else has.
+unsafe impl Send for Machine {}
 
 impl Machine {
     /// Makes a machine with so many frames for the pages of these guests.
@@ -64,7 +67,6 @@ impl Machine {
         }
         let machine = Machine {
             handle: UnsafeCell::new(Handle::NONE),
-            stays: PhantomData,
         };
         // SAFETY: the handle holds no machine, and both lists have at least `count` numbers.
         let status = unsafe {

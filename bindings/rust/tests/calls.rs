@@ -118,6 +118,21 @@ fn refuses() -> Result<(), Box<dyn std::error::Error>> {
 }
 
 #[test]
+fn goes_to_another_thread() -> Result<(), Box<dyn std::error::Error>> {
+    let mut m = machine(1, &[(1, 0)])?;
+    let _mapped = m.store(0, 0, 0, b"A")?;
+    let there = std::thread::spawn(move || m.store(0, 0, 1, b"B").map(|verdict| (m, verdict)));
+    let (mut m, verdict) = there.join().map_err(|_| "the thread failed")??;
+    assert_eq!(verdict, StoreVerdict::Stored);
+    let mut room = [0xee; 2];
+    assert_eq!(
+        (m.load(0, 0, 0, &mut room)?, room),
+        (LoadVerdict::Bytes, *b"AB")
+    );
+    Ok(())
+}
+
+#[test]
 fn displays() {
     assert_eq!(ProposeVerdict::Joined { pages: 3 }.to_string(), "joined 3");
     assert_eq!(

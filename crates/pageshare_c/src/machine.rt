@@ -45,3 +45,13 @@ impl Machine {
         self.slot.fill(Parcel::wrap(core));
     }
 }
+
+/// Refuses a type that may not go to another thread.
+#[allow(dead_code)]
+fn goes_to_threads<T: Send>() {}
+
+/// A handle may.
+#[allow(dead_code)]
+fn handle_goes_to_threads() {
+    goes_to_threads::<Machine>();
+}

@@ -24,6 +24,9 @@ impl Model for Slot {
     ghost also_owns = { λ s. held_owns s.at s.core };
 }
 
+// SAFETY: a core and the heap may go to another thread, and so may the address of a block that nobody else has.
+unsafe impl Send for Slot {}
+
 impl Slot {
     /// Puts a core into an empty slot.
     pub(crate) fn fill(&mut self, core: Parcel<Core<Sha256Hash>, Global>)
