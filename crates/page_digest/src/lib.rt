@@ -3,11 +3,15 @@
 //! Nothing is assumed about collisions: pages are compared in full before they share a frame.
 #![tactic(auto)]
 
+mod many;
 mod message;
 mod page_hash;
+mod part;
 mod sha256;
 mod short;
+mod workers;
 
+pub use many::{HashFault, hash_many};
 pub use page_hash::PageHash;
 pub use sha256::Sha256Hash;
 pub use short::{FirstByteHash, TwoByteHash};
