@@ -6,3 +6,8 @@ pub mod Known
 pub mod Sent
 pub mod Prints
 pub mod Refusals
+pub mod Written
+pub mod Spelled
+pub mod Asked
+pub mod Heads
+pub mod Rereads

@@ -15,11 +15,11 @@ use Rattle.share_text.specs.declared.fault.Cause.{Cause}
 use Rattle.share_text.specs.declared.fault.TextFault.TheVariants as faults
 use Rattle.share_text.proofs.Cuts.{front_on}
 
-abbrev no_feed : List ℕ → Bool
+abbrev pub no_feed : List ℕ → Bool
 no_feed bytes = list_all (λ b. not (is_feed b)) bytes
 
 -- bytes without a line feed, and a line feed, are one more line
-lines_at : (xs ys : List ℕ) → no_feed xs ≡ true → lines_of (xs ++ 10 ∷ ys) ≡ xs ∷ lines_of ys
+pub lines_at : (xs ys : List ℕ) → no_feed xs ≡ true → lines_of (xs ++ 10 ∷ ys) ≡ xs ∷ lines_of ys
 lines_at [] ys h = refl
 lines_at (x ∷ xs) ys h =
     let parts = and_parts (not (is_feed x)) (no_feed xs) h in
@@ -33,7 +33,7 @@ lines_none (x ∷ xs) h =
     let test : is_feed x ≡ false = not-true _ parts.0 in
     rw (test, lines_none xs parts.1) refl
 
-whole_at : (xs ys : List ℕ) → is_whole (xs ++ 10 ∷ ys) ≡ is_whole ys
+pub whole_at : (xs ys : List ℕ) → is_whole (xs ++ 10 ∷ ys) ≡ is_whole ys
 whole_at [] [] = refl
 whole_at [] (y ∷ ys) = refl
 whole_at (x ∷ []) ys = whole_at [] ys

@@ -7,4 +7,5 @@ pub mod Views
 pub mod Printed
 pub mod Ends
 pub mod Replayed
+pub mod Written
 pub mod Expected

@@ -10,11 +10,13 @@ mod expect;
 mod fault;
 mod header;
 mod journal;
+pub mod laws;
 mod output;
 mod print;
 mod reader;
 mod request;
 mod word;
+mod writer;
 
 pub use ends::{Noted, Sink, Source};
 pub use engine::replay;
@@ -23,3 +25,4 @@ pub use fault::{Cause, TextFault};
 pub use journal::Journal;
 pub use print::{fault_line, report_line, verdict_line};
 pub use reader::read_journal;
+pub use writer::write_journal;

@@ -10,3 +10,5 @@ mod faults;
 mod lines;
 #[cfg(test)]
 mod versions;
+#[cfg(test)]
+mod writing;

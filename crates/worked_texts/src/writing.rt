@@ -1,0 +1,71 @@
+//! Journals written, and read again.
+use refusing::Refusing;
+use share_text::{read_journal, write_journal};
+use std::alloc::{AllocError, Global};
+use std::test::Fail;
+
+/// A journal with a request of each kind, with this first line and this line of salts.
+fn requests(alloc: Global, first: &str, salts: &str) -> Result<String, AllocError> {
+    let mut text = String::from_str(alloc, first)?;
+    text.push_str("\nframes 1048576\npages 1048575 1\n")?;
+    text.push_str(salts)?;
+    text.push_str(
+        "0 store 4294967295 4095 00\n1 store 0 0 0aff\n0 load 0 4032 64\n1 propose 4294967295\n",
+    )?;
+    text.push_str("0 release 7\n1 count\n1 close\n0 close\nend 8\n")?;
+    Ok(text)
+}
+
+/// Whether the journal of a text is written as this one.
+fn is_written_as(alloc: Global, text: &[u8], wanted: &str) -> bool {
+    match read_journal(alloc, text) {
+        Ok(journal) => match write_journal(alloc, &journal) {
+            Ok(written) => written.as_str() == wanted,
+            Err(_) => false,
+        },
+        Err(_) => false,
+    }
+}
+
+#[test]
+fn texts_are_written_as_they_were_read(rt: HostRuntime) -> Result<(), Fail> {
+    let alloc = rt.alloc();
+    let close = "pageshare journal 1\nframes 1\npages 1\n0 close\nend 1\n";
+    assert!(rt; is_written_as(alloc, close.as_bytes(), close));
+    let none = "pageshare journal 1\nframes 1\npages 1\nend 0\n";
+    assert!(rt; is_written_as(alloc, none.as_bytes(), none));
+    let first = requests(alloc, "pageshare journal 1", "")?;
+    assert!(rt; is_written_as(alloc, first.as_bytes(), &first));
+    let second = requests(alloc, "pageshare journal 2", "salts 0 4294967295\n")?;
+    assert!(rt; is_written_as(alloc, second.as_bytes(), &second));
+    let zeros = requests(alloc, "pageshare journal 2", "salts 0 0\n")?;
+    assert!(rt; is_written_as(alloc, zeros.as_bytes(), &first));
+    Ok(())
+}
+
+/// Whether what is read and written under this allocator is the text, or wants memory.
+fn writes_or_wants(heap: &Refusing, text: &str) -> bool {
+    match read_journal(heap, text.as_bytes()) {
+        Ok(journal) => match write_journal(heap, &journal) {
+            Ok(written) => !heap.has_refused() && written.as_str() == text,
+            Err(_) => heap.has_refused(),
+        },
+        Err(_) => heap.has_refused(),
+    }
+}
+
+#[test]
+fn refused_growths(rt: HostRuntime) -> Result<(), Fail> {
+    let text = requests(rt.alloc(), "pageshare journal 2", "salts 1 2\n")?;
+    let mut refused = true;
+    for first in 0..200 {
+        if refused {
+            let heap = Refusing::new(rt.alloc(), first, 0);
+            assert!(rt; writes_or_wants(&heap, &text), "request {first}");
+            assert!(rt; heap.holds_nothing());
+            refused = heap.has_refused();
+        }
+    }
+    assert!(rt; !refused);
+    Ok(())
+}
