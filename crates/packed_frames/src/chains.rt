@@ -51,6 +51,13 @@ impl<A: Allocator> Chains<A> {
         self.places.len()
     }
 
+    /// The bytes of the frames, 16 each, and of the bucket heads, 4 each.
+    pub fn bytes(&self) -> u64
+        ensures { result ≡ 16 * self.now.capacity + 4 * length self.now.chains }
+    {
+        bytes_of(self.places.capacity(), self.buckets)
+    }
+
     /// The MPN and the count of the shared frame with this hash.
     pub fn find_shared(&self, hash: u64) -> Option<(u32, u16)>
         ensures found { result ≡ shared_parts (first_with (keys.Shared hash) (chain_of self.now (keys.Shared hash))) }
@@ -116,4 +123,11 @@ impl<A: Allocator> Chains<A> {
     {
         (key.truncated() % self.buckets) as usize
     }
+}
+
+// The bytes of so many frames, 16 each, and of so many bucket heads, 4 each.
+fn bytes_of(frames: u32, heads: u32) -> u64
+    ensures { result ≡ 16 * frames + 4 * heads }
+{
+    16 * u64::from(frames) + 4 * u64::from(heads)
 }

@@ -62,11 +62,11 @@ impl<A: Allocator> Places<A> {
         self.used
     }
 
-    // The number of buckets.
-    pub(crate) fn buckets(&self) -> usize
-        ensures { result ≡ length self.now.chains }
+    // The number of places.
+    pub(crate) fn capacity(&self) -> u32
+        ensures { result ≡ length self.now.entries }
     {
-        self.heads.len()
+        self.frames.len() as u32
     }
 
     // The first place of the bucket's chain that the key finds.

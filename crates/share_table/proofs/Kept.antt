@@ -136,8 +136,10 @@ module _ (total : ℕ) (T : EntryChains) (wide : WideMap) (k : IsKept total T wi
     filed_set once room =
         let len : length (set T.chains (home_of key) es) ≡ length T.chains = length-set T.chains (home_of key) es in
         let some : 1 ≤ length T.chains = k.filed.some in
+        let few : length T.chains ≤ T.capacity = k.filed.few in
         record {
           some = omega (arith, len, some);
+          few = omega (arith, len, few);
           at_home = λ i. subst (λ n. BelongInto n i (get_or (set T.chains (home_of key) es) i [])) (sym len) (homes i);
           once = each_set (λ i. HasEachOnce) T.chains (home_of key) es k.filed.once once (within key);
           limit = k.filed.limit;
@@ -378,14 +380,15 @@ nothing_shown n capacity = rw (no_pairs shared_of n, no_pairs hint_of n) refl
 no_entry_told : (n : ℕ) → len (empty {K = ℕ} {X = SharedFrame} {R = nat_cmp}) + len (empty {K = ℕ} {X = HintFrame} {R = nat_cmp}) ≡ entries_in (replicate n [])
 no_entry_told n = omega (arith, no_entries n, len-empty nat_cmp SharedFrame, len-empty nat_cmp HintFrame)
 
-pub nothing_kept : (n capacity : ℕ) → 1 ≤ n → capacity ≤ 1048576 → IsKept 0 (empty_chains n capacity) empty
-nothing_kept n capacity some most =
+pub nothing_kept : (n capacity : ℕ) → 1 ≤ n → n ≤ capacity → capacity ≤ 1048576 → IsKept 0 (empty_chains n capacity) empty
+nothing_kept n capacity some few most =
     let chains : List (List Entry) = replicate n [] in
     let lens : length chains ≡ n = length-replicate n [] in
     let none : entries_in (replicate n []) ≡ 0 = no_entries n in
     record {
       filed = record {
         some = omega (arith, lens, some);
+        few = omega (arith, lens, few);
         at_home = λ i. subst (BelongInto (length chains) i) (sym (no_chain n i)) tt;
         once = λ i. subst HasEachOnce (sym (no_chain n i)) tt;
         limit = most;

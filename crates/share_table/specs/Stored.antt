@@ -114,6 +114,8 @@ pub record IsCounted (total : ℕ) (shared : List (ℕ × SharedEntry)) (wide : 
 -- the entries of these chains
 pub record IsFiled (chains : EntryChains) : Type 0 where
   pub some : 1 ≤ length chains.chains
+  -- no more buckets than places
+  pub few : length chains.chains ≤ chains.capacity
   pub at_home : (b : ℕ) → BelongInto (length chains.chains) b (slice_index_or chains.chains b [])
   pub once : (b : ℕ) → HasEachOnce (slice_index_or chains.chains b [])
   pub limit : chains.capacity ≤ 1048576
