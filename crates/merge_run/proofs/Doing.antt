@@ -1,5 +1,5 @@
 -- One task more is made, started and done.
-use Rattle.std.proofs.Common.{◌≡◌, zero, suc, true, List, [], ◌∷◌, ◌++◌, refl, ap, sym, subst, ◌∙◌, length, take, arith}
+use Rattle.std.proofs.Common.{◌≡◌, zero, suc, true, List, [], ◌∷◌, ◌++◌, refl, ap, sym, subst, ◌∙◌, length, map, take, arith}
 use Rattle.std.proofs.lemmas.List.{length-map, map-append}
 use Rattle.std.proofs.lemmas.List.Elements.{All-append}
 use Rattle.std.proofs.Math.Seq.{append_snoc}
@@ -9,9 +9,8 @@ use Rattle.std.specs.declared.thread.PromisedHandle.{PromisedHandle}
 use Rattle.page_model.specs.declared.request.Request.{Request}
 use Rattle.share_rings.specs.declared.port.Port.{Port}
 use Rattle.share_rings.specs.Closing.{last_closed}
-use Rattle.share_rings.specs.Ends.{closed_name, closed_sent, closed_got, port_name, PairName}
-use Rattle.merge_run.specs.Kept.{port_names}
-use Rattle.merge_run.specs.Tasks.{IsDone, AreDone, tasks_of, ports_of, lists_of, task_names, task_requests, with_close, all_sent}
+use Rattle.share_rings.specs.Ends.{closed_name, closed_sent, closed_got, closed_capacity, port_name, port_capacity}
+use Rattle.merge_run.specs.Tasks.{IsDone, AreDone, tasks_of, ports_of, lists_of, task_requests, with_close, all_sent}
 use Rattle.merge_run.specs.declared.guest.Task.{Task}
 use Rattle.merge_run.specs.declared.guest.DoneTask.{DoneTask}
 use Rattle.merge_run.specs.declared.guest.DoesTask.{DoesTask}
@@ -36,10 +35,12 @@ all_more P xs x before here = All-append P xs (x ∷ []) before (all_of_one P x 
 
 module _ {A : Type 0} where
   -- one port fewer is left
-  pub names_more : (tasks : List (Task A)) (task : Task A) (port : Port A) (rest : List (Port A)) (names : List (PairName A)) → task_names tasks ++ port_names (port ∷ rest) ≡ names → port_name task.port ≡ port_name port → task_names (tasks ++ task ∷ []) ++ port_names rest ≡ names
-  names_more tasks task port rest names before here =
-      ap (λ ns. ns ++ port_names rest) (map-append (λ (t : Task A). port_name t.port) tasks (task ∷ []))
-      ∙ append_snoc (task_names tasks) (port_name task.port) (port_names rest) ∙ ap (λ n. task_names tasks ++ n ∷ port_names rest) here ∙ before
+  pub ports_more : {Y : Type 0} (f : Port A → Y) (tasks : List (Task A)) (task : Task A) (port : Port A) (rest : List (Port A)) (all : List Y) → map (λ (t : Task A). f t.port) tasks ++ map f (port ∷ rest) ≡ all → task.port ≡ port
+      → map (λ (t : Task A). f t.port) (tasks ++ task ∷ []) ++ map f rest ≡ all
+  ports_more f tasks task port rest all before here =
+      let shown = map (λ (t : Task A). f t.port) tasks in
+      ap (λ ys. ys ++ map f rest) (map-append (λ (t : Task A). f t.port) tasks (task ∷ []))
+      ∙ append_snoc shown (f task.port) (map f rest) ∙ ap (λ p. shown ++ f p ∷ map f rest) here ∙ before
 
   pub requests_more : (tasks : List (Task A)) (task : Task A) (scripts : List (Vec Request A)) → task_requests tasks ≡ all_sent scripts → task_requests (tasks ++ task ∷ []) ≡ all_sent (scripts ++ task.script ∷ [])
   requests_more tasks task scripts before = pushed_alike (λ (t : Task A). with_close t.script.items) (λ s. with_close s.items) tasks scripts task task.script before refl
@@ -50,6 +51,7 @@ module _ {A : Type 0} where
       let lists : lists_of (done ++ d ∷ []) ≡ lists_of done ++ d.verdicts ∷ [] = map-append (λ (t : DoneTask A). t.verdicts) done (d ∷ []) in
       record {
         ends = rw ports (pushed_alike closed_name (λ (t : Task A). port_name t.port) (ports_of done) tasks d.port task are.ends is.ends);
+        capacities = rw ports (pushed_alike closed_capacity (λ (t : Task A). port_capacity t.port) (ports_of done) tasks d.port task are.capacities is.capacity);
         scripts = rw ports (pushed_alike closed_sent (λ (t : Task A). with_close t.script.items) (ports_of done) tasks d.port task are.scripts is.script);
         drained = rw ports (all_more (λ p. last_closed (closed_got p) ≡ true) (ports_of done) d.port are.drained is.drained);
         verdicts = rw (ports, lists) (pushed_alike (λ v. v.items) closed_got (lists_of done) (ports_of done) d.verdicts d.port are.verdicts is.verdicts);

@@ -7,12 +7,14 @@ use Rattle.std.specs.declared.vec.Vec.{Vec}
 use Rattle.page_model.specs.declared.hashing.HashFunction.{Ghosts}
 use Rattle.page_model.specs.declared.request.Request.{Request}
 use Rattle.page_model.specs.declared.verdict.Verdict.{Verdict}
-use Rattle.std.specs.List.{position, prefix_len}
+use Rattle.std.specs.List.{list_any, position, prefix_len}
 use Rattle.share_rings.specs.declared.closed_port.ClosedPort.{ClosedPort}
+use Rattle.share_rings.specs.declared.port.Port.{Port}
 use Rattle.share_rings.specs.declared.merger_end.MergerEnd.{MergerEnd}
-use Rattle.share_rings.specs.Closing.{last_closed}
-use Rattle.share_rings.specs.Ends.{closed_sent, closed_got, closed_view}
-use Rattle.merge_run.specs.Kept.{closed_views}
+use Rattle.share_rings.specs.Closing.{is_closed, last_closed, last_passes}
+use Rattle.share_rings.specs.Ends.{port_capacity, closed_sent, closed_got, closed_capacity, closed_view}
+use Rattle.merge_run.specs.Fresh.{IsFreshPort}
+use Rattle.merge_run.specs.Kept.{closed_views, port_capacities}
 use Rattle.merge_run.specs.Limits.{IsMachine}
 use Rattle.merge_run.specs.Runs.{NotRunFor, entries_of}
 use Rattle.merge_run.specs.Settling.{is_running, is_undrained}
@@ -25,7 +27,7 @@ use Rattle.merge_run.specs.declared.runs.RunFault.{RunFault}
 use Rattle.merge_run.specs.declared.runs.RunFault.TheVariants.{OutOfMemory, NoThread}
 use Rattle.merge_run.specs.declared.guest.Task.{Task}
 use Rattle.merge_run.specs.declared.guest.DoneTask.{DoneTask}
-use Rattle.merge_run.proofs.Lists.{maps_length}
+use Rattle.merge_run.proofs.Lists.{maps_length, maps_at, some_of}
 
 all_pass : {X : Type 0} (p : X → Bool) (xs : List X) → ((i : ℕ) (d : X) → i < length xs → p (get_or xs i d) ≡ false) → prefix_len (λ x. not (p x)) xs ≡ length xs
 all_pass p [] fails = refl
@@ -36,6 +38,11 @@ all_pass p (x ∷ xs) fails =
 -- where the test fails at each place, none passes
 position_none : {X : Type 0} (p : X → Bool) (xs : List X) → ((i : ℕ) (d : X) → i < length xs → p (get_or xs i d) ≡ false) → position p xs ≡ None
 position_none p xs fails = rw (all_pass p xs fails) (grind (arith, nat_tests))
+
+any_of_last : {X : Type 0} (p : X → Bool) (xs : List X) → last_passes p xs ≡ true → list_any p xs ≡ true
+any_of_last p [] h = grind arith
+any_of_last p (x ∷ []) h = grind arith
+any_of_last p (x ∷ y ∷ ys) h = grind (arith, any_of_last p (y ∷ ys))
 
 map_after : {X Y Z : Type 0} (f : X → Y) (h : Y → Z) (xs : List X) → map (λ x. h (f x)) xs ≡ map h (map f xs)
 map_after f h [] = refl
@@ -62,7 +69,10 @@ module _ {A : Type 0} where
   none_running n ends all ended = position_none is_running ends (λ i e low. ap not (ended i e (omega (arith, low, all))))
 
   pub none_undrained : (ports : List (ClosedPort A)) → All (λ p. last_closed (closed_got p) ≡ true) ports → position is_undrained ports ≡ None
-  none_undrained ports drained = position_none is_undrained ports (λ i p low. ap not (drained i p low))
+  none_undrained ports drained = position_none is_undrained ports (λ i p low. ap not (any_of_last is_closed (closed_got (get_or ports i p)) (drained i p low)))
+
+  pub same_capacities : (xs ys : List (ClosedPort A)) → closed_views xs ≡ closed_views ys → map closed_capacity xs ≡ map closed_capacity ys
+  same_capacities xs ys e = maps_after closed_view (λ v. v.2) xs ys e
 
   pub same_sent : (xs ys : List (ClosedPort A)) → closed_views xs ≡ closed_views ys → map closed_sent xs ≡ map closed_sent ys
   same_sent xs ys e = maps_after closed_view (λ v. v.1.0) xs ys e
@@ -78,6 +88,14 @@ module _ {A : Type 0} where
 
   pub wanting_memory : {X : Type 0} (config : Config A) (scripts : List (Vec Request A)) (result : Result X RunFault) → IsMachine config → entries_of scripts ≤ config.journal → IsErrAnd result (λ fault. fault ≡ OutOfMemory) → MatchResult result (λ _. IsMachine config × (entries_of scripts ≤ config.journal)) (λ fault. NotRunFor config scripts fault)
   wanting_memory config scripts result machine room is = wanting config scripts result machine room (of_memory result is)
+
+  -- all ports are of rings of that capacity
+  pub of_ring : {H : Type 0} {ghosts : Ghosts H} (ring : ℕ) (ports : List (Port A)) (result : Result (Finished H A ghosts) RunFault) → All (IsFreshPort ring) ports → IfOk result (λ f. map closed_capacity (settled_ports f.settled) ≡ port_capacities ports) → IfOk result (λ f. All (λ p. closed_capacity p ≡ ring) (settled_ports f.settled))
+  of_ring ring ports (Err fault) fresh same = same
+  of_ring ring ports (Ok f) fresh same = λ i p low.
+      let each = maps_length closed_capacity port_capacity (settled_ports f.settled) ports same in
+      let q = some_of ports (omega (arith, low, each)) in
+      maps_at closed_capacity port_capacity (settled_ports f.settled) ports i p q same low ∙ (fresh i q (omega (arith, low, each))).capacity_is
 
   -- as many ports and lists of verdicts as scripts
   pub as_many : {H : Type 0} {ghosts : Ghosts H} (n : ℕ) (scripts : List (Vec Request A)) (result : Result (Finished H A ghosts) RunFault) → length scripts ≡ n → IfOk result (λ f. map closed_sent (settled_ports f.settled) ≡ all_sent scripts) → IfOk result (λ f. map (λ list. list.items) f.verdicts.items ≡ map closed_got (settled_ports f.settled)) → IfOk result (λ f. (length (settled_ports f.settled) ≡ n) × (length f.verdicts.items ≡ n))

@@ -34,6 +34,16 @@ prefix_len_views f p (x ∷ xs) (y ∷ ys) e =
 pub position_views : {X Y : Type 0} (f : X → Y) (p : Y → Bool) (xs ys : List X) → map f xs ≡ map f ys → position (λ x. p (f x)) xs ≡ position (λ x. p (f x)) ys
 position_views f p xs ys e = rw (prefix_len_views f (λ y. not (p y)) xs ys e, maps_length f f xs ys e)
 
+prefix_len_alike : {X : Type 0} (p q : X → Bool) (xs : List X) → ((i : ℕ) (d : X) → i < length xs → p (get_or xs i d) ≡ q (get_or xs i d)) → prefix_len (λ x. not (p x)) xs ≡ prefix_len (λ x. not (q x)) xs
+prefix_len_alike p q [] alike = refl
+prefix_len_alike p q (x ∷ xs) alike =
+    let first : p x ≡ q x = alike zero x (omega arith) in
+    let rest = prefix_len_alike p q xs (λ i d l. alike (suc i) d (omega arith)) in grind (arith, first)
+
+-- the first that passes either of two tests that agree at each place
+pub position_alike : {X : Type 0} (p q : X → Bool) (xs : List X) → ((i : ℕ) (d : X) → i < length xs → p (get_or xs i d) ≡ q (get_or xs i d)) → position p xs ≡ position q xs
+position_alike p q xs alike = rw (prefix_len_alike p q xs alike) refl
+
 -- where none passes, the test fails at each place
 pub none_passes : {X : Type 0} (p : X → Bool) (xs : List X) (i : ℕ) (d : X) → position p xs ≡ None → i < length xs → p (get_or xs i d) ≡ false
 none_passes p xs i d e l =

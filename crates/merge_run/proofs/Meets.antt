@@ -1,5 +1,7 @@
 -- Pairs of ends, by their places in two lists.
-use Rattle.std.proofs.Common.{◌≡◌, ℕ, ◌<◌, ◌+◌, true, List, length, get_or, set, ap, sym, ◌∙◌, arith, below_more}
+use Rattle.std.proofs.Common.{◌≡◌, ℕ, ◌<◌, ◌≤◌, ◌+◌, true, false, List, length, get_or, set, refl, ap, sym, subst, ◌∙◌, arith, below_more, ⊎_elim}
+use Rattle.std.specs.Prelude.{nat_eq}
+use Rattle.std.proofs.lemmas.Bool.{eqb-true, cases_Bool}
 use Rattle.std.proofs.lemmas.Grind.{common_steps}
 use Rattle.std.proofs.lemmas.List.{get_or-set_same}
 use Rattle.page_model.specs.declared.request.Request.{Request}
@@ -9,10 +11,10 @@ use Rattle.share_rings.specs.declared.gather.Meeting.TheVariants.{Running, Undra
 use Rattle.share_rings.specs.declared.merger_end.MergerEnd.{MergerEnd}
 use Rattle.share_rings.specs.declared.closed_port.ClosedPort.{ClosedPort}
 use Rattle.share_rings.specs.Closing.{has_closed, last_closed}
-use Rattle.share_rings.specs.Ends.{PairName, closed_sent, closed_got, closed_name, closed_view, end_taken, end_given, end_name, end_view}
+use Rattle.share_rings.specs.Ends.{PairName, closed_sent, closed_got, closed_name, closed_view, end_taken, end_given, end_free, end_name, end_view}
 use Rattle.share_rings.specs.Meet.{MeetingIs}
 use Rattle.merge_run.specs.Kept.{closed_names, end_names, closed_views, end_views}
-use Rattle.merge_run.specs.Meets.{MeetWhereClosed, MeetWhereClosedAt, KnownAt, KnownBelow}
+use Rattle.merge_run.specs.Meets.{MeetWhereClosed, MeetWhereClosedAt, KnownAt, KnownBelow, NoFewerFree}
 use Rattle.merge_run.proofs.Lists.{maps_at, maps_length}
 
 where_closed : (m : Meeting) (sent taken : List Request) (given got : List Verdict) → MeetingIs m sent taken given got → has_closed given ≡ true → has_closed got ≡ true → (taken ≡ sent) × (got ≡ given)
@@ -76,3 +78,18 @@ module _ {A : Type 0} where
       rw (a, b) (all j q f low))
       (rw (get_or-set_same ports i p q lp, get_or-set_same ends i e f le) here)
       k below
+
+  -- one end more has looked for free slots
+  pub free_more : (ends0 ends : List (MergerEnd A)) (i : ℕ) (e f : MergerEnd A) → length ends ≡ length ends0 → e ≡ get_or ends i e → end_free e ≤ end_free f → NoFewerFree ends0 ends → NoFewerFree ends0 (set ends i f)
+  free_more ends0 ends i e f same at more all k d below =
+      ⊎_elim
+      (λ (hit : nat_eq i k ≡ true).
+      let is : i ≡ k = eqb-true i k hit in
+      let low : k < length ends = omega (arith, below, same) in
+      let here : e ≡ get_or ends k d = subst (λ j. e ≡ get_or ends j e) is at ∙ maps_at (λ x. x) (λ x. x) ends ends k e d refl low in
+      let there : get_or (set ends i f) k d ≡ f = subst (λ j. get_or (set ends j f) k d ≡ f) (sym is) (get_or-set_same ends k f d low) in
+      omega (arith, all k d below, ap end_free here, ap end_free there, more))
+      (λ (miss : nat_eq i k ≡ false).
+      let other : get_or (set ends i f) k d ≡ get_or ends k d = grind (arith, common_steps) in
+      omega (arith, all k d below, ap end_free other))
+      (cases_Bool (nat_eq i k))

@@ -19,9 +19,9 @@ use Rattle.share_rings.specs.Ends.{PairName, closed_sent, closed_got, closed_nam
 use Rattle.share_rings.proofs.Fronts.{any_is_last, beside_front}
 use Rattle.merge_run.specs.Kept.{Keeps, closed_names, end_names, closed_views, end_views}
 use Rattle.merge_run.specs.Machines.{shape_of, opening, IsReplayOf}
-use Rattle.merge_run.specs.Meets.{MeetWhereClosed}
+use Rattle.merge_run.specs.Meets.{MeetWhereClosed, is_unclosed}
 use Rattle.merge_run.specs.Settling.{Served, is_running, is_undrained}
-use Rattle.merge_run.proofs.Lists.{maps_at, maps_length, position_views, none_passes, some_of}
+use Rattle.merge_run.proofs.Lists.{maps_at, maps_length, position_views, position_alike, none_passes, some_of}
 
 -- all that an end shows
 abbrev View : Type 0 → Type 0
@@ -40,8 +40,12 @@ module _ {A : Type 0} where
   pub running_views : (xs ys : List (MergerEnd A)) → end_views ys ≡ end_views xs → position is_running ys ≡ position is_running xs
   running_views xs ys e = position_views end_view (λ (v : View A). not (has_closed v.1.1)) ys xs e
 
-  pub undrained_views : (xs ys : List (ClosedPort A)) → closed_views ys ≡ closed_views xs → position is_undrained ys ≡ position is_undrained xs
-  undrained_views xs ys e = position_views closed_view (λ (v : View A). not (last_closed v.1.1)) ys xs e
+  -- once a pair has met, its port's `Closed` stands last where it was got
+  pub undrained_views : (ports now : List (ClosedPort A)) (ends : List (MergerEnd A)) → closed_names ports ≡ end_names ends → MeetWhereClosed ports ends (length ends) → closed_views now ≡ closed_views ports → position is_unclosed now ≡ position is_undrained ports
+  undrained_views ports now ends names met views =
+      let n = maps_length closed_name end_name ports ends names in
+      position_views closed_view (λ (v : View A). not (last_closed v.1.1)) now ports views
+      ∙ position_alike is_unclosed is_undrained ports (λ i p low. ap not (sym (met i p (some_of ends (omega (arith, low, n))) (omega (arith, low, n))).0))
 
   -- a guest is served whose pair has met, once the merger's end kept its part of the journal
   pub served : (hash : ℕ → List ℕ → ℕ) (machine : State) (journal : List Entry) (i : ℕ) (p : ClosedPort A) (e : MergerEnd A) → end_taken e ≡ asked i journal → end_given e ≡ answers hash machine i journal
@@ -80,10 +84,11 @@ module _ {A : Type 0} where
       let e = some_of ends (omega arith) in
       let m = met i d e (omega arith) in
       let given : not (has_closed (end_given (get_or ends i e))) ≡ false = none_passes is_running ends i e running (omega arith) in
-      let got : not (last_closed (closed_got (get_or ports i d))) ≡ false = none_passes is_undrained ports i d undrained (omega arith) in
+      let got : not (has_closed (closed_got (get_or ports i d))) ≡ false = none_passes is_undrained ports i d undrained (omega arith) in
       let g : has_closed (end_given (get_or ends i e)) ≡ true = grind arith in
-      let last : last_closed (closed_got (get_or ports i d)) ≡ true = grind arith in
-      let w = m.1 g (m.0 ∙ last) in let h = k i e (omega arith) in
+      let has : has_closed (closed_got (get_or ports i d)) ≡ true = grind arith in
+      let last : last_closed (closed_got (get_or ports i d)) ≡ true = sym m.0 ∙ has in
+      let w = m.1 g has in let h = k i e (omega arith) in
       let there = maps_at closed_view closed_view now ports i d d views l in
       served_views hash machine journal i (get_or ports i d) (get_or now i d) there
       (served hash machine journal i (get_or ports i d) (get_or ends i e) h.0 h.1 w.0 w.1 last)

@@ -8,7 +8,7 @@ use Rattle.page_model.specs.declared.verdict.Verdict.{Verdict}
 use Rattle.share_rings.specs.declared.merger_end.MergerEnd.{MergerEnd}
 use Rattle.share_rings.specs.declared.closed_port.ClosedPort.{ClosedPort}
 use Rattle.share_rings.specs.declared.port.Port.{Port}
-use Rattle.share_rings.specs.Ends.{PairName, port_name, end_taken, end_given, end_name, end_view, closed_name, closed_view}
+use Rattle.share_rings.specs.Ends.{PairName, port_name, port_capacity, end_taken, end_given, end_name, end_view, closed_name, closed_view}
 
 module _ {A : Type 0} where
   -- what was taken at each end are its guest's requests in the journal, and what was given are the verdicts of the
@@ -25,6 +25,10 @@ module _ {A : Type 0} where
   -- which rings the guests' ports are of
   abbrev pub port_names : List (Port A) → List (PairName A)
   port_names ports = map port_name ports
+
+  -- how much the rings of the guests' ports hold
+  abbrev pub port_capacities : List (Port A) → List ℕ
+  port_capacities ports = map port_capacity ports
 
   -- which rings the guests' closed ports are of
   abbrev pub closed_names : List (ClosedPort A) → List (PairName A)

@@ -1,9 +1,9 @@
 -- What the meetings of all pairs tell.
-use Rattle.std.specs.Prelude.{◌≡◌, ℕ, ◌<◌, true, List, ◌++◌, length, slice_index_or}
+use Rattle.std.specs.Prelude.{◌≡◌, ℕ, ◌<◌, ◌≤◌, Bool, true, not, List, ◌++◌, length, slice_index_or}
 use Rattle.share_rings.specs.declared.merger_end.MergerEnd.{MergerEnd}
 use Rattle.share_rings.specs.declared.closed_port.ClosedPort.{ClosedPort}
 use Rattle.share_rings.specs.Closing.{has_closed, last_closed}
-use Rattle.share_rings.specs.Ends.{closed_sent, closed_got, closed_known, end_taken, end_given, end_known}
+use Rattle.share_rings.specs.Ends.{closed_sent, closed_got, closed_known, end_taken, end_given, end_known, end_free}
 
 module _ {A : Type 0} where
   -- `Closed` stands last in what was got; and where it was given and got, both rings are empty for good
@@ -15,6 +15,14 @@ module _ {A : Type 0} where
   -- the same for each of the first n pairs
   abbrev pub MeetWhereClosed : List (ClosedPort A) → List (MergerEnd A) → ℕ → Type 0
   MeetWhereClosed ports ends n = (i : ℕ) (p : ClosedPort A) (e : MergerEnd A) → i < n → MeetWhereClosedAt (slice_index_or ports i p) (slice_index_or ends i e)
+
+  -- `Closed` does not stand last in what was got
+  abbrev pub is_unclosed : ClosedPort A → Bool
+  is_unclosed p = not (last_closed (closed_got p))
+
+  -- no end knows fewer free slots than it did
+  abbrev pub NoFewerFree : List (MergerEnd A) → List (MergerEnd A) → Type 0
+  NoFewerFree ends ends' = (i : ℕ) (e : MergerEnd A) → i < length ends → end_free (slice_index_or ends i e) ≤ end_free (slice_index_or ends' i e)
 
   -- all items in the two rings of a pair are known to their ends
   abbrev pub KnownAt : ClosedPort A → MergerEnd A → Type 0

@@ -22,9 +22,9 @@ module _ {A : Type 0} where
   abbrev pub is_running : MergerEnd A → Bool
   is_running e = not (has_closed (end_given e))
 
-  -- the guest has not got its `Closed`: it would be the last that it got
+  -- the guest has not got its `Closed`
   abbrev pub is_undrained : ClosedPort A → Bool
-  is_undrained p = not (last_closed (closed_got p))
+  is_undrained p = not (has_closed (closed_got p))
 
   -- what one guest sent and got, beside the journal
   pub record Served (hash : ℕ → List ℕ → ℕ) (machine : State) (journal : List Entry) (guest : ℕ) (port : ClosedPort A) : Type 0 where

@@ -54,7 +54,7 @@ module _ {H A : Type 0} {ghosts : Ghosts H} where
   Does hash guest before after old new Ended = (has_closed (end_given before) ≡ true) × (after ≡ before) × Same old new
   Does hash guest before after old new Blocked =
       IsOpen before × HasRoom old × (end_free after ≡ 0) × (end_capacity before ≤ length (end_given before)) × (end_known after ≡ end_known before) × Looked before after × Same old new
-  Does hash guest before after old new Idle = IsOpen before × HasRoom old × (end_known before ≡ []) × Looked before after × Same old new
+  Does hash guest before after old new Idle = IsOpen before × HasRoom old × (0 < end_free after) × (end_known before ≡ []) × Looked before after × Same old new
   Does hash guest before after old new Done = IsOpen before × HasRoom old × ServedOne hash guest before after old new
 
   -- a step that gives this answer

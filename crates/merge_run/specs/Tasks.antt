@@ -1,12 +1,12 @@
 -- What the thread of a guest is given, and what it owes.
-use Rattle.std.specs.Prelude.{◌≡◌, ◌<◌, true, false, List, [], ◌∷◌, ◌++◌, length, map, All, vec_capacity}
+use Rattle.std.specs.Prelude.{◌≡◌, ℕ, ◌<◌, true, false, List, [], ◌∷◌, ◌++◌, length, map, All, vec_capacity}
 use Rattle.std.specs.declared.vec.Vec.{Vec}
 use Rattle.std.specs.declared.thread.PromisedHandle.{PromisedHandle}
 use Rattle.page_model.specs.declared.request.Request.{Request}
 use Rattle.page_model.specs.declared.request.Request.TheVariants.{Close}
 use Rattle.page_model.specs.declared.verdict.Verdict.{Verdict}
 use Rattle.share_rings.specs.Closing.{has_close, last_closed}
-use Rattle.share_rings.specs.Ends.{PairName, port_name, port_sent, port_got, closed_name, closed_sent, closed_got}
+use Rattle.share_rings.specs.Ends.{PairName, port_name, port_sent, port_got, port_capacity, closed_name, closed_sent, closed_got, closed_capacity}
 use Rattle.share_rings.specs.declared.port.Port.{Port}
 use Rattle.share_rings.specs.declared.closed_port.ClosedPort.{ClosedPort}
 use Rattle.merge_run.specs.Kept.{closed_names}
@@ -41,6 +41,7 @@ module _ {A : Type 0} where
   -- verdicts is what it got
   pub record IsDone (task : Task A) (done : DoneTask A) : Type 0 where
     pub ends : closed_name done.port ≡ port_name task.port
+    pub capacity : closed_capacity done.port ≡ port_capacity task.port
     pub script : closed_sent done.port ≡ with_close task.script.items
     pub drained : last_closed (closed_got done.port) ≡ true
     pub verdicts : done.verdicts.items ≡ closed_got done.port
@@ -61,6 +62,10 @@ module _ {A : Type 0} where
   abbrev pub task_names : List (Task A) → List (PairName A)
   task_names tasks = map (λ t. port_name t.port) tasks
 
+  -- how much the rings of the tasks' ports hold
+  abbrev pub task_capacities : List (Task A) → List ℕ
+  task_capacities tasks = map (λ t. port_capacity t.port) tasks
+
   -- all that the tasks' guests send
   abbrev pub task_requests : List (Task A) → List (List Request)
   task_requests tasks = map (λ t. with_close t.script.items) tasks
@@ -68,6 +73,7 @@ module _ {A : Type 0} where
   -- each of these tasks is done
   pub record AreDone (tasks : List (Task A)) (done : List (DoneTask A)) : Type 0 where
     pub ends : closed_names (ports_of done) ≡ task_names tasks
+    pub capacities : map closed_capacity (ports_of done) ≡ task_capacities tasks
     pub scripts : map closed_sent (ports_of done) ≡ task_requests tasks
     pub drained : All (λ p. last_closed (closed_got p) ≡ true) (ports_of done)
     pub verdicts : map (λ v. v.items) (lists_of done) ≡ map closed_got (ports_of done)

@@ -4,14 +4,14 @@ ghost use Rattle.std.specs.List.{position};
 ghost use Rattle.page_model.specs.Limits.{shapes};
 ghost use Rattle.page_model.specs.Replay.{empty_state};
 ghost use Rattle.share_rings.specs.Closing.{has_close};
-ghost use Rattle.share_rings.specs.Ends.{closed_got, closed_sent};
+ghost use Rattle.share_rings.specs.Ends.{closed_got, closed_sent, closed_capacity};
 ghost use Rattle.merge_core.specs.Shown.{state_of};
-ghost use Rattle.merge_run.specs.Kept.{end_names, port_names, closed_names, closed_views};
+ghost use Rattle.merge_run.specs.Kept.{end_names, port_names, port_capacities, closed_names, closed_views};
 ghost use Rattle.merge_run.specs.Limits.{IsMachine};
 ghost use Rattle.merge_run.specs.Machines.{opening};
 ghost use Rattle.merge_run.specs.Runs.{NotRunFor, entries_of};
 ghost use Rattle.merge_run.specs.Settling.{Settles, is_running, is_undrained};
-ghost use Rattle.merge_run.specs.Tasks.{IsUnused, IsReady, task_names, task_requests, ports_of, lists_of, all_sent};
+ghost use Rattle.merge_run.specs.Tasks.{IsUnused, IsReady, task_names, task_capacities, task_requests, ports_of, lists_of, all_sent};
 ghost use Rattle.merge_run.specs.View.{ends_of, core_of, machine_of, settled_journal, settled_ports, settled_core};
 ghost use Rattle.merge_run.specs.declared.runs.RunFault.TheVariants.{OutOfMemory, NoThread};
 
@@ -129,6 +129,7 @@ pub fn run<
     ensures settles { IfOk result (λ f. Settles H.hash_of (settled_ports f.settled) (settled_journal f.settled) (settled_core f.settled)) }
     ensures machine { IfOk result (λ f. opening (state_of (settled_core f.settled)) ≡ empty_state config.now.frames (shapes config.now.salts.items config.now.pages.items)) }
     ensures guests { IfOk result (λ f. (length (settled_ports f.settled) ≡ length config.now.pages.items) × (length f.verdicts.items ≡ length config.now.pages.items)) }
+    ensures rings { IfOk result (λ f. All (λ port. closed_capacity port ≡ config.now.ring) (settled_ports f.settled)) }
     ensures sent { IfOk result (λ f. map closed_sent (settled_ports f.settled) ≡ all_sent scripts.items) }
     ensures got { IfOk result (λ f. map (λ list. list.items) f.verdicts.items ≡ map closed_got (settled_ports f.settled)) }
     ensures fault { MatchResult result (λ _. IsMachine config.now × (entries_of scripts.items ≤ config.now.journal)) (λ fault. NotRunFor config.now scripts.items fault) }
@@ -169,6 +170,7 @@ fn new_tasks<A: Allocator + Copy>(
     requires plain { All (λ script. has_close script.items ≡ false) scripts.items }
     ensures ready { IfOk result (λ tasks. All IsReady tasks.items) }
     ensures names { IfOk result (λ tasks. task_names tasks.items ≡ port_names ports.items) }
+    ensures capacities { IfOk result (λ tasks. task_capacities tasks.items ≡ port_capacities ports.items) }
     ensures scripts { IfOk result (λ tasks. task_requests tasks.items ≡ all_sent scripts.items) }
 {
     let mut tasks = Vec::with_capacity(alloc, scripts.len())?;
@@ -205,6 +207,7 @@ fn run_tasks<
     requires pairs { task_names tasks.items ≡ end_names (ends_of merger) }
     ensures settles { IfOk result (λ f. Settles H.hash_of (settled_ports f.settled) (settled_journal f.settled) (settled_core f.settled)) }
     ensures machine { IfOk result (λ f. opening (state_of (settled_core f.settled)) ≡ machine_of merger) }
+    ensures capacities { IfOk result (λ f. map closed_capacity (settled_ports f.settled) ≡ task_capacities tasks.items) }
     ensures sent { IfOk result (λ f. map closed_sent (settled_ports f.settled) ≡ task_requests tasks.items) }
     ensures got { IfOk result (λ f. map (λ list. list.items) f.verdicts.items ≡ map closed_got (settled_ports f.settled)) }
     ensures fault { IfErr result (λ fault. (fault ≡ OutOfMemory) ⊎ (fault ≡ NoThread)) }

@@ -2,7 +2,7 @@
 ghost use Rattle.std.specs.Prelude.{◌≡◌, ◌≤◌, true, false, [], ◌∷◌, ◌++◌, vec_capacity};
 ghost use Rattle.page_model.specs.declared.request.Request.TheVariants.{Close};
 ghost use Rattle.share_rings.specs.Closing.{is_close, last_closed};
-ghost use Rattle.share_rings.specs.Ends.{port_sent, port_got, port_name, closed_sent, closed_got, closed_name};
+ghost use Rattle.share_rings.specs.Ends.{port_sent, port_got, port_name, port_capacity, closed_sent, closed_got, closed_name, closed_capacity};
 ghost use Rattle.merge_run.specs.Tasks.{IsReady, IsDone};
 
 use crate::gate::Gate;
@@ -92,6 +92,7 @@ fn send<R: Wait, A: Allocator, G: Gate>(
     ensures sent { port_sent port.new ≡ port_sent port.old ++ request ∷ [] }
     ensures got { inbox.new.verdicts.items ≡ port_got port.new }
     ensures name { port_name port.new ≡ port_name port.old }
+    ensures capacity { port_capacity port.new ≡ port_capacity port.old }
 {
     let mut request = request;
     for _ in rt.forever() {
@@ -116,6 +117,7 @@ fn close<R: Wait, A: Allocator, G: Gate>(
     ensures sent { closed_sent result ≡ port_sent port ++ Close ∷ [] }
     ensures got { inbox.new.verdicts.items ≡ closed_got result }
     ensures name { closed_name result ≡ port_name port }
+    ensures capacity { closed_capacity result ≡ port_capacity port }
 {
     let mut port = port;
     for _ in rt.forever() {
@@ -141,6 +143,7 @@ fn drain<R: Wait, A: Allocator, G: Gate>(
     ensures got { inbox.new.verdicts.items ≡ closed_got port.new }
     ensures drained { last_closed (closed_got port.new) ≡ true }
     ensures name { closed_name port.new ≡ closed_name port.old }
+    ensures capacity { closed_capacity port.new ≡ closed_capacity port.old }
 {
     for _ in rt.forever() {
         if port.drained() {
@@ -159,6 +162,7 @@ fn collect<A: Allocator, G: Gate>(port: &mut Port<A>, inbox: &mut Inbox<'_, A, G
     ensures sent { port_sent port.new ≡ port_sent port.old }
     ensures got { inbox.new.verdicts.items ≡ port_got port.new }
     ensures name { port_name port.new ≡ port_name port.old }
+    ensures capacity { port_capacity port.new ≡ port_capacity port.old }
 {
     if !inbox.has_room() {
         return false;
@@ -179,6 +183,7 @@ fn collect_closed<A: Allocator, G: Gate>(
     ensures sent { closed_sent port.new ≡ closed_sent port.old }
     ensures got { inbox.new.verdicts.items ≡ closed_got port.new }
     ensures name { closed_name port.new ≡ closed_name port.old }
+    ensures capacity { closed_capacity port.new ≡ closed_capacity port.old }
 {
     if !inbox.has_room() {
         return false;

@@ -5,8 +5,8 @@ ghost use Rattle.merge_core.specs.Shown.{state_of};
 ghost use Rattle.page_model.specs.Pages.{used};
 ghost use Rattle.merge_run.specs.Named.{named, distinct_numbers};
 ghost use Rattle.merge_run.specs.Kept.{end_names, closed_names, end_views, closed_views};
-ghost use Rattle.merge_run.specs.Settling.{Settles, is_running, is_undrained, first_fault};
-ghost use Rattle.merge_run.specs.Meets.{MeetWhereClosed, AllKnown};
+ghost use Rattle.merge_run.specs.Settling.{Settles, is_running, first_fault};
+ghost use Rattle.merge_run.specs.Meets.{MeetWhereClosed, AllKnown, NoFewerFree, is_unclosed};
 ghost use Rattle.merge_run.specs.View.{ends_of, journal_of, limit_of, core_of, guest_count, settled_journal, settled_ports, settled_core};
 
 use crate::merger::Merger;
@@ -20,7 +20,8 @@ use std::alloc::Allocator;
 /// those of one thread that replays the journal on plain page contents; each page reads the bytes last stored to it.
 ///
 /// The ports are all those of the merger's machine, guest 0's first. At `Err` the merger has not answered some guest's
-/// close, or a guest has not got its `Closed`; all comes back unchanged, and each end knows all that is left in its ring.
+/// close, or a guest has not got its `Closed`; all comes back unchanged, and each end knows all that is left in its ring
+/// and no fewer free slots than before.
 pub fn settle<H: PageHash, A: Allocator>(
     merger: Merger<H, A>,
     ports: Vec<ClosedPort<A>, A>,
@@ -39,6 +40,7 @@ pub fn settle<H: PageHash, A: Allocator>(
     ensures pairs_still { IfErr result (λ u. closed_names u.ports.items ≡ end_names (ends_of u.merger)) }
     ensures guests_still { IfErr result (λ u. guest_count u.merger ≡ guest_count merger) }
     ensures known { IfErr result (λ u. AllKnown u.ports.items (ends_of u.merger)) }
+    ensures free { IfErr result (λ u. NoFewerFree (ends_of merger) (ends_of u.merger)) }
 {
     let mut merger = merger;
     let mut ports = ports;
@@ -76,6 +78,7 @@ fn meet_each<A: Allocator>(ports: &mut Vec<ClosedPort<A>, A>, ends: &mut Vec<Mer
     ensures ports { closed_views ports.new.items ≡ closed_views ports.old.items }
     ensures ends { end_views ends.new.items ≡ end_views ends.old.items }
     ensures known { AllKnown ports.new.items ends.new.items }
+    ensures free { NoFewerFree ends.old.items ends.new.items }
     ensures met { MeetWhereClosed ports.old.items ends.old.items (length ends.old.items) }
 {
     for i in 0..ends.len() {
@@ -90,7 +93,7 @@ fn first_running<A: Allocator>(ends: &[MergerEnd<A>]) -> Option<usize>
 }
 
 fn first_undrained<A: Allocator>(ports: &[ClosedPort<A>]) -> Option<usize>
-    ensures { result ≡ position is_undrained ports.now }
+    ensures { result ≡ position is_unclosed ports.now }
 {
     ports.iter().position(|port| !port.drained())
 }

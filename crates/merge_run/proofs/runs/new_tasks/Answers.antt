@@ -5,11 +5,12 @@ use Rattle.std.proofs.lemmas.List.Sums.{sum_by-cons}
 use Rattle.std.specs.Prelude.{All}
 use Rattle.std.specs.Vec.Iter.{into_iter_items}
 use Rattle.share_rings.specs.Closing.{has_close}
-use Rattle.merge_run.specs.Kept.{port_names}
+use Rattle.share_rings.specs.Ends.{port_name, port_capacity}
+use Rattle.merge_run.specs.Kept.{port_names, port_capacities}
 use Rattle.merge_run.specs.Runs.{entries_of}
-use Rattle.merge_run.specs.Tasks.{IsUnused, IsReady, task_names, all_sent}
+use Rattle.merge_run.specs.Tasks.{IsUnused, IsReady, task_names, task_capacities, all_sent}
 use Rattle.merge_run.specs.declared.guest.Task.{Task}
-use Rattle.merge_run.proofs.Doing.{nothing_in, first_of, rest_of, all_more, names_more, requests_more}
+use Rattle.merge_run.proofs.Doing.{nothing_in, first_of, rest_of, all_more, ports_more, requests_more}
 use Rattle.merge_run.proofs.runs.new_tasks.Goals as goal
 
 pub loop-script-init : goal.loop-script-init
@@ -20,6 +21,7 @@ loop-script-init g c =
     record {
       ready = rw made.items (λ k d low. absurd (omega (arith, low)));
       names = rw (made.items, ports.rest) refl;
+      capacities = rw (made.items, ports.rest) refl;
       requests = rw made.items refl;
       len = made.len;
       room = omega (arith, made.capacity, c.len.ensures, c.args.scripts.ok.0);
@@ -43,6 +45,7 @@ loop-script-preserved g c =
     let split_ports : into_iter_items c.loop-script.ports ≡ port ∷ ports = c.in-Some-next.ensures.items in
     let plain = subst (All (λ s. has_close s.items ≡ false)) split before.plain in
     let unused = subst (All IsUnused) split_ports before.unused in
+    let capacities = subst (λ ps. task_capacities c.loop-script.tasks.items ++ port_capacities ps ≡ port_capacities c.args.ports.items) split_ports before.capacities in
     let names = subst (λ ps. task_names c.loop-script.tasks.items ++ port_names ps ≡ port_names c.args.ports.items) split_ports before.names in
     let few : length script.items + 1 + entries_of scripts ≤ 16777216 = omega (arith, before.few, ap entries_of split, sum_by-cons (λ s. length s.items + 1) script scripts) in
     let task : Task _ = record { guest = c.len-in-loop-script-2.result; port = port; script = script; verdicts = verdicts } in
@@ -56,7 +59,8 @@ loop-script-preserved g c =
     } in
     record {
       ready = rw push.items (all_more IsReady c.loop-script.tasks.items task before.ready ready);
-      names = rw push.items (names_more c.loop-script.tasks.items task port ports (port_names c.args.ports.items) names refl);
+      names = rw push.items (ports_more port_name c.loop-script.tasks.items task port ports (port_names c.args.ports.items) names refl);
+      capacities = rw push.items (ports_more port_capacity c.loop-script.tasks.items task port ports (port_capacities c.args.ports.items) capacities refl);
       requests = rw push.items (requests_more c.loop-script.tasks.items task c.loop-script.yielded before.requests);
       len = grind (arith, common_steps);
       room = grind (arith, common_steps);
@@ -74,6 +78,13 @@ returns-clause-names g c =
     let none : into_iter_items c.loop-script.script-iterator ≡ [] = nothing_in _ (omega (arith, c.in-None.ensures.steps, c.loop-script.script-iterator.rest.ok.0)) in
     let no_ports : into_iter_items c.loop-script.ports ≡ [] = nothing_in _ (before.each ∙ ap length none) in
     sym (append-nil (task_names c.loop-script.tasks.items)) ∙ ap (λ ps. task_names c.loop-script.tasks.items ++ port_names ps) (sym no_ports) ∙ before.names
+
+pub returns-clause-capacities : goal.returns-clause-capacities
+returns-clause-capacities g c =
+    let before = c.loop-script.invariant in
+    let none : into_iter_items c.loop-script.script-iterator ≡ [] = nothing_in _ (omega (arith, c.in-None.ensures.steps, c.loop-script.script-iterator.rest.ok.0)) in
+    let no_ports : into_iter_items c.loop-script.ports ≡ [] = nothing_in _ (before.each ∙ ap length none) in
+    sym (append-nil (task_capacities c.loop-script.tasks.items)) ∙ ap (λ ps. task_capacities c.loop-script.tasks.items ++ port_capacities ps) (sym no_ports) ∙ before.capacities
 
 pub returns-clause-scripts : goal.returns-clause-scripts
 returns-clause-scripts g c =

@@ -1,9 +1,9 @@
 use Rattle.std.proofs.Common.{◌≡◌, ◌≤◌, length, map, refl, ap, subst, arith}
 use Rattle.std.specs.Prelude.{IfOk}
-use Rattle.share_rings.specs.Ends.{closed_sent}
+use Rattle.share_rings.specs.Ends.{closed_sent, closed_capacity}
 use Rattle.merge_run.specs.Runs.{entries_of}
 use Rattle.merge_run.specs.View.{settled_ports}
-use Rattle.merge_run.proofs.Finishing.{wanting, wanting_memory, as_many}
+use Rattle.merge_run.proofs.Finishing.{wanting, wanting_memory, of_ring, as_many}
 use Rattle.merge_run.proofs.runs.run.Goals as goal
 
 pub new_tasks-requires-clause-fresh : goal.new_tasks-requires-clause-fresh
@@ -20,6 +20,11 @@ returns-clause-guests g c =
     let scripts = c.args.scripts.items in
     let sent = subst (λ rs. IfOk c.run_tasks.result (λ f. map closed_sent (settled_ports f.settled) ≡ rs)) c.in_ok-tasks.ensures.scripts c.run_tasks.ensures.sent in
     as_many (length c.args.config.now.pages.items) scripts c.run_tasks.result (c.requires.scripts c.in_ok-check.ensures) sent c.run_tasks.ensures.got
+
+pub returns-clause-rings : goal.returns-clause-rings
+returns-clause-rings g c =
+    let same = subst (λ ns. IfOk c.run_tasks.result (λ f. map closed_capacity (settled_ports f.settled) ≡ ns)) c.in_ok-tasks.ensures.capacities c.run_tasks.ensures.capacities in
+    of_ring c.args.config.now.ring c.in_ok-merger.ports.items c.run_tasks.result c.in_ok-merger.ensures.ports same
 
 pub returns-clause-sent : goal.returns-clause-sent
 returns-clause-sent g c =

@@ -4,7 +4,7 @@ use Rattle.merge_run.specs.Tasks.{ports_of}
 use Rattle.merge_run.specs.View.{ends_of, settled_ports}
 use Rattle.merge_run.specs.declared.guest.Task.{Task}
 use Rattle.merge_run.proofs.Lists.{maps_length}
-use Rattle.merge_run.proofs.Finishing.{whole_done, none_running, none_undrained, same_sent, same_got}
+use Rattle.merge_run.proofs.Finishing.{whole_done, none_running, none_undrained, same_capacities, same_sent, same_got}
 use Rattle.merge_run.proofs.runs.run_tasks.Goals as goal
 
 pub run_threads-merger-requires-after_bounds : goal.run_threads-merger-requires-after_bounds
@@ -40,6 +40,14 @@ finish-requires-clause-ended g c κs within =
 pub finish-requires-clause-drained : goal.finish-requires-clause-drained
 finish-requires-clause-drained g c κs within =
     none_undrained (ports_of c.run_threads-merger.result.1.items) c.run_threads-merger.ensures.tasks_done.drained
+
+pub returns-clause-capacities : goal.returns-clause-capacities
+returns-clause-capacities g c =
+    let run = c.run_threads-merger.ensures in
+    let done = c.run_threads-merger.result.1 in
+    let tasks = c.args.tasks in
+    let whole : length done.items ≡ length tasks.items = omega (arith, run.most, c.if-len-guests.false, c.len.ensures, c.len-guests.ensures, done.ok.0, tasks.ok.0) in
+    same_capacities (settled_ports c.finish.result.settled) (ports_of done.items) c.finish.ensures.ports ∙ (whole_done tasks.items done.items run.tasks_done whole).capacities
 
 pub returns-clause-sent : goal.returns-clause-sent
 returns-clause-sent g c =

@@ -1,7 +1,7 @@
 use Rattle.std.proofs.Common.{◌<◌, ◌∙◌, length, arith}
 use Rattle.share_rings.specs.Ends.{closed_view, end_view, closed_name, end_name}
 use Rattle.merge_run.proofs.Lists.{map_put, maps_length}
-use Rattle.merge_run.proofs.Meets.{still_pair, met_more, known_more}
+use Rattle.merge_run.proofs.Meets.{still_pair, met_more, known_more, free_more}
 use Rattle.merge_run.proofs.settling.meet_each.Goals as goal
 
 pub meet-requires : goal.meet-requires
@@ -20,6 +20,7 @@ loop-i-preserved g c =
       ports = map_put closed_view c.loop-i.ports.items c.loop-i.i p c.meet.new.port pis c.meet.ensures.port ∙ v.ports;
       ends = map_put end_view c.loop-i.ends.items c.loop-i.i e c.meet.new.end eis c.meet.ensures.end ∙ v.ends;
       known = known_more c.loop-i.ports.items c.loop-i.ends.items c.loop-i.i c.meet.new.port c.meet.new.end lp l (c.meet.ensures.known_requests, c.meet.ensures.known_verdicts) v.known;
+      free = free_more c.args.ends.now.items c.loop-i.ends.items c.loop-i.i e c.meet.new.end same eis c.meet.ensures.free v.free;
       met = met_more c.args.ports.now.items c.loop-i.ports.items c.args.ends.now.items c.loop-i.ends.items c.loop-i.i p e c.meet.result c.requires v.ports v.ends l pis eis c.meet.ensures.meeting c.meet.ensures.last v.met;
     }
 

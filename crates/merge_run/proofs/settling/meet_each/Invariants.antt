@@ -1,6 +1,6 @@
 use Rattle.std.proofs.Common.{◌≡◌}
 use Rattle.merge_run.specs.Kept.{end_views, closed_views}
-use Rattle.merge_run.specs.Meets.{MeetWhereClosed, KnownBelow}
+use Rattle.merge_run.specs.Meets.{MeetWhereClosed, KnownBelow, NoFewerFree}
 use Rattle.merge_run.proofs.settling.meet_each.Given as goal
 
 abbrev pub invariant-loop-i : goal.invariant-loop-i
@@ -8,5 +8,6 @@ invariant-loop-i g l = record {
   ports : closed_views l.ports.items ≡ closed_views l.initial.ports.items;
   ends : end_views l.ends.items ≡ end_views l.initial.ends.items;
   known : KnownBelow l.ports.items l.ends.items l.i;
+  free : NoFewerFree l.initial.ends.items l.ends.items;
   met : MeetWhereClosed l.initial.ports.items l.initial.ends.items l.i;
 }

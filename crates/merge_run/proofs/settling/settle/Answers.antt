@@ -3,6 +3,7 @@ use Rattle.std.specs.List.{position}
 use Rattle.merge_core.specs.Shown.{state_of}
 use Rattle.share_rings.specs.Ends.{end_view, closed_view, end_name, closed_name}
 use Rattle.merge_run.specs.Machines.{opening}
+use Rattle.merge_run.specs.Meets.{is_unclosed}
 use Rattle.merge_run.specs.Settling.{is_running, is_undrained, running_fault, undrained_fault}
 use Rattle.merge_run.proofs.Lists.{maps_length, position-below}
 use Rattle.merge_run.proofs.Settles.{keeps_views, running_views, undrained_views, still_paired, all_served, reads_last, reports_add_up}
@@ -43,21 +44,21 @@ overflow_cast-fault-in-Some-first_undrained g c =
     let m = c.args.merger in let ports = c.meet_each.new.ports.items in
     let size = maps_length closed_view closed_view ports c.args.ports.items c.meet_each.ensures.ports in
     let pairs = maps_length closed_name end_name c.args.ports.items m.ends.items c.requires.pairs in
-    let is : position is_undrained c.deref-2.result.now ≡ Some c.in-Some-first_undrained.guest = sym c.first_undrained.ensures ∙ c.in-Some-first_undrained.is in
-    let below = position-below is_undrained c.deref-2.result.now c.in-Some-first_undrained.guest is in
+    let is : position is_unclosed c.deref-2.result.now ≡ Some c.in-Some-first_undrained.guest = sym c.first_undrained.ensures ∙ c.in-Some-first_undrained.is in
+    let below = position-below is_unclosed c.deref-2.result.now c.in-Some-first_undrained.guest is in
     omega (arith, below, ap length c.deref-2.ensures.value, size, pairs, m.few)
 
 pub returns-in-Some-first_undrained-clause-fault : goal.returns-in-Some-first_undrained-clause-fault
 returns-in-Some-first_undrained-clause-fault g c =
     let r = sym (running_views c.args.merger.ends.items c.meet_each.new.ends.items c.meet_each.ensures.ends) ∙ (ap (position is_running) (sym c.deref.ensures.value) ∙ (sym c.first_running.ensures ∙ c.in_default.is)) in
-    let u = sym (undrained_views c.args.ports.items c.meet_each.new.ports.items c.meet_each.ensures.ports) ∙ (ap (position is_undrained) (sym c.deref-2.ensures.value) ∙ (sym c.first_undrained.ensures ∙ c.in-Some-first_undrained.is)) in
+    let u = sym (undrained_views c.args.ports.items c.meet_each.new.ports.items c.args.merger.ends.items c.requires.pairs c.meet_each.ensures.met c.meet_each.ensures.ports) ∙ (ap (position is_unclosed) (sym c.deref-2.ensures.value) ∙ (sym c.first_undrained.ensures ∙ c.in-Some-first_undrained.is)) in
     ap (λ o. running_fault o (undrained_fault (position is_undrained c.args.ports.items))) r ∙ ap (λ o. running_fault None (undrained_fault o)) u
 
 none_running : (g : _) (c : In_default-first_undrained g) → position is_running c.args.merger.ends.items ≡ None
 none_running g c = sym (running_views c.args.merger.ends.items c.meet_each.new.ends.items c.meet_each.ensures.ends) ∙ (ap (position is_running) (sym c.deref.ensures.value) ∙ (sym c.first_running.ensures ∙ c.in_default.is))
 
 none_undrained : (g : _) (c : In_default-first_undrained g) → position is_undrained c.args.ports.items ≡ None
-none_undrained g c = sym (undrained_views c.args.ports.items c.meet_each.new.ports.items c.meet_each.ensures.ports) ∙ (ap (position is_undrained) (sym c.deref-2.ensures.value) ∙ (sym c.first_undrained.ensures ∙ c.in_default-first_undrained.is))
+none_undrained g c = sym (undrained_views c.args.ports.items c.meet_each.new.ports.items c.args.merger.ends.items c.requires.pairs c.meet_each.ensures.met c.meet_each.ensures.ports) ∙ (ap (position is_unclosed) (sym c.deref-2.ensures.value) ∙ (sym c.first_undrained.ensures ∙ c.in_default-first_undrained.is))
 
 pub invariant_of-result : goal.invariant_of-result
 invariant_of-result g c = record {

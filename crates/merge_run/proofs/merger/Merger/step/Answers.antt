@@ -67,7 +67,7 @@ returns-in_default-clause-step g c =
     let not = not_closing g.H.HashFunction.hash_of (opening (state_of m.core)) m.ends.items m.journal.items c.args.guest e m.kept l c.index_mut-end.ensures.value none in
     let known : end_known e ≡ [] = sym f.lists.2 ∙ c.in_default.ensures.known (rw f.lists.0 not) in record {
       end = at_guest m.ends.items c.args.guest e c.take.new.self c.index_mut-end.ensures.value l;
-      does = (none, omega (arith, m.journal.ok.0), known, (view, omega (arith, t.free, f.more)), (refl, refl));
+      does = (none, omega (arith, m.journal.ok.0), omega (arith, t.free, f.value), known, (view, omega (arith, t.free, f.more)), (refl, refl));
     }
 
 pub give-requires-clause-unanswered : goal.give-requires-clause-unanswered
