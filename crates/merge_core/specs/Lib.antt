@@ -1,3 +1,4 @@
+pub mod Ahead
 pub mod Names
 pub mod Noted
 pub mod Ties

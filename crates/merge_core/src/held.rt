@@ -13,7 +13,7 @@ pub enum PageEntry {
 }
 
 /// Where a page is: its guest, its number, and its guest's salt.
-#[derive(Clone, Copy)]
+#[derive(Clone, Copy, Default)]
 pub struct Place {
     pub guest: usize,
     pub ppn: usize,

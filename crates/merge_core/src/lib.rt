@@ -4,6 +4,7 @@
 //! knows page contents alone.
 #![tactic(auto)]
 
+mod ahead;
 mod fault;
 mod held;
 mod machine;

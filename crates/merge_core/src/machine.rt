@@ -12,6 +12,7 @@ ghost use Rattle.merge_core.specs.Refusals.{AreLimits, NoCoreFor};
 ghost use Rattle.merge_core.specs.Shown.{state_of, FramesOfPages, TableOfPages};
 ghost use Rattle.merge_core.specs.Stays.{frame_at, FramesStay};
 
+use crate::ahead::note_hashes;
 use crate::fault::CoreFault;
 use crate::held::{Held, PageEntry};
 use crate::make::new_held;
@@ -126,6 +127,16 @@ impl<H: PageHash, A: Allocator> Core<H, A> {
             Request::Count => Verdict::Totals(report(&self.held, self.entries)),
             Request::Close => Verdict::Closed,
         }
+    }
+
+    /// Computes the hashes of these pages, each given by its guest and number, and notes them, so that proposals find them.
+    ///
+    /// Only private pages whose hash isn't known are hashed, four at once; pages that there aren't are passed over. Nothing
+    /// that the core shows changes, and a hash that was noted is forgotten at the next store to its page. It takes no memory.
+    pub fn note_hashes(&mut self, pages: &[(u8, u32)])
+        ensures { self.new ≡ self.old }
+    {
+        note_hashes(&mut self.held, pages);
     }
 
     /// Begins the count of requests anew, for a machine that serves more than the count can hold.
