@@ -23,5 +23,6 @@ pub use finished::Finished;
 pub use gate::{Gate, OpenGate};
 pub use merge_machine::{Config, Fault, JournalFull, Machine, Merger, Step};
 pub use merge_settle::{SettleFault, Settled, Unsettled, settle};
+pub use page_model::laws::schedule_law;
 pub use run_fault::RunFault;
 pub use whole_run::run;
