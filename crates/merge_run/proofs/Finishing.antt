@@ -13,21 +13,21 @@ use Rattle.share_rings.specs.declared.port.Port.{Port}
 use Rattle.share_rings.specs.declared.merger_end.MergerEnd.{MergerEnd}
 use Rattle.share_rings.specs.Closing.{is_closed, last_closed, last_passes}
 use Rattle.share_rings.specs.Ends.{port_capacity, closed_sent, closed_got, closed_capacity, closed_view}
-use Rattle.merge_run.specs.Fresh.{IsFreshPort}
-use Rattle.merge_run.specs.Kept.{closed_views, port_capacities}
-use Rattle.merge_run.specs.Limits.{IsMachine}
+use Rattle.merge_machine.specs.Fresh.{IsFreshPort}
+use Rattle.merge_machine.specs.Kept.{closed_views, port_capacities}
+use Rattle.merge_machine.specs.Limits.{IsMachine}
 use Rattle.merge_run.specs.Runs.{NotRunFor, entries_of}
-use Rattle.merge_run.specs.Settling.{is_running, is_undrained}
+use Rattle.merge_settle.specs.Settling.{is_running, is_undrained}
 use Rattle.merge_run.specs.Tasks.{AreDone, with_close, all_sent}
 use Rattle.merge_run.specs.Turns.{HaveEnded}
-use Rattle.merge_run.specs.View.{settled_ports}
-use Rattle.merge_run.specs.declared.config.Config.{Config}
-use Rattle.merge_run.specs.declared.runs.Finished.{Finished}
-use Rattle.merge_run.specs.declared.runs.RunFault.{RunFault}
-use Rattle.merge_run.specs.declared.runs.RunFault.TheVariants.{OutOfMemory, NoThread}
-use Rattle.merge_run.specs.declared.guest.Task.{Task}
-use Rattle.merge_run.specs.declared.guest.DoneTask.{DoneTask}
-use Rattle.merge_run.proofs.Lists.{maps_length, maps_at, some_of}
+use Rattle.merge_settle.specs.View.{settled_ports}
+use Rattle.merge_machine.specs.declared.config.Config.{Config}
+use Rattle.merge_run.specs.declared.finished.Finished.{Finished}
+use Rattle.merge_run.specs.declared.run_fault.RunFault.{RunFault}
+use Rattle.merge_run.specs.declared.run_fault.RunFault.TheVariants.{OutOfMemory, NoThread}
+use Rattle.merge_run.specs.declared.task.Task.{Task}
+use Rattle.merge_run.specs.declared.task.DoneTask.{DoneTask}
+use Rattle.merge_machine.proofs.Lists.{maps_length, maps_at, some_of}
 
 all_pass : {X : Type 0} (p : X → Bool) (xs : List X) → ((i : ℕ) (d : X) → i < length xs → p (get_or xs i d) ≡ false) → prefix_len (λ x. not (p x)) xs ≡ length xs
 all_pass p [] fails = refl

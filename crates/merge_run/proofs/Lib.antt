@@ -1,11 +1,2 @@
-pub mod Lists
-pub mod Ends
-pub mod Meets
-pub mod Settles
-pub mod Openings
-pub mod Named
-pub mod Closes
-pub mod Fresh
-pub mod Stepped
 pub mod Doing
 pub mod Finishing

@@ -1,12 +1,4 @@
-pub mod Machines
-pub mod Limits
-pub mod Kept
-pub mod Fresh
 pub mod View
-pub mod Steps
-pub mod Meets
-pub mod Settling
-pub mod Named
 pub mod Tasks
 pub mod Turns
 pub mod Runs

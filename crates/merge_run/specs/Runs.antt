@@ -2,12 +2,12 @@
 use Rattle.std.specs.Prelude.{ℕ, ◌+◌, ◌<◌, ◌≤◌, List, length, sum_by}
 use Rattle.std.specs.declared.vec.Vec.{Vec}
 use Rattle.page_model.specs.declared.request.Request.{Request}
-use Rattle.merge_run.specs.declared.config.Config.{Config}
-use Rattle.merge_run.specs.declared.config.Fault.{Fault}
-use Rattle.merge_run.specs.declared.config.Fault.TheVariants as machine
-use Rattle.merge_run.specs.declared.runs.RunFault.{RunFault}
-use Rattle.merge_run.specs.declared.runs.RunFault.TheVariants.{Frames, Guests, Pages, Ring, Journal, Stopped, OutOfMemory, NoThread}
-use Rattle.merge_run.specs.Limits.{IsMachine, NoMachineFor}
+use Rattle.merge_machine.specs.declared.config.Config.{Config}
+use Rattle.merge_machine.specs.declared.config.Fault.{Fault}
+use Rattle.merge_machine.specs.declared.config.Fault.TheVariants as machine
+use Rattle.merge_run.specs.declared.run_fault.RunFault.{RunFault}
+use Rattle.merge_run.specs.declared.run_fault.RunFault.TheVariants.{Frames, Guests, Pages, Ring, Journal, Stopped, OutOfMemory, NoThread}
+use Rattle.merge_machine.specs.Limits.{IsMachine, NoMachineFor}
 
 -- why there is no machine, as a fault of the run
 abbrev pub run_fault_of : Fault → RunFault

@@ -9,10 +9,10 @@ use Rattle.share_rings.specs.Closing.{has_close, last_closed}
 use Rattle.share_rings.specs.Ends.{PairName, port_name, port_sent, port_got, port_capacity, closed_name, closed_sent, closed_got, closed_capacity}
 use Rattle.share_rings.specs.declared.port.Port.{Port}
 use Rattle.share_rings.specs.declared.closed_port.ClosedPort.{ClosedPort}
-use Rattle.merge_run.specs.Kept.{closed_names}
-use Rattle.merge_run.specs.declared.guest.Task.{Task}
-use Rattle.merge_run.specs.declared.guest.DoneTask.{DoneTask}
-use Rattle.merge_run.specs.declared.guest.DoesTask.{DoesTask}
+use Rattle.merge_machine.specs.Kept.{closed_names}
+use Rattle.merge_run.specs.declared.task.Task.{Task}
+use Rattle.merge_run.specs.declared.task.DoneTask.{DoneTask}
+use Rattle.merge_run.specs.declared.task.DoesTask.{DoesTask}
 
 -- all that a guest sends: its script, and a close
 abbrev pub with_close : List Request → List Request

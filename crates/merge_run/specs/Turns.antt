@@ -6,13 +6,13 @@ use Rattle.page_model.specs.declared.hashing.HashFunction.{Ghosts}
 use Rattle.share_rings.specs.declared.merger_end.MergerEnd.{MergerEnd}
 use Rattle.share_rings.specs.Closing.{has_closed}
 use Rattle.share_rings.specs.Ends.{end_given}
-use Rattle.merge_run.specs.Kept.{end_names}
+use Rattle.merge_machine.specs.Same.{SameMachine}
 use Rattle.merge_run.specs.Tasks.{IsReady, AreDone}
-use Rattle.merge_run.specs.View.{ends_of, machine_of, guest_count}
-use Rattle.merge_run.specs.declared.guest.Task.{Task}
-use Rattle.merge_run.specs.declared.guest.DoneTask.{DoneTask}
-use Rattle.merge_run.specs.declared.guest.DoesTask.{DoesTask}
-use Rattle.merge_run.specs.declared.merger.Merger.{Merger}
+use Rattle.merge_machine.specs.View.{ends_of, guest_count}
+use Rattle.merge_run.specs.declared.task.Task.{Task}
+use Rattle.merge_run.specs.declared.task.DoneTask.{DoneTask}
+use Rattle.merge_run.specs.declared.task.DoesTask.{DoesTask}
+use Rattle.merge_machine.specs.declared.merger.Merger.{Merger}
 
 -- each of the first n guests was given its `Closed`
 abbrev pub HaveEnded : {A : Type 0} → ℕ → List (MergerEnd A) → Type 0
@@ -29,9 +29,8 @@ module _ {H A : Type 0} {ghosts : Ghosts H} where
     pub done_room : length tasks ≤ vec_capacity done
 
   -- the merger of the same machine and rings, after the first of these tasks were done and their guests have ended
-  pub record IsServed (tasks : List (Task A)) (merger merger' : Merger H A ghosts) (done : List (DoneTask A)) : Type 0 where
-    pub names : end_names (ends_of merger') ≡ end_names (ends_of merger)
-    pub machine : machine_of merger' ≡ machine_of merger
+  pub record HasRun (tasks : List (Task A)) (merger merger' : Merger H A ghosts) (done : List (DoneTask A)) : Type 0 where
+    pub same : SameMachine merger merger'
     pub most : length done ≤ length tasks
     pub tasks_done : AreDone (take (length done) tasks) done
     pub ended : HaveEnded (length done) (ends_of merger')

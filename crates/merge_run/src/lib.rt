@@ -1,32 +1,28 @@
-//! The merger of a machine, over its guests' rings: it takes their requests into one journal, applies them to the
-//! core and answers each.
+//! Whole runs: a thread for each guest sends a script of requests and takes its verdicts, and the merger serves them on
+//! the calling thread.
 //!
-//! [`Machine::new`] makes a [`Merger`] and one port for each guest. Each [`Merger::step`] serves one request of one
-//! guest. Once every guest has closed its port and got its `Closed`, [`settle`] takes the merger and all ports
-//! together: each guest has then got one verdict for each request that it sent, and they are those of one thread that
-//! replays the journal.
-//!
-//! [`run`] does all of this, with a thread for each guest that sends a script.
+//! This crate gives the whole surface of machines with threads, so that a user names it alone: [`Machine::new`] makes a
+//! [`Merger`] and one port for each guest (`merge_machine`). Each [`Merger::step`] serves one request of one guest. Once
+//! every guest has closed its port and got its `Closed`, [`settle`] takes the merger and all ports together
+//! (`merge_settle`): each guest has then got one verdict for each request that it sent, and they are those of one thread
+//! that replays the journal. [`run`] does all of this.
 #![tactic(auto)]
 
-mod config;
+mod finished;
 mod gate;
-mod guest;
-mod making;
-mod merger;
-mod reading;
-mod running;
-mod runs;
-mod serving;
-mod settled;
-mod settling;
-mod starting;
-mod stepping;
+mod guest_thread;
+mod inbox;
+mod run_fault;
+mod task;
+mod task_list;
+mod threads;
+mod turn;
+mod whole_run;
 
-pub use config::{Config, Fault};
+pub use finished::Finished;
 pub use gate::{Gate, OpenGate};
-pub use making::Machine;
-pub use merger::{JournalFull, Merger, Step};
-pub use runs::{Finished, RunFault, run};
-pub use settled::{SettleFault, Settled, Unsettled};
-pub use settling::settle;
+pub use merge_machine::{Config, Fault, JournalFull, Machine, Merger, Step};
+pub use merge_settle::{SettleFault, Settled, Unsettled, settle};
+pub use page_model::laws::schedule_law;
+pub use run_fault::RunFault;
+pub use whole_run::run;

@@ -35,6 +35,7 @@ pub use machine::Machine;
 use make::make;
 use page_model::Request;
 use serve::{load_request, serve, serve_count, serve_load, store_request};
+pub use slot::Slot;
 use std::alloc::Global;
 
 /// Makes a machine of `frames` frames, in which guest i has `pages[i]` pages and the salt `salts[i]`.

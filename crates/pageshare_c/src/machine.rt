@@ -10,7 +10,7 @@ use std::alloc::Global;
 /// A handle: room for one machine, which holds none while all its bytes are 0.
 #[repr(C)]
 pub struct Machine {
-    pub(crate) slot: Slot,
+    pub slot: Slot,
     live: bool,
     ghost agree: { is_some slot.core ≡ live },
 }

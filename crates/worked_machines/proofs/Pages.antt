@@ -4,7 +4,7 @@ use Rattle.std.specs.Prelude.{Option, slice_get, is_some}
 use Rattle.std.specs.Option.{option_map}
 use Rattle.page_model.specs.Pages.{Slot, Unmapped, Guest, State, page_at}
 use Rattle.page_model.specs.Replay.{empty_guest}
-use Rattle.merge_run.specs.Machines.{shape_of, opening}
+use Rattle.merge_run.specs.View.{shape_of, opening}
 
 -- a page with no frame
 abbrev no_frame : Slot

@@ -1,8 +1,7 @@
 //! Settling before its time: the least guest is named, all comes back, and each end then knows what is left for it.
 ghost use Rattle.std.specs.Prelude.{◌≡◌, ◌<◌};
 ghost use Rattle.share_rings.specs.Ends.{port_name};
-ghost use Rattle.merge_run.specs.Kept.{closed_names, end_names};
-ghost use Rattle.merge_run.specs.View.{ends_of, guest_count};
+ghost use Rattle.merge_run.specs.View.{closed_names, end_names, ends_of, guest_count};
 
 use crate::makes::{
     Merging, both, byte, list_of, list_of_both, new_machine, only, unsettled, verdict_at,

@@ -3,6 +3,7 @@ use crate::makes::{byte, new_machine, numbers, only};
 use merge_run::{Config, Fault, JournalFull, Machine, Step};
 use page_digest::Sha256Hash;
 use page_model::{MAX_ENTRIES, MAX_FRAMES, MAX_PAGES, MAX_RING_CAPACITY, Verdict};
+use share_rings::SendFault;
 use std::test::Fail;
 
 /// A machine's numbers, and why there is none.
@@ -12,7 +13,7 @@ type Limit<'a> = (u32, &'a [u32], &'a [u32], u32, u32, Option<Fault>);
 fn limits_of_a_machine(rt: HostRuntime) -> Result<(), Fail> {
     let many = vec![in rt.alloc(); 1u32; 65]?;
     let many = many.as_slice();
-    let limits: [Limit; 18] = [
+    let limits: [Limit; 19] = [
         (0, &[], &[], 1, 1, Some(Fault::Frames)),
         (0, &[1], &[], 0, 0, Some(Fault::Frames)),
         (MAX_FRAMES + 1, &[1], &[0], 1, 1, Some(Fault::Frames)),
@@ -28,6 +29,7 @@ fn limits_of_a_machine(rt: HostRuntime) -> Result<(), Fail> {
         (1, &[1], &[0], 1, 0, Some(Fault::Journal)),
         (1, &[1], &[0], 1, MAX_ENTRIES + 1, Some(Fault::Journal)),
         (1, &[1], &[0], MAX_RING_CAPACITY, 1, None),
+        (1, &[1], &[0], 1, MAX_ENTRIES, None),
         (1, &[1], &[0], 1, 1, None),
         (1, &[MAX_PAGES], &[0], 1, 1, None),
         (1, &many[..64], &many[..64], 1, 1, None),
@@ -43,6 +45,20 @@ fn limits_of_a_machine(rt: HostRuntime) -> Result<(), Fail> {
         let answer = Machine::new(rt.alloc(), &config, Sha256Hash).err();
         assert_eq!(rt; answer, fault, "{frames} {pages:?} {ring} {journal}");
     }
+    Ok(())
+}
+
+// The longest rings hold what they should.
+#[test]
+fn longest_ring(rt: HostRuntime) -> Result<(), Fail> {
+    let (mut merger, ports) = new_machine(rt.alloc(), 1, &[1], MAX_RING_CAPACITY, 1)?;
+    let mut port = only(ports).ok_or("not one port")?;
+    for n in 0..MAX_RING_CAPACITY {
+        assert_eq!(rt; port.count(), Ok(()), "at {n}");
+    }
+    assert_eq!(rt; port.count(), Err(SendFault::Busy));
+    assert_eq!(rt; merger.step(0), Ok(Step::Done));
+    assert_eq!(rt; port.count(), Ok(()));
     Ok(())
 }
 

@@ -2,8 +2,7 @@
 ghost use Rattle.std.specs.Prelude.{◌≡◌, [], ◌∷◌, length, replicate, IfOk, IfSome};
 ghost use Rattle.page_model.specs.Limits.{shapes};
 ghost use Rattle.page_model.specs.Replay.{empty_state};
-ghost use Rattle.merge_run.specs.Kept.{closed_names, end_names, port_names};
-ghost use Rattle.merge_run.specs.View.{ends_of, guest_count, machine_of, settled_ports};
+ghost use Rattle.merge_run.specs.View.{closed_names, end_names, port_names, ends_of, guest_count, machine_of, settled_ports};
 
 use arrayvec::ArrayVec;
 use merge_run::{Config, Fault, Machine, Merger, Settled, Unsettled, settle};

@@ -1,8 +1,7 @@
 //! One guest whose two rings hold one item each, from the first answer to the last.
 ghost use Rattle.std.specs.Prelude.{◌≡◌, ◌<◌, [], ◌∷◌, length, vec_len, vec_capacity, IfOk};
 ghost use Rattle.share_rings.specs.Ends.{port_name};
-ghost use Rattle.merge_run.specs.Kept.{end_names, closed_names};
-ghost use Rattle.merge_run.specs.View.{ends_of, guest_count, settled_ports};
+ghost use Rattle.merge_run.specs.View.{end_names, closed_names, ends_of, guest_count, settled_ports};
 
 use crate::makes::{Merging, byte, new_machine, numbers, only, settled, unsettled, verdict_at};
 use merge_run::{SettleFault, Settled, Step, Unsettled};

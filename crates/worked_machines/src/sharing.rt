@@ -1,8 +1,7 @@
 //! Two guests whose equal pages come to share one frame, and a store that copies it.
 ghost use Rattle.std.specs.Prelude.{◌≡◌, ◌<◌, [], ◌∷◌};
 ghost use Rattle.share_rings.specs.Ends.{port_name};
-ghost use Rattle.merge_run.specs.Kept.{end_names};
-ghost use Rattle.merge_run.specs.View.{ends_of, guest_count, machine_of};
+ghost use Rattle.merge_run.specs.View.{end_names, ends_of, guest_count, machine_of};
 ghost use Rattle.worked_machines.specs.Machines.{three_pages};
 
 use crate::makes::{Merging, both, byte, list_of_both, new_machine, numbers};

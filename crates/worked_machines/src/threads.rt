@@ -1,8 +1,7 @@
 //! Two guests in threads of their own, and the merger in the test's.
 ghost use Rattle.std.specs.Prelude.{◌≡◌, IfSome};
 ghost use Rattle.share_rings.specs.Ends.{port_name, closed_name};
-ghost use Rattle.merge_run.specs.Kept.{end_names};
-ghost use Rattle.merge_run.specs.View.{ends_of, guest_count};
+ghost use Rattle.merge_run.specs.View.{end_names, ends_of, guest_count};
 
 use crate::makes::{Merging, both, byte, list_of_both, new_machine, numbers};
 use merge_run::{Step, settle};

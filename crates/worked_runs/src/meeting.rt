@@ -47,6 +47,13 @@ impl Meeting {
         self.failed.load(Ordering::SeqCst)
     }
 
+    /// Whether both guests came, and the second got its first verdict.
+    fn is_over(&self) -> bool {
+        self.first_came.load(Ordering::SeqCst)
+            && self.second_came.load(Ordering::SeqCst)
+            && self.second_was_served.load(Ordering::SeqCst)
+    }
+
     /// Whether a guest came.
     fn has_begun(&self) -> bool {
         self.first_came.load(Ordering::SeqCst) || self.second_came.load(Ordering::SeqCst)
@@ -84,6 +91,7 @@ fn guests_that_wait_for_each_other(rt: HostRuntime) -> Result<(), Fail> {
     let gate = Meeting::new();
     let finished = run(&rt, rt.alloc(), &config, Sha256Hash, scripts, &gate)?;
     assert!(rt; !gate.has_failed());
+    assert!(rt; gate.is_over());
     let hinted = [Verdict::Mapped, Verdict::Hinted, Verdict::Closed];
     let paired = [Verdict::Mapped, Verdict::Paired, Verdict::Closed];
     let (first, second) = (got(&finished, 0), got(&finished, 1));

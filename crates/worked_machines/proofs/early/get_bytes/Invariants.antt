@@ -1,5 +1,5 @@
 use Rattle.std.proofs.Common.{◌≡◌}
-use Rattle.merge_run.specs.Kept.{closed_names}
+use Rattle.merge_run.specs.View.{closed_names}
 use Rattle.worked_machines.proofs.early.get_bytes.Given as goal
 
 abbrev pub invariant-loop : goal.invariant-loop

@@ -1,6 +1,5 @@
 use Rattle.std.proofs.Common.{◌≡◌}
-use Rattle.merge_run.specs.Kept.{end_names}
-use Rattle.merge_run.specs.View.{ends_of, guest_count, machine_of}
+use Rattle.merge_run.specs.View.{end_names, ends_of, guest_count, machine_of}
 use Rattle.worked_machines.proofs.sharing.serve.Given as goal
 
 abbrev pub invariant-loop-guest : goal.invariant-loop-guest

@@ -1,6 +1,5 @@
 use Rattle.std.proofs.Common.{◌≡◌}
-use Rattle.merge_run.specs.Kept.{end_names}
-use Rattle.merge_run.specs.View.{ends_of, guest_count}
+use Rattle.merge_run.specs.View.{end_names, ends_of, guest_count}
 use Rattle.worked_machines.proofs.threads.serve_both.Given as goal
 
 abbrev pub invariant-loop : goal.invariant-loop

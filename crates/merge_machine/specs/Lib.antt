@@ -1,0 +1,10 @@
+pub mod Machines
+pub mod Limits
+pub mod Kept
+pub mod Fresh
+pub mod View
+pub mod Same
+pub mod Opened
+pub mod Ahead
+pub mod Steps
+pub mod Meets

@@ -1,0 +1,17 @@
+//! A machine over its guests' rings, while it runs: its merger takes the guests' requests into one journal, applies them
+//! to the core and answers each.
+//!
+//! [`Machine::new`] makes a [`Merger`] and one port for each guest. Each [`Merger::step`] serves one request of one
+//! guest. `merge_settle` has what is known once all guests have ended, and `merge_run` a thread for each guest.
+#![tactic(auto)]
+
+mod ahead;
+mod config;
+mod machine;
+mod meet_each;
+mod merger;
+mod serve;
+
+pub use config::{Config, Fault};
+pub use machine::Machine;
+pub use merger::{JournalFull, Merger, Step};

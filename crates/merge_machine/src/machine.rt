@@ -1,0 +1,79 @@
+//! Making a machine.
+ghost use Rattle.std.specs.Prelude.{◌≡◌, All, length, IfOk, MatchResult};
+ghost use Rattle.merge_machine.specs.Kept.{end_names, port_names};
+ghost use Rattle.merge_machine.specs.Fresh.{IsFreshEnd, IsFreshPort};
+ghost use Rattle.merge_machine.specs.Limits.{IsMachine, NoMachineFor};
+ghost use Rattle.merge_machine.specs.Opened.{IsFreshMachine};
+
+use crate::config::{Config, Fault};
+use crate::merger::Merger;
+use merge_core::Core;
+use page_digest::PageHash;
+use share_rings::{MergerEnd, Port, ring_pair};
+use std::alloc::{AllocError, Allocator};
+
+/// What makes machines.
+pub struct Machine;
+
+impl Machine {
+    /// A machine before its first request: its merger, and guest i's port as item i of the list.
+    ///
+    /// All memory of the machine is taken here.
+    pub fn new<H: PageHash + Drop, A: Allocator + Copy>(
+        alloc: A,
+        config: &Config<A>,
+        hash: H,
+    ) -> Result<(Merger<H, A>, Vec<Port<A>, A>), Fault>
+        ensures machine { IfOk result (λ (merger, ports). IsFreshMachine config.now merger ports.items) }
+        ensures fault { MatchResult result (λ _. IsMachine config.now) (λ fault. NoMachineFor config.now fault) }
+    {
+        config.check()?;
+        match Machine::open(alloc, config, hash) {
+            Err(_) => Err(Fault::OutOfMemory),
+            Ok(machine) => Ok(machine),
+        }
+    }
+
+    /// The same for a machine that is known to be within the limits (see [`Config::check`]).
+    pub fn open<H: PageHash + Drop, A: Allocator + Copy>(
+        alloc: A,
+        config: &Config<A>,
+        hash: H,
+    ) -> Result<(Merger<H, A>, Vec<Port<A>, A>), AllocError>
+        requires { IsMachine config.now }
+        ensures { IfOk result (λ (merger, ports). IsFreshMachine config.now merger ports.items) }
+    {
+        let core = Core::open(alloc, config.frames, &config.pages, &config.salts, hash)?;
+        let (ends, ports) = new_pairs(alloc, config.pages.len(), config.ring)?;
+        let journal = Vec::with_capacity(alloc, config.journal as usize)?;
+        let merger = Merger {
+            ends,
+            journal,
+            core,
+            limit: config.journal,
+        };
+        Ok((merger, ports))
+    }
+}
+/// So many pairs of rings of this capacity.
+fn new_pairs<A: Allocator + Copy>(
+    alloc: A,
+    guests: usize,
+    ring: u32,
+) -> Result<(Vec<MergerEnd<A>, A>, Vec<Port<A>, A>), AllocError>
+    ensures pairs { IfOk result (λ (ends, ports). port_names ports.items ≡ end_names ends.items) }
+    ensures guests { IfOk result (λ (ends, ports). (length ends.items ≡ guests) × (length ports.items ≡ guests)) }
+    ensures ports { IfOk result (λ (ends, ports). All (IsFreshPort ring) ports.items) }
+    ensures ends { IfOk result (λ (ends, ports). All (IsFreshEnd ring) ends.items) }
+{
+    let mut ends = Vec::with_capacity(alloc, guests)?;
+    let mut ports = Vec::with_capacity(alloc, guests)?;
+    for _guest in 0..guests {
+        let Ok((port, end)) = ring_pair(alloc, ring) else {
+            return Err(AllocError);
+        };
+        ends.push_reserved(end);
+        ports.push_reserved(port);
+    }
+    Ok((ends, ports))
+}

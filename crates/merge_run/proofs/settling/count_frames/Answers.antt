@@ -1,6 +1,0 @@
-use Rattle.std.proofs.Common.{sym, ◌∙◌}
-use Rattle.merge_run.proofs.Named.{distinct_named}
-use Rattle.merge_run.proofs.settling.count_frames.Goals as goal
-
-pub returns : goal.returns
-returns g c = sym c.frames-frames.ensures.pages.count ∙ sym (distinct_named c.args.core.now c.frames-frames.ensures.pages)

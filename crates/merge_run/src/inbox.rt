@@ -1,0 +1,41 @@
+//! A guest's verdicts as they come.
+ghost use Rattle.std.specs.Prelude.{◌≤◌, vec_capacity};
+
+use crate::gate::Gate;
+use page_model::Verdict;
+use std::alloc::Allocator;
+
+/// Where a guest's verdicts go as they come.
+///
+/// A port alone knows nothing of how many come, so no more are taken than there is room for: one for each request.
+#[derive(Drop)]
+pub(crate) struct Inbox<'g, A: Allocator, G: Gate> {
+    pub(crate) gate: &'g G,
+    pub(crate) guest: u8,
+    pub(crate) most: usize,
+    pub(crate) verdicts: Vec<Verdict, A>,
+    ghost room: { most ≤ vec_capacity verdicts },
+    // As many as a journal holds at most, so that they can be numbered.
+    ghost few: { most ≤ 16777216 },
+}
+
+impl<'g, A: Allocator, G: Gate> Inbox<'g, A, G> {
+    ghost use Rattle.std.specs.Prelude.{◌≡◌, ◌<◌, [], ◌∷◌, ◌++◌, ◌↔◌, IsTrue, vec_len};
+
+    /// Whether there is room for one more verdict.
+    pub(crate) fn has_room(&self) -> bool
+        ensures { IsTrue result ↔ (vec_len self.now.verdicts < self.now.most) }
+    {
+        self.verdicts.len() < self.most
+    }
+
+    /// Keeps a verdict, and lets the gate know of it.
+    pub(crate) fn keep(&mut self, verdict: Verdict)
+        requires { vec_len self.old.verdicts < self.old.most }
+        ensures { self.new.verdicts.items ≡ self.old.verdicts.items ++ verdict ∷ [] }
+    {
+        let nth = self.verdicts.len() as u32;
+        self.verdicts.push_reserved(verdict);
+        self.gate.after(self.guest, nth);
+    }
+}

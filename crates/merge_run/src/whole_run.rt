@@ -1,0 +1,188 @@
+//! A whole run: a thread for each guest, and the merger on the calling thread.
+ghost use Rattle.std.specs.Prelude.{◌≡◌, ◌≤◌, ◌⊎◌, None, false, [], All, IfOk, IfErr, MatchResult, length, map, vec_capacity};
+ghost use Rattle.std.specs.List.{position};
+ghost use Rattle.page_model.specs.Limits.{shapes};
+ghost use Rattle.page_model.specs.Replay.{empty_state};
+ghost use Rattle.share_rings.specs.Closing.{has_close};
+ghost use Rattle.share_rings.specs.Ends.{closed_got, closed_sent, closed_capacity};
+ghost use Rattle.merge_core.specs.Shown.{state_of};
+ghost use Rattle.merge_machine.specs.Kept.{end_names, closed_names, closed_views};
+ghost use Rattle.merge_machine.specs.Limits.{IsMachine};
+ghost use Rattle.merge_machine.specs.Machines.{opening};
+ghost use Rattle.merge_machine.specs.View.{ends_of, core_of, machine_of};
+ghost use Rattle.merge_settle.specs.Settling.{Settles, is_running, is_undrained};
+ghost use Rattle.merge_settle.specs.View.{settled_journal, settled_ports, settled_core};
+ghost use Rattle.merge_run.specs.Runs.{NotRunFor, entries_of};
+ghost use Rattle.merge_run.specs.Tasks.{IsReady, task_names, task_capacities, task_requests, ports_of, lists_of, all_sent};
+ghost use Rattle.merge_run.specs.Turns.{CanRun, HasRun};
+ghost use Rattle.merge_run.specs.declared.run_fault.RunFault.TheVariants.{OutOfMemory, NoThread};
+
+use crate::finished::Finished;
+use crate::gate::Gate;
+use crate::run_fault::RunFault;
+use crate::task::{DoneTask, Handles, Task};
+use crate::task_list::{has_room, into_lists, new_tasks};
+use crate::threads::{join_all, start_all};
+use crate::turn::serve_all;
+use merge_machine::{Config, JournalFull, Machine, Merger};
+use merge_settle::settle;
+use page_digest::PageHash;
+use page_model::{Request, Verdict};
+use share_rings::ClosedPort;
+use std::alloc::Allocator;
+use std::sync::Wait;
+use std::thread;
+use std::thread::{Scope, Threads};
+
+/// Runs a machine to its end: a thread for each guest sends its script and then a close, and takes its verdicts, while
+/// the merger serves them on the calling thread.
+///
+/// There is one script for each guest, guest 0's first, and no script holds a close. `gate` is called in the guests'
+/// threads, around each send and verdict.
+///
+/// At `Ok` the machine is settled. Each guest sent its script and a close, and got exactly one verdict for each request,
+/// in order, and they are those of one thread that replays the journal on plain page contents.
+///
+/// # Errors
+///
+/// The first cause that holds, in the order of [`RunFault`]. All memory is taken before the first thread is started.
+///
+/// Once the start of a thread is refused, no more are started. The guests whose threads were started are served to
+/// their end, their threads are joined, and the machine is dropped.
+pub fn run<
+    R: Threads + Wait + Sync,
+    H: PageHash + Drop,
+    A: Allocator + Copy + Send,
+    G: Gate + Sync,
+>(
+    rt: &R,
+    alloc: A,
+    config: &Config<A>,
+    hash: H,
+    scripts: Vec<Vec<Request, A>, A>,
+    gate: &G,
+) -> Result<Finished<H, A>, RunFault>
+    requires scripts { IsMachine config.now → length scripts.items ≡ length config.now.pages.items }
+    requires plain { All (λ script. has_close script.items ≡ false) scripts.items }
+    ensures settles { IfOk result (λ f. Settles H.hash_of (settled_ports f.settled) (settled_journal f.settled) (settled_core f.settled)) }
+    ensures machine { IfOk result (λ f. opening (state_of (settled_core f.settled)) ≡ empty_state config.now.frames (shapes config.now.salts.items config.now.pages.items)) }
+    ensures guests { IfOk result (λ f. (length (settled_ports f.settled) ≡ length config.now.pages.items) × (length f.verdicts.items ≡ length config.now.pages.items)) }
+    ensures rings { IfOk result (λ f. All (λ port. closed_capacity port ≡ config.now.ring) (settled_ports f.settled)) }
+    ensures sent { IfOk result (λ f. map closed_sent (settled_ports f.settled) ≡ all_sent scripts.items) }
+    ensures got { IfOk result (λ f. map (λ list. list.items) f.verdicts.items ≡ map closed_got (settled_ports f.settled)) }
+    ensures fault { MatchResult result (λ _. IsMachine config.now × (entries_of scripts.items ≤ config.now.journal)) (λ fault. NotRunFor config.now scripts.items fault) }
+{
+    config.check()?;
+    if !has_room(config.journal, &scripts) {
+        return Err(RunFault::Stopped(JournalFull));
+    }
+    let (merger, ports) = Machine::open(alloc, config, hash)?;
+    let tasks = new_tasks(alloc, ports, scripts)?;
+    run_tasks(rt, alloc, gate, merger, tasks)
+}
+
+/// Runs the guests' tasks beside their merger, and settles the machine.
+fn run_tasks<
+    R: Threads + Wait + Sync,
+    H: PageHash + Drop,
+    A: Allocator + Copy + Send,
+    G: Gate + Sync,
+>(
+    rt: &R,
+    alloc: A,
+    gate: &G,
+    merger: Merger<H, A>,
+    tasks: Vec<Task<A>, A>,
+) -> Result<Finished<H, A>, RunFault>
+    requires ready { All IsReady tasks.items }
+    requires pairs { task_names tasks.items ≡ end_names (ends_of merger) }
+    ensures settles { IfOk result (λ f. Settles H.hash_of (settled_ports f.settled) (settled_journal f.settled) (settled_core f.settled)) }
+    ensures machine { IfOk result (λ f. opening (state_of (settled_core f.settled)) ≡ machine_of merger) }
+    ensures capacities { IfOk result (λ f. map closed_capacity (settled_ports f.settled) ≡ task_capacities tasks.items) }
+    ensures sent { IfOk result (λ f. map closed_sent (settled_ports f.settled) ≡ task_requests tasks.items) }
+    ensures got { IfOk result (λ f. map (λ list. list.items) f.verdicts.items ≡ map closed_got (settled_ports f.settled)) }
+    ensures fault { IfErr result (λ fault. (fault ≡ OutOfMemory) ⊎ (fault ≡ NoThread)) }
+{
+    let guests = tasks.len();
+    let handles = Vec::with_capacity(alloc, guests)?;
+    let done = Vec::with_capacity(alloc, guests)?;
+    let ports = Vec::with_capacity(alloc, guests)?;
+    let verdicts = Vec::with_capacity(alloc, guests)?;
+    let (merger, done) = run_threads(rt, gate, merger, tasks, handles, done);
+    if done.len() < guests {
+        return Err(RunFault::NoThread);
+    }
+    Ok(finish(merger, done, ports, verdicts))
+}
+
+/// Settles a machine whose guests have all ended. The two lists are empty, with room for each guest's part.
+fn finish<H: PageHash, A: Allocator>(
+    merger: Merger<H, A>,
+    done: Vec<DoneTask<A>, A>,
+    mut ports: Vec<ClosedPort<A>, A>,
+    mut verdicts: Vec<Vec<Verdict, A>, A>,
+) -> Finished<H, A>
+    requires ports { (ports.items ≡ []) × (length done.items ≤ vec_capacity ports) }
+    requires verdicts { (verdicts.items ≡ []) × (length done.items ≤ vec_capacity verdicts) }
+    requires pairs { closed_names (ports_of done.items) ≡ end_names (ends_of merger) }
+    requires ended { position is_running (ends_of merger) ≡ None }
+    requires drained { position is_undrained (ports_of done.items) ≡ None }
+    ensures settles { Settles H.hash_of (settled_ports result.settled) (settled_journal result.settled) (settled_core result.settled) }
+    ensures core { settled_core result.settled ≡ core_of merger }
+    ensures ports { closed_views (settled_ports result.settled) ≡ closed_views (ports_of done.items) }
+    ensures verdicts { result.verdicts.items ≡ lists_of done.items }
+{
+    into_lists(done, &mut ports, &mut verdicts);
+    match settle(merger, ports) {
+        Ok(settled) => Finished { settled, verdicts },
+        Err(_) => unreachable!(),
+    }
+}
+
+/// Starts the guests' threads, serves those that could be started to their end, and joins them. The others are dropped.
+fn run_threads<R: Threads + Wait + Sync, H: PageHash + Drop, A: Allocator + Send, G: Gate + Sync>(
+    rt: &R,
+    gate: &G,
+    merger: Merger<H, A>,
+    tasks: Vec<Task<A>, A>,
+    handles: Handles<A>,
+    done: Vec<DoneTask<A>, A>,
+) -> (Merger<H, A>, Vec<DoneTask<A>, A>)
+    requires { CanRun tasks.items merger handles done }
+    ensures { HasRun tasks.items merger result.0 result.1.items }
+{
+    thread::scope(
+        thread::scope_env(),
+        rt,
+        |scope| -> (Merger<H, A>, Vec<DoneTask<A>, A>)
+            requires { CanRun tasks.items merger handles done }
+            ensures { HasRun tasks.items merger result.0 result.1.items }
+        { run_in(scope, rt, gate, merger, tasks, handles, done) },
+    )
+}
+
+/// The same in a scope.
+fn run_in<
+    's,
+    E,
+    R: Threads + Wait + Sync,
+    H: PageHash + Drop,
+    A: Allocator + Send + 's,
+    G: Gate + Sync,
+>(
+    scope: &Scope<'s, E>,
+    rt: &'s R,
+    gate: &'s G,
+    mut merger: Merger<H, A>,
+    tasks: Vec<Task<A>, A>,
+    mut handles: Handles<A>,
+    mut done: Vec<DoneTask<A>, A>,
+) -> (Merger<H, A>, Vec<DoneTask<A>, A>)
+    requires { CanRun tasks.items merger handles done }
+    ensures { HasRun tasks.items merger result.0 result.1.items }
+{
+    start_all(scope, rt, gate, tasks, &mut handles);
+    serve_all(rt, &mut merger, handles.len() as u8);
+    join_all(rt, handles, &mut done);
+    (merger, done)
+}
