@@ -151,6 +151,19 @@ struct pageshare_answer pageshare_count(struct pageshare *machine, uint32_t gues
 /* Begins the count of requests anew, for a machine that serves more than 4,294,967,295. Answers 0 or 6. */
 uint32_t pageshare_restart_count(struct pageshare *machine);
 
+/* A page, by its guest and its number. */
+struct pageshare_page_name {
+    uint32_t guest;
+    uint32_t ppn;
+};
+
+/*
+ * Computes the hashes of `count` pages ahead of their proposals, four at a time, which takes less than half the time; of those
+ * pages that are private and whose hash isn't known. It is no request and changes no answer, and a store to a page makes its
+ * hash unknown again. Pages that there aren't are passed over. Answers PAGESHARE_OK or PAGESHARE_ERROR_NO_MACHINE.
+ */
+uint32_t pageshare_hash(struct pageshare *machine, const struct pageshare_page_name *pages, size_t count);
+
 /* Tells what the machine counts. Answers 0 or 6. */
 uint32_t pageshare_report(struct pageshare *machine, struct pageshare_totals *totals);
 

@@ -98,6 +98,8 @@ static void check_pages(struct pageshare *m) {
     CHECK(served(pageshare_store(m, 0, 1, 0, LETTER, 1), PAGESHARE_VERDICT_STORED, 0));
     CHECK(served(pageshare_release(m, 0, 1), PAGESHARE_VERDICT_RELEASED, 1));
     CHECK(served(pageshare_release(m, 0, 1), PAGESHARE_VERDICT_UNMAPPED, 0));
+    const struct pageshare_page_name names[] = {{0, 0}, {1, 0}, {0, 1}, {0, 99}, {256, 0}, {1, 0}};
+    CHECK(pageshare_hash(m, names, 6) == PAGESHARE_OK);
     CHECK(pageshare_restart_count(m) == PAGESHARE_OK);
     CHECK(pageshare_report(m, &totals) == PAGESHARE_OK && counts(totals, 0, 1, 0, 1, 0, 0));
 }
@@ -146,6 +148,8 @@ static void check_none(struct pageshare *m) {
     CHECK(refused(pageshare_release(m, 0, 0), PAGESHARE_ERROR_NO_MACHINE));
     CHECK(refused(pageshare_count(m, 0, &totals), PAGESHARE_ERROR_NO_MACHINE));
     CHECK(pageshare_restart_count(m) == PAGESHARE_ERROR_NO_MACHINE);
+    const struct pageshare_page_name name = {0, 0};
+    CHECK(pageshare_hash(m, &name, 1) == PAGESHARE_ERROR_NO_MACHINE);
     CHECK(pageshare_report(m, &totals) == PAGESHARE_ERROR_NO_MACHINE && totals.entries == 9);
     CHECK(pageshare_read(m, 0, 0, page) == PAGESHARE_ERROR_NO_MACHINE);
     CHECK(pageshare_frame(m, 0, 0, &mpn) == PAGESHARE_ERROR_NO_MACHINE && mpn == 77);

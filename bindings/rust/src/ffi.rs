@@ -34,6 +34,14 @@ pub(crate) struct Totals {
     pub(crate) hints: u32,
 }
 
+/// A page, by its guest and its number.
+#[repr(C)]
+#[derive(Clone, Copy, Debug)]
+pub(crate) struct PageName {
+    pub(crate) guest: u32,
+    pub(crate) ppn: u32,
+}
+
 extern "C" {
     pub(crate) fn pageshare_make(
         machine: *mut Handle,
@@ -64,6 +72,7 @@ extern "C" {
     pub(crate) fn pageshare_release(machine: *mut Handle, guest: u32, ppn: u32) -> Answer;
     pub(crate) fn pageshare_count(machine: *mut Handle, guest: u32, totals: *mut Totals) -> Answer;
     pub(crate) fn pageshare_restart_count(machine: *mut Handle) -> u32;
+    pub(crate) fn pageshare_hash(machine: *mut Handle, pages: *const PageName, count: usize) -> u32;
     pub(crate) fn pageshare_report(machine: *mut Handle, totals: *mut Totals) -> u32;
     pub(crate) fn pageshare_read(
         machine: *mut Handle,

@@ -1,6 +1,6 @@
 //! The machine.
 use crate::error::{MakeError, NoSuchPage, RequestError};
-use crate::ffi::{self, Handle, Totals};
+use crate::ffi::{self, Handle, PageName, Totals};
 use crate::verdict::{LoadVerdict, ProposeVerdict, ReleaseVerdict, Report, StoreVerdict};
 use std::cell::UnsafeCell;
 use std::fmt;
@@ -16,6 +16,9 @@ pub type Page = [u8; PAGE_BYTES];
 
 /// The most guests of a machine, and one more, which the library refuses.
 const TOO_MANY_GUESTS: usize = 65;
+
+/// How many pages are handed to the library together to be hashed.
+const HASHED_TOGETHER: usize = 64;
 
 /// A guest of a new machine.
 #[derive(Clone, Copy, Debug, PartialEq, Eq, Hash)]
@@ -173,6 +176,21 @@ impl Machine {
     pub fn restart_count(&mut self) {
         // SAFETY: as above. The status is 0, since the handle holds a machine.
         let _status = unsafe { ffi::pageshare_restart_count(self.handle.get()) };
+    }
+
+    /// Computes the hashes of these pages, each given by its guest and number, ahead of their proposals: four at a time, which
+    /// takes less than half the time. It changes no answer. Pages that there aren't are passed over, and a store to a page
+    /// makes its hash unknown again.
+    pub fn hash_ahead(&mut self, pages: &[(u32, u32)]) {
+        let mut names = [PageName { guest: 0, ppn: 0 }; HASHED_TOGETHER];
+        for window in pages.chunks(HASHED_TOGETHER) {
+            for (name, &(guest, ppn)) in names.iter_mut().zip(window) {
+                *name = PageName { guest, ppn };
+            }
+            // SAFETY: as above; the names are read during the call alone. The status is 0, since the handle holds a machine.
+            let _status =
+                unsafe { ffi::pageshare_hash(self.handle.get(), names.as_ptr(), window.len()) };
+        }
     }
 
     /// What the machine counts.

@@ -67,6 +67,8 @@ fn shares_and_copies() -> Result<(), Box<dyn std::error::Error>> {
         hints: 0,
     };
     assert_eq!(m.count(1)?, report);
+    m.hash_ahead(&[(0, 0), (1, 0), (0, 1), (0, 99), (256, 0), (1, 0)]);
+    assert_eq!(m.report(), report);
     m.restart_count();
     assert_eq!(
         m.report(),

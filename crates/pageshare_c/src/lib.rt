@@ -20,6 +20,7 @@ ghost use Rattle.pageshare_c.specs.Made.{Makes};
 ghost use Rattle.pageshare_c.specs.Outcomes.{outcome, state_after, seen};
 ghost use Rattle.pageshare_c.specs.Told.{told, counted, loaded, counts, value_or};
 
+mod ahead;
 mod answer;
 mod find;
 mod machine;
@@ -28,6 +29,8 @@ mod parcel;
 mod serve;
 mod slot;
 
+pub use ahead::PageName;
+use ahead::note_hashes;
 pub use answer::{Answer, Refusal, Totals};
 use answer::{status_of, totals_of};
 use find::{copy_page, find_frame, put_address};
@@ -163,6 +166,24 @@ pub extern "C" fn pageshare_restart_count(alloc: Global, machine: &mut Machine) 
         None => 6,
         Some(mut core) => {
             core.restart_count();
+            machine.put(core);
+            0
+        }
+    }
+}
+
+/// Computes the hashes of these pages ahead of their proposals, four at a time, as far as they are private and their hashes
+/// aren't known. It is no request, and changes no answer; pages that there aren't are passed over. The status is 6 where the
+/// handle holds no machine.
+#[unsafe(no_mangle)]
+pub extern "C" fn pageshare_hash(alloc: Global, machine: &mut Machine, pages: &[PageName]) -> u32
+    ensures same { machine.new.slot.core ≡ machine.old.slot.core }
+    ensures status { result ≡ held_status machine.old.slot.core }
+{
+    match machine.take(alloc) {
+        None => 6,
+        Some(mut core) => {
+            note_hashes(&mut core, pages);
             machine.put(core);
             0
         }

@@ -12,6 +12,7 @@ ghost use Rattle.share_text.specs.Views.{journal_seen};
 ghost use Rattle.share_text.specs.Ends.{AppendsFront, Sends, is_read_fault, is_write_fault, tells_read, tells_write};
 ghost use Rattle.share_text.specs.Replayed.{report_text, printed_from, printed, Replays, Refuses, NotPrinted};
 
+use crate::ahead::serve;
 use crate::ends::{Sink, Source, read_all, write_all};
 use crate::fault::TextFault;
 use crate::journal::Journal;
@@ -38,9 +39,10 @@ fn core_of<H: PageHash + Drop, A: Allocator + Clone>(
     Ok(core)
 }
 
-/// Serves an entry, and puts its verdict's line behind what the buffer holds.
+/// Serves one of the entries, and puts its verdict's line behind what the buffer holds.
 fn print_entry<H: PageHash, W: Sink, A: Allocator>(
     core: &mut Core<H, A>,
+    entries: &[Entry],
     entry: &Entry,
     writer: &mut W,
     out: &mut String<A>,
@@ -60,7 +62,7 @@ fn print_entry<H: PageHash, W: Sink, A: Allocator>(
     ensures fault { IfErr result (λ e. e ≡ TextFault.Write) }
 {
     make_room(writer, out)?;
-    let verdict = core.apply(entry.guest, &entry.request);
+    let verdict = serve(core, entries, entry);
     put_verdict(out, entry.guest, &verdict);
     Ok(())
 }
@@ -103,7 +105,7 @@ fn print_all<H: PageHash, W: Sink, A: Allocator>(
     ensures fault { IfErr result (λ e. e ≡ TextFault.Write) }
 {
     for entry in entries {
-        print_entry(core, entry, writer, out)?;
+        print_entry(core, entries, entry, writer, out)?;
     }
     print_report(core, writer, out)
 }

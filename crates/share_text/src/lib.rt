@@ -4,6 +4,7 @@
 //! from the code.
 #![tactic(auto)]
 
+mod ahead;
 mod ends;
 mod engine;
 mod expect;

@@ -1,0 +1,35 @@
+//! Hashes that are computed ahead of proposals.
+ghost use Rattle.std.specs.Prelude.{◌≡◌};
+
+use arrayvec::ArrayVec;
+use merge_core::Core;
+use page_digest::Sha256Hash;
+
+/// A page, by its guest and its number.
+#[repr(C)]
+#[derive(Clone, Copy)]
+pub struct PageName {
+    pub guest: u32,
+    pub ppn: u32,
+}
+
+/// How many pages are handed to the core together.
+const WINDOW: usize = 64;
+
+/// Notes the hashes of these pages. A guest past 255 is none of a machine's.
+pub(crate) fn note_hashes(core: &mut Core<Sha256Hash>, pages: &[PageName])
+    ensures { core.new ≡ core.old }
+{
+    let mut waiting: ArrayVec<(u8, u32), WINDOW> = ArrayVec::new();
+    for page in pages {
+        if page.guest > 255 {
+            continue;
+        }
+        if waiting.is_full() {
+            core.note_hashes(waiting.as_slice());
+            waiting.clear();
+        }
+        waiting.push((page.guest as u8, page.ppn));
+    }
+    core.note_hashes(waiting.as_slice());
+}
