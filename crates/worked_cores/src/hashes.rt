@@ -50,3 +50,46 @@ fn known_hashes(rt: HostRuntime) -> Result<(), Fail> {
     assert_eq!(rt; calls.load(Ordering::SeqCst), 5);
     Ok(())
 }
+
+/// Pages whose hashes are noted ahead are hashed then, and not at their proposals; a store makes a hash unknown again. Pages
+/// that are unmapped, or that there aren't, are passed over.
+#[test]
+fn noted_ahead(rt: HostRuntime) -> Result<(), Fail> {
+    let calls = AtomicU32::new(0);
+    let mut core = core_of(&rt, rt.alloc(), 5, &[6], Counted(&calls))?;
+    let lines = [
+        (0, Ask::Store(0, b"A"), Verdict::Mapped),
+        (0, Ask::Store(1, b"B"), Verdict::Mapped),
+        (0, Ask::Store(2, b"C"), Verdict::Mapped),
+        (0, Ask::Store(3, b"D"), Verdict::Mapped),
+        (0, Ask::Store(4, b"E"), Verdict::Mapped),
+    ];
+    serve(&rt, &mut core, &lines);
+    let pages = [
+        (0, 0),
+        (0, 1),
+        (0, 5),
+        (0, 2),
+        (0, 99),
+        (7, 0),
+        (0, 3),
+        (0, 4),
+    ];
+    core.note_hashes(&pages);
+    assert_eq!(rt; calls.load(Ordering::SeqCst), 5);
+    core.note_hashes(&pages);
+    let lines = [
+        (0, Ask::Propose(0), Verdict::Hinted),
+        (0, Ask::Propose(1), Verdict::Hinted),
+        (0, Ask::Propose(4), Verdict::Hinted),
+    ];
+    serve(&rt, &mut core, &lines);
+    assert_eq!(rt; calls.load(Ordering::SeqCst), 5);
+    let lines = [
+        (0, Ask::Store(0, b"F"), Verdict::Stored),
+        (0, Ask::Propose(0), Verdict::Hinted),
+    ];
+    serve(&rt, &mut core, &lines);
+    assert_eq!(rt; calls.load(Ordering::SeqCst), 6);
+    Ok(())
+}
