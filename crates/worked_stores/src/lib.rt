@@ -1,0 +1,5 @@
+//! Worked tables of frames. This crate has tests alone.
+#![tactic(auto)]
+
+#[cfg(test)]
+mod tables;
