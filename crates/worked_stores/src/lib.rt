@@ -4,3 +4,5 @@
 
 #[cfg(test)]
 mod frames;
+#[cfg(test)]
+mod tables;
