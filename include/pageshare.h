@@ -25,7 +25,7 @@
  *   beside it, for as long as the call runs. What a call writes to (the handle, room, totals, mpn, at) overlaps no other
  *   argument of it, and nobody else reads or writes it meanwhile; what it only reads, nobody writes meanwhile.
  * - A count of elements makes less than 2^63 bytes.
- * - malloc and free are one allocator's, may be called on any thread, and align a block to 16 bytes. No call is made from a signal handler, nor in the
+ * - malloc, realloc and free are one allocator's, may be called on any thread, and align a block to 16 bytes. No call is made from a signal handler, nor in the
  *   child of a fork of a process with threads.
  *
  * pageshare_make takes all memory that a machine needs; no other call asks for any.

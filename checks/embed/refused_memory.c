@@ -1,7 +1,7 @@
 /*
  * Refuses each allocation of pageshare_make in turn: the status is 4, nothing stays allocated, and the handle still serves.
- * Once a machine is made, no call asks for memory. Its rattle_alloc and rattle_dealloc take the place of the library's own,
- * which call malloc and free. Prints "ok", or what failed.
+ * Once a machine is made, no call asks for memory. Its rattle_alloc, rattle_realloc and rattle_dealloc take the place of
+ * the library's own, which call malloc, realloc and free. Prints "ok", or what failed.
  */
 #include "pageshare.h"
 #include <stdio.h>
@@ -16,6 +16,7 @@ struct tried {
 static long left, held;
 
 struct tried rattle_alloc(size_t bytes, size_t align);
+struct tried rattle_realloc(void *at, size_t kept, size_t bytes, size_t align);
 void rattle_dealloc(void *at);
 
 struct tried rattle_alloc(size_t bytes, size_t align) {
@@ -25,6 +26,16 @@ struct tried rattle_alloc(size_t bytes, size_t align) {
     if (block == NULL) return (struct tried){false, nothing};
     left--;
     held++;
+    return (struct tried){true, block};
+}
+
+/* A block that can't be had leaves the old one as it is. */
+struct tried rattle_realloc(void *at, size_t kept, size_t bytes, size_t align) {
+    (void)kept;
+    (void)align;
+    void *block = left > 0 ? realloc(at, bytes > 0 ? bytes : 1) : NULL;
+    if (block == NULL) return (struct tried){false, at};
+    left--;
     return (struct tried){true, block};
 }
 
