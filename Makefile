@@ -33,7 +33,7 @@ out/run_bench: $(SOURCES)
 embed: out/libpageshare.a
 	checks/embed.sh out/libpageshare.a
 
-# The proved library, and the kit's two calls of malloc and free.
+# The proved library, and the kit's three calls of malloc, realloc and free.
 out/libpageshare.a: $(SOURCES)
 	cd crates/pageshare_c && rt lib > /dev/null
 	mkdir -p out
