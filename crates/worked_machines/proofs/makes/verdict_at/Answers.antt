@@ -1,5 +1,5 @@
 use Rattle.share_rings.specs.Ends.{closed_name}
-use Rattle.merge_machine.proofs.Lists.{map_put}
+use Rattle.worked_machines.proofs.Lists.{map_put}
 use Rattle.worked_machines.proofs.makes.verdict_at.Goals as goal
 
 pub returns : goal.returns
