@@ -1,7 +1,8 @@
 ghost use Rattle.std.specs.Prelude.{◌≡◌, ◌<◌, ◌^◌};
 
+use packed_frames::Packed;
 use refusing::Refusing;
-use share_table::{HintFrame, Packed, Table};
+use share_table::{HintFrame, Table};
 use std::alloc::Allocator;
 use std::process::Abort;
 use std::test::Fail;
@@ -190,4 +191,32 @@ fn packed_bounds(rt: HostRuntime) {
     assert!(rt; Packed::hint(0, 0, 0, 16_777_215, 0).is_some());
     assert!(rt; Packed::shared(0, 0, 1, 8_388_608).is_none());
     assert!(rt; Packed::shared(0, 0, 1, 8_388_607).is_some());
+}
+
+// The worked frames, read: a shared frame with its count, one whose count stands elsewhere, and a hint frame. That they are
+// written so follows, since what is read is written as those bytes.
+#[test]
+fn packed_values(rt: HostRuntime) {
+    let shared = [
+        0x01, 0x23, 0x45, 0x67, 0x89, 0xab, 0xcd, 0xef, 0, 0, 5, 0, 3, 0, 0, 1,
+    ];
+    let hash = 0x0123_4567_89ab_cdef;
+    assert!(rt; Packed::read(&shared) == Packed::shared(hash, 5, 3, 0));
+    let wide = [
+        0x01, 0x23, 0x45, 0x67, 0x89, 0xab, 0xcd, 0xef, 0, 0, 5, 0, 0, 0, 0, 1,
+    ];
+    assert!(rt; Packed::read(&wide) == Packed::shared(hash, 5, 0, 0));
+    let hint = [
+        0xde, 0xad, 0xbe, 0xef, 2, 0, 1, 2, 0, 0xab, 0xcd, 0, 0, 0, 0, 0x12,
+    ];
+    assert!(rt; Packed::read(&hint) == Packed::hint(0xdead_beef, 2, 0x102, 0xabcd, 9));
+}
+
+// Tag 0 beside a count is no frame.
+#[test]
+fn no_frame(rt: HostRuntime) {
+    let refused = [
+        0xde, 0xad, 0xbe, 0xef, 2, 0, 1, 2, 0, 0xab, 0xcd, 0, 1, 0, 0, 0x12,
+    ];
+    assert!(rt; Packed::read(&refused).is_none());
 }
