@@ -9,14 +9,14 @@ use Rattle.page_model.specs.Pages.{Slot, Guest, count_pages, any_page, page_at}
 abbrev pub AnyIsCount : Bool → ℕ → Type 0
 AnyIsCount any count = ((any ≡ true) × (1 ≤ count)) ⊎ ((any ≡ false) × (count ≡ 0))
 
-joined : (t u : Bool) (m n k : ℕ) → AnyIsCount t m → AnyIsCount u n → k ≡ m + n → AnyIsCount (t || u) k
+pub joined : (t u : Bool) (m n k : ℕ) → AnyIsCount t m → AnyIsCount u n → k ≡ m + n → AnyIsCount (t || u) k
 joined true u m n k (inl h) y e = inl (refl, omega (arith, h.1, e))
 joined true u m n k (inr h) y e = absurd (cc)
 joined false u m n k (inl h) y e = absurd (cc)
 joined false u m n k (inr h) (inl j) e = inl (j.0, omega (arith, j.1, e))
 joined false u m n k (inr h) (inr j) e = inr (j.0, omega (arith, h.1, j.1, e))
 
-one_of : (t : Bool) → AnyIsCount t (cond t 1 0)
+pub one_of : (t : Bool) → AnyIsCount t (cond t 1 0)
 one_of true = inl (refl, omega arith)
 one_of false = inr (refl, refl)
 

@@ -13,3 +13,4 @@ pub mod Alone
 pub mod Reports
 pub mod Proposals
 pub mod Events
+pub mod Contents

@@ -7,6 +7,7 @@ ghost use Rattle.page_model.specs.Replay.{verdicts_of};
 ghost use Rattle.page_model.specs.Placed.{PlacesHoldRequests, PlacesHoldAnswers, AllArePlaced, PlacesRise};
 ghost use Rattle.page_model.specs.Alone.{LoadsAsAlone, PagesAsAlone};
 ghost use Rattle.page_model.specs.Reports.{ReportAddsUp, ReportCountsEntries, FramesSuffice};
+ghost use Rattle.page_model.specs.Contents.{NeedsAFrameEach, SharingAllIsLeast};
 ghost use Rattle.page_model.specs.Proposals.{KeepsBytes, KeepsLoads, OneHintAKey, EqualPagesShare, first_two, three_pages, clashing};
 ghost use Rattle.page_model.specs.Events.{Begins, ClosesLast, world_after, GotBeforeSent, out_of_order};
 
@@ -54,6 +55,13 @@ pub fn report_law(entries: &[Entry])
 /// A machine never uses more frames than it has, however few these are.
 pub fn frames_law(entries: &[Entry])
     ensures { FramesSuffice entries.now }
+{}
+
+/// In every state the mapped pages have no more different contents than frames are in use, and just as many where
+/// each page whose content occurs more than once is shared: no sharing does better, and sharing all equal pages does as well.
+pub fn least_frames_law()
+    ensures least { NeedsAFrameEach }
+    ensures exact { SharingAllIsLeast }
 {}
 
 /// No key ever stands as a hint twice.

@@ -1,7 +1,8 @@
 //! Worked requests, reports, machine shapes and events, by the public calls of `page_model` and `event_world`.
-//! This crate has tests alone.
+//! Beside the tests stands one case of a law that no call shows, `copies`.
 #![tactic(auto)]
 
+pub mod copies;
 #[cfg(test)]
 mod events;
 #[cfg(test)]
