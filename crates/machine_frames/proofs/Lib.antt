@@ -1,2 +1,4 @@
-pub mod Used
+pub mod Lists
+pub mod InBlocks
 pub mod Places
+pub mod Used

@@ -1,2 +1,4 @@
 pub mod FrameMap
+pub mod InBlocks
+pub mod PageLists
 pub mod Places

@@ -5,10 +5,11 @@ ghost use Rattle.std.specs.Prelude.{◌≡◌, ◌+◌, ◌≤◌, ◌<◌, ◌�
 ghost use Rattle.page_model.specs.Pages.{blank, written};
 ghost use Rattle.machine_frames.specs.FrameMap.{frame, IsTaken, used, no_frames, IsPage};
 
-mod pages;
+mod block;
+mod blocks;
 
+use blocks::Blocks;
 use page_model::{MAX_FRAMES, PAGE_BYTES, Page};
-use slab::Slab;
 use std::alloc::{AllocError, Allocator, Global};
 use std::marker::Model;
 use thiserror::Error;
@@ -41,12 +42,10 @@ impl From<AllocError> for FramesFault {
 /// page stays where it is.
 #[derive(Drop)]
 pub struct Frames<A: Allocator = Global> {
-    total: u32,
-    // The key in `pages` of each frame that was ever taken, by MPN.
-    keys: Vec<usize, A>,
+    // The page of each frame that was ever taken, by MPN, and room for those of all others.
+    pages: Blocks<A>,
     // The frames that were given back.
     free: Vec<u32, A>,
-    pages: Slab<Page, A>,
 }
 
 impl<A: Allocator> Model for Frames<A> {
@@ -55,9 +54,9 @@ impl<A: Allocator> Model for Frames<A> {
 
     ghost Value = { List (Option (List ℕ)) };
 
-    ghost view = { λ f. frames_of f.keys.items f.free.items f.pages f.total };
+    ghost view = { λ f. frames_of f.free.items f.pages };
 
-    ghost invariant = { λ f. IsSound f.keys.items f.free.items f.pages f.total × (f.total ≤ vec_capacity f.keys) × (f.total ≤ vec_capacity f.free) };
+    ghost invariant = { λ f. IsSound f.free.items f.pages × (f.pages.room ≤ vec_capacity f.free) };
 }
 
 impl<A: Allocator> Frames<A> {
@@ -72,15 +71,9 @@ impl<A: Allocator> Frames<A> {
         if count == 0 || count > MAX_FRAMES {
             return Err(FramesFault::Frames);
         }
-        let keys = Vec::with_capacity(alloc.clone()?, count as usize)?;
         let free = Vec::with_capacity(alloc.clone()?, count as usize)?;
-        let pages = Slab::with_capacity(alloc, count as usize)?;
-        Ok(Frames {
-            total: count,
-            keys,
-            free,
-            pages,
-        })
+        let pages = Blocks::new(alloc, count)?;
+        Ok(Frames { pages, free })
     }
 
     /// The number of frames that are taken.
@@ -88,14 +81,14 @@ impl<A: Allocator> Frames<A> {
         ensures value { result ≡ used self.now }
         ensures within { result ≤ length self.now }
     {
-        (self.keys.len() - self.free.len()) as u32
+        self.pages.len() - self.free.len() as u32
     }
 
     /// The number of all frames.
     pub fn total(&self) -> u32
         ensures { result ≡ length self.now }
     {
-        self.total
+        self.pages.capacity()
     }
 
     /// Takes a free frame, which then holds zeros. `None` where no frame is free.
@@ -106,15 +99,13 @@ impl<A: Allocator> Frames<A> {
         ensures taken { IfSome result (λ mpn. self.new ≡ slice_set self.old mpn (Some blank)) }
     {
         if let Some(mpn) = self.free.pop() {
-            pages::clear(&mut self.pages, self.keys[mpn as usize]);
+            self.pages.clear(mpn);
             return Some(mpn);
         }
-        if self.keys.len() == self.total as usize {
+        if self.pages.is_full() {
             return None;
         }
-        let mpn = self.keys.len() as u32;
-        self.keys.push_reserved(pages::add_zeroed(&mut self.pages));
-        Some(mpn)
+        Some(self.pages.add_zeroed())
     }
 
     /// Takes a free frame, which then holds the bytes of the frame `mpn`. `None` where no frame is free.
@@ -125,18 +116,14 @@ impl<A: Allocator> Frames<A> {
         ensures free { IfSome result (λ copy. (copy < length self.old) × (frame self.old copy ≡ None)) }
         ensures taken { IfSome result (λ copy. self.new ≡ slice_set self.old copy (frame self.old mpn)) }
     {
-        let from = self.keys[mpn as usize];
         if let Some(copy) = self.free.pop() {
-            pages::copy(&mut self.pages, from, self.keys[copy as usize]);
+            self.pages.copy(mpn, copy);
             return Some(copy);
         }
-        if self.keys.len() == self.total as usize {
+        if self.pages.is_full() {
             return None;
         }
-        let copy = self.keys.len() as u32;
-        self.keys
-            .push_reserved(pages::add_copy(&mut self.pages, from));
-        Some(copy)
+        Some(self.pages.add_copy(mpn))
     }
 
     /// The bytes of a frame.
@@ -145,7 +132,7 @@ impl<A: Allocator> Frames<A> {
         ensures value { frame self.now mpn ≡ Some result.now }
         ensures page { IsPage result.now }
     {
-        pages::page(&self.pages, self.keys[mpn as usize])
+        self.pages.page(mpn)
     }
 
     /// Writes `bytes` into a frame, from the place `at` on.
@@ -154,7 +141,7 @@ impl<A: Allocator> Frames<A> {
         requires fits { at + length bytes.now ≤ PAGE_BYTES }
         ensures { self.new ≡ slice_set self.old mpn (option_map (λ page. written page at bytes.now) (frame self.old mpn)) }
     {
-        pages::write(&mut self.pages, self.keys[mpn as usize], at as usize, bytes);
+        self.pages.write(mpn, at as usize, bytes);
     }
 
     /// Frees a frame.

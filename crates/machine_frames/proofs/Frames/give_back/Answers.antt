@@ -5,11 +5,11 @@ use Rattle.machine_frames.proofs.Frames.give_back.Goals as goal
 pub invariant_of-self : goal.invariant_of-self
 invariant_of-self g c =
     let i = c.self.inside in
-    let after = given_back i.keys.items i.free.items i.pages i.total c.args.mpn c.self.invariant.0 (rw c.self.view_is c.requires) in
-    (rw c.push_reserved.ensures.items after.sound, c.self.invariant.1, omega (arith, c.self.invariant.2, c.push_reserved.ensures.capacity))
+    let after = given_back i.free.items i.pages c.args.mpn c.self.invariant.0 (rw c.self.view_is c.requires) in
+    (rw c.push_reserved.ensures.items after.sound, omega (arith, c.self.invariant.1, c.push_reserved.ensures.capacity))
 
 pub returns : goal.returns
 returns g c =
     let i = c.self.inside in
-    let after = given_back i.keys.items i.free.items i.pages i.total c.args.mpn c.self.invariant.0 (rw c.self.view_is c.requires) in
+    let after = given_back i.free.items i.pages c.args.mpn c.self.invariant.0 (rw c.self.view_is c.requires) in
     rw (← c.self.view_is, c.push_reserved.ensures.items) after.is

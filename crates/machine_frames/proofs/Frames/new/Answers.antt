@@ -1,11 +1,17 @@
-use Rattle.std.proofs.Common.{arith}
+use Rattle.std.proofs.Common.{◌∙◌, ap, arith}
+use Rattle.machine_frames.specs.PageLists.{PageList, page_in}
+use Rattle.machine_frames.specs.FrameMap.{no_frames}
 use Rattle.machine_frames.proofs.Places.{fresh}
 use Rattle.machine_frames.proofs.Frames.new.Goals as goal
 
 pub invariant_of-result : goal.invariant_of-result
 invariant_of-result g c =
-    ((fresh c.in_ok-keys.keys.items c.in_ok-free.free.items c.in_ok-pages.pages c.args.count c.in_ok-keys.ensures.items c.in_ok-free.ensures.items c.in_ok-pages.ensures.empty c.in_ok-pages.ensures.capacity (omega arith)).sound, c.in_ok-keys.ensures.capacity, c.in_ok-free.ensures.capacity)
+    let room = ap (λ (l : PageList). l.room) c.in_ok-pages.ensures in
+    let made = fresh c.in_ok-free.free.items c.in_ok-pages.pages c.in_ok-free.ensures.items (ap (λ (l : PageList). l.pages) c.in_ok-pages.ensures) (omega (arith, room, c.if-count-gt-MAX_FRAMES.false)) in
+    (made.sound, omega (arith, c.in_ok-free.ensures.capacity, room))
 
 pub returns-clause-ok : goal.returns-clause-ok
 returns-clause-ok g c =
-    (fresh c.in_ok-keys.keys.items c.in_ok-free.free.items c.in_ok-pages.pages c.args.count c.in_ok-keys.ensures.items c.in_ok-free.ensures.items c.in_ok-pages.ensures.empty c.in_ok-pages.ensures.capacity (omega arith)).is
+    let room = ap (λ (l : PageList). l.room) c.in_ok-pages.ensures in
+    let made = fresh c.in_ok-free.free.items c.in_ok-pages.pages c.in_ok-free.ensures.items (ap (λ (l : PageList). l.pages) c.in_ok-pages.ensures) (omega (arith, room, c.if-count-gt-MAX_FRAMES.false)) in
+    made.is ∙ ap no_frames room
