@@ -1,15 +1,17 @@
 -- Chains of places as chains of entries.
-use Rattle.std.proofs.Common.{◌≡◌, ℕ, ◌<◌, ◌≤◌, ◌≢◌, Bool, true, false, cond, eqb, List, [], ◌∷◌, length, get_or, map, Option, Some, None, IsSome, sym, refl, ap, ◌∙◌, arith, rules, replicate, subst}
+use Rattle.std.proofs.Common.{◌≡◌, ℕ, ◌+◌, ◌-◌, ◌<◌, ◌≤◌, ◌≢◌, Bool, true, false, cond, eqb, List, [], ◌∷◌, length, get_or, map, Option, Some, None, IsSome, sym, refl, ap, ◌∙◌, arith, rules, replicate, subst}
 use Prim.Native.Nat.{zero, suc}
 use Rattle.std.proofs.Math.ListN.{set}
 use Rattle.std.specs.Option.{option_map}
+use Rattle.std.proofs.lemmas.Bool.Decides.{nat_tests}
 use Rattle.std.proofs.lemmas.List.{get_or-set_same, get_or-set_other, set-get_or, length-map, length-set, length-replicate}
 use Rattle.packed_frames.specs.declared.entry.Entry.{Entry}
 use Rattle.packed_frames.specs.declared.key.Key.{Key}
 use Rattle.packed_frames.specs.Places.{no_entry}
 use Rattle.packed_frames.specs.Keys.{has_key, first_with, with_other, without_first}
 use Rattle.packed_frames.specs.Linked.{times, times_in, lengths, without, first_of, Chained, entry_at, chain_at, with_place, without_place, with_entry_at, no_chains, used}
-use Rattle.packed_frames.specs.Entries.{EntryChains, entries_in, entry_count, empty_chains, filed}
+use Rattle.packed_frames.specs.declared.entry.Entry.TheVariants.{Shared}
+use Rattle.packed_frames.specs.Entries.{EntryChains, entries_in, entry_count, empty_chains, filed, chain_of, with_chain, counted_up, counted_down}
 use Rattle.packed_frames.proofs.Threaded.{times_head, times_more, times_in-set, times_at, same_tells, other_tells, first_there}
 
 -- ---- one chain
@@ -166,7 +168,7 @@ none_map : (f : ℕ → Entry) (n : ℕ) → map (map f) (replicate n []) ≡ re
 none_map f zero = refl
 none_map f (suc n) = ap (λ cs. [] ∷ cs) (none_map f n)
 
-some_of : {A B : Type 0} (f : A → B) (o : Option A) → IsSome (option_map f o) → IsSome o
+pub some_of : {A B : Type 0} (f : A → B) (o : Option A) → IsSome (option_map f o) → IsSome o
 some_of f None h = h
 some_of f (Some x) h = search rules
 
@@ -176,3 +178,17 @@ place_found c b k o e h = some_of (entry_at c) o (rw (searched c b k o e) at h)
 
 pub none_filed : (buckets capacity : ℕ) → filed (no_chains buckets capacity) ≡ empty_chains buckets capacity
 none_filed buckets capacity = same_chains _ _ _ _ (length-replicate capacity no_entry) (none_map (entry_at (no_chains buckets capacity)) buckets)
+
+-- ---- one page more or less
+other_eq : (n k : ℕ) → n ≢ k → eqb n k ≡ false
+other_eq n k ne = grind (arith, nat_tests)
+
+module _ (t : EntryChains) (key : Key) (h m n : ℕ) where
+  pub up_is : n ≢ 0 → n ≢ 65535 → counted_up t key (Some (Shared h m n)) ≡ with_chain t key (with_other key (Shared h m (n + 1)) (chain_of t key))
+  up_is some room = rw (other_eq n 0 some, other_eq n 65535 room) refl
+
+  pub up_stays : n ≡ 65535 → counted_up t key (Some (Shared h m n)) ≡ t
+  up_stays full = rw full refl
+
+  pub down_is : n ≢ 0 → n ≢ 1 → counted_down t key (Some (Shared h m n)) ≡ with_chain t key (with_other key (Shared h m (n - 1)) (chain_of t key))
+  down_is some more = rw (other_eq n 0 some, other_eq n 1 more) refl

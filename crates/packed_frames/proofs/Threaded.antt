@@ -1,6 +1,6 @@
 -- What a change of the links does to the lists that are threaded through them. `next` is any function,
 -- so that the links may lie in a list of their own or inside of larger places.
-use Rattle.std.proofs.Common.{◌≡◌, ℕ, ◌+◌, ◌-◌, ◌<◌, ◌≤◌, ◌≢◌, Bool, true, false, cond, eqb, nat_lt, List, [], ◌∷◌, length, get_or, map, Option, Some, None, sym, refl, ap, ◌∙◌, arith, subst, add-one, replicate, drop, take, ◌++◌}
+use Rattle.std.proofs.Common.{◌≡◌, ℕ, ◌+◌, ◌-◌, ◌<◌, ◌≤◌, ◌≢◌, Bool, true, false, cond, eqb, nat_lt, List, [], ◌∷◌, length, get_or, map, Some, None, sym, refl, ap, ◌∙◌, arith, subst, add-one, replicate, drop, take, ◌++◌}
 use Prim.Native.Nat.{suc, zero}
 use Rattle.std.proofs.Math.ListN.{set}
 use Rattle.std.proofs.lemmas.Bool.Decides.{nat_tests}
@@ -10,7 +10,7 @@ use Rattle.std.proofs.Math.Seq.{map-set_same}
 use Rattle.packed_frames.specs.declared.entry.Entry.{Entry}
 use Rattle.packed_frames.specs.declared.packed.Packed.{Packed}
 use Rattle.packed_frames.specs.Places.{link_of, entry_of, no_entry, with_link, with_entry}
-use Rattle.packed_frames.specs.Linked.{times, times_in, lengths, without, before, first_of, walk, Follows, FollowAll, Linked, link_in, chains_from, IsKept, IsBefore, IsSearch}
+use Rattle.packed_frames.specs.Linked.{times, times_in, lengths, without, code_before, first_of, walk, Follows, FollowAll, Linked, link_in, chains_from, IsKept, IsSearch}
 
 -- ---- tests
 pub same_tells : (p q : ℕ) → eqb p q ≡ true → p ≡ q
@@ -69,6 +69,34 @@ length_step p q qs false e ih = omega (arith, ih (other_tells p q e))
 pub length_without : (p : ℕ) (qs : List ℕ) → 1 ≤ times p qs → length (without p qs) + 1 ≡ length qs
 length_without p [] h = absurd (omega arith)
 length_without p (q ∷ qs) h = length_step p q qs (eqb p q) refl (λ ne. length_without p qs (times_rest p q qs h ne))
+
+-- the place right before p in the list q ∷ qs
+abbrev pub before : ℕ → ℕ → List ℕ → ℕ
+before p q [] = q
+before p q (r ∷ rs) = cond (eqb p r) q (before p r rs)
+
+code_step : (q m n : ℕ) (b : Bool) → m ≡ n + 1 → cond b (q + 1) m ≡ cond b q n + 1
+code_step q m n true e = refl
+code_step q m n false e = e
+
+code_of_before : (p q : ℕ) (rs : List ℕ) → code_before p (q + 1) rs ≡ before p q rs + 1
+code_of_before p q [] = refl
+code_of_before p q (r ∷ rs) = code_step q (code_before p (r + 1) rs) (before p r rs) (eqb p r) (code_of_before p r rs)
+
+no_code_step : (p q : ℕ) (rs : List ℕ) (b : Bool) → eqb p q ≡ b → cond b 0 (code_before p (q + 1) rs) ≡ 0 → p ≡ q
+no_code_step p q rs true e h = same_tells p q e
+no_code_step p q rs false e h = absurd (omega (arith, code_of_before p q rs))
+
+-- nothing stands before the head of a list alone
+no_code : (p q : ℕ) (rs : List ℕ) → code_before p 0 (q ∷ rs) ≡ 0 → p ≡ q
+no_code p q rs h = no_code_step p q rs (eqb p q) refl h
+
+some_code_step : (p q : ℕ) (rs : List ℕ) (b : Bool) → eqb p q ≡ b → cond b 0 (code_before p (q + 1) rs) ≢ 0 → (p ≢ q) × (cond b 0 (code_before p (q + 1) rs) ≡ before p q rs + 1)
+some_code_step p q rs true e h = absurd (h refl)
+some_code_step p q rs false e h = (other_tells p q e, code_of_before p q rs)
+
+some_code : (p q : ℕ) (rs : List ℕ) → code_before p 0 (q ∷ rs) ≢ 0 → (p ≢ q) × (code_before p 0 (q ∷ rs) ≡ before p q rs + 1)
+some_code p q rs h = some_code_step p q rs (eqb p q) refl h
 
 before_step : (p q r : ℕ) (rs : List ℕ) (b : Bool) → eqb p r ≡ b → (p ≢ r → 1 ≤ times (before p r rs) (r ∷ rs)) → 1 ≤ times (cond b q (before p r rs)) (q ∷ (r ∷ rs))
 before_step p q r rs true e ih = omega (arith, times_head q (r ∷ rs))
@@ -403,27 +431,18 @@ module _ (heads links : List ℕ) (free used : ℕ) (K : IsKept heads links free
           (λ q ne. get_or-set_other links p q free 0 ne) in
           rw (read_is links p after place_within ae) old
 
-      module _ (at : ℕ) (is : get_or heads b 0 ≡ at + 1) (ne : p ≢ at) where
+      module _ (at : ℕ) (is : get_or heads b 0 ≡ at + 1) where
         rest : Steps (link_in links) (length links) at (get_or chains_of b [])
         rest =
             let M = K.linked in
             let ends = chain_ends (link_in links) (length links) free heads spare_of chains_of b M in
             steps_to (link_in links) (length links) (get_or heads b 0) at (get_or chains_of b []) ends (omega (arith, M.all_told, length_at chains_of b)) is
 
-        pub is_before : IsBefore links at p
-        is_before =
-            let M = K.linked in
-            let there' : 1 ≤ times p (at ∷ walk (link_in links) (length links) (link_in links at)) = rw rest.is at there in
-            let within : (q : ℕ) → 1 ≤ times q (at ∷ walk (link_in links) (length links) (link_in links at)) → q < length links = λ q h. chain_within (link_in links) (length links) free heads spare_of chains_of b M q (rw rest.is h) in
-            record {
-              here = within at (omega (arith, times_head at (walk (link_in links) (length links) (link_in links at))));
-              ends = rest.ends;
-              within = λ q h. within q (omega (arith, times_more q at (walk (link_in links) (length links) (link_in links at))));
-              there = times_rest p at _ there' ne;
-            }
+        pub chain_from : get_or chains_of b [] ≡ at ∷ walk (link_in links) (length links) (link_in links at)
+        chain_from = rest.is
 
-        pub remove_inner : (o after : ℕ) → o < length links → o ≡ before p at (walk (link_in links) (length links) (link_in links at)) → after ≡ get_or links p after → Linked (link_in (set (set links o after) p free)) (length links) (p + 1) heads (p ∷ spare_of) (set chains_of b (without p (get_or chains_of b [])))
-        remove_inner o after lo oe ae =
+        pub remove_inner : p ≢ at → (o after : ℕ) → o < length links → o ≡ before p at (walk (link_in links) (length links) (link_in links at)) → after ≡ get_or links p after → Linked (link_in (set (set links o after) p free)) (length links) (p + 1) heads (p ∷ spare_of) (set chains_of b (without p (get_or chains_of b [])))
+        remove_inner ne o after lo oe ae =
             let rs : List ℕ = walk (link_in links) (length links) (link_in links at) in
             let apart : o ≢ p = λ e. before_other p at rs ne (sym oe ∙ e) in
             let inside : p < length (set links o after) = omega (arith, place_within, length-set links o after) in
@@ -441,44 +460,6 @@ take_none (suc n) = refl
 pub resized : (n k : ℕ) (old : List ℕ) → old ≡ [] → k ≡ 0 → take n old ++ replicate (n - k) 0 ≡ replicate n 0
 resized n k old e z = let d : n - k ≡ n = omega arith in rw (e, d, take_none n) refl
 
--- ---- steps of a walk
-pub record Looks (links : List ℕ) (at code p : ℕ) : Type 0 where
-  pub some : 1 ≤ code
-  pub next : IsBefore links (code - 1) p
-  pub same : before p at (walk (link_in links) (length links) code) ≡ before p (code - 1) (walk (link_in links) (length links) (link_in links (code - 1)))
-  pub less : length (walk (link_in links) (length links) (link_in links (code - 1))) < length (walk (link_in links) (length links) code)
-
-pub looks_on : (links : List ℕ) (at code p : ℕ) → IsBefore links at p → code ≡ link_in links at → code ≢ p + 1 → Looks links at code p
-looks_on links at code p B e ne =
-    let next : ℕ → ℕ = link_in links in
-    let n : ℕ = length links in
-    let ends : Follows next code (walk next n code) = rw e B.ends in
-    let there : 1 ≤ times p (walk next n code) = rw e B.there in
-    let some : 1 ≤ code = starts_somewhere next code p (walk next n code) ends there in
-    let S : Steps next n (code - 1) (walk next n code) = steps next n code (code - 1) ends (omega arith) in
-    let apart : p ≢ code - 1 = omega arith in
-    let there' : 1 ≤ times p ((code - 1) ∷ walk next n (next (code - 1))) = rw S.is at there in
-    let within : (q : ℕ) → 1 ≤ times q ((code - 1) ∷ walk next n (next (code - 1))) → q < n = λ q h. B.within q (rw (← e, S.is) h) in
-    record {
-      some = some;
-      next = record {
-        here = within (code - 1) (omega (arith, times_head (code - 1) (walk next n (next (code - 1)))));
-        ends = S.ends;
-        within = λ q h. within q (omega (arith, times_more q (code - 1) (walk next n (next (code - 1)))));
-        there = times_rest p (code - 1) _ there' apart;
-      };
-      same = rw (S.is, other_is p (code - 1) apart) refl;
-      less = rw S.is (omega arith);
-    }
-
-pub found_before : (links : List ℕ) (at code p : ℕ) → IsBefore links at p → code ≡ link_in links at → code ≡ p + 1 → at ≡ before p at (walk (link_in links) (length links) code)
-found_before links at code p B e is =
-    let next : ℕ → ℕ = link_in links in
-    let n : ℕ = length links in
-    let ends : Follows next code (walk next n code) = rw e B.ends in
-    let S : Steps next n p (walk next n code) = steps next n code p ends is in
-    rw (S.is, same_is p) refl
-
 -- ---- a place is taken out, before its own link is written
 pub record Freed (heads links : List ℕ) (free used b p : ℕ) (heads' links' : List ℕ) (free' used' : ℕ) : Type 0 where
   pub len : length links' ≡ length links
@@ -487,25 +468,33 @@ pub record Freed (heads links : List ℕ) (free used b p : ℕ) (heads' links' :
   pub linked : Linked (link_in (set links' p free)) (length links) (p + 1) heads' (p ∷ walk (link_in links) (length links) free) (set (chains_from links heads) b (without p (get_or (chains_from links heads) b [])))
 
 module _ (heads links : List ℕ) (free used : ℕ) (K : IsKept heads links free used) (b : ℕ) (l : b < length (chains_from links heads)) (p : ℕ) (there : 1 ≤ times p (get_or (chains_from links heads) b [])) where
-  pub freed_first : (first after : ℕ) → first ≡ get_or heads b first → first ≡ p + 1 → after ≡ get_or links p after → Freed heads links free used b p (set heads b after) links free used
-  freed_first first after fe is ae =
-      let e : get_or heads b 0 ≡ p + 1 = sym (read_is heads b first (omega (arith, heads_are heads links free used K)) fe) ∙ is in
+  abbrev first : ℕ
+  first = get_or heads b 0 - 1
+
+  abbrev others : List ℕ
+  others = walk (link_in links) (length links) (link_in links first)
+
+  first_is : get_or heads b 0 ≡ first + 1
+  first_is = let some = head_some heads links free used K b l p there in omega arith
+
+  chain_split : get_or (chains_from links heads) b [] ≡ first ∷ others
+  chain_split = chain_from heads links free used K b l p there first first_is
+
+  pub freed_first : (before_it after : ℕ) → before_it ≡ code_before p 0 (get_or (chains_from links heads) b []) → before_it ≡ 0 → after ≡ get_or links p after → Freed heads links free used b p (set heads b after) links free used
+  freed_first before_it after be z ae =
+      let none : code_before p 0 (first ∷ others) ≡ 0 = rw chain_split at (sym be ∙ z) in
+      let is : p ≡ first = no_code p first others none in
+      let e : get_or heads b 0 ≡ p + 1 = omega (arith, first_is) in
       record { len = refl; free_is = refl; used_is = refl; linked = remove_head heads links free used K b l p there after e ae }
 
-  pub first_some : (first : ℕ) → first ≡ get_or heads b first → 1 ≤ first
-  first_some first fe = omega (arith, head_some heads links free used K b l p there, read_is heads b first (omega (arith, heads_are heads links free used K)) fe)
-
-  pub search_starts : (first : ℕ) → first ≡ get_or heads b first → first ≢ p + 1 → IsBefore links (first - 1) p
-  search_starts first fe ne =
-      let some = first_some first fe in
-      let e : get_or heads b 0 ≡ first - 1 + 1 = omega (arith, read_is heads b first (omega (arith, heads_are heads links free used K)) fe) in
-      is_before heads links free used K b l p there (first - 1) e (omega arith)
-
-  pub freed_later : (first after at : ℕ) → first ≡ get_or heads b first → first ≢ p + 1 → after ≡ get_or links p after → at < length links → at ≡ before p (first - 1) (walk (link_in links) (length links) (link_in links (first - 1))) → Freed heads links free used b p heads (set links at after) free used
-  freed_later first after at fe ne ae la is =
-      let some = first_some first fe in
-      let e : get_or heads b 0 ≡ first - 1 + 1 = omega (arith, read_is heads b first (omega (arith, heads_are heads links free used K)) fe) in
-      record { len = length-set links at after; free_is = refl; used_is = refl; linked = remove_inner heads links free used K b l p there (first - 1) e (omega arith) at after la is ae }
+  pub freed_later : (before_it after : ℕ) → before_it ≡ code_before p 0 (get_or (chains_from links heads) b []) → before_it ≢ 0 → after ≡ get_or links p after → (before_it - 1 < length links) × Freed heads links free used b p heads (set links (before_it - 1) after) free used
+  freed_later before_it after be nz ae =
+      let be' : before_it ≡ code_before p 0 (first ∷ others) = rw chain_split at be in
+      let some : (p ≢ first) × (code_before p 0 (first ∷ others) ≡ before p first others + 1) = some_code p first others (λ z. nz (be' ∙ z)) in
+      let is : before_it - 1 ≡ before p first others = omega (arith, be', some.1) in
+      let stands : 1 ≤ times (before p first others) (get_or (chains_from links heads) b []) = rw chain_split (times_before p first others) in
+      let below : before_it - 1 < length links = rw is (chain_within (link_in links) (length links) free heads _ (chains_from links heads) b K.linked (before p first others) stands) in
+      (below, record { len = length-set links (before_it - 1) after; free_is = refl; used_is = refl; linked = remove_inner heads links free used K b l p there first first_is some.0 (before_it - 1) after below is ae })
 
   module _ (heads' links' : List ℕ) (free' used' : ℕ) (F : Freed heads links free used b p heads' links' free' used') where
     freed_len : length (set links' p free') ≡ length links
@@ -527,36 +516,52 @@ module _ (heads links : List ℕ) (free used : ℕ) (K : IsKept heads links free
     freed_chains = chains_are heads' (set links' p free') (p + 1) (length links) _ _ freed_len freed_linked
 
 -- ---- steps of a search
-pub record Searched (links : List ℕ) (code : ℕ) (test : ℕ → Bool) (answer : Option ℕ) : Type 0 where
+pub record Searched (links : List ℕ) (before_it code : ℕ) (test : ℕ → Bool) (chain : List ℕ) : Type 0 where
   pub here : code - 1 < length links
   pub less : length (walk (link_in links) (length links) (link_in links (code - 1))) < length (walk (link_in links) (length links) code)
-  pub found : test (code - 1) ≡ true → answer ≡ Some (code - 1)
-  pub next : test (code - 1) ≡ false → IsSearch links (link_in links (code - 1)) test answer
+  pub found : test (code - 1) ≡ true → first_of test chain ≡ Some (code - 1)
+  pub behind : test (code - 1) ≡ true → before_it ≡ code_before (code - 1) 0 chain
+  pub next : test (code - 1) ≡ false → IsSearch links code (link_in links (code - 1)) test chain
 
-pub looks_into : (links : List ℕ) (code : ℕ) (test : ℕ → Bool) (answer : Option ℕ) → code ≢ 0 → IsSearch links code test answer → Searched links code test answer
-looks_into links code test answer ne I =
+true_is_false : true ≡ false → ⊥
+true_is_false h = cc
+
+pub looks_into : (links : List ℕ) (before_it code : ℕ) (test : ℕ → Bool) (chain : List ℕ) → code ≢ 0 → IsSearch links before_it code test chain → Searched links before_it code test chain
+looks_into links before_it code test chain ne I =
     let next : ℕ → ℕ = link_in links in
     let n : ℕ = length links in
+    let p : ℕ = code - 1 in
+    let rest : List ℕ = walk next n (next (code - 1)) in
     let S : Steps next n (code - 1) (walk next n code) = steps next n code (code - 1) I.ends (omega arith) in
     let within : (q : ℕ) → 1 ≤ times q ((code - 1) ∷ walk next n (next (code - 1))) → q < n = λ q h. I.within q (rw S.is h) in
+    let code_is : code ≡ p + 1 = omega arith in
     record {
       here = within (code - 1) (omega (arith, times_head (code - 1) (walk next n (next (code - 1)))));
       less = rw S.is (omega arith);
       found = λ t. sym I.same ∙ rw (S.is, t) refl;
+      behind = λ t.
+          let old : code_before p before_it (p ∷ rest) ≡ code_before p 0 chain = rw S.is at (I.behind p t) in
+          let here : code_before p before_it (p ∷ rest) ≡ before_it = rw (same_is p) refl in
+          sym here ∙ old;
       next = λ t. record {
         ends = S.ends;
         within = λ q h. within q (omega (arith, times_more q (code - 1) (walk next n (next (code - 1)))));
         same = (let e : first_of test (walk next n code) ≡ first_of test (walk next n (next (code - 1))) = rw (S.is, t) refl in sym e) ∙ I.same;
+        behind = λ q tq.
+            let apart : q ≢ p = λ h. true_is_false (sym tq ∙ ap test h ∙ t) in
+            let old : code_before q before_it (p ∷ rest) ≡ code_before q 0 chain = rw S.is at (I.behind q tq) in
+            let skip : code_before q before_it (p ∷ rest) ≡ code_before q (p + 1) rest = rw (other_is q p apart) refl in
+            ap (λ x. code_before q x rest) code_is ∙ sym skip ∙ old;
       };
     }
 
-pub looked : (links : List ℕ) (code : ℕ) (test : ℕ → Bool) (answer : Option ℕ) → code ≡ 0 → IsSearch links code test answer → answer ≡ None
-looked links code test answer e I =
+pub looked : (links : List ℕ) (before_it code : ℕ) (test : ℕ → Bool) (chain : List ℕ) → code ≡ 0 → IsSearch links before_it code test chain → first_of test chain ≡ None
+looked links before_it code test chain e I =
     let next : ℕ → ℕ = link_in links in
     let none : walk next (length links) code ≡ [] = walk_is next (length links) code [] e (omega arith) in
     sym I.same ∙ rw none refl
 
-pub looks_from : (heads links : List ℕ) (free used : ℕ) → IsKept heads links free used → (b first : ℕ) → b < length (chains_from links heads) → first ≡ get_or heads b first → (test : ℕ → Bool) → IsSearch links first test (first_of test (get_or (chains_from links heads) b []))
+pub looks_from : (heads links : List ℕ) (free used : ℕ) → IsKept heads links free used → (b first : ℕ) → b < length (chains_from links heads) → first ≡ get_or heads b first → (test : ℕ → Bool) → IsSearch links 0 first test (get_or (chains_from links heads) b [])
 looks_from heads links free used K b first l fe test =
     let next : ℕ → ℕ = link_in links in
     let n : ℕ = length links in
@@ -567,6 +572,7 @@ looks_from heads links free used K b first l fe test =
       ends = rw walked (rw is (chain_ends next n free heads _ cs b K.linked));
       within = λ q h. chain_within next n free heads _ cs b K.linked q (rw walked at h);
       same = ap (first_of test) walked;
+      behind = λ q t. ap (code_before q 0) walked;
     }
 
 -- ---- what a search found

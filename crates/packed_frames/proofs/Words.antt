@@ -1,13 +1,14 @@
 -- The fields of a frame's two words, and the bytes of the words.
 use Prim.Native.Nat.{zero, suc}
-use Rattle.std.proofs.Common.{◌≢◌, [], ◌∷◌, ◌≡◌, ℕ, ◌+◌, ◌<◌, ◌^◌, List, ◌++◌, length, get_or, take, drop, Some, refl, ap, ◌∙◌, arith}
+use Rattle.std.proofs.Common.{◌≢◌, [], ◌∷◌, ◌≡◌, ℕ, ◌+◌, ◌*◌, ◌/◌, ◌%◌, ◌<◌, ◌^◌, Bool, true, false, cond, eqb, List, ◌++◌, length, get_or, take, drop, Some, None, IsSome, refl, ap, ◌∙◌, arith, rules}
 use Rattle.std.proofs.lemmas.Nat.{from_be_bytes-to_be_bytes_8, be_bytes_8}
 use Rattle.std.proofs.lemmas.List.{get_or-drop, take-append-drop, length-take, length-drop, take_all}
 use Rattle.std.specs.Int.{w64, to_be_bytes, from_be_bytes}
 use Rattle.packed_frames.specs.declared.entry.Entry.{Entry}
 use Rattle.packed_frames.specs.declared.entry.Entry.TheVariants.{Shared, Hint}
 use Rattle.packed_frames.specs.declared.packed.Packed.{Packed}
-use Rattle.packed_frames.specs.Packing.{tail_word, hint_word, bits_of, word_at, unpacked, unpacked_words}
+use Rattle.packed_frames.specs.Packing.{tail_word, hint_word, bits_of, word_at, unpacked, unpacked_words, linked_entry}
+use Rattle.packed_frames.specs.Places.{frame_or, with_link}
 
 -- the fields that were put together
 pub mpn_in : (m c l t : ℕ) → c < 65536 → l < 8388608 → t < 2 → m < 16777216 → bits_of (tail_word m c l t) 40 24 ≡ m
@@ -82,3 +83,33 @@ bytes_are bs first second len fits f s = rw (f, s) (words_written 8 bs refl len 
 
 pub packed_is : (p : Packed) (e : Entry) (l : ℕ) → p.entry ≡ e → l ≡ p.link → Some (record { entry = e; link = l }) ≡ Some p
 packed_is p e l h k = rw (← h, k) refl
+
+-- ---- another link
+-- the second word without its link, and this link
+abbrev pub relinked_word : ℕ → ℕ → ℕ
+relinked_word s l = s / 16777216 * 16777216 + s % 2 + l * 2
+
+mpn_stays : (s l : ℕ) → l < 8388608 → bits_of (relinked_word s l) 40 24 ≡ bits_of s 40 24
+mpn_stays s l h = omega arith
+
+count_stays : (s l : ℕ) → l < 8388608 → bits_of (relinked_word s l) 24 16 ≡ bits_of s 24 16
+count_stays s l h = omega arith
+
+tag_stays : (s l : ℕ) → bits_of (relinked_word s l) 0 1 ≡ bits_of s 0 1
+tag_stays s l = omega arith
+
+link_is : (s l : ℕ) → l < 8388608 → bits_of (relinked_word s l) 1 23 ≡ l
+link_is s l h = omega arith
+
+pub relinked_fits : (s l : ℕ) → s < 18446744073709551616 → l < 8388608 → relinked_word s l < 18446744073709551616
+relinked_fits s l h k = omega arith
+
+relinked_step : (t c : Bool) (a b : Entry) (l l' : ℕ) → IsSome (linked_entry (cond t (Some a) (cond c (Some b) None)) l) → linked_entry (cond t (Some a) (cond c (Some b) None)) l' ≡ Some (with_link (frame_or (linked_entry (cond t (Some a) (cond c (Some b) None)) l)) l')
+relinked_step true c a b l l' h = refl
+relinked_step false true a b l l' h = refl
+relinked_step false false a b l l' h = search rules
+
+pub words_relinked : (f s l : ℕ) → l < 8388608 → IsSome (unpacked_words f s) → unpacked_words f (relinked_word s l) ≡ Some (with_link (frame_or (unpacked_words f s)) l)
+words_relinked f s l k h =
+    rw (mpn_stays s l k, count_stays s l k, tag_stays s l, link_is s l k)
+    (relinked_step (eqb (bits_of s 0 1) 1) (eqb (bits_of s 24 16) 0) _ _ (bits_of s 1 23) l h)

@@ -1,8 +1,9 @@
 -- What a contract sees of `Chains`: how many entries fit, and each bucket's chain of entries.
-use Rattle.std.specs.Prelude.{ℕ, ◌+◌, ◌%◌, List, [], ◌∷◌, length, map, replicate, slice_index_or, slice_set as set}
+use Rattle.std.specs.Prelude.{ℕ, ◌+◌, ◌-◌, ◌%◌, ◌==◌, if◌then◌else◌, List, [], ◌∷◌, Option, Some, None, length, map, replicate, slice_index_or, slice_set as set}
 use Rattle.packed_frames.specs.declared.entry.Entry.{Entry}
+use Rattle.packed_frames.specs.declared.entry.Entry.TheVariants.{Shared, Hint}
 use Rattle.packed_frames.specs.declared.key.Key.{Key}
-use Rattle.packed_frames.specs.Keys.{truncated}
+use Rattle.packed_frames.specs.Keys.{truncated, with_other, without_first}
 use Rattle.packed_frames.specs.Linked.{Chained, entry_at}
 
 pub record EntryChains : Type 0 where
@@ -35,3 +36,23 @@ empty_chains buckets capacity = record { capacity = capacity; chains = replicate
 -- the chains of entries that stand in chains of places
 abbrev pub filed : Chained → EntryChains
 filed c = record { capacity = length c.entries; chains = map (map (entry_at c)) c.chains }
+
+-- One page more for the shared frame that a key finds. A count of 0 doesn't stand in the frame, and one of 65,535 would
+-- not fit it afterwards: both stay.
+abbrev pub counted_up : EntryChains → Key → Option Entry → EntryChains
+counted_up t key None = t
+counted_up t key (Some (Hint number guest ppn mpn)) = t
+counted_up t key (Some (Shared hash mpn count)) =
+    if count == 0 then t
+    else if count == 65535 then t
+    else with_chain t key (with_other key (Shared hash mpn (count + 1)) (chain_of t key))
+
+-- One page less for the shared frame that a key finds, which goes with the last. A count of 0 doesn't stand in the frame,
+-- and stays.
+abbrev pub counted_down : EntryChains → Key → Option Entry → EntryChains
+counted_down t key None = t
+counted_down t key (Some (Hint number guest ppn mpn)) = t
+counted_down t key (Some (Shared hash mpn count)) =
+    if count == 0 then t
+    else if count == 1 then with_chain t key (without_first key (chain_of t key))
+    else with_chain t key (with_other key (Shared hash mpn (count - 1)) (chain_of t key))

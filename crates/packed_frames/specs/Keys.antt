@@ -48,3 +48,9 @@ abbrev pub hint_parts : Option Entry → Option (ℕ × ℕ × ℕ)
 hint_parts None = None
 hint_parts (Some (Shared hash mpn count)) = None
 hint_parts (Some (Hint number guest ppn mpn)) = Some (guest, ppn, mpn)
+
+-- the count in the field of a shared frame: 0 in that of a hint frame, or of none
+abbrev pub field_in : Option Entry → ℕ
+field_in None = 0
+field_in (Some (Shared hash mpn count)) = count
+field_in (Some (Hint number guest ppn mpn)) = 0

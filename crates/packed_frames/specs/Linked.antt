@@ -1,6 +1,6 @@
 -- Lists of places that are threaded through a table of links. A code is 0 for the end of a list, and
 -- n + 1 for place n; `next p` is the code that stands in place p.
-use Rattle.std.specs.Prelude.{◌≡◌, ℕ, ◌+◌, ◌≤◌, ◌<◌, Bool, List, [], ◌∷◌, length, Option, Some, None, if◌then◌else◌, ◌==◌, nat_lt, slice_index_or, map, replicate, slice_set as set}
+use Rattle.std.specs.Prelude.{◌≡◌, ℕ, ◌+◌, ◌≤◌, ◌<◌, Bool, true, List, [], ◌∷◌, length, Option, Some, None, if◌then◌else◌, ◌==◌, nat_lt, slice_index_or, map, replicate, slice_set as set}
 use Rattle.packed_frames.specs.declared.entry.Entry.{Entry}
 use Rattle.packed_frames.specs.Places.{no_entry}
 use Prim.Native.Nat.{suc, zero}
@@ -25,10 +25,10 @@ abbrev pub without : ℕ → List ℕ → List ℕ
 without p [] = []
 without p (q ∷ qs) = if p == q then qs else q ∷ without p qs
 
--- the place right before p in the list q ∷ qs
-abbrev pub before : ℕ → ℕ → List ℕ → ℕ
-before p q [] = q
-before p q (r ∷ rs) = if p == r then q else before p r rs
+-- the code of the place right before p in the list, where the code b stands before the list
+abbrev pub code_before : ℕ → ℕ → List ℕ → ℕ
+code_before p b [] = b
+code_before p b (q ∷ qs) = if p == q then b else code_before p (q + 1) qs
 
 -- the first place that the test accepts
 abbrev pub first_of : (ℕ → Bool) → List ℕ → Option ℕ
@@ -107,16 +107,10 @@ pub record IsKept (heads links : List ℕ) (free used : ℕ) : Type 0 where
   pub linked : Linked (link_in links) (length links) free heads (walk (link_in links) (length links) free) (chains_from links heads)
   pub counted : lengths (chains_from links heads) ≡ used
 
--- a search for the place before p: `at` stands before it
-pub record IsBefore (links : List ℕ) (at p : ℕ) : Type 0 where
-  pub here : at < length links
-  pub ends : Follows (link_in links) (link_in links at) (walk (link_in links) (length links) (link_in links at))
-  pub within : (q : ℕ) → 1 ≤ times q (walk (link_in links) (length links) (link_in links at)) → q < length links
-  pub there : 1 ≤ times p (walk (link_in links) (length links) (link_in links at))
-
--- a search of a chain: from the code on, the links go over places of the table, and the first of them
--- that the test accepts is the answer
-pub record IsSearch (links : List ℕ) (code : ℕ) (test : ℕ → Bool) (answer : Option ℕ) : Type 0 where
+-- a search of a chain: from the code on, the links go over places of the table, the first of them that the test
+-- accepts is the chain's, and what stands before a place that it accepts is what stands before it in the chain
+pub record IsSearch (links : List ℕ) (before code : ℕ) (test : ℕ → Bool) (chain : List ℕ) : Type 0 where
   pub ends : Follows (link_in links) code (walk (link_in links) (length links) code)
   pub within : (q : ℕ) → 1 ≤ times q (walk (link_in links) (length links) code) → q < length links
-  pub same : first_of test (walk (link_in links) (length links) code) ≡ answer
+  pub same : first_of test (walk (link_in links) (length links) code) ≡ first_of test chain
+  pub behind : (q : ℕ) → test q ≡ true → code_before q before (walk (link_in links) (length links) code) ≡ code_before q 0 chain

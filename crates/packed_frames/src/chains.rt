@@ -1,8 +1,8 @@
 //! Chains of frames, in buckets by truncated hash.
 ghost use Rattle.std.specs.Prelude.{◌≡◌, ◌+◌, ◌*◌, ◌≤◌, ◌<◌, ◌∷◌, ◌^◌, IfOk, IfSome, IsSome, length};
-ghost use Rattle.packed_frames.specs.Keys.{key_of, first_with, with_other, without_first, shared_parts, hint_parts};
+ghost use Rattle.packed_frames.specs.Keys.{key_of, first_with, with_other, without_first, shared_parts, hint_parts, field_in};
 ghost use Rattle.packed_frames.specs.declared.key.Key.TheVariants as keys;
-ghost use Rattle.packed_frames.specs.Entries.{empty_chains, entry_count, home, chain_of, with_chain};
+ghost use Rattle.packed_frames.specs.Entries.{empty_chains, entry_count, home, chain_of, with_chain, counted_up, counted_down};
 
 use crate::places::Places;
 use crate::{Entry, Key};
@@ -80,11 +80,12 @@ impl<A: Allocator> Chains<A> {
     }
 
     // The first entry of its chain that the key finds.
+    #[inline(always)]
     fn find(&self, key: Key) -> Option<Entry>
         ensures { result ≡ first_with key (chain_of self.now key) }
     {
-        let place = self.places.find(self.bucket(key), key)?;
-        Some(self.places.entry(place))
+        let found = self.places.find(self.bucket(key), key)?;
+        Some(self.places.entry(found.place))
     }
 
     /// Puts an entry at the head of its chain.
@@ -102,8 +103,74 @@ impl<A: Allocator> Chains<A> {
         ensures { self.new ≡ with_chain self.old (key_of entry) (with_other (key_of entry) entry (chain_of self.old (key_of entry))) }
     {
         let key = entry.key();
-        let place = self.places.find(self.bucket(key), key).unwrap();
-        self.places.set_entry(place, entry);
+        let found = self.places.find(self.bucket(key), key).unwrap();
+        self.places.set_entry(found.place, entry);
+    }
+
+    /// One page more for the shared frame with this hash, where its count stands in the frame and will fit it: a count of
+    /// 0 or of 65,535 stays. The count that stood there.
+    pub fn count_up(&mut self, hash: u64) -> u16
+        requires present { IsSome (first_with (keys.Shared hash) (chain_of self.old (keys.Shared hash))) }
+        ensures before { result ≡ field_in (first_with (keys.Shared hash) (chain_of self.old (keys.Shared hash))) }
+        ensures counted { self.new ≡ counted_up self.old (keys.Shared hash) (first_with (keys.Shared hash) (chain_of self.old (keys.Shared hash))) }
+    {
+        let key = Key::Shared(hash);
+        let found = self.places.find(self.bucket(key), key).unwrap();
+        match self.places.entry(found.place) {
+            Entry::Shared { hash, mpn, count } => {
+                if count == 0 {
+                    return 0;
+                }
+                if count == u16::MAX {
+                    return count;
+                }
+                let more = count + 1;
+                self.places.set_entry(
+                    found.place,
+                    Entry::Shared {
+                        hash,
+                        mpn,
+                        count: more,
+                    },
+                );
+                count
+            }
+            Entry::Hint { .. } => 0,
+        }
+    }
+
+    /// One page less for the shared frame with this hash, where its count stands in the frame: a count of 0 stays, and the
+    /// frame goes with its last page. The count that stood there.
+    pub fn count_down(&mut self, hash: u64) -> u16
+        requires present { IsSome (first_with (keys.Shared hash) (chain_of self.old (keys.Shared hash))) }
+        ensures before { result ≡ field_in (first_with (keys.Shared hash) (chain_of self.old (keys.Shared hash))) }
+        ensures counted { self.new ≡ counted_down self.old (keys.Shared hash) (first_with (keys.Shared hash) (chain_of self.old (keys.Shared hash))) }
+    {
+        let key = Key::Shared(hash);
+        let bucket = self.bucket(key);
+        let found = self.places.find(bucket, key).unwrap();
+        match self.places.entry(found.place) {
+            Entry::Shared { hash, mpn, count } => {
+                if count == 0 {
+                    return 0;
+                }
+                if count == 1 {
+                    self.places.remove(bucket, found);
+                    return 1;
+                }
+                let less = count - 1;
+                self.places.set_entry(
+                    found.place,
+                    Entry::Shared {
+                        hash,
+                        mpn,
+                        count: less,
+                    },
+                );
+                count
+            }
+            Entry::Hint { .. } => 0,
+        }
     }
 
     /// Takes the first entry of its chain that the key finds away.
@@ -112,11 +179,12 @@ impl<A: Allocator> Chains<A> {
         ensures { self.new ≡ with_chain self.old key (without_first key (chain_of self.old key)) }
     {
         let bucket = self.bucket(key);
-        let place = self.places.find(bucket, key).unwrap();
-        self.places.remove(bucket, place);
+        let found = self.places.find(bucket, key).unwrap();
+        self.places.remove(bucket, found);
     }
 
     // The bucket of a key.
+    #[inline]
     fn bucket(&self, key: Key) -> usize
         ensures value { result ≡ home (length self.now.chains) key }
         ensures within { result < length self.now.chains }

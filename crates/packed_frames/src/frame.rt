@@ -1,8 +1,10 @@
 //! A frame as it lies in memory.
 ghost use Rattle.std.specs.Prelude.{◌≡◌, ◌<◌, ◌^◌};
+ghost use Rattle.packed_frames.specs.Keys.{has_key};
 ghost use Rattle.packed_frames.specs.Places.{with_link, with_entry};
 
-use crate::{Entry, Packed, U23};
+use crate::packed::{finds, link_of, relinked};
+use crate::{Entry, Key, Packed, U23};
 use std::marker::Model;
 
 // Sixteen bytes that `Packed::read` reads.
@@ -33,6 +35,7 @@ impl Frame {
         }
     }
 
+    #[inline]
     pub(crate) fn get(&self) -> Packed
         ensures { result ≡ self.now }
     {
@@ -45,30 +48,38 @@ impl Frame {
         self.bytes = packed.write();
     }
 
+    // Whether the key finds the entry.
+    #[inline]
+    pub(crate) fn has_key(&self, key: Key) -> bool
+        ensures { result ≡ has_key key self.now.entry }
+    {
+        finds(key, &self.bytes)
+    }
+
     // The code of the next place.
+    #[inline]
     pub(crate) fn link(&self) -> u32
         ensures value { result ≡ self.now.link }
         ensures fits { result < 2 ^ 23 }
     {
-        let packed = self.get();
-        packed.link.get()
+        link_of(&self.bytes)
     }
 
     // Writes the code of the next place.
+    #[inline]
     pub(crate) fn set_link(&mut self, code: u32)
         requires { code < 2 ^ 23 }
         ensures { self.new ≡ with_link self.old code }
     {
-        let entry = self.get().entry;
-        let link = U23::of(code);
-        self.bytes = Packed { entry, link }.write();
+        self.bytes = relinked(&self.bytes, code);
     }
 
     // Writes the entry.
+    #[inline]
     pub(crate) fn set_entry(&mut self, entry: Entry)
         ensures { self.new ≡ with_entry self.old entry }
     {
-        let link = self.get().link;
+        let link = U23::of(self.link());
         self.bytes = Packed { entry, link }.write();
     }
 }

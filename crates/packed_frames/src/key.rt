@@ -1,6 +1,6 @@
 //! What frames are found by.
 ghost use Rattle.std.specs.Prelude.{◌≡◌, ◌<◌, ◌^◌, Some, IfSome};
-ghost use Rattle.packed_frames.specs.Keys.{has_key, truncated, key_of, shared_parts, hint_parts};
+ghost use Rattle.packed_frames.specs.Keys.{truncated, key_of, shared_parts, hint_parts};
 
 use crate::Entry;
 
@@ -59,18 +59,6 @@ impl Entry {
                 mpn,
                 ..
             } => Some((guest, ppn.get(), mpn.get())),
-        }
-    }
-
-    // Whether it is found by this key.
-    pub(crate) fn has_key(&self, key: Key) -> bool
-        ensures { result ≡ has_key key self.now }
-    {
-        match (key, *self) {
-            (Key::Shared(wanted), Entry::Shared { hash, .. }) => wanted == hash,
-            (Key::Hint(wanted), Entry::Hint { key, .. }) => wanted == key,
-            (Key::Shared(_), Entry::Hint { .. }) => false,
-            (Key::Hint(_), Entry::Shared { .. }) => false,
         }
     }
 }

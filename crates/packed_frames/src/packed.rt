@@ -2,8 +2,10 @@
 ghost use Rattle.std.specs.Prelude.{◌≡◌, ◌+◌, ◌<◌, ◌≤◌, ◌^◌, ◌++◌, Some, IfSome, IsSome, is_none, take, drop};
 ghost use Rattle.std.specs.Int.{w64, to_be_bytes, from_be_bytes};
 ghost use Rattle.packed_frames.specs.Packing.{packed_bytes, packed_shared, packed_hint, unpacked, is_refused, tail_word, hint_word, bits_of, word_at};
+ghost use Rattle.packed_frames.specs.Places.{frame_in, with_link};
+ghost use Rattle.packed_frames.specs.Keys.{has_key};
 
-use crate::{Entry, U23, U24};
+use crate::{Entry, Key, U23, U24};
 
 /// An entry, and the link to the next frame of its chain.
 #[derive(Clone, Copy, Debug, PartialEq, Eq)]
@@ -114,6 +116,42 @@ impl Packed {
     }
 }
 
+// Whether the key finds the entry of bytes that can be read. The first word seldom agrees by chance, the tag often.
+#[inline]
+pub(crate) fn finds(key: Key, bytes: &[u8; 16]) -> bool
+    requires { IsSome (unpacked bytes.now) }
+    ensures { result ≡ has_key key (frame_in bytes.now).entry }
+{
+    let first = word_at(bytes, 0);
+    let is_shared = bits(word_at(bytes, 8), 0, 1) == 1;
+    match key {
+        Key::Shared(hash) => hash == first && is_shared,
+        Key::Hint(key) => key == bits(first, 32, 32) && !is_shared,
+    }
+}
+
+// The link of bytes that can be read.
+#[inline]
+pub(crate) fn link_of(bytes: &[u8; 16]) -> u32
+    requires { IsSome (unpacked bytes.now) }
+    ensures value { result ≡ (frame_in bytes.now).link }
+    ensures fits { result < 2 ^ 23 }
+{
+    bits(word_at(bytes, 8), 1, 23)
+}
+
+// Bytes that can be read, with another link.
+#[inline]
+pub(crate) fn relinked(bytes: &[u8; 16], link: u32) -> [u8; 16]
+    requires read { IsSome (unpacked bytes.now) }
+    requires link { link < 2 ^ 23 }
+    ensures { unpacked result ≡ Some (with_link (frame_in bytes.now) link) }
+{
+    let second = word_at(bytes, 8);
+    let others = (second >> 24) * (1 << 24) + second % 2;
+    bytes_of(word_at(bytes, 0), others + u64::from(link) * 2)
+}
+
 // The word of an MPN of 24 bits, a count of 16, a link of 23 and a tag of 1.
 fn tail_word(mpn: u32, count: u16, link: u32, tag: u64) -> u64
     requires mpn { mpn < 2 ^ 24 }
@@ -147,9 +185,8 @@ fn word_at(bytes: &[u8; 16], at: usize) -> u64
     requires { at + 8 ≤ 16 }
     ensures { result ≡ word_at bytes.now at }
 {
-    let mut word = [0; 8];
-    word.copy_from_slice(&bytes[at..at + 8]);
-    u64::from_be_bytes(word)
+    let (word, _rest) = bytes[at..].split_first_chunk().unwrap();
+    u64::from_be_bytes(*word)
 }
 
 // The field of `width` bits of a word, with `low` bits below it.

@@ -2,15 +2,22 @@
 //!
 //! A code is 0 for no place, and n + 1 for place n. Each bucket has the code of the first place of its
 //! chain; a place has the code of the next one. The empty places form one more list, in the same way.
-ghost use Rattle.std.specs.Prelude.{◌≡◌, ◌+◌, ◌≤◌, ◌<◌, ◌^◌, IfOk, IfSome, length, map};
+ghost use Rattle.std.specs.Prelude.{◌≡◌, ◌≤◌, ◌<◌, ◌^◌, IfOk, IfSome, length, option_map};
 ghost use Rattle.packed_frames.specs.Keys.{has_key};
-ghost use Rattle.packed_frames.specs.Places.{link_of, no_entry};
-ghost use Rattle.packed_frames.specs.Linked.{Chained, no_chains, chain_at, entry_at, used, times, times_in, with_place, without_place, before, walk, link_in, IsBefore, first_of, with_entry_at};
+ghost use Rattle.packed_frames.specs.Places.{no_entry};
+ghost use Rattle.packed_frames.specs.Linked.{Chained, no_chains, chain_at, entry_at, used, times, times_in, with_place, without_place, code_before, first_of, with_entry_at};
 
 use crate::frame::Frame;
 use crate::{Entry, Key, Packed, U23, U24};
 use std::alloc::{AllocError, Allocator, Global};
 use std::marker::Model;
+
+// A place of a chain, and the code of the place before it: 0 where it is the chain's first.
+#[derive(Clone, Copy)]
+pub(crate) struct Found {
+    pub(crate) place: u32,
+    pub(crate) before: u32,
+}
 
 // A fixed number of places, each of which is in one chain or empty.
 #[derive(Drop)]
@@ -69,26 +76,32 @@ impl<A: Allocator> Places<A> {
         self.frames.len() as u32
     }
 
-    // The first place of the bucket's chain that the key finds.
-    pub(crate) fn find(&self, bucket: usize, key: Key) -> Option<u32>
+    // The first place of the bucket's chain that the key finds, and what stands before it. Each caller knows which kind
+    // of key it has, and gets a search of its own.
+    #[inline(always)]
+    pub(crate) fn find(&self, bucket: usize, key: Key) -> Option<Found>
         requires bucket { bucket < length self.now.chains }
-        ensures found { result ≡ first_of (λ p. has_key key (entry_at self.now p)) (chain_at self.now bucket) }
-        ensures once { IfSome result (λ p. times_in p self.now.chains ≡ 1) }
-        ensures within { IfSome result (λ p. p < length self.now.entries) }
+        ensures found { option_map (λ f. f.place) result ≡ first_of (λ p. has_key key (entry_at self.now p)) (chain_at self.now bucket) }
+        ensures before { IfSome result (λ f. f.before ≡ code_before f.place 0 (chain_at self.now bucket)) }
+        ensures once { IfSome result (λ f. times_in f.place self.now.chains ≡ 1) }
+        ensures within { IfSome result (λ f. f.place < length self.now.entries) }
     {
+        let mut before = 0;
         let mut code = self.heads[bucket];
         while code != 0 {
             let place = code - 1;
-            let packed = self.frames[place as usize].get();
-            if packed.entry.has_key(key) {
-                return Some(place);
+            let frame = &self.frames[place as usize];
+            if frame.has_key(key) {
+                return Some(Found { place, before });
             }
-            code = packed.link.get();
+            before = code;
+            code = frame.link();
         }
         None
     }
 
     // The entry of a place.
+    #[inline]
     pub(crate) fn entry(&self, place: u32) -> Entry
         requires { place < length self.now.entries }
         ensures { result ≡ entry_at self.now place }
@@ -98,6 +111,7 @@ impl<A: Allocator> Places<A> {
     }
 
     // Writes the entry of a place.
+    #[inline]
     pub(crate) fn set_entry(&mut self, place: u32, entry: Entry)
         requires { place < length self.old.entries }
         ensures { self.new ≡ with_entry_at self.old place entry }
@@ -106,6 +120,7 @@ impl<A: Allocator> Places<A> {
     }
 
     // Puts an entry into an empty place, at the head of the bucket's chain.
+    #[inline]
     pub(crate) fn add(&mut self, bucket: usize, entry: Entry) -> u32
         requires bucket { bucket < length self.old.chains }
         requires room { used self.old < length self.old.entries }
@@ -123,19 +138,20 @@ impl<A: Allocator> Places<A> {
         place
     }
 
-    // Takes a place out of the bucket's chain.
-    pub(crate) fn remove(&mut self, bucket: usize, place: u32)
+    // Takes a place that was found out of the bucket's chain.
+    #[inline]
+    pub(crate) fn remove(&mut self, bucket: usize, found: Found)
         requires bucket { bucket < length self.old.chains }
-        requires place { 1 ≤ times place (chain_at self.old bucket) }
-        ensures { self.new ≡ without_place self.old bucket place }
+        requires place { 1 ≤ times found.place (chain_at self.old bucket) }
+        requires before { found.before ≡ code_before found.place 0 (chain_at self.old bucket) }
+        ensures { self.new ≡ without_place self.old bucket found.place }
     {
-        let first = self.heads[bucket];
+        let Found { place, before } = found;
         let after = self.frames[place as usize].link();
-        if first == place + 1 {
+        if before == 0 {
             self.heads[bucket] = after;
         } else {
-            let at = place_before(self.frames.as_slice(), first - 1, place);
-            self.frames[at as usize].set_link(after);
+            self.frames[(before - 1) as usize].set_link(after);
         }
         self.frames[place as usize].set_link(self.free);
         self.free = place + 1;
@@ -156,20 +172,4 @@ fn empty_frame(code: u32) -> Frame
     };
     let link = U23::of(code);
     Frame::new(Packed { entry, link })
-}
-
-// The place before `place`, from `first` on.
-fn place_before(frames: &[Frame], first: u32, place: u32) -> u32
-    requires limit { length frames.now ≤ 1048576 }
-    requires before { IsBefore (map link_of frames.now) first place }
-    ensures within { result < length frames.now }
-    ensures before { result ≡ before place first (walk (link_in (map link_of frames.now)) (length (map link_of frames.now)) (link_in (map link_of frames.now) first)) }
-{
-    let mut at = first;
-    let mut code = frames[at as usize].link();
-    while code != place + 1 {
-        at = code - 1;
-        code = frames[at as usize].link();
-    }
-    at
 }

@@ -73,7 +73,7 @@ pub no_shared : (h : ℕ) (e : Entry) → has_key (keys.Hint h) e ≡ true → s
 no_shared h (Shared x m c) t = absurd (true_not_false true refl (sym t))
 no_shared h (Hint k g n m) t = refl
 
-same_number : (q h : ℕ) → eqb q h ≡ true → h ≡ q
+pub same_number : (q h : ℕ) → eqb q h ≡ true → h ≡ q
 same_number q h e = grind (arith, nat_tests)
 
 -- an entry that is found has the key

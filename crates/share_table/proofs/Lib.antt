@@ -4,3 +4,4 @@ pub mod Keyed
 pub mod Chained
 pub mod Tables
 pub mod Kept
+pub mod Counted

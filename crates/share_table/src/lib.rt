@@ -18,6 +18,7 @@ ghost use Rattle.std.specs.Prelude.{◌≡◌, ◌+◌, ◌*◌, ◌≤◌, ◌<
 ghost use Rattle.share_table.specs.TableMaps.{shared_at, hint_at, entry_count, references, extended, field_of, count_at, with_shared, with_count, with_one_less, with_hint, without_hint, empty_table};
 
 use buckets::bucket_count;
+use entries::EXTENDED;
 pub use entries::HintFrame;
 use frames::{hint_frame, shared_frame};
 pub use packed_frames::Packed;
@@ -150,6 +151,21 @@ impl<A: Allocator> Table<A> {
         ensures count { result ≡ count_at self.old hash + 1 }
         ensures joined { self.new ≡ with_count self.old hash (count_at self.old hash + 1) }
     {
+        let field = self.chains.count_up(hash);
+        if field == EXTENDED || field == u16::MAX {
+            return self.join_wide(hash);
+        }
+        self.references += 1;
+        u32::from(field) + 1
+    }
+
+    // The same, however wide the count is.
+    fn join_wide(&mut self, hash: u64) -> u32
+        requires present { IsSome (shared_at self.old hash) }
+        requires references { references self.old < 1048576 }
+        ensures count { result ≡ count_at self.old hash + 1 }
+        ensures joined { self.new ≡ with_count self.old hash (count_at self.old hash + 1) }
+    {
         let entry = shared_frame(&self.chains, hash).unwrap();
         let count = self.wide.count_of(entry) + 1;
         let field = self.wide.store(entry, count);
@@ -168,13 +184,24 @@ impl<A: Allocator> Table<A> {
         ensures count { result + 1 ≡ count_at self.old hash }
         ensures left { self.new ≡ with_one_less self.old hash }
     {
+        let field = self.chains.count_down(hash);
+        if field == EXTENDED {
+            return self.leave_wide(hash);
+        }
+        self.references -= 1;
+        u32::from(field) - 1
+    }
+
+    // The same, where the count stands in the overflow table.
+    fn leave_wide(&mut self, hash: u64) -> u32
+        requires present { IsSome (shared_at self.old hash) }
+        requires wide { 65536 ≤ count_at self.old hash }
+        ensures count { result + 1 ≡ count_at self.old hash }
+        ensures left { self.new ≡ with_one_less self.old hash }
+    {
         let entry = shared_frame(&self.chains, hash).unwrap();
         let count = self.wide.count_of(entry) - 1;
         self.references -= 1;
-        if count == 0 {
-            self.chains.remove(Key::Shared(entry.hash));
-            return 0;
-        }
         let field = self.wide.store(entry, count);
         self.chains.replace(Entry::Shared {
             hash: entry.hash,

@@ -104,14 +104,14 @@ fn refused_growth(rt: HostRuntime) -> Result<(), Fail> {
             break;
         }
     }
-    assert_eq!(rt; whole_at, Some(3));
+    assert_eq!(rt; whole_at, Some(4));
     Ok(())
 }
 
 // Once the frames are made, no call takes memory.
 #[test]
 fn no_memory_after_new(rt: HostRuntime) -> Result<(), Fail> {
-    let heap = Refusing::new(rt.alloc(), 3, u64::MAX);
+    let heap = Refusing::new(rt.alloc(), 4, u64::MAX);
     let frames = Frames::new(&heap, 2).map_err(|_| "no frames")?;
     two_frames(&rt, frames)?;
     assert!(rt; !heap.has_refused());

@@ -1,4 +1,4 @@
-use Rattle.std.proofs.Common.{◌≤◌, arith}
+use Rattle.std.proofs.Common.{arith}
 use Rattle.share_table.proofs.Table.bytes.Goals as goal
 
 pub returns-clause-least : goal.returns-clause-least

@@ -1,73 +1,35 @@
-use Rattle.std.proofs.Common.{◌≡◌, ℕ, ◌+◌, ◌<◌, refl, ap, arith}
-use Rattle.share_table.specs.TableMaps.{references, field_of}
-use Rattle.share_table.specs.declared.entries.SharedEntry.{SharedEntry}
+use Rattle.std.proofs.Common.{◌≡◌, ◌≢◌, ◌+◌, ◌<◌, sym, ap, ◌∙◌, arith}
+use Rattle.share_table.specs.TableMaps.{references}
 use Rattle.share_table.specs.Stored.{maps_of}
-use Rattle.share_table.proofs.Tables.{wide_fits}
-use Rattle.share_table.proofs.Kept.{some_frame, entry_in, first_in, entry_agrees, entry_most, entry_counts, counts_as, count_changed, count_kept}
+use Rattle.share_table.proofs.Counted.{frame_for, there_at, field_at, count_is, up_maps, up_kept}
 use Rattle.share_table.proofs.Table.join.Goals as goal
 
-pub unwrap-entry-requires : goal.unwrap-entry-requires
-unwrap-entry-requires g c =
-    some_frame c.self.inside.references c.self.inside.chains c.self.inside.wide c.self.invariant c.args.hash c.shared_frame.result c.shared_frame.ensures.found (rw (← c.self.view_is) at c.requires.present)
+pub count_up-field-requires : goal.count_up-field-requires
+count_up-field-requires g c =
+    let F = frame_for c.self.inside.references c.self.inside.chains c.self.inside.wide c.self.invariant c.args.hash (rw (← c.self.view_is) at c.requires.present) in
+    record { present = there_at c.self.inside.references c.self.inside.chains c.self.inside.wide c.self.invariant c.args.hash F.e F.hash_is F.first_is F.entry_is }
 
-pub count_of-count-requires : goal.count_of-count-requires
-count_of-count-requires g c =
-    let e : SharedEntry = c.unwrap-entry.result in
-    let hash_is : e.hash ≡ c.args.hash = rw c.unwrap-entry.ensures at c.shared_frame.ensures.hash in
-    let at = entry_in c.self.inside.references c.self.inside.chains c.self.inside.wide c.self.invariant c.args.hash c.shared_frame.result c.shared_frame.ensures.found e c.unwrap-entry.ensures hash_is in
-    entry_agrees c.self.inside.references c.self.inside.chains c.self.inside.wide c.self.invariant e at
-
-pub overflow_add-count : goal.overflow_add-count
-overflow_add-count g c =
-    let e : SharedEntry = c.unwrap-entry.result in
-    let hash_is : e.hash ≡ c.args.hash = rw c.unwrap-entry.ensures at c.shared_frame.ensures.hash in
-    let at = entry_in c.self.inside.references c.self.inside.chains c.self.inside.wide c.self.invariant c.args.hash c.shared_frame.result c.shared_frame.ensures.found e c.unwrap-entry.ensures hash_is in
-    omega (arith, entry_most c.self.inside.references c.self.inside.chains c.self.inside.wide c.self.invariant e at, c.count_of-count.ensures, c.self.invariant.counted.bounded)
-
-pub store-field-requires-clause-agrees : goal.store-field-requires-clause-agrees
-store-field-requires-clause-agrees g c =
-    let e : SharedEntry = c.unwrap-entry.result in
-    let hash_is : e.hash ≡ c.args.hash = rw c.unwrap-entry.ensures at c.shared_frame.ensures.hash in
-    let at = entry_in c.self.inside.references c.self.inside.chains c.self.inside.wide c.self.invariant c.args.hash c.shared_frame.result c.shared_frame.ensures.found e c.unwrap-entry.ensures hash_is in
-    entry_agrees c.self.inside.references c.self.inside.chains c.self.inside.wide c.self.invariant e at
-
-pub store-field-requires-clause-room : goal.store-field-requires-clause-room
-store-field-requires-clause-room g c =
-    let e : SharedEntry = c.unwrap-entry.result in
-    let hash_is : e.hash ≡ c.args.hash = rw c.unwrap-entry.ensures at c.shared_frame.ensures.hash in
-    let at = entry_in c.self.inside.references c.self.inside.chains c.self.inside.wide c.self.invariant c.args.hash c.shared_frame.result c.shared_frame.ensures.found e c.unwrap-entry.ensures hash_is in
-    let first = first_in c.self.inside.references c.self.inside.chains c.self.inside.wide c.self.invariant c.args.hash c.shared_frame.result c.shared_frame.ensures.found e c.unwrap-entry.ensures hash_is in
-    let n : ℕ = c.count_of-count.result in
+pub invariant_of-self-2 : goal.invariant_of-self-2
+invariant_of-self-2 g c =
+    let F = frame_for c.self.inside.references c.self.inside.chains c.self.inside.wide c.self.invariant c.args.hash (rw (← c.self.view_is) at c.requires.present) in
+    let same : c.count_up-field.result ≡ F.e.field = c.count_up-field.ensures.before ∙ field_at c.self.inside.references c.self.inside.chains c.self.inside.wide c.self.invariant c.args.hash F.e F.hash_is F.first_is F.entry_is in
+    let some : F.e.field ≢ 0 = λ z. c.if-field-eq-EXTENDED.false (same ∙ z) in
+    let room : F.e.field ≢ 65535 = λ z. c.if-field.false (same ∙ z) in
     let sum : references (maps_of c.self.inside.chains c.self.inside.wide) < 1048576 = rw (← c.self.view_is) at c.requires.references in
     let total : references (maps_of c.self.inside.chains c.self.inside.wide) ≡ c.self.inside.references = c.self.invariant.counted.summed in
-    let kept = count_kept c.self.inside.references c.self.inside.chains c.self.inside.wide c.self.invariant e first at (n + 1) (field_of (n + 1)) refl (omega arith) (c.self.inside.references + 1) (omega (arith, c.count_of-count.ensures)) (omega (arith, sum, total)) in
-    wide_fits _ _ _ kept.counted
-
-pub invariant_of-self : goal.invariant_of-self
-invariant_of-self g c =
-    let e : SharedEntry = c.unwrap-entry.result in
-    let hash_is : e.hash ≡ c.args.hash = rw c.unwrap-entry.ensures at c.shared_frame.ensures.hash in
-    let at = entry_in c.self.inside.references c.self.inside.chains c.self.inside.wide c.self.invariant c.args.hash c.shared_frame.result c.shared_frame.ensures.found e c.unwrap-entry.ensures hash_is in
-    let first = first_in c.self.inside.references c.self.inside.chains c.self.inside.wide c.self.invariant c.args.hash c.shared_frame.result c.shared_frame.ensures.found e c.unwrap-entry.ensures hash_is in
-    let n : ℕ = c.count_of-count.result in
-    let sum : references (maps_of c.self.inside.chains c.self.inside.wide) < 1048576 = rw (← c.self.view_is) at c.requires.references in
-    let total : references (maps_of c.self.inside.chains c.self.inside.wide) ≡ c.self.inside.references = c.self.invariant.counted.summed in
-    rw (c.replace.ensures, c.of.ensures, c.store-field.ensures.counts)
-    (count_kept c.self.inside.references c.self.inside.chains c.self.inside.wide c.self.invariant e first at (n + 1) c.store-field.result c.store-field.ensures.field (omega arith) (c.self.inside.references + 1) (omega (arith, c.count_of-count.ensures)) (omega (arith, sum, total)))
+    rw c.count_up-field.ensures.counted (up_kept c.self.inside.references c.self.inside.chains c.self.inside.wide c.self.invariant c.args.hash F.e F.hash_is F.first_is F.entry_is some room (omega (arith, sum, total)))
 
 pub returns-clause-count : goal.returns-clause-count
 returns-clause-count g c =
-    let e : SharedEntry = c.unwrap-entry.result in
-    let hash_is : e.hash ≡ c.args.hash = rw c.unwrap-entry.ensures at c.shared_frame.ensures.hash in
-    let at = entry_in c.self.inside.references c.self.inside.chains c.self.inside.wide c.self.invariant c.args.hash c.shared_frame.result c.shared_frame.ensures.found e c.unwrap-entry.ensures hash_is in
-    rw (← c.self.view_is, ← hash_is, entry_counts c.self.inside.references c.self.inside.chains c.self.inside.wide c.self.invariant e at) (ap (λ n. n + 1) c.count_of-count.ensures)
+    let F = frame_for c.self.inside.references c.self.inside.chains c.self.inside.wide c.self.invariant c.args.hash (rw (← c.self.view_is) at c.requires.present) in
+    let same : c.count_up-field.result ≡ F.e.field = c.count_up-field.ensures.before ∙ field_at c.self.inside.references c.self.inside.chains c.self.inside.wide c.self.invariant c.args.hash F.e F.hash_is F.first_is F.entry_is in
+    let some : F.e.field ≢ 0 = λ z. c.if-field-eq-EXTENDED.false (same ∙ z) in
+    rw (← c.self.view_is) (ap (λ n. n + 1) (c.from.ensures ∙ same ∙ sym (count_is c.self.inside.references c.self.inside.chains c.self.inside.wide c.self.invariant c.args.hash F.e F.hash_is F.first_is F.entry_is some)))
 
 pub returns-clause-joined : goal.returns-clause-joined
 returns-clause-joined g c =
-    let e : SharedEntry = c.unwrap-entry.result in
-    let hash_is : e.hash ≡ c.args.hash = rw c.unwrap-entry.ensures at c.shared_frame.ensures.hash in
-    let at = entry_in c.self.inside.references c.self.inside.chains c.self.inside.wide c.self.invariant c.args.hash c.shared_frame.result c.shared_frame.ensures.found e c.unwrap-entry.ensures hash_is in
-    let first = first_in c.self.inside.references c.self.inside.chains c.self.inside.wide c.self.invariant c.args.hash c.shared_frame.result c.shared_frame.ensures.found e c.unwrap-entry.ensures hash_is in
-    let n : ℕ = c.count_of-count.result in
-    rw (← c.self.view_is, ← hash_is, entry_counts c.self.inside.references c.self.inside.chains c.self.inside.wide c.self.invariant e at, ← c.count_of-count.ensures, counts_as c.self.inside.references c.self.inside.chains c.self.inside.wide c.self.invariant e at (n + 1), c.replace.ensures, c.of.ensures, c.store-field.ensures.counts)
-    (count_changed c.self.inside.references c.self.inside.chains c.self.inside.wide c.self.invariant e first at (n + 1) c.store-field.result c.store-field.ensures.field (omega arith))
+    let F = frame_for c.self.inside.references c.self.inside.chains c.self.inside.wide c.self.invariant c.args.hash (rw (← c.self.view_is) at c.requires.present) in
+    let same : c.count_up-field.result ≡ F.e.field = c.count_up-field.ensures.before ∙ field_at c.self.inside.references c.self.inside.chains c.self.inside.wide c.self.invariant c.args.hash F.e F.hash_is F.first_is F.entry_is in
+    let some : F.e.field ≢ 0 = λ z. c.if-field-eq-EXTENDED.false (same ∙ z) in
+    let room : F.e.field ≢ 65535 = λ z. c.if-field.false (same ∙ z) in
+    rw (← c.self.view_is, c.count_up-field.ensures.counted) (up_maps c.self.inside.references c.self.inside.chains c.self.inside.wide c.self.invariant c.args.hash F.e F.hash_is F.first_is F.entry_is some room)

@@ -1,123 +1,45 @@
-use Rattle.std.proofs.Common.{◌≡◌, ℕ, ◌-◌, ◌≤◌, sym, refl, arith}
-use Rattle.std.specs.FinMap.{get}
-use Rattle.share_table.specs.TableMaps.{field_of}
-use Rattle.share_table.specs.declared.entries.SharedEntry.{SharedEntry}
-use Rattle.share_table.specs.Stored.{widened}
-use Rattle.share_table.proofs.Tables.{wide_fits}
-use Rattle.share_table.proofs.Kept.{some_frame, entry_in, first_in, entry_agrees, entry_least, entry_most, entry_counts, one_less, one_less_of_more, count_changed, count_kept, frame_gone, gone_kept}
+use Rattle.std.proofs.Common.{◌≡◌, ◌≢◌, sym, ◌∙◌, arith}
+use Rattle.share_table.proofs.Counted.{frame_for, there_at, field_at, wide_at, count_is, field_within, down_none, left_maps, left_kept}
 use Rattle.share_table.proofs.Table.leave.Goals as goal
 
-pub unwrap-entry-requires : goal.unwrap-entry-requires
-unwrap-entry-requires g c =
-    some_frame c.self.inside.references c.self.inside.chains c.self.inside.wide c.self.invariant c.args.hash c.shared_frame.result c.shared_frame.ensures.found (rw (← c.self.view_is) at c.requires.present)
+pub count_down-field-requires : goal.count_down-field-requires
+count_down-field-requires g c =
+    let F = frame_for c.self.inside.references c.self.inside.chains c.self.inside.wide c.self.invariant c.args.hash (rw (← c.self.view_is) at c.requires.present) in
+    record { present = there_at c.self.inside.references c.self.inside.chains c.self.inside.wide c.self.invariant c.args.hash F.e F.hash_is F.first_is F.entry_is }
 
-pub count_of-count-requires : goal.count_of-count-requires
-count_of-count-requires g c =
-    let e : SharedEntry = c.unwrap-entry.result in
-    let hash_is : e.hash ≡ c.args.hash = rw c.unwrap-entry.ensures at c.shared_frame.ensures.hash in
-    let at = entry_in c.self.inside.references c.self.inside.chains c.self.inside.wide c.self.invariant c.args.hash c.shared_frame.result c.shared_frame.ensures.found e c.unwrap-entry.ensures hash_is in
-    entry_agrees c.self.inside.references c.self.inside.chains c.self.inside.wide c.self.invariant e at
-
-pub overflow_sub-count : goal.overflow_sub-count
-overflow_sub-count g c =
-    let e : SharedEntry = c.unwrap-entry.result in
-    let hash_is : e.hash ≡ c.args.hash = rw c.unwrap-entry.ensures at c.shared_frame.ensures.hash in
-    let at = entry_in c.self.inside.references c.self.inside.chains c.self.inside.wide c.self.invariant c.args.hash c.shared_frame.result c.shared_frame.ensures.found e c.unwrap-entry.ensures hash_is in
-    omega (arith, entry_least c.self.inside.references c.self.inside.chains c.self.inside.wide c.self.invariant e at, c.count_of-count.ensures)
+pub leave_wide-requires-clause-wide : goal.leave_wide-requires-clause-wide
+leave_wide-requires-clause-wide g c =
+    let F = frame_for c.self.inside.references c.self.inside.chains c.self.inside.wide c.self.invariant c.args.hash (rw (← c.self.view_is) at c.requires.present) in
+    let same : c.count_down-field.result ≡ F.e.field = c.count_down-field.ensures.before ∙ field_at c.self.inside.references c.self.inside.chains c.self.inside.wide c.self.invariant c.args.hash F.e F.hash_is F.first_is F.entry_is in
+    let zero : F.e.field ≡ 0 = sym same ∙ c.if-field-eq-EXTENDED.true in
+    rw (c.count_down-field.ensures.counted, down_none c.self.inside.references c.self.inside.chains c.self.inside.wide c.self.invariant c.args.hash F.e F.hash_is F.first_is F.entry_is zero) (wide_at c.self.inside.references c.self.inside.chains c.self.inside.wide c.self.invariant c.args.hash F.e F.hash_is F.first_is F.entry_is zero)
 
 pub overflow_sub-self : goal.overflow_sub-self
 overflow_sub-self g c =
-    let e : SharedEntry = c.unwrap-entry.result in
-    let hash_is : e.hash ≡ c.args.hash = rw c.unwrap-entry.ensures at c.shared_frame.ensures.hash in
-    let at = entry_in c.self.inside.references c.self.inside.chains c.self.inside.wide c.self.invariant c.args.hash c.shared_frame.result c.shared_frame.ensures.found e c.unwrap-entry.ensures hash_is in
-    omega (arith, entry_least c.self.inside.references c.self.inside.chains c.self.inside.wide c.self.invariant e at, entry_most c.self.inside.references c.self.inside.chains c.self.inside.wide c.self.invariant e at)
-
-pub remove-requires : goal.remove-requires
-remove-requires g c =
-    let e : SharedEntry = c.unwrap-entry.result in
-    let hash_is : e.hash ≡ c.args.hash = rw c.unwrap-entry.ensures at c.shared_frame.ensures.hash in
-    record { present = first_in c.self.inside.references c.self.inside.chains c.self.inside.wide c.self.invariant c.args.hash c.shared_frame.result c.shared_frame.ensures.found e c.unwrap-entry.ensures hash_is }
-
-pub invariant_of-self : goal.invariant_of-self
-invariant_of-self g c =
-    let e : SharedEntry = c.unwrap-entry.result in
-    let hash_is : e.hash ≡ c.args.hash = rw c.unwrap-entry.ensures at c.shared_frame.ensures.hash in
-    let at = entry_in c.self.inside.references c.self.inside.chains c.self.inside.wide c.self.invariant c.args.hash c.shared_frame.result c.shared_frame.ensures.found e c.unwrap-entry.ensures hash_is in
-    let first = first_in c.self.inside.references c.self.inside.chains c.self.inside.wide c.self.invariant c.args.hash c.shared_frame.result c.shared_frame.ensures.found e c.unwrap-entry.ensures hash_is in
-    let least = entry_least c.self.inside.references c.self.inside.chains c.self.inside.wide c.self.invariant e at in
-    let one : widened e.field (get c.self.inside.wide e.hash) ≡ 1 = omega (arith, least, c.count_of-count.ensures, c.if-count-eq0.true) in
-    let most = entry_most c.self.inside.references c.self.inside.chains c.self.inside.wide c.self.invariant e at in
-    rw c.remove.ensures (gone_kept c.self.inside.references c.self.inside.chains c.self.inside.wide c.self.invariant e first at one (c.self.inside.references - 1) (omega (arith, most, one)))
-
-pub returns-then-count-eq0-clause-count : goal.returns-then-count-eq0-clause-count
-returns-then-count-eq0-clause-count g c =
-    let e : SharedEntry = c.unwrap-entry.result in
-    let hash_is : e.hash ≡ c.args.hash = rw c.unwrap-entry.ensures at c.shared_frame.ensures.hash in
-    let at = entry_in c.self.inside.references c.self.inside.chains c.self.inside.wide c.self.invariant c.args.hash c.shared_frame.result c.shared_frame.ensures.found e c.unwrap-entry.ensures hash_is in
-    let least = entry_least c.self.inside.references c.self.inside.chains c.self.inside.wide c.self.invariant e at in
-    let one : widened e.field (get c.self.inside.wide e.hash) ≡ 1 = omega (arith, least, c.count_of-count.ensures, c.if-count-eq0.true) in
-    rw (← c.self.view_is, ← hash_is, entry_counts c.self.inside.references c.self.inside.chains c.self.inside.wide c.self.invariant e at) (sym one)
-
-pub returns-then-count-eq0-clause-left : goal.returns-then-count-eq0-clause-left
-returns-then-count-eq0-clause-left g c =
-    let e : SharedEntry = c.unwrap-entry.result in
-    let hash_is : e.hash ≡ c.args.hash = rw c.unwrap-entry.ensures at c.shared_frame.ensures.hash in
-    let at = entry_in c.self.inside.references c.self.inside.chains c.self.inside.wide c.self.invariant c.args.hash c.shared_frame.result c.shared_frame.ensures.found e c.unwrap-entry.ensures hash_is in
-    let first = first_in c.self.inside.references c.self.inside.chains c.self.inside.wide c.self.invariant c.args.hash c.shared_frame.result c.shared_frame.ensures.found e c.unwrap-entry.ensures hash_is in
-    let least = entry_least c.self.inside.references c.self.inside.chains c.self.inside.wide c.self.invariant e at in
-    let one : widened e.field (get c.self.inside.wide e.hash) ≡ 1 = omega (arith, least, c.count_of-count.ensures, c.if-count-eq0.true) in
-    rw (← c.self.view_is, ← hash_is, one_less c.self.inside.references c.self.inside.chains c.self.inside.wide c.self.invariant e at one, c.remove.ensures) (frame_gone c.self.inside.references c.self.inside.chains c.self.inside.wide c.self.invariant e first at one)
-
-pub store-field-requires-clause-agrees : goal.store-field-requires-clause-agrees
-store-field-requires-clause-agrees g c =
-    let e : SharedEntry = c.unwrap-entry.result in
-    let hash_is : e.hash ≡ c.args.hash = rw c.unwrap-entry.ensures at c.shared_frame.ensures.hash in
-    let at = entry_in c.self.inside.references c.self.inside.chains c.self.inside.wide c.self.invariant c.args.hash c.shared_frame.result c.shared_frame.ensures.found e c.unwrap-entry.ensures hash_is in
-    entry_agrees c.self.inside.references c.self.inside.chains c.self.inside.wide c.self.invariant e at
-
-pub store-field-requires-clause-room : goal.store-field-requires-clause-room
-store-field-requires-clause-room g c =
-    let e : SharedEntry = c.unwrap-entry.result in
-    let hash_is : e.hash ≡ c.args.hash = rw c.unwrap-entry.ensures at c.shared_frame.ensures.hash in
-    let at = entry_in c.self.inside.references c.self.inside.chains c.self.inside.wide c.self.invariant c.args.hash c.shared_frame.result c.shared_frame.ensures.found e c.unwrap-entry.ensures hash_is in
-    let first = first_in c.self.inside.references c.self.inside.chains c.self.inside.wide c.self.invariant c.args.hash c.shared_frame.result c.shared_frame.ensures.found e c.unwrap-entry.ensures hash_is in
-    let n : ℕ = c.count_of-count.result in
-    let least = entry_least c.self.inside.references c.self.inside.chains c.self.inside.wide c.self.invariant e at in
-    let most = entry_most c.self.inside.references c.self.inside.chains c.self.inside.wide c.self.invariant e at in
-    let more : 1 ≤ n - 1 = omega (arith, c.if-count-eq0.false) in
-    let kept = count_kept c.self.inside.references c.self.inside.chains c.self.inside.wide c.self.invariant e first at (n - 1) (field_of (n - 1)) refl more (c.self.inside.references - 1) (omega (arith, least, most, c.count_of-count.ensures)) (omega (arith, c.self.invariant.counted.bounded)) in
-    wide_fits _ _ _ kept.counted
+    let F = frame_for c.self.inside.references c.self.inside.chains c.self.inside.wide c.self.invariant c.args.hash (rw (← c.self.view_is) at c.requires.present) in
+    let same : c.count_down-field.result ≡ F.e.field = c.count_down-field.ensures.before ∙ field_at c.self.inside.references c.self.inside.chains c.self.inside.wide c.self.invariant c.args.hash F.e F.hash_is F.first_is F.entry_is in
+    let some : F.e.field ≢ 0 = λ z. c.if-field-eq-EXTENDED.false (same ∙ z) in
+    let within = field_within c.self.inside.references c.self.inside.chains c.self.inside.wide c.self.invariant c.args.hash F.e F.hash_is F.first_is F.entry_is some in
+    omega (arith, within, some)
 
 pub invariant_of-self-2 : goal.invariant_of-self-2
 invariant_of-self-2 g c =
-    let e : SharedEntry = c.unwrap-entry.result in
-    let hash_is : e.hash ≡ c.args.hash = rw c.unwrap-entry.ensures at c.shared_frame.ensures.hash in
-    let at = entry_in c.self.inside.references c.self.inside.chains c.self.inside.wide c.self.invariant c.args.hash c.shared_frame.result c.shared_frame.ensures.found e c.unwrap-entry.ensures hash_is in
-    let first = first_in c.self.inside.references c.self.inside.chains c.self.inside.wide c.self.invariant c.args.hash c.shared_frame.result c.shared_frame.ensures.found e c.unwrap-entry.ensures hash_is in
-    let n : ℕ = c.count_of-count.result in
-    let least = entry_least c.self.inside.references c.self.inside.chains c.self.inside.wide c.self.invariant e at in
-    let most = entry_most c.self.inside.references c.self.inside.chains c.self.inside.wide c.self.invariant e at in
-    let more : 1 ≤ n - 1 = omega (arith, c.if-count-eq0.false) in
-    rw (c.replace.ensures, c.of.ensures, c.store-field.ensures.counts)
-    (count_kept c.self.inside.references c.self.inside.chains c.self.inside.wide c.self.invariant e first at (n - 1) c.store-field.result c.store-field.ensures.field more (c.self.inside.references - 1) (omega (arith, least, most, c.count_of-count.ensures)) (omega (arith, c.self.invariant.counted.bounded)))
+    let F = frame_for c.self.inside.references c.self.inside.chains c.self.inside.wide c.self.invariant c.args.hash (rw (← c.self.view_is) at c.requires.present) in
+    let same : c.count_down-field.result ≡ F.e.field = c.count_down-field.ensures.before ∙ field_at c.self.inside.references c.self.inside.chains c.self.inside.wide c.self.invariant c.args.hash F.e F.hash_is F.first_is F.entry_is in
+    let some : F.e.field ≢ 0 = λ z. c.if-field-eq-EXTENDED.false (same ∙ z) in
+    rw c.count_down-field.ensures.counted (left_kept c.self.inside.references c.self.inside.chains c.self.inside.wide c.self.invariant c.args.hash F.e F.hash_is F.first_is F.entry_is some)
 
 pub returns-clause-count : goal.returns-clause-count
 returns-clause-count g c =
-    let e : SharedEntry = c.unwrap-entry.result in
-    let hash_is : e.hash ≡ c.args.hash = rw c.unwrap-entry.ensures at c.shared_frame.ensures.hash in
-    let at = entry_in c.self.inside.references c.self.inside.chains c.self.inside.wide c.self.invariant c.args.hash c.shared_frame.result c.shared_frame.ensures.found e c.unwrap-entry.ensures hash_is in
-    let least = entry_least c.self.inside.references c.self.inside.chains c.self.inside.wide c.self.invariant e at in
-    rw (← c.self.view_is, ← hash_is, entry_counts c.self.inside.references c.self.inside.chains c.self.inside.wide c.self.invariant e at) (omega (arith, least, c.count_of-count.ensures))
+    let F = frame_for c.self.inside.references c.self.inside.chains c.self.inside.wide c.self.invariant c.args.hash (rw (← c.self.view_is) at c.requires.present) in
+    let same : c.count_down-field.result ≡ F.e.field = c.count_down-field.ensures.before ∙ field_at c.self.inside.references c.self.inside.chains c.self.inside.wide c.self.invariant c.args.hash F.e F.hash_is F.first_is F.entry_is in
+    let some : F.e.field ≢ 0 = λ z. c.if-field-eq-EXTENDED.false (same ∙ z) in
+    let counted = count_is c.self.inside.references c.self.inside.chains c.self.inside.wide c.self.invariant c.args.hash F.e F.hash_is F.first_is F.entry_is some in
+    rw (← c.self.view_is) (omega (arith, c.from.ensures, same, counted, some))
 
 pub returns-clause-left : goal.returns-clause-left
 returns-clause-left g c =
-    let e : SharedEntry = c.unwrap-entry.result in
-    let hash_is : e.hash ≡ c.args.hash = rw c.unwrap-entry.ensures at c.shared_frame.ensures.hash in
-    let at = entry_in c.self.inside.references c.self.inside.chains c.self.inside.wide c.self.invariant c.args.hash c.shared_frame.result c.shared_frame.ensures.found e c.unwrap-entry.ensures hash_is in
-    let first = first_in c.self.inside.references c.self.inside.chains c.self.inside.wide c.self.invariant c.args.hash c.shared_frame.result c.shared_frame.ensures.found e c.unwrap-entry.ensures hash_is in
-    let n : ℕ = c.count_of-count.result in
-    let least = entry_least c.self.inside.references c.self.inside.chains c.self.inside.wide c.self.invariant e at in
-    let most = entry_most c.self.inside.references c.self.inside.chains c.self.inside.wide c.self.invariant e at in
-    let more : 1 ≤ n - 1 = omega (arith, c.if-count-eq0.false) in
-    rw (← c.self.view_is, ← hash_is, one_less_of_more c.self.inside.references c.self.inside.chains c.self.inside.wide c.self.invariant e at (n - 1) (omega (arith, least, c.count_of-count.ensures)) more, c.replace.ensures, c.of.ensures, c.store-field.ensures.counts)
-    (count_changed c.self.inside.references c.self.inside.chains c.self.inside.wide c.self.invariant e first at (n - 1) c.store-field.result c.store-field.ensures.field more)
+    let F = frame_for c.self.inside.references c.self.inside.chains c.self.inside.wide c.self.invariant c.args.hash (rw (← c.self.view_is) at c.requires.present) in
+    let same : c.count_down-field.result ≡ F.e.field = c.count_down-field.ensures.before ∙ field_at c.self.inside.references c.self.inside.chains c.self.inside.wide c.self.invariant c.args.hash F.e F.hash_is F.first_is F.entry_is in
+    let some : F.e.field ≢ 0 = λ z. c.if-field-eq-EXTENDED.false (same ∙ z) in
+    rw (← c.self.view_is, c.count_down-field.ensures.counted) (left_maps c.self.inside.references c.self.inside.chains c.self.inside.wide c.self.invariant c.args.hash F.e F.hash_is F.first_is F.entry_is some)

@@ -5,14 +5,14 @@ use Rattle.packed_frames.specs.Entries.{filed, home}
 use Rattle.packed_frames.proofs.Filed.{searched}
 use Rattle.packed_frames.proofs.chains.Chains.find.Goals as goal
 
-pub returns-in_err-place : goal.returns-in_err-place
-returns-in_err-place g c =
+pub returns-in_err-found : goal.returns-in_err-found
+returns-in_err-found g c =
     let at : c.bucket.result ≡ home (length (filed c.self.inside.places).chains) c.args.key = rw (← c.self.view_is) at c.bucket.ensures.value in
-    let s = searched c.self.inside.places c.bucket.result c.args.key c.find.result c.find.ensures.found in
-    rw (← c.self.view_is, ← at, c.from_residual.ensures) (sym (s ∙ ap (option_map (entry_at c.self.inside.places)) c.in_err-place.was))
+    let s = searched c.self.inside.places c.bucket.result c.args.key (option_map (λ f. f.place) c.find.result) c.find.ensures.found in
+    rw (← c.self.view_is, ← at, c.from_residual.ensures) (sym (s ∙ ap (option_map (entry_at c.self.inside.places)) (ap (option_map (λ f. f.place)) c.in_err-found.was)))
 
 pub returns : goal.returns
 returns g c =
     let at : c.bucket.result ≡ home (length (filed c.self.inside.places).chains) c.args.key = rw (← c.self.view_is) at c.bucket.ensures.value in
-    let s = searched c.self.inside.places c.bucket.result c.args.key c.find.result c.find.ensures.found in
-    rw (← c.self.view_is, ← at) (sym (s ∙ ap (option_map (entry_at c.self.inside.places)) c.in_ok-place.was ∙ ap Some (sym c.entry.ensures)))
+    let s = searched c.self.inside.places c.bucket.result c.args.key (option_map (λ f. f.place) c.find.result) c.find.ensures.found in
+    rw (← c.self.view_is, ← at) (sym (s ∙ ap (option_map (entry_at c.self.inside.places)) (ap (option_map (λ f. f.place)) c.in_ok-found.was) ∙ ap Some (sym c.entry.ensures)))

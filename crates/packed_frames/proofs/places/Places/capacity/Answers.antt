@@ -1,4 +1,4 @@
-use Rattle.std.proofs.Common.{◌≡◌, ◌≤◌, length, map, arith, sym}
+use Rattle.std.proofs.Common.{arith}
 use Rattle.std.proofs.lemmas.List.{length-map}
 use Rattle.packed_frames.specs.Places.{link_of, entry_of}
 use Rattle.packed_frames.proofs.places.Places.capacity.Goals as goal

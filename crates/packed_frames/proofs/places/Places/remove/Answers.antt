@@ -1,12 +1,12 @@
-use Rattle.std.proofs.Common.{◌≡◌, ℕ, ◌<◌, ◌≤◌, length, get_or, List, [], refl, arith, ◌∙◌, map}
+use Rattle.std.proofs.Common.{◌≡◌, ℕ, ◌-◌, ◌<◌, ◌≤◌, length, get_or, List, [], refl, arith, ◌∙◌, map}
 use Rattle.std.proofs.Math.ListN.{set}
 use Rattle.std.proofs.lemmas.List.{length-map}
 use Rattle.packed_frames.specs.declared.packed.Packed.{Packed}
 use Rattle.packed_frames.specs.Places.{link_of, entry_of}
-use Rattle.packed_frames.specs.Linked.{times, chains_from}
-use Rattle.packed_frames.proofs.Threaded.{place_within, used_some, first_some, search_starts, Freed, freed_first, freed_later, freed_kept, freed_chains, free_fits, link_read, link_written, entries_stay}
+use Rattle.packed_frames.specs.Linked.{times, code_before, chains_from}
+use Rattle.packed_frames.proofs.Threaded.{place_within, used_some, Freed, freed_first, freed_later, freed_kept, freed_chains, free_fits, link_read, link_written, entries_stay}
 use Rattle.packed_frames.proofs.places.Places.remove.Goals as goal
-use Rattle.packed_frames.proofs.places.Places.remove.Goals.{then-first-place, else-first-place}
+use Rattle.packed_frames.proofs.places.Places.remove.Goals.{then-before-eq0, else-before-eq0}
 
 pub index-requires : goal.index-requires
 index-requires g c =
@@ -14,51 +14,28 @@ index-requires g c =
     let frames : List Packed = c.self.inside.frames.items in
     let links : List ℕ = map link_of frames in
     let len : length links ≡ length frames = length-map frames link_of in
-    let p : ℕ = c.args.place in
+    let p : ℕ = c.args.found.place in
     let l : c.args.bucket < length (chains_from links heads) = rw (← c.self.view_is) at c.requires.bucket in
     let there : 1 ≤ times p (get_or (chains_from links heads) c.args.bucket []) = rw (← c.self.view_is) at c.requires.place in
     let within : p < length links = place_within heads links _ _ c.self.invariant c.args.bucket l p there in
     let below : p < length frames = omega (arith, within, len) in
     omega (arith, below, c.self.inside.frames.ok.0)
 
-pub overflow_add-place : goal.overflow_add-place
-overflow_add-place g c =
+pub index_mut-requires-else-before-eq0 : goal.index_mut-requires-else-before-eq0
+index_mut-requires-else-before-eq0 g c =
     let heads : List ℕ = c.self.inside.heads.items in
     let frames : List Packed = c.self.inside.frames.items in
     let links : List ℕ = map link_of frames in
     let len : length links ≡ length frames = length-map frames link_of in
-    let p : ℕ = c.args.place in
+    let p : ℕ = c.args.found.place in
     let l : c.args.bucket < length (chains_from links heads) = rw (← c.self.view_is) at c.requires.bucket in
     let there : 1 ≤ times p (get_or (chains_from links heads) c.args.bucket []) = rw (← c.self.view_is) at c.requires.place in
     let within : p < length links = place_within heads links _ _ c.self.invariant c.args.bucket l p there in
     let below : p < length frames = omega (arith, within, len) in
-    omega (arith, within, c.self.invariant.limit)
-
-pub overflow_sub-first : goal.overflow_sub-first
-overflow_sub-first g c =
-    let heads : List ℕ = c.self.inside.heads.items in
-    let frames : List Packed = c.self.inside.frames.items in
-    let links : List ℕ = map link_of frames in
-    let len : length links ≡ length frames = length-map frames link_of in
-    let p : ℕ = c.args.place in
-    let l : c.args.bucket < length (chains_from links heads) = rw (← c.self.view_is) at c.requires.bucket in
-    let there : 1 ≤ times p (get_or (chains_from links heads) c.args.bucket []) = rw (← c.self.view_is) at c.requires.place in
-    let within : p < length links = place_within heads links _ _ c.self.invariant c.args.bucket l p there in
-    let below : p < length frames = omega (arith, within, len) in
-    first_some heads links _ _ c.self.invariant c.args.bucket l p there c.index-first.result.now c.index-first.ensures
-
-pub place_before-at-requires-clause-before : goal.place_before-at-requires-clause-before
-place_before-at-requires-clause-before g c =
-    let heads : List ℕ = c.self.inside.heads.items in
-    let frames : List Packed = c.self.inside.frames.items in
-    let links : List ℕ = map link_of frames in
-    let len : length links ≡ length frames = length-map frames link_of in
-    let p : ℕ = c.args.place in
-    let l : c.args.bucket < length (chains_from links heads) = rw (← c.self.view_is) at c.requires.bucket in
-    let there : 1 ≤ times p (get_or (chains_from links heads) c.args.bucket []) = rw (← c.self.view_is) at c.requires.place in
-    let within : p < length links = place_within heads links _ _ c.self.invariant c.args.bucket l p there in
-    let below : p < length frames = omega (arith, within, len) in
-    rw c.as_slice.ensures.value (search_starts heads links _ _ c.self.invariant c.args.bucket l p there c.index-first.result.now c.index-first.ensures c.if-first-place.false)
+    let behind : c.args.found.before ≡ code_before p 0 (get_or (chains_from links heads) c.args.bucket []) = rw (← c.self.view_is) at c.requires.before in
+    let after = link_read frames p c.index.result.now c.link-after.result below c.index.ensures c.link-after.ensures.value in
+    let at = (freed_later heads links _ _ c.self.invariant c.args.bucket l p there c.args.found.before c.link-after.result behind c.if-before-eq0.false after).0 in
+    omega (arith, at, len, c.self.inside.frames.ok.0)
 
 pub index_mut-requires-2 : goal.index_mut-requires-2
 index_mut-requires-2 g c =
@@ -66,21 +43,20 @@ index_mut-requires-2 g c =
     let frames : List Packed = c.self.inside.frames.items in
     let links : List ℕ = map link_of frames in
     let len : length links ≡ length frames = length-map frames link_of in
-    let p : ℕ = c.args.place in
+    let p : ℕ = c.args.found.place in
     let l : c.args.bucket < length (chains_from links heads) = rw (← c.self.view_is) at c.requires.bucket in
     let there : 1 ≤ times p (get_or (chains_from links heads) c.args.bucket []) = rw (← c.self.view_is) at c.requires.place in
     let within : p < length links = place_within heads links _ _ c.self.invariant c.args.bucket l p there in
     let below : p < length frames = omega (arith, within, len) in
-    let i = c.if-first-place.self-inside in
+    let behind : c.args.found.before ≡ code_before p 0 (get_or (chains_from links heads) c.args.bucket []) = rw (← c.self.view_is) at c.requires.before in
     let after = link_read frames p c.index.result.now c.link-after.result below c.index.ensures c.link-after.ensures.value in
+    let i = c.if-before-eq0.self-inside in
     let freed : Freed heads links c.self.inside.free c.self.inside.used c.args.bucket p i.heads.items (map link_of i.frames.items) i.free i.used =
-    elim c.if-first-place.branch [
-      | then-first-place w ↦ rw w.self-inside-is (freed_first heads links _ _ c.self.invariant c.args.bucket l p there c.index-first.result.now c.link-after.result c.index-first.ensures w.if-first-place.true after)
-      | else-first-place w ↦
-          let at : ℕ = w.place_before-at.result in
-          let la : at < length frames = rw w.as_slice.ensures.value at w.place_before-at.ensures.within in
-          rw (w.self-inside-is, w.set_link.ensures, link_written frames at w.index_mut-else-first-place.result.now c.link-after.result)
-          (freed_later heads links _ _ c.self.invariant c.args.bucket l p there c.index-first.result.now c.link-after.result at c.index-first.ensures w.if-first-place.false after (omega (arith, la, len)) (rw w.as_slice.ensures.value at w.place_before-at.ensures.before))
+    elim c.if-before-eq0.branch [
+      | then-before-eq0 w ↦ rw w.self-inside-is (freed_first heads links _ _ c.self.invariant c.args.bucket l p there c.args.found.before c.link-after.result behind w.if-before-eq0.true after)
+      | else-before-eq0 w ↦
+          rw (w.self-inside-is, w.set_link.ensures, link_written frames (c.args.found.before - 1) w.index_mut-else-before-eq0.result.now c.link-after.result)
+          (freed_later heads links _ _ c.self.invariant c.args.bucket l p there c.args.found.before c.link-after.result behind w.if-before-eq0.false after).1
     ] in
     omega (arith, below, len, freed.len, length-map i.frames.items link_of, i.frames.ok.0)
 
@@ -90,21 +66,20 @@ set_link-requires-2 g c =
     let frames : List Packed = c.self.inside.frames.items in
     let links : List ℕ = map link_of frames in
     let len : length links ≡ length frames = length-map frames link_of in
-    let p : ℕ = c.args.place in
+    let p : ℕ = c.args.found.place in
     let l : c.args.bucket < length (chains_from links heads) = rw (← c.self.view_is) at c.requires.bucket in
     let there : 1 ≤ times p (get_or (chains_from links heads) c.args.bucket []) = rw (← c.self.view_is) at c.requires.place in
     let within : p < length links = place_within heads links _ _ c.self.invariant c.args.bucket l p there in
     let below : p < length frames = omega (arith, within, len) in
-    let i = c.if-first-place.self-inside in
+    let behind : c.args.found.before ≡ code_before p 0 (get_or (chains_from links heads) c.args.bucket []) = rw (← c.self.view_is) at c.requires.before in
     let after = link_read frames p c.index.result.now c.link-after.result below c.index.ensures c.link-after.ensures.value in
+    let i = c.if-before-eq0.self-inside in
     let freed : Freed heads links c.self.inside.free c.self.inside.used c.args.bucket p i.heads.items (map link_of i.frames.items) i.free i.used =
-    elim c.if-first-place.branch [
-      | then-first-place w ↦ rw w.self-inside-is (freed_first heads links _ _ c.self.invariant c.args.bucket l p there c.index-first.result.now c.link-after.result c.index-first.ensures w.if-first-place.true after)
-      | else-first-place w ↦
-          let at : ℕ = w.place_before-at.result in
-          let la : at < length frames = rw w.as_slice.ensures.value at w.place_before-at.ensures.within in
-          rw (w.self-inside-is, w.set_link.ensures, link_written frames at w.index_mut-else-first-place.result.now c.link-after.result)
-          (freed_later heads links _ _ c.self.invariant c.args.bucket l p there c.index-first.result.now c.link-after.result at c.index-first.ensures w.if-first-place.false after (omega (arith, la, len)) (rw w.as_slice.ensures.value at w.place_before-at.ensures.before))
+    elim c.if-before-eq0.branch [
+      | then-before-eq0 w ↦ rw w.self-inside-is (freed_first heads links _ _ c.self.invariant c.args.bucket l p there c.args.found.before c.link-after.result behind w.if-before-eq0.true after)
+      | else-before-eq0 w ↦
+          rw (w.self-inside-is, w.set_link.ensures, link_written frames (c.args.found.before - 1) w.index_mut-else-before-eq0.result.now c.link-after.result)
+          (freed_later heads links _ _ c.self.invariant c.args.bucket l p there c.args.found.before c.link-after.result behind w.if-before-eq0.false after).1
     ] in
     omega (arith, freed.free_is, free_fits heads links _ _ c.self.invariant)
 
@@ -114,7 +89,7 @@ overflow_add-self g c =
     let frames : List Packed = c.self.inside.frames.items in
     let links : List ℕ = map link_of frames in
     let len : length links ≡ length frames = length-map frames link_of in
-    let p : ℕ = c.args.place in
+    let p : ℕ = c.args.found.place in
     let l : c.args.bucket < length (chains_from links heads) = rw (← c.self.view_is) at c.requires.bucket in
     let there : 1 ≤ times p (get_or (chains_from links heads) c.args.bucket []) = rw (← c.self.view_is) at c.requires.place in
     let within : p < length links = place_within heads links _ _ c.self.invariant c.args.bucket l p there in
@@ -127,21 +102,20 @@ overflow_sub-self g c =
     let frames : List Packed = c.self.inside.frames.items in
     let links : List ℕ = map link_of frames in
     let len : length links ≡ length frames = length-map frames link_of in
-    let p : ℕ = c.args.place in
+    let p : ℕ = c.args.found.place in
     let l : c.args.bucket < length (chains_from links heads) = rw (← c.self.view_is) at c.requires.bucket in
     let there : 1 ≤ times p (get_or (chains_from links heads) c.args.bucket []) = rw (← c.self.view_is) at c.requires.place in
     let within : p < length links = place_within heads links _ _ c.self.invariant c.args.bucket l p there in
     let below : p < length frames = omega (arith, within, len) in
-    let i = c.if-first-place.self-inside in
+    let behind : c.args.found.before ≡ code_before p 0 (get_or (chains_from links heads) c.args.bucket []) = rw (← c.self.view_is) at c.requires.before in
     let after = link_read frames p c.index.result.now c.link-after.result below c.index.ensures c.link-after.ensures.value in
+    let i = c.if-before-eq0.self-inside in
     let freed : Freed heads links c.self.inside.free c.self.inside.used c.args.bucket p i.heads.items (map link_of i.frames.items) i.free i.used =
-    elim c.if-first-place.branch [
-      | then-first-place w ↦ rw w.self-inside-is (freed_first heads links _ _ c.self.invariant c.args.bucket l p there c.index-first.result.now c.link-after.result c.index-first.ensures w.if-first-place.true after)
-      | else-first-place w ↦
-          let at : ℕ = w.place_before-at.result in
-          let la : at < length frames = rw w.as_slice.ensures.value at w.place_before-at.ensures.within in
-          rw (w.self-inside-is, w.set_link.ensures, link_written frames at w.index_mut-else-first-place.result.now c.link-after.result)
-          (freed_later heads links _ _ c.self.invariant c.args.bucket l p there c.index-first.result.now c.link-after.result at c.index-first.ensures w.if-first-place.false after (omega (arith, la, len)) (rw w.as_slice.ensures.value at w.place_before-at.ensures.before))
+    elim c.if-before-eq0.branch [
+      | then-before-eq0 w ↦ rw w.self-inside-is (freed_first heads links _ _ c.self.invariant c.args.bucket l p there c.args.found.before c.link-after.result behind w.if-before-eq0.true after)
+      | else-before-eq0 w ↦
+          rw (w.self-inside-is, w.set_link.ensures, link_written frames (c.args.found.before - 1) w.index_mut-else-before-eq0.result.now c.link-after.result)
+          (freed_later heads links _ _ c.self.invariant c.args.bucket l p there c.args.found.before c.link-after.result behind w.if-before-eq0.false after).1
     ] in
     omega (arith, freed.used_is, used_some heads links _ _ c.self.invariant c.args.bucket l p there)
 
@@ -151,21 +125,20 @@ invariant_of-self g c =
     let frames : List Packed = c.self.inside.frames.items in
     let links : List ℕ = map link_of frames in
     let len : length links ≡ length frames = length-map frames link_of in
-    let p : ℕ = c.args.place in
+    let p : ℕ = c.args.found.place in
     let l : c.args.bucket < length (chains_from links heads) = rw (← c.self.view_is) at c.requires.bucket in
     let there : 1 ≤ times p (get_or (chains_from links heads) c.args.bucket []) = rw (← c.self.view_is) at c.requires.place in
     let within : p < length links = place_within heads links _ _ c.self.invariant c.args.bucket l p there in
     let below : p < length frames = omega (arith, within, len) in
-    let i = c.if-first-place.self-inside in
+    let behind : c.args.found.before ≡ code_before p 0 (get_or (chains_from links heads) c.args.bucket []) = rw (← c.self.view_is) at c.requires.before in
     let after = link_read frames p c.index.result.now c.link-after.result below c.index.ensures c.link-after.ensures.value in
+    let i = c.if-before-eq0.self-inside in
     let freed : Freed heads links c.self.inside.free c.self.inside.used c.args.bucket p i.heads.items (map link_of i.frames.items) i.free i.used =
-    elim c.if-first-place.branch [
-      | then-first-place w ↦ rw w.self-inside-is (freed_first heads links _ _ c.self.invariant c.args.bucket l p there c.index-first.result.now c.link-after.result c.index-first.ensures w.if-first-place.true after)
-      | else-first-place w ↦
-          let at : ℕ = w.place_before-at.result in
-          let la : at < length frames = rw w.as_slice.ensures.value at w.place_before-at.ensures.within in
-          rw (w.self-inside-is, w.set_link.ensures, link_written frames at w.index_mut-else-first-place.result.now c.link-after.result)
-          (freed_later heads links _ _ c.self.invariant c.args.bucket l p there c.index-first.result.now c.link-after.result at c.index-first.ensures w.if-first-place.false after (omega (arith, la, len)) (rw w.as_slice.ensures.value at w.place_before-at.ensures.before))
+    elim c.if-before-eq0.branch [
+      | then-before-eq0 w ↦ rw w.self-inside-is (freed_first heads links _ _ c.self.invariant c.args.bucket l p there c.args.found.before c.link-after.result behind w.if-before-eq0.true after)
+      | else-before-eq0 w ↦
+          rw (w.self-inside-is, w.set_link.ensures, link_written frames (c.args.found.before - 1) w.index_mut-else-before-eq0.result.now c.link-after.result)
+          (freed_later heads links _ _ c.self.invariant c.args.bucket l p there c.args.found.before c.link-after.result behind w.if-before-eq0.false after).1
     ] in
     let f : Packed = c.index_mut-2.result.now in
     let written : map link_of (set i.frames.items p c.set_link-2.new.self) ≡ set (map link_of i.frames.items) p i.free = rw c.set_link-2.ensures (link_written i.frames.items p f i.free) in
@@ -177,32 +150,31 @@ returns g c =
     let frames : List Packed = c.self.inside.frames.items in
     let links : List ℕ = map link_of frames in
     let len : length links ≡ length frames = length-map frames link_of in
-    let p : ℕ = c.args.place in
+    let p : ℕ = c.args.found.place in
     let l : c.args.bucket < length (chains_from links heads) = rw (← c.self.view_is) at c.requires.bucket in
     let there : 1 ≤ times p (get_or (chains_from links heads) c.args.bucket []) = rw (← c.self.view_is) at c.requires.place in
     let within : p < length links = place_within heads links _ _ c.self.invariant c.args.bucket l p there in
     let below : p < length frames = omega (arith, within, len) in
-    let i = c.if-first-place.self-inside in
+    let behind : c.args.found.before ≡ code_before p 0 (get_or (chains_from links heads) c.args.bucket []) = rw (← c.self.view_is) at c.requires.before in
     let after = link_read frames p c.index.result.now c.link-after.result below c.index.ensures c.link-after.ensures.value in
+    let i = c.if-before-eq0.self-inside in
     let freed : Freed heads links c.self.inside.free c.self.inside.used c.args.bucket p i.heads.items (map link_of i.frames.items) i.free i.used =
-    elim c.if-first-place.branch [
-      | then-first-place w ↦ rw w.self-inside-is (freed_first heads links _ _ c.self.invariant c.args.bucket l p there c.index-first.result.now c.link-after.result c.index-first.ensures w.if-first-place.true after)
-      | else-first-place w ↦
-          let at : ℕ = w.place_before-at.result in
-          let la : at < length frames = rw w.as_slice.ensures.value at w.place_before-at.ensures.within in
-          rw (w.self-inside-is, w.set_link.ensures, link_written frames at w.index_mut-else-first-place.result.now c.link-after.result)
-          (freed_later heads links _ _ c.self.invariant c.args.bucket l p there c.index-first.result.now c.link-after.result at c.index-first.ensures w.if-first-place.false after (omega (arith, la, len)) (rw w.as_slice.ensures.value at w.place_before-at.ensures.before))
+    elim c.if-before-eq0.branch [
+      | then-before-eq0 w ↦ rw w.self-inside-is (freed_first heads links _ _ c.self.invariant c.args.bucket l p there c.args.found.before c.link-after.result behind w.if-before-eq0.true after)
+      | else-before-eq0 w ↦
+          rw (w.self-inside-is, w.set_link.ensures, link_written frames (c.args.found.before - 1) w.index_mut-else-before-eq0.result.now c.link-after.result)
+          (freed_later heads links _ _ c.self.invariant c.args.bucket l p there c.args.found.before c.link-after.result behind w.if-before-eq0.false after).1
     ] in
     let f : Packed = c.index_mut-2.result.now in
     let written : map link_of (set i.frames.items p c.set_link-2.new.self) ≡ set (map link_of i.frames.items) p i.free = rw c.set_link-2.ensures (link_written i.frames.items p f i.free) in
     let inside : p < length i.frames.items = omega (arith, below, len, freed.len, length-map i.frames.items link_of) in
     let items : map entry_of i.frames.items ≡ map entry_of frames =
-    elim c.if-first-place.branch [
-      | then-first-place w ↦ rw w.self-inside-is refl
-      | else-first-place w ↦
-          let at : ℕ = w.place_before-at.result in
-          let la : at < length frames = rw w.as_slice.ensures.value at w.place_before-at.ensures.within in
-          rw (w.self-inside-is, w.set_link.ensures) (entries_stay frames at w.index_mut-else-first-place.result.now c.link-after.result la w.index_mut-else-first-place.ensures.value)
+    elim c.if-before-eq0.branch [
+      | then-before-eq0 w ↦ rw w.self-inside-is refl
+      | else-before-eq0 w ↦
+          let at = (freed_later heads links _ _ c.self.invariant c.args.bucket l p there c.args.found.before c.link-after.result behind w.if-before-eq0.false after).0 in
+          let la : c.args.found.before - 1 < length frames = omega (arith, at, len) in
+          rw (w.self-inside-is, w.set_link.ensures) (entries_stay frames (c.args.found.before - 1) w.index_mut-else-before-eq0.result.now c.link-after.result la w.index_mut-else-before-eq0.ensures.value)
     ] in
     let all_items : map entry_of (set i.frames.items p c.set_link-2.new.self) ≡ map entry_of frames = rw c.set_link-2.ensures (entries_stay i.frames.items p f i.free inside c.index_mut-2.ensures.value) ∙ items in
     rw (← c.self.view_is, written, all_items, freed_chains heads links _ _ c.self.invariant c.args.bucket l p there _ _ _ _ freed) refl
