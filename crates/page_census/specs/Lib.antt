@@ -1,0 +1,7 @@
+pub mod Marks
+pub mod Parts
+pub mod Contents
+pub mod Classes
+pub mod Places
+pub mod Numbers
+pub mod Counted

@@ -1,0 +1,67 @@
+//! The census.
+ghost use Rattle.std.specs.Prelude.{◌≡◌, ◌≤◌, ◌<◌, ◌^◌, Err, IfOk, length};
+ghost use Rattle.page_census.specs.Contents.{AreSteady, contents};
+ghost use Rattle.page_census.specs.Numbers.{numbers_of, total_numbers};
+ghost use Rattle.page_census.specs.declared.fault.CensusFault.{CensusFault};
+
+use crate::classes::classes_of;
+use crate::marks::{count_pages, marks_of_all};
+use crate::numbers::numbers_of;
+use crate::tally::{count_copies, count_shared, count_zero};
+use crate::{CensusFault, Guest, GuestNumbers, PageSource, Progress, TotalNumbers};
+use page_digest::PageHash;
+use std::alloc::Allocator;
+use std::thread::Threads;
+
+/// What is counted of the pages of all guests.
+#[derive(Drop)]
+pub struct CensusNumbers<A: Allocator> {
+    /// The numbers of each guest.
+    pub guests: Vec<GuestNumbers, A>,
+    /// The numbers in total.
+    pub total: TotalNumbers,
+}
+
+/// Counts the pages of the guests, guest 0 first. Each source is read once in order, by so many workers, and pages that
+/// may be equal are read once more to be compared.
+///
+/// What is told holds where each source is steady: where each of its reads tells the same bytes.
+pub fn census<
+    R: Threads + Sync,
+    H: PageHash,
+    S: PageSource,
+    P: Progress,
+    A: Allocator + Clone + Send + Sync,
+>(
+    rt: &R,
+    alloc: A,
+    workers: u32,
+    hash: &H,
+    guests: &[Guest<S>],
+    progress: &P,
+) -> Result<CensusNumbers<A>, CensusFault<S::Fault>>
+    requires { 1 ≤ workers }
+    ensures too_many { 2 ^ 32 ≤ length (contents S.pages guests.now) → result ≡ Err CensusFault.TooManyPages }
+    ensures few { IfOk result (λ _. length (contents S.pages guests.now) < 2 ^ 32) }
+    ensures guests { IfOk result (λ census. AreSteady S.is_steady guests.now → census.guests.items ≡ numbers_of S.pages guests.now) }
+    ensures total { IfOk result (λ census. AreSteady S.is_steady guests.now → census.total ≡ total_numbers S.pages guests.now) }
+{
+    let Some(count) = count_pages(guests) else {
+        return Err(CensusFault::TooManyPages);
+    };
+    let marks = marks_of_all(rt, &alloc, workers, hash, guests, progress, count)?;
+    let classes = classes_of(&alloc, guests, &marks)?;
+    let tally = count_copies(alloc.clone()?, classes.len(), &classes)?;
+    let numbers = numbers_of(&alloc, guests, &tally.copies, &marks, &classes)?;
+    let total = TotalNumbers {
+        pages: count,
+        zero: count_zero(&marks),
+        shared: count_shared(&tally.copies, &classes),
+        frames: tally.distinct,
+        reclaimed: count - tally.distinct,
+    };
+    Ok(CensusNumbers {
+        guests: numbers,
+        total,
+    })
+}

@@ -1,0 +1,21 @@
+//! Counts the contents of pages: what sharing equal pages would reclaim.
+//!
+//! A content is a salt and the bytes of a page. Nothing is assumed of the hash: pages that may be equal are compared
+//! byte by byte, so that a weak hash changes the time and no number.
+#![tactic(auto)]
+
+mod classes;
+mod count;
+mod fault;
+mod mark;
+mod marks;
+mod numbers;
+mod part;
+mod place;
+mod source;
+mod tally;
+
+pub use count::{CensusNumbers, census};
+pub use fault::CensusFault;
+pub use numbers::{GuestNumbers, TotalNumbers};
+pub use source::{Guest, PageSource, Progress};

@@ -1,0 +1,91 @@
+//! The numbers of a census.
+ghost use Rattle.std.specs.Prelude.{◌≡◌, ◌<◌, ◌^◌, All, IfOk, length};
+ghost use Rattle.page_census.specs.Contents.{contents};
+ghost use Rattle.page_census.specs.Counted.{counted_guests, counted_numbers};
+
+use crate::tally::{count_copies, count_shared, count_zero};
+use crate::{Guest, PageSource};
+use std::alloc::{AllocError, Allocator};
+
+/// What is counted of one guest's pages.
+#[derive(Clone, Copy, Debug, PartialEq, Eq)]
+pub struct GuestNumbers {
+    /// The pages.
+    pub pages: u32,
+    /// The pages of zeros.
+    pub zero: u32,
+    /// The different contents of the pages.
+    pub distinct: u32,
+    /// The pages whose content some other page has, too, of whichever guest.
+    pub shared: u32,
+    /// The pages that sharing within the guest alone would reclaim: pages less different contents.
+    pub alone: u32,
+}
+
+/// What is counted of the pages of all guests.
+#[derive(Clone, Copy, Debug, PartialEq, Eq)]
+pub struct TotalNumbers {
+    /// The pages.
+    pub pages: u32,
+    /// The pages of zeros.
+    pub zero: u32,
+    /// The pages whose content some other page has, too.
+    pub shared: u32,
+    /// The different contents of all pages.
+    pub frames: u32,
+    /// The pages that sharing would reclaim: pages less frames.
+    pub reclaimed: u32,
+}
+
+/// The numbers of pages by their marks and classes, where `copies` tells how often each class occurs among all pages.
+pub(crate) fn guest_numbers<A: Allocator>(
+    alloc: A,
+    copies: &[u32],
+    marks: &[u64],
+    classes: &[u32],
+) -> Result<GuestNumbers, AllocError>
+    requires below { All (λ class. class < length copies.now) classes.now }
+    requires few { length classes.now < 2 ^ 32 }
+    requires same { length marks.now ≡ length classes.now }
+    ensures { IfOk result (λ numbers. numbers ≡ counted_numbers copies.now marks.now classes.now) }
+{
+    let own = count_copies(alloc, copies.len(), classes)?;
+    let pages = classes.len() as u32;
+    Ok(GuestNumbers {
+        pages,
+        zero: count_zero(marks),
+        distinct: own.distinct,
+        shared: count_shared(copies, classes),
+        alone: pages - own.distinct,
+    })
+}
+
+/// The numbers of each guest, by the marks and classes of all pages.
+pub(crate) fn numbers_of<S: PageSource, A: Allocator + Clone>(
+    alloc: &A,
+    guests: &[Guest<S>],
+    copies: &[u32],
+    marks: &[u64],
+    classes: &[u32],
+) -> Result<Vec<GuestNumbers, A>, AllocError>
+    requires below { All (λ class. class < length copies.now) classes.now }
+    requires few { length classes.now < 2 ^ 32 }
+    requires marks { length marks.now ≡ length classes.now }
+    requires count { length classes.now ≡ length (contents S.pages guests.now) }
+    ensures { IfOk result (λ numbers. numbers.items ≡ counted_guests S.pages copies.now guests.now marks.now classes.now) }
+{
+    let mut numbers = Vec::with_capacity(alloc.clone()?, guests.len())?;
+    let mut start = 0;
+    for guest in 0..guests.len() {
+        let end = start + guests[guest].source.count() as usize;
+        let own = guest_numbers(
+            alloc.clone()?,
+            copies,
+            &marks[start..end],
+            &classes[start..end],
+        )?;
+        numbers.push_reserved(own);
+        start = end;
+    }
+    Ok(numbers)
+}

@@ -1,0 +1,65 @@
+//! Where the pages stand that are numbered through all guests.
+ghost use Rattle.std.specs.Prelude.{◌≡◌, ◌<◌, ◌≤◌, ◌^◌, length, slice_index_or, slice_index, IfOk};
+ghost use Rattle.page_census.specs.Contents.{contents, content_at, is_same, AreSteady};
+ghost use Rattle.page_census.specs.Classes.{TellApart};
+ghost use Rattle.page_census.specs.Places.{StandsAt};
+
+use crate::part::read_run;
+use crate::{CensusFault, Guest, PageSource};
+use page_model::Page;
+
+/// A page by its guest's number and its own.
+#[derive(Clone, Copy)]
+pub(crate) struct Place {
+    pub(crate) guest: usize,
+    pub(crate) page: u32,
+}
+
+/// Where the page stands that has this number among all.
+pub(crate) fn place_of<S: PageSource>(guests: &[Guest<S>], number: u32) -> Place
+    requires { number < length (contents S.pages guests.now) }
+    ensures { StandsAt S.pages guests.now number result }
+{
+    let mut left = number;
+    for guest in 0..guests.len() {
+        let count = guests[guest].source.count();
+        if left < count {
+            return Place { guest, page: left };
+        }
+        left -= count;
+    }
+    unreachable!()
+}
+
+/// Whether two pages, by their numbers among all, have one content. Their bytes are read where their marks are equal
+/// and not 0.
+pub(crate) fn is_same_content<S: PageSource>(
+    guests: &[Guest<S>],
+    marks: &[u64],
+    own: &mut [Page],
+    other: &mut [Page],
+    a: u32,
+    b: u32,
+) -> Result<bool, CensusFault<S::Fault>>
+    requires buffers { (length own.old ≡ 1) × (length other.old ≡ 1) }
+    requires a_within { a < length (contents S.pages guests.now) }
+    requires b_within { b < length (contents S.pages guests.now) }
+    requires marked { length marks.now ≡ length (contents S.pages guests.now) }
+    requires apart { AreSteady S.is_steady guests.now → TellApart (contents S.pages guests.now) marks.now }
+    ensures { IfOk result (λ same. AreSteady S.is_steady guests.now → same ≡ is_same (content_at (contents S.pages guests.now) a) (content_at (contents S.pages guests.now) b)) }
+{
+    if marks[a as usize] != marks[b as usize] {
+        return Ok(false);
+    }
+    let x = place_of(guests, a);
+    let y = place_of(guests, b);
+    if guests[x.guest].salt != guests[y.guest].salt {
+        return Ok(false);
+    }
+    if marks[a as usize] == 0 {
+        return Ok(true);
+    }
+    read_run(x.guest, &guests[x.guest], x.page, own)?;
+    read_run(y.guest, &guests[y.guest], y.page, other)?;
+    Ok(own[0] == other[0])
+}

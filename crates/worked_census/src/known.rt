@@ -1,0 +1,119 @@
+//! The census of a few pages, counted by hand.
+ghost use Rattle.std.specs.Prelude.{◌≤◌};
+
+use crate::pages::{Memory, Quiet, ZeroHash, guest_of};
+use page_census::{CensusFault, Guest, GuestNumbers, TotalNumbers, census};
+use page_digest::{FirstByteHash, PageHash, Sha256Hash};
+use refusing::Refusing;
+use std::alloc::Global;
+use std::process::Abort;
+use std::test::Fail;
+use std::thread::Threads;
+
+const GUESTS: [GuestNumbers; 3] = [
+    GuestNumbers {
+        pages: 4,
+        zero: 1,
+        distinct: 3,
+        shared: 3,
+        alone: 1,
+    },
+    GuestNumbers {
+        pages: 4,
+        zero: 1,
+        distinct: 3,
+        shared: 4,
+        alone: 1,
+    },
+    GuestNumbers {
+        pages: 4,
+        zero: 2,
+        distinct: 3,
+        shared: 2,
+        alone: 1,
+    },
+];
+
+const TOTAL: TotalNumbers = TotalNumbers {
+    pages: 12,
+    zero: 4,
+    shared: 9,
+    frames: 7,
+    reclaimed: 5,
+};
+
+// More than a census takes.
+const MOST_REQUESTS: u64 = 100;
+
+// Pages a, b and c begin with one byte. Guests 0 and 1 have one salt, guest 2 another. Of guest 1 so many can be read.
+fn three_guests(alloc: Global, readable: u32) -> Result<Vec<Guest<Memory>>, Fail> {
+    let (a, b, c) = (Some(1), Some(2), Some(3));
+    let mut guests = Vec::with_capacity(alloc, 3)?;
+    guests.push_reserved(guest_of(alloc, 0, &[None, a, b, a], 4)?);
+    guests.push_reserved(guest_of(alloc, 0, &[a, None, c, c], readable)?);
+    guests.push_reserved(guest_of(alloc, 1, &[a, None, None, b], 4)?);
+    Ok(guests)
+}
+
+fn counts<R: Threads + Abort + Sync, H: PageHash>(
+    rt: &R,
+    alloc: Global,
+    hash: &H,
+    workers: u32,
+) -> Result<(), Fail>
+    requires { 1 ≤ workers }
+{
+    let guests = three_guests(alloc, 4)?;
+    let told = census(rt, alloc, workers, hash, &guests, &Quiet).map_err(|_| "fault")?;
+    assert_eq!(rt; told.guests.as_slice(), GUESTS.as_slice());
+    assert_eq!(rt; told.total, TOTAL);
+    Ok(())
+}
+
+#[test]
+fn by_sha256(rt: HostRuntime) -> Result<(), Fail> {
+    counts(&rt, rt.alloc(), &Sha256Hash, 4)
+}
+
+#[test]
+fn by_one_byte(rt: HostRuntime) -> Result<(), Fail> {
+    counts(&rt, rt.alloc(), &FirstByteHash, 1)
+}
+
+#[test]
+fn by_no_hash(rt: HostRuntime) -> Result<(), Fail> {
+    counts(&rt, rt.alloc(), &ZeroHash, 2)
+}
+
+#[test]
+fn unreadable(rt: HostRuntime) -> Result<(), Fail> {
+    let guests = three_guests(rt.alloc(), 3)?;
+    let told = census(&rt, rt.alloc(), 4, &Sha256Hash, &guests, &Quiet);
+    assert!(rt; matches!(told, Err(CensusFault::Read(1, _))));
+    Ok(())
+}
+
+// Request number n is refused, n counting up until a census has no refusal.
+#[test]
+fn refused_in_turn(rt: HostRuntime) -> Result<(), Fail> {
+    let guests = three_guests(rt.alloc(), 4)?;
+    let mut is_whole = false;
+    for n in 0..MOST_REQUESTS {
+        let heap = Refusing::new(rt.alloc(), n, 0);
+        match census(&rt, &heap, 4, &Sha256Hash, &guests, &Quiet) {
+            Ok(told) => {
+                assert!(rt; !heap.has_refused(), "at {n}");
+                assert_eq!(rt; told.total, TOTAL);
+                is_whole = true;
+            }
+            Err(CensusFault::OutOfMemory) => assert!(rt; heap.has_refused(), "at {n}"),
+            Err(_) => assert!(rt; false, "at {n}"),
+        }
+        assert!(rt; heap.holds_nothing(), "at {n}");
+        if is_whole {
+            break;
+        }
+    }
+    assert!(rt; is_whole);
+    Ok(())
+}

@@ -1,0 +1,63 @@
+//! More pages than are read at once, in parts by several workers, and none.
+use crate::pages::{Memory, Quiet, guest_of};
+use page_census::{Guest, GuestNumbers, TotalNumbers, census};
+use page_digest::Sha256Hash;
+use std::test::Fail;
+
+// 50 different pages, four times each.
+const EACH: GuestNumbers = GuestNumbers {
+    pages: 200,
+    zero: 0,
+    distinct: 50,
+    shared: 200,
+    alone: 150,
+};
+
+const BOTH: TotalNumbers = TotalNumbers {
+    pages: 400,
+    zero: 0,
+    shared: 400,
+    frames: 100,
+    reclaimed: 300,
+};
+
+const NONE: TotalNumbers = TotalNumbers {
+    pages: 0,
+    zero: 0,
+    shared: 0,
+    frames: 0,
+    reclaimed: 0,
+};
+
+// The same pages under two salts are different contents.
+#[test]
+fn in_parts(rt: HostRuntime) -> Result<(), Fail> {
+    let mut lasts = [None; 200];
+    for n in 0..200u8 {
+        lasts[n as usize] = Some(n % 50);
+    }
+    let mut guests = Vec::with_capacity(rt.alloc(), 2)?;
+    guests.push_reserved(guest_of(rt.alloc(), 7, &lasts, 200)?);
+    guests.push_reserved(guest_of(rt.alloc(), 9, &lasts, 200)?);
+    for workers in 1..6 {
+        let told = census(&rt, rt.alloc(), workers, &Sha256Hash, &guests, &Quiet).map_err(
+            |_| "fault",
+        )?;
+        assert_eq!(rt;
+            told.guests.as_slice(),
+            [EACH, EACH].as_slice(),
+            "by {workers}"
+        );
+        assert_eq!(rt; told.total, BOTH, "by {workers}");
+    }
+    Ok(())
+}
+
+#[test]
+fn none(rt: HostRuntime) -> Result<(), Fail> {
+    let guests: Vec<Guest<Memory>> = Vec::new(rt.alloc());
+    let told = census(&rt, rt.alloc(), 4, &Sha256Hash, &guests, &Quiet).map_err(|_| "fault")?;
+    assert_eq!(rt; told.guests.len(), 0);
+    assert_eq!(rt; told.total, NONE);
+    Ok(())
+}
