@@ -93,7 +93,7 @@ fn is_known<H: PageHash, A: Allocator>(held: &Held<H, A>, private: PrivatePage) 
 }
 
 /// Whether the hash of a frame is noted.
-fn is_noted<H: PageHash, A: Allocator>(held: &Held<H, A>, mpn: u32) -> bool
+pub fn is_noted<H: PageHash, A: Allocator>(held: &Held<H, A>, mpn: u32) -> bool
     requires whole { Whole H.hash_of held.now }
     requires taken { IsTaken held.now.frames mpn }
 {

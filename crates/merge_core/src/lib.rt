@@ -5,6 +5,7 @@
 #![tactic(auto)]
 
 mod ahead;
+mod by_workers;
 mod fault;
 mod held;
 mod machine;
@@ -17,4 +18,3 @@ mod tally;
 
 pub use fault::CoreFault;
 pub use machine::Core;
-pub use make::check_limits;

@@ -1,5 +1,5 @@
 //! The core.
-ghost use Rattle.std.specs.Prelude.{◌≡◌, ◌+◌, ◌<◌, length, slice_get, is_some, Some, IsSome, IfOk, IfSome, MatchResult};
+ghost use Rattle.std.specs.Prelude.{◌≡◌, ◌+◌, ◌<◌, ◌≤◌, length, slice_get, is_some, Some, IsSome, IfOk, IfSome, MatchResult};
 ghost use Rattle.std.specs.Option.{option_map};
 ghost use Rattle.page_model.specs.Limits.{shapes};
 ghost use Rattle.page_model.specs.Pages.{page_at, totals, is_mapped};
@@ -8,11 +8,13 @@ ghost use Rattle.page_model.specs.Steps.{step};
 ghost use Rattle.page_model.specs.Stored.{byte_at, text_at};
 ghost use Rattle.machine_frames.specs.FrameMap.{frame, no_frames};
 ghost use Rattle.share_table.specs.TableMaps.{empty_table};
+ghost use Rattle.merge_core.specs.Hashing.{IsHashFor, page_hash, page_hashes};
 ghost use Rattle.merge_core.specs.Refusals.{AreLimits, NoCoreFor};
 ghost use Rattle.merge_core.specs.Shown.{state_of, FramesOfPages, TableOfPages};
 ghost use Rattle.merge_core.specs.Stays.{frame_at, FramesStay};
 
 use crate::ahead::note_hashes;
+use crate::by_workers::{note_by_workers, note_page, push_hashes};
 use crate::fault::CoreFault;
 use crate::held::{Held, PageEntry};
 use crate::make::new_held;
@@ -21,11 +23,16 @@ use crate::offer::propose;
 use crate::serve::{bytes_at, load, release, store};
 use crate::tally::report;
 use machine_frames::Frames;
-use page_digest::PageHash;
-use page_model::{MachineShape, Report, Request, ShapeFault, Verdict};
+use page_digest::{HashFault, PageHash};
+use page_model::{MachineShape, Report, Request, Verdict};
 use share_table::Table;
 use std::alloc::{AllocError, Allocator, Global};
 use std::marker::Model;
+use std::sync::Wait;
+use std::thread::Threads;
+
+// A worker has at least so many pages to hash: to start its thread costs as much as to hash a few.
+const PAGES_A_WORKER: usize = 16;
 
 /// A machine: its guests' pages in frames, and the number of requests so far.
 #[derive(Drop)]
@@ -79,28 +86,6 @@ impl<H: PageHash + Drop, A: Allocator + Clone> Core<H, A> {
         let held = new_held(alloc, shape, hash)?;
         Ok(Core { entries: 0, held })
     }
-
-    /// The same for a machine that is known to be within the limits (see [`check_limits`](crate::check_limits)).
-    pub fn open(
-        alloc: A,
-        frames: u32,
-        pages: &[u32],
-        salts: &[u32],
-        hash: H,
-    ) -> Result<Core<H, A>, AllocError>
-        requires { AreLimits frames pages.now salts.now }
-        ensures empty { IfOk result (λ core. state_of core ≡ empty_state frames (shapes salts.now pages.now)) }
-        ensures guests { IfOk result (λ core. length (state_of core).guests ≡ length pages.now) }
-        ensures frames { IfOk result (λ core. core.frames ≡ no_frames frames) }
-        ensures table { IfOk result (λ core. core.table ≡ empty_table frames) }
-    {
-        match MachineShape::new(frames, pages, salts) {
-            Ok(shape) => Core::with_shape(alloc, &shape, hash),
-            Err(ShapeFault::Frames) => unreachable!(),
-            Err(ShapeFault::Guests) => unreachable!(),
-            Err(ShapeFault::Pages) => unreachable!(),
-        }
-    }
 }
 
 impl<H: PageHash, A: Allocator> Core<H, A> {
@@ -127,6 +112,46 @@ impl<H: PageHash, A: Allocator> Core<H, A> {
             Request::Count => Verdict::Totals(report(&self.held, self.entries)),
             Request::Close => Verdict::Closed,
         }
+    }
+
+    /// Serves one request of a guest as [`apply`](Core::apply) does, where the caller knows the hash of the page that it
+    /// proposes (see [`hash_ahead`](Core::hash_ahead)): no page is hashed for it.
+    ///
+    /// At a request that doesn't propose a mapped page, the hash isn't looked at.
+    pub fn apply_hashed(&mut self, guest: u8, request: &Request, hash: u64) -> Verdict
+        requires guest { guest < length (state_of self.old).guests }
+        requires room { self.old.entries < 4294967295 }
+        requires hash { IsHashFor H.hash_of (state_of self.old).guests guest request.now hash }
+        ensures step { record { state = state_of self.new; verdict = result } ≡ step H.hash_of (state_of self.old) guest request.now }
+        ensures stay { FramesStay guest request.now result self.old self.new }
+        ensures entries { self.new.entries ≡ self.old.entries + 1 }
+        ensures guests { length (state_of self.new).guests ≡ length (state_of self.old).guests }
+    {
+        self.note_proposed(guest, request, hash);
+        self.apply(guest, request)
+    }
+
+    /// Notes the hash of the page that a request proposes, where that is mapped.
+    fn note_proposed(&mut self, guest: u8, request: &Request, hash: u64)
+        requires { IsHashFor H.hash_of (state_of self.old).guests guest request.now hash }
+        ensures { self.new ≡ self.old }
+    {
+        match request {
+            Request::Propose(ppn) => self.note_hash(guest, *ppn, hash),
+            Request::Store(_) => {}
+            Request::Load(_) => {}
+            Request::Release(_) => {}
+            Request::Count => {}
+            Request::Close => {}
+        }
+    }
+
+    /// Notes a page's hash, where the page is mapped.
+    fn note_hash(&mut self, guest: u8, ppn: u32, hash: u64)
+        requires { IfSome (page_hash H.hash_of (state_of self.old).guests guest ppn) (λ h. hash ≡ h) }
+        ensures { self.new ≡ self.old }
+    {
+        note_page(&mut self.held, guest as usize, ppn as usize, hash);
     }
 
     /// Computes the hashes of these pages, each given by its guest and number, and notes them, so that proposals find them.
@@ -219,5 +244,55 @@ impl<H: PageHash, A: Allocator> Core<H, A> {
         ensures pages { TableOfPages H.hash_of self.now }
     {
         &self.held.table
+    }
+}
+
+impl<H: PageHash, A: Allocator + Sync> Core<H, A> {
+    /// The hash of each of these pages, given by its guest and number: of its salt and present bytes, `None` where it is
+    /// unmapped or where there is no such page.
+    ///
+    /// As many workers as `workers` says, at most [`page_model::MAX_WORKERS`], compute those that aren't known; the calling
+    /// thread is one of them. They are noted too, and a hash that is noted isn't computed again as long as its page's bytes
+    /// stay. Nothing that the core shows changes.
+    ///
+    /// # Errors
+    ///
+    /// The memory for the lists was refused, or the start of a thread.
+    pub fn hash_ahead<R: Threads + Wait + Sync, B: Allocator + Clone + Send>(
+        &mut self,
+        rt: &R,
+        alloc: B,
+        workers: u32,
+        pages: &[(u8, u32)],
+    ) -> Result<Vec<Option<u64>, B>, HashFault>
+        requires { (1 ≤ workers) × (workers ≤ 64) }
+        ensures same { self.new ≡ self.old }
+        ensures hashes { IfOk result (λ hashes. hashes.items ≡ page_hashes H.hash_of (state_of self.old).guests pages.now) }
+    {
+        let mut hashes = Vec::with_capacity(alloc.clone()?, pages.len())?;
+        note_by_workers(&mut self.held, rt, alloc, workers, 1, pages)?;
+        push_hashes(&mut self.held, pages, &mut hashes);
+        Ok(hashes)
+    }
+
+    /// Notes hashes as [`note_hashes`](Core::note_hashes) does, by as many workers as `workers` says, at most
+    /// [`page_model::MAX_WORKERS`]. The calling thread is one of them, and another is started only where it has pages enough
+    /// to be worth its start.
+    ///
+    /// Where memory or a thread is refused, the calling thread computes the hashes alone.
+    pub fn note_hashes_by<R: Threads + Wait + Sync, B: Allocator + Clone + Send>(
+        &mut self,
+        rt: &R,
+        alloc: B,
+        workers: u32,
+        pages: &[(u8, u32)],
+    )
+        requires { (1 ≤ workers) × (workers ≤ 64) }
+        ensures { self.new ≡ self.old }
+    {
+        if pages.len() >= 2 * PAGES_A_WORKER {
+            let _noted = note_by_workers(&mut self.held, rt, alloc, workers, PAGES_A_WORKER, pages);
+        }
+        note_hashes(&mut self.held, pages);
     }
 }

@@ -1,14 +1,11 @@
 //! The parts of a new core.
-ghost use Rattle.std.specs.Prelude.{◌≡◌, ◌≢◌, length, IfOk, MatchResult};
+ghost use Rattle.std.specs.Prelude.{◌≡◌, length, IfOk};
 ghost use Rattle.page_model.specs.Limits.{shapes};
 ghost use Rattle.machine_frames.specs.FrameMap.{no_frames};
 ghost use Rattle.share_table.specs.TableMaps.{empty_table};
 ghost use Rattle.merge_core.specs.Names.{empty_names, empty_name};
-ghost use Rattle.merge_core.specs.Refusals.{AreLimits, NoCoreFor};
-ghost use Rattle.merge_core.specs.declared.fault.CoreFault.TheVariants.{OutOfMemory};
 ghost use Rattle.merge_core.specs.View.{guest_of, names_in, names_of, Whole};
 
-use crate::fault::CoreFault;
 use crate::held::{GuestPages, Held, PageEntry};
 use crate::notes::Notes;
 use machine_frames::Frames;
@@ -16,14 +13,6 @@ use page_digest::PageHash;
 use page_model::MachineShape;
 use share_table::Table;
 use std::alloc::{AllocError, Allocator};
-
-/// Whether there may be a machine of these frames, pages and salts, and the first cause for which there is none.
-pub fn check_limits(frames: u32, pages: &[u32], salts: &[u32]) -> Result<(), CoreFault>
-    ensures { MatchResult result (λ _. AreLimits frames pages.now salts.now) (λ fault. NoCoreFor frames pages.now salts.now fault × (fault ≢ OutOfMemory)) }
-{
-    let _shape = MachineShape::new(frames, pages, salts)?;
-    Ok(())
-}
 
 /// A guest with no page mapped.
 fn new_guest<A: Allocator>(alloc: A, salt: u32, pages: u32) -> Result<GuestPages<A>, AllocError>

@@ -6,10 +6,12 @@ use std::alloc::{AllocError, Allocator, Global};
 use std::marker::Model;
 
 /// What is known of a frame: the salt of its pages, and its hash, where that was computed since the last store.
+///
+/// The hash is kept as its little-endian bytes, so that a note takes 16 bytes and not 24.
 #[derive(Clone, Copy)]
 pub struct Note {
     pub salt: u32,
-    pub hash: Option<u64>,
+    pub hash: Option<[u8; 8]>,
 }
 
 /// A note on each frame.
@@ -57,7 +59,10 @@ impl<A: Allocator> Notes<A> {
         requires mpn { mpn < length self.now }
         ensures hash { result ≡ (known_at self.now mpn).hash }
     {
-        self.notes[mpn as usize].hash
+        match self.notes[mpn as usize].hash {
+            None => None,
+            Some(bytes) => Some(u64::from_le_bytes(bytes)),
+        }
     }
 
     /// Notes the salt of a frame's pages, and that its hash isn't known.
@@ -75,7 +80,7 @@ impl<A: Allocator> Notes<A> {
     {
         self.notes[mpn as usize] = Note {
             salt,
-            hash: Some(code),
+            hash: Some(code.to_le_bytes()),
         };
     }
 }

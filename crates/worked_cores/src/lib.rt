@@ -5,6 +5,8 @@
 #[cfg(test)]
 mod asks;
 #[cfg(test)]
+mod by_workers;
+#[cfg(test)]
 mod counts;
 #[cfg(test)]
 mod frames;
@@ -14,6 +16,8 @@ mod hashes;
 mod limits;
 #[cfg(test)]
 mod refused;
+#[cfg(test)]
+mod room;
 #[cfg(test)]
 mod salts;
 #[cfg(test)]

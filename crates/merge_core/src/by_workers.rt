@@ -1,0 +1,224 @@
+//! Hashes that several workers compute, and that are noted.
+ghost use Rattle.std.specs.Prelude.{◌≡◌, ◌≤◌, [], All, IfOk, IfSome, length, vec_capacity};
+ghost use Rattle.std.specs.Option.{option_map};
+ghost use Rattle.page_digest.specs.Many.{frame_hashes};
+ghost use Rattle.merge_core.specs.Hashing.{IsPaged, page_hash, page_hashes};
+ghost use Rattle.merge_core.specs.Names.{bytes_in};
+ghost use Rattle.merge_core.specs.View.{names_of, guests_of, Whole};
+
+use crate::ahead::is_noted;
+use crate::held::{Held, PageEntry};
+use crate::moves::{find, hash_frame, learn};
+use page_digest::{HashFault, PageHash, hash_many};
+use std::alloc::{AllocError, Allocator};
+use std::sync::Wait;
+use std::thread::Threads;
+
+/// Notes the hashes of these pages, as far as they are mapped and their hashes aren't known. At most so many workers compute
+/// them, so that each has `least` of them or more.
+pub fn note_by_workers<
+    R: Threads + Wait + Sync,
+    H: PageHash,
+    A: Allocator + Sync,
+    B: Allocator + Clone + Send,
+>(
+    held: &mut Held<H, A>,
+    rt: &R,
+    alloc: B,
+    workers: u32,
+    least: usize,
+    pages: &[(u8, u32)],
+) -> Result<(), HashFault>
+    requires workers { (1 ≤ workers) × (workers ≤ 64) }
+    requires least { 1 ≤ least }
+    requires whole { Whole H.hash_of held.old }
+    ensures whole { Whole H.hash_of held.new }
+    ensures frames { held.new.frames ≡ held.old.frames }
+    ensures table { held.new.table ≡ held.old.table }
+    ensures names { names_of held.new ≡ names_of held.old }
+{
+    let pairs = unknown_frames(held, alloc.clone()?, pages)?;
+    let paying = paying_workers(workers, pairs.len() / least);
+    let hashes = hash_many(rt, alloc, paying, &held.hash, &held.frames, &pairs)?;
+    note_frames(held, &pairs, &hashes);
+    Ok(())
+}
+
+/// The lesser of two numbers of workers, but at least one.
+fn paying_workers(workers: u32, most: usize) -> u32
+    requires { (1 ≤ workers) × (workers ≤ 64) }
+    ensures { (1 ≤ result) × (result ≤ workers) }
+{
+    if most == 0 {
+        return 1;
+    }
+    if most < workers as usize {
+        most as u32
+    } else {
+        workers
+    }
+}
+
+/// The frames of these pages whose hashes aren't known, as pairs of a salt and an MPN.
+fn unknown_frames<H: PageHash, A: Allocator, B: Allocator>(
+    held: &Held<H, A>,
+    alloc: B,
+    pages: &[(u8, u32)],
+) -> Result<Vec<(u32, u32), B>, AllocError>
+    requires whole { Whole H.hash_of held.now }
+    ensures { IfOk result (λ pairs. All (λ pair. IsPaged (names_of held.now) pair.0 pair.1) pairs.items) }
+{
+    let mut pairs = Vec::with_capacity(alloc, pages.len())?;
+    for (guest, ppn) in pages {
+        if let Some(pair) = unknown_frame(held, *guest as usize, *ppn as usize) {
+            pairs.push(pair)?;
+        }
+    }
+    Ok(pairs)
+}
+
+/// The salt and frame of a page, where it is mapped and its hash isn't known.
+fn unknown_frame<H: PageHash, A: Allocator>(
+    held: &Held<H, A>,
+    guest: usize,
+    ppn: usize,
+) -> Option<(u32, u32)>
+    requires whole { Whole H.hash_of held.now }
+    ensures { IfSome result (λ pair. IsPaged (names_of held.now) pair.0 pair.1) }
+{
+    let (salt, mpn) = frame_of(held, guest, ppn)?;
+    if is_known(held, salt, mpn) {
+        return None;
+    }
+    Some((salt, mpn))
+}
+
+/// The salt and frame of a page, where it is mapped.
+fn frame_of<H: PageHash, A: Allocator>(
+    held: &Held<H, A>,
+    guest: usize,
+    ppn: usize,
+) -> Option<(u32, u32)>
+    requires whole { Whole H.hash_of held.now }
+    ensures paged { IfSome result (λ pair. IsPaged (names_of held.now) pair.0 pair.1) }
+    ensures hash { option_map (λ pair. H.hash_of pair.0 (bytes_in held.now.frames pair.1)) result ≡ page_hash H.hash_of (guests_of held.now) guest ppn }
+{
+    match find(held, guest, ppn) {
+        None => None,
+        Some((_, PageEntry::Unmapped)) => None,
+        Some((salt, PageEntry::Private(mpn, _))) => Some((salt, mpn)),
+        Some((salt, PageEntry::Shared(mpn))) => Some((salt, mpn)),
+    }
+}
+
+/// Whether the hash of a page's frame is known.
+fn is_known<H: PageHash, A: Allocator>(held: &Held<H, A>, _salt: u32, mpn: u32) -> bool
+    requires whole { Whole H.hash_of held.now }
+    requires paged { IsPaged (names_of held.now) _salt mpn }
+{
+    is_noted(held, mpn)
+}
+
+/// Notes the hashes of these frames.
+fn note_frames<H: PageHash, A: Allocator>(
+    held: &mut Held<H, A>,
+    pairs: &[(u32, u32)],
+    hashes: &[u64],
+)
+    requires whole { Whole H.hash_of held.old }
+    requires paged { All (λ pair. IsPaged (names_of held.old) pair.0 pair.1) pairs.now }
+    requires hashes { hashes.now ≡ frame_hashes H.hash_of held.old.frames pairs.now }
+    ensures whole { Whole H.hash_of held.new }
+    ensures frames { held.new.frames ≡ held.old.frames }
+    ensures table { held.new.table ≡ held.old.table }
+    ensures names { names_of held.new ≡ names_of held.old }
+{
+    for n in 0..pairs.len() {
+        let (salt, mpn) = pairs[n];
+        note_frame(held, salt, mpn, hashes[n]);
+    }
+}
+
+/// Notes the hash of a page's frame.
+fn note_frame<H: PageHash, A: Allocator>(held: &mut Held<H, A>, salt: u32, mpn: u32, code: u64)
+    requires whole { Whole H.hash_of held.old }
+    requires paged { IsPaged (names_of held.old) salt mpn }
+    requires code { code ≡ H.hash_of salt (bytes_in held.old.frames mpn) }
+    ensures whole { Whole H.hash_of held.new }
+    ensures frames { held.new.frames ≡ held.old.frames }
+    ensures table { held.new.table ≡ held.old.table }
+    ensures names { names_of held.new ≡ names_of held.old }
+{
+    learn(held, mpn, salt, code);
+}
+
+/// Notes a page's hash, where the page is mapped.
+pub fn note_page<H: PageHash, A: Allocator>(
+    held: &mut Held<H, A>,
+    guest: usize,
+    ppn: usize,
+    code: u64,
+)
+    requires whole { Whole H.hash_of held.old }
+    requires code { IfSome (page_hash H.hash_of (guests_of held.old) guest ppn) (λ h. code ≡ h) }
+    ensures whole { Whole H.hash_of held.new }
+    ensures frames { held.new.frames ≡ held.old.frames }
+    ensures table { held.new.table ≡ held.old.table }
+    ensures names { names_of held.new ≡ names_of held.old }
+{
+    if let Some((salt, mpn)) = frame_of(held, guest, ppn) {
+        note_frame(held, salt, mpn, code);
+    }
+}
+
+/// The hashes of these pages, in order: what isn't known is computed here. The list is empty, and has room for them.
+pub fn push_hashes<H: PageHash, A: Allocator, B: Allocator>(
+    held: &mut Held<H, A>,
+    pages: &[(u8, u32)],
+    hashes: &mut Vec<Option<u64>, B>,
+)
+    requires whole { Whole H.hash_of held.old }
+    requires room { (hashes.old.items ≡ []) × (length pages.now ≤ vec_capacity hashes.old) }
+    ensures whole { Whole H.hash_of held.new }
+    ensures frames { held.new.frames ≡ held.old.frames }
+    ensures table { held.new.table ≡ held.old.table }
+    ensures names { names_of held.new ≡ names_of held.old }
+    ensures hashes { hashes.new.items ≡ page_hashes H.hash_of (guests_of held.old) pages.now }
+{
+    for n in 0..pages.len() {
+        let (guest, ppn) = pages[n];
+        hashes.push_reserved(hash_page(held, guest as usize, ppn as usize));
+    }
+}
+
+/// The hash of a page, where it is mapped.
+fn hash_page<H: PageHash, A: Allocator>(
+    held: &mut Held<H, A>,
+    guest: usize,
+    ppn: usize,
+) -> Option<u64>
+    requires whole { Whole H.hash_of held.old }
+    ensures whole { Whole H.hash_of held.new }
+    ensures frames { held.new.frames ≡ held.old.frames }
+    ensures table { held.new.table ≡ held.old.table }
+    ensures names { names_of held.new ≡ names_of held.old }
+    ensures hash { result ≡ page_hash H.hash_of (guests_of held.old) guest ppn }
+{
+    match frame_of(held, guest, ppn) {
+        None => None,
+        Some((salt, mpn)) => Some(hash_paged(held, salt, mpn)),
+    }
+}
+
+/// The hash of a page's frame.
+fn hash_paged<H: PageHash, A: Allocator>(held: &mut Held<H, A>, salt: u32, mpn: u32) -> u64
+    requires whole { Whole H.hash_of held.old }
+    requires paged { IsPaged (names_of held.old) salt mpn }
+    ensures whole { Whole H.hash_of held.new }
+    ensures frames { held.new.frames ≡ held.old.frames }
+    ensures table { held.new.table ≡ held.old.table }
+    ensures names { names_of held.new ≡ names_of held.old }
+    ensures hash { result ≡ H.hash_of salt (bytes_in held.old.frames mpn) }
+{
+    hash_frame(held, mpn, salt)
+}
