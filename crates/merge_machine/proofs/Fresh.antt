@@ -1,11 +1,13 @@
 -- A merger before its first step.
-use Rattle.std.proofs.Common.{◌≡◌, ℕ, All, List, [], ap, sym, ◌∙◌}
+use Rattle.std.proofs.Common.{◌≡◌, ℕ, All, List, [], refl, ap, sym, ◌∙◌}
 use Rattle.page_model.specs.Pages.{State}
+use Rattle.page_model.specs.Parts.{MachineParts}
 use Rattle.page_model.specs.Replay.{empty_state, state_after}
 use Rattle.page_model.specs.Limits.{shapes}
 use Rattle.share_rings.specs.declared.merger_end.MergerEnd.{MergerEnd}
 use Rattle.merge_machine.specs.Kept.{Keeps}
 use Rattle.merge_machine.specs.Fresh.{IsFreshEnd}
+use Rattle.merge_machine.specs.Limits.{Numbers}
 use Rattle.merge_machine.specs.Machines.{opening, IsReplayOf}
 use Rattle.merge_machine.proofs.Openings.{opening_empty}
 
@@ -22,7 +24,7 @@ replay_of_nothing hash s e = sym e
 pub is_opening : (s : State) (frames : ℕ) (salts pages : List ℕ) → s ≡ empty_state frames (shapes salts pages) → opening s ≡ s
 is_opening s frames salts pages e = ap opening e ∙ (opening_empty frames (shapes salts pages) ∙ sym e)
 
--- and the one of these salts and numbers of pages
-pub opens_empty : (s : State) (frames : ℕ) (salts pages salts' pages' : List ℕ) → s ≡ empty_state frames (shapes salts pages) → salts ≡ salts' → pages ≡ pages' → opening s ≡ empty_state frames (shapes salts' pages')
-opens_empty s frames salts pages salts' pages' e f g =
-    ap opening e ∙ (opening_empty frames (shapes salts pages) ∙ (ap (λ (xs : List ℕ). empty_state frames (shapes xs pages)) f ∙ ap (λ (xs : List ℕ). empty_state frames (shapes salts' xs)) g))
+-- and the one of this shape, whose numbers are these
+pub opens_empty : (s : State) (shape : MachineParts) (numbers : Numbers) → s ≡ empty_state shape.frames (shapes shape.salts shape.pages) → shape.frames ≡ numbers.frames → shape.salts ≡ numbers.salts → shape.pages ≡ numbers.pages
+    → opening s ≡ empty_state numbers.frames (shapes numbers.salts numbers.pages)
+opens_empty s shape numbers e f g h = is_opening s shape.frames shape.salts shape.pages e ∙ (e ∙ rw (f, g, h) refl)

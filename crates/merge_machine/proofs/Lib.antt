@@ -6,3 +6,4 @@ pub mod Closes
 pub mod Fresh
 pub mod Stepped
 pub mod Replays
+pub mod Rounds

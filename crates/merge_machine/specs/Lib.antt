@@ -8,3 +8,5 @@ pub mod Opened
 pub mod Ahead
 pub mod Steps
 pub mod Meets
+pub mod Rounds
+pub mod Taking

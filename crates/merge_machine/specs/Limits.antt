@@ -1,13 +1,24 @@
 -- Which machines there may be, and why there is none.
-use Rattle.std.specs.Prelude.{ℕ, ◌≤◌}
-use Rattle.page_model.specs.Limits.{AreFrames, AreGuests, ArePages}
+use Rattle.std.specs.Prelude.{ℕ, ◌≤◌, List}
+use Rattle.page_model.specs.Limits.{AreFrames, AreGuests, ArePages, AreLimits}
+use Rattle.page_model.specs.declared.machine_shape.ShapeFault.{ShapeFault}
+use Rattle.page_model.specs.declared.machine_shape.ShapeFault.TheVariants as shape
 use Rattle.share_rings.specs.Faults.{IsCapacity}
-use Rattle.merge_core.specs.Refusals.{AreLimits}
-use Rattle.merge_core.specs.declared.fault.CoreFault.{CoreFault}
-use Rattle.merge_core.specs.declared.fault.CoreFault.TheVariants as core
 use Rattle.merge_machine.specs.declared.config.Config.{Config}
 use Rattle.merge_machine.specs.declared.config.Fault.{Fault}
 use Rattle.merge_machine.specs.declared.config.Fault.TheVariants.{Frames, Guests, Pages, Ring, Journal, OutOfMemory}
+
+-- a machine's numbers: its frames, each guest's number of pages and salt, what a ring holds, and what the journal holds
+pub record Numbers : Type 0 where
+  pub frames : ℕ
+  pub pages : List ℕ
+  pub salts : List ℕ
+  pub ring : ℕ
+  pub journal : ℕ
+
+-- the numbers of a configuration
+abbrev pub numbers_of : {A : Type 0} → Config A → Numbers
+numbers_of c = record { frames = c.frames; pages = c.pages.items; salts = c.salts.items; ring = c.ring; journal = c.journal }
 
 -- a journal may hold this many entries
 abbrev pub IsJournal : ℕ → Type 0
@@ -26,9 +37,8 @@ NoMachineFor c Ring = AreLimits c.frames c.pages.items c.salts.items × ¬ IsCap
 NoMachineFor c Journal = AreLimits c.frames c.pages.items c.salts.items × IsCapacity c.ring × ¬ IsJournal c.journal
 NoMachineFor c OutOfMemory = IsMachine c
 
--- why there is no core, as a fault of the machine
-abbrev pub fault_of : CoreFault → Fault
-fault_of core.Frames = Frames
-fault_of core.Guests = Guests
-fault_of core.Pages = Pages
-fault_of core.OutOfMemory = OutOfMemory
+-- why there is no shape of a machine, as a fault of the machine
+abbrev pub fault_of : ShapeFault → Fault
+fault_of shape.Frames = Frames
+fault_of shape.Guests = Guests
+fault_of shape.Pages = Pages

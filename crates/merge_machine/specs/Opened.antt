@@ -7,18 +7,18 @@ use Rattle.share_rings.specs.declared.port.Port.{Port}
 use Rattle.merge_machine.specs.Fresh.{IsFreshEnd, IsFreshPort}
 use Rattle.merge_machine.specs.Kept.{end_names, port_names}
 use Rattle.merge_machine.specs.View.{ends_of, journal_of, limit_of, memory_of, machine_of, guest_count}
-use Rattle.merge_machine.specs.declared.config.Config.{Config}
+use Rattle.merge_machine.specs.Limits.{Numbers}
 use Rattle.merge_machine.specs.declared.merger.Merger.{Merger}
 
--- The machine of this configuration. Nothing went through its rings, nothing was journaled, and no page is mapped.
-pub record IsFreshMachine {H A : Type 0} {ghosts : Ghosts H} (config : Config A) (merger : Merger H A ghosts) (ports : List (Port A)) : Type 0 where
+-- The machine of these numbers. Nothing went through its rings, nothing was journaled, and no page is mapped.
+pub record IsFreshMachine {H A : Type 0} {ghosts : Ghosts H} (numbers : Numbers) (merger : Merger H A ghosts) (ports : List (Port A)) : Type 0 where
   -- port i and end i are of one pair
   pub pairs : port_names ports ≡ end_names (ends_of merger)
-  pub guests : guest_count merger ≡ length config.pages.items
-  pub each : length ports ≡ length config.pages.items
-  pub unused_ports : All (IsFreshPort config.ring) ports
-  pub unused_ends : All (IsFreshEnd config.ring) (ends_of merger)
+  pub guests : guest_count merger ≡ length numbers.pages
+  pub each : length ports ≡ length numbers.pages
+  pub unused_ports : All (IsFreshPort numbers.ring) ports
+  pub unused_ends : All (IsFreshEnd numbers.ring) (ends_of merger)
   pub journal : journal_of merger ≡ []
-  pub limit : limit_of merger ≡ config.journal
-  pub machine : machine_of merger ≡ empty_state config.frames (shapes config.salts.items config.pages.items)
+  pub limit : limit_of merger ≡ numbers.journal
+  pub machine : machine_of merger ≡ empty_state numbers.frames (shapes numbers.salts numbers.pages)
   pub memory : memory_of merger ≡ machine_of merger

@@ -1,5 +1,5 @@
 -- What a step of the merger does.
-use Rattle.std.specs.Prelude.{◌≡◌, ℕ, ◌+◌, ◌<◌, ◌≤◌, true, false, List, [], ◌∷◌, ◌++◌, length, Some, slice_get, slice_set}
+use Rattle.std.specs.Prelude.{◌≡◌, ℕ, ◌+◌, ◌<◌, ◌≤◌, true, List, [], ◌∷◌, ◌++◌, length, Some, slice_get, slice_set}
 use mathlib.Core.List.{IsPrefix}
 use Rattle.page_model.specs.Steps.{step}
 use Rattle.page_model.specs.declared.hashing.HashFunction.{Ghosts}

@@ -1,11 +1,12 @@
 //! Which machine is to be made, and why there may be none.
-ghost use Rattle.std.specs.Prelude.{◌≡◌, ◌≢◌, MatchResult};
-ghost use Rattle.merge_machine.specs.Limits.{IsMachine, NoMachineFor};
+ghost use Rattle.std.specs.Prelude.{◌≡◌, ◌≢◌, IfOk, MatchResult};
+ghost use Rattle.share_rings.specs.Faults.{IsCapacity};
+ghost use Rattle.merge_machine.specs.Limits.{IsJournal, IsMachine, NoMachineFor, numbers_of};
 ghost use Rattle.merge_machine.specs.declared.config.Fault.TheVariants.{OutOfMemory};
 
-use merge_core::{CoreFault, check_limits};
-use page_model::{MAX_ENTRIES, MAX_RING_CAPACITY};
+use page_model::{MAX_ENTRIES, MAX_RING_CAPACITY, MachineShape, ShapeFault};
 use std::alloc::{AllocError, Allocator, Global};
+use std::marker::Model;
 use thiserror::Error;
 
 /// A machine's numbers: guest i has `pages[i]` pages and the salt `salts[i]`.
@@ -56,33 +57,83 @@ impl From<AllocError> for Fault {
     }
 }
 
-impl From<CoreFault> for Fault {
+impl From<ShapeFault> for Fault {
     ghost use Rattle.merge_machine.specs.Limits.{fault_of};
 
     ghost from_gives = { λ refused fault. fault ≡ fault_of refused };
 
-    fn from(refused: CoreFault) -> Fault {
+    fn from(refused: ShapeFault) -> Fault {
         match refused {
-            CoreFault::Frames => Fault::Frames,
-            CoreFault::Guests => Fault::Guests,
-            CoreFault::Pages => Fault::Pages,
-            CoreFault::OutOfMemory => Fault::OutOfMemory,
+            ShapeFault::Frames => Fault::Frames,
+            ShapeFault::Guests => Fault::Guests,
+            ShapeFault::Pages => Fault::Pages,
         }
     }
 }
 
+/// A configuration that is known to be within the limits. Whoever holds one need not look at them again.
+#[derive(Drop)]
+pub struct CheckedConfig<'a> {
+    shape: MachineShape<'a>,
+    ring: u32,
+    journal: u32,
+}
+
+impl<'a> Model for CheckedConfig<'a> {
+    ghost use Rattle.merge_machine.specs.Limits.{Numbers};
+
+    ghost Value = { Numbers };
+
+    ghost use Rattle.share_rings.specs.Faults.{IsCapacity};
+    ghost use Rattle.merge_machine.specs.Limits.{IsJournal};
+
+    ghost view = { λ c. record { frames = c.shape.frames; pages = c.shape.pages; salts = c.shape.salts; ring = c.ring; journal = c.journal } };
+
+    ghost invariant = { λ c. IsCapacity c.ring × IsJournal c.journal };
+}
+
 impl<A: Allocator> Config<A> {
-    /// Whether there may be such a machine, and the first cause for which there is none.
-    pub fn check(&self) -> Result<(), Fault>
-        ensures { MatchResult result (λ _. IsMachine self.now) (λ fault. NoMachineFor self.now fault × (fault ≢ OutOfMemory)) }
+    /// The configuration, once its limits were looked at, or the first cause for which there is no such machine.
+    pub fn check(&self) -> Result<CheckedConfig<'_>, Fault>
+        ensures checked { IfOk result (λ checked. checked ≡ numbers_of self.now) }
+        ensures fault { MatchResult result (λ _. IsMachine self.now) (λ fault. NoMachineFor self.now fault × (fault ≢ OutOfMemory)) }
     {
-        check_limits(self.frames, &self.pages, &self.salts)?;
+        let shape = MachineShape::new(self.frames, &self.pages, &self.salts)?;
         if self.ring == 0 || self.ring > MAX_RING_CAPACITY {
             return Err(Fault::Ring);
         }
         if self.journal == 0 || self.journal > MAX_ENTRIES {
             return Err(Fault::Journal);
         }
-        Ok(())
+        Ok(CheckedConfig {
+            shape,
+            ring: self.ring,
+            journal: self.journal,
+        })
+    }
+}
+
+impl<'a> CheckedConfig<'a> {
+    /// The machine's frames, pages and salts.
+    pub(crate) fn shape(&self) -> &MachineShape<'a>
+        ensures { (result.now.frames ≡ self.now.frames) × (result.now.pages ≡ self.now.pages) × (result.now.salts ≡ self.now.salts) }
+    {
+        &self.shape
+    }
+
+    /// How many items each ring holds.
+    pub(crate) fn ring(&self) -> u32
+        ensures ring { result ≡ self.now.ring }
+        ensures limits { IsCapacity self.now.ring }
+    {
+        self.ring
+    }
+
+    /// How many entries the journal holds.
+    pub(crate) fn journal(&self) -> u32
+        ensures journal { result ≡ self.now.journal }
+        ensures limits { IsJournal self.now.journal }
+    {
+        self.journal
     }
 }

@@ -10,8 +10,13 @@ mod config;
 mod machine;
 mod meet_each;
 mod merger;
+mod note_next;
+mod round;
 mod serve;
+mod serve_taken;
+mod take_requests;
+mod workers;
 
-pub use config::{Config, Fault};
+pub use config::{CheckedConfig, Config, Fault};
 pub use machine::Machine;
 pub use merger::{JournalFull, Merger, Step};

@@ -2,14 +2,15 @@
 ghost use Rattle.std.specs.Prelude.{◌≡◌, All, length, IfOk, MatchResult};
 ghost use Rattle.merge_machine.specs.Kept.{end_names, port_names};
 ghost use Rattle.merge_machine.specs.Fresh.{IsFreshEnd, IsFreshPort};
-ghost use Rattle.merge_machine.specs.Limits.{IsMachine, NoMachineFor};
+ghost use Rattle.merge_machine.specs.Limits.{IsMachine, NoMachineFor, numbers_of};
 ghost use Rattle.merge_machine.specs.Opened.{IsFreshMachine};
+ghost use Rattle.share_rings.specs.Faults.{IsCapacity};
 
-use crate::config::{Config, Fault};
+use crate::config::{CheckedConfig, Config, Fault};
 use crate::merger::Merger;
 use merge_core::Core;
 use page_digest::PageHash;
-use share_rings::{MergerEnd, Port, ring_pair};
+use share_rings::{MergerEnd, Port, open_pair};
 use std::alloc::{AllocError, Allocator};
 
 /// What makes machines.
@@ -24,43 +25,46 @@ impl Machine {
         config: &Config<A>,
         hash: H,
     ) -> Result<(Merger<H, A>, Vec<Port<A>, A>), Fault>
-        ensures machine { IfOk result (λ (merger, ports). IsFreshMachine config.now merger ports.items) }
+        ensures machine { IfOk result (λ (merger, ports). IsFreshMachine (numbers_of config.now) merger ports.items) }
         ensures fault { MatchResult result (λ _. IsMachine config.now) (λ fault. NoMachineFor config.now fault) }
     {
-        config.check()?;
-        match Machine::open(alloc, config, hash) {
+        let checked = config.check()?;
+        match Machine::open(alloc, &checked, hash) {
             Err(_) => Err(Fault::OutOfMemory),
             Ok(machine) => Ok(machine),
         }
     }
 
-    /// The same for a machine that is known to be within the limits (see [`Config::check`]).
+    /// The same for a configuration whose limits were looked at (see [`Config::check`]).
     pub fn open<H: PageHash + Drop, A: Allocator + Copy>(
         alloc: A,
-        config: &Config<A>,
+        config: &CheckedConfig<'_>,
         hash: H,
     ) -> Result<(Merger<H, A>, Vec<Port<A>, A>), AllocError>
-        requires { IsMachine config.now }
         ensures { IfOk result (λ (merger, ports). IsFreshMachine config.now merger ports.items) }
     {
-        let core = Core::open(alloc, config.frames, &config.pages, &config.salts, hash)?;
-        let (ends, ports) = new_pairs(alloc, config.pages.len(), config.ring)?;
-        let journal = Vec::with_capacity(alloc, config.journal as usize)?;
+        let shape = config.shape();
+        let limit = config.journal();
+        let core = Core::with_shape(alloc, shape, hash)?;
+        let (ends, ports) = new_pairs(alloc, shape.pages().len(), config.ring())?;
+        let journal = Vec::with_capacity(alloc, limit as usize)?;
         let merger = Merger {
             ends,
             journal,
             core,
-            limit: config.journal,
+            limit,
         };
         Ok((merger, ports))
     }
 }
+
 /// So many pairs of rings of this capacity.
 fn new_pairs<A: Allocator + Copy>(
     alloc: A,
     guests: usize,
     ring: u32,
 ) -> Result<(Vec<MergerEnd<A>, A>, Vec<Port<A>, A>), AllocError>
+    requires ring { IsCapacity ring }
     ensures pairs { IfOk result (λ (ends, ports). port_names ports.items ≡ end_names ends.items) }
     ensures guests { IfOk result (λ (ends, ports). (length ends.items ≡ guests) × (length ports.items ≡ guests)) }
     ensures ports { IfOk result (λ (ends, ports). All (IsFreshPort ring) ports.items) }
@@ -69,9 +73,7 @@ fn new_pairs<A: Allocator + Copy>(
     let mut ends = Vec::with_capacity(alloc, guests)?;
     let mut ports = Vec::with_capacity(alloc, guests)?;
     for _guest in 0..guests {
-        let Ok((port, end)) = ring_pair(alloc, ring) else {
-            return Err(AllocError);
-        };
+        let (port, end) = open_pair(alloc, ring)?;
         ends.push_reserved(end);
         ports.push_reserved(port);
     }

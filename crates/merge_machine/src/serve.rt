@@ -32,6 +32,25 @@ pub(crate) fn serve_one<H: PageHash, A: Allocator>(
     ensures entries { core.new.entries ≡ core.old.entries + 1 }
     ensures guests { length (state_of core.new).guests ≡ length (state_of core.old).guests }
 {
-    end.give(core.apply(guest, &request));
+    answer_one(end, core, guest, &request);
     journal.push_reserved(Entry { guest, request });
+}
+
+/// Applies a request that was taken from this end, and answers it.
+pub(crate) fn answer_one<H: PageHash, A: Allocator>(
+    end: &mut MergerEnd<A>,
+    core: &mut Core<H, A>,
+    guest: u8,
+    request: &Request,
+)
+    requires slot { 0 < end_free end.old }
+    requires unanswered { IsUnanswered end.old (is_close request.now) }
+    requires guest { guest < length (state_of core.old).guests }
+    requires entries { core.old.entries < 16777216 }
+    ensures end { GaveOne (step H.hash_of (state_of core.old) guest request.now).verdict end.old end.new }
+    ensures memory { state_of core.new ≡ (step H.hash_of (state_of core.old) guest request.now).state }
+    ensures entries { core.new.entries ≡ core.old.entries + 1 }
+    ensures guests { length (state_of core.new).guests ≡ length (state_of core.old).guests }
+{
+    end.give(core.apply(guest, request));
 }

@@ -72,11 +72,11 @@ pub fn run<
     ensures got { IfOk result (λ f. map (λ list. list.items) f.verdicts.items ≡ map closed_got (settled_ports f.settled)) }
     ensures fault { MatchResult result (λ _. IsMachine config.now × (entries_of scripts.items ≤ config.now.journal)) (λ fault. NotRunFor config.now scripts.items fault) }
 {
-    config.check()?;
+    let checked = config.check()?;
     if !has_room(config.journal, &scripts) {
         return Err(RunFault::Stopped(JournalFull));
     }
-    let (merger, ports) = Machine::open(alloc, config, hash)?;
+    let (merger, ports) = Machine::open(alloc, &checked, hash)?;
     let tasks = new_tasks(alloc, ports, scripts)?;
     run_tasks(rt, alloc, gate, merger, tasks)
 }

@@ -17,6 +17,6 @@ pub use closed_port::ClosedPort;
 pub use fault::{Busy, SendFault};
 pub use gather::{Meeting, meet};
 pub use merger_end::MergerEnd;
-pub use pair::{RingFault, ring_pair};
+pub use pair::{RingFault, open_pair, ring_pair};
 pub use port::Port;
 pub use scan::Scan;

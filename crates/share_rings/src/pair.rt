@@ -45,6 +45,20 @@ pub fn ring_pair<A: Allocator + Copy>(
     if capacity == 0 || capacity > MAX_RING_CAPACITY {
         return Err(RingFault::Ring);
     }
+    Ok(open_pair(alloc, capacity)?)
+}
+
+/// The same for a capacity that is known to be from 1 to 65,536.
+pub fn open_pair<A: Allocator + Copy>(
+    alloc: A,
+    capacity: u32,
+) -> Result<(Port<A>, MergerEnd<A>), AllocError>
+    requires { IsCapacity capacity }
+    ensures pair { IfOk result (λ (port, end). port_name port ≡ end_name end) }
+    ensures capacity { IfOk result (λ (port, end). (port_capacity port ≡ capacity) × (end_capacity end ≡ capacity)) }
+    ensures port { IfOk result (λ (port, end). (port_sent port ≡ []) × (port_got port ≡ []) × (port_known port ≡ [])) }
+    ensures end { IfOk result (λ (port, end). (end_taken end ≡ []) × (end_given end ≡ []) × (end_known end ≡ []) × (end_free end ≡ capacity)) }
+{
     let (requests, taking) = RingBuffer::new(alloc, capacity as usize)?;
     let (giving, verdicts) = RingBuffer::new(alloc, capacity as usize)?;
     let port = Port {

@@ -1,8 +1,7 @@
-use Rattle.std.proofs.Common.{◌≡◌, ℕ, ◌+◌, ◌<◌, true, false, ◌∙◌, ◌++◌, ◌∷◌, [], set, sym, refl, ap, List, length, arith}
+use Rattle.std.proofs.Common.{◌≡◌, ◌+◌, ◌<◌, true, false, ◌∙◌, ◌++◌, ◌∷◌, [], set, sym, refl, ap, length, arith}
 use Rattle.std.proofs.lemmas.List.{length-set, length_push}
 use Rattle.std.proofs.lemmas.List.Elements.{All-push}
 use Rattle.page_model.specs.declared.request.Entry.{Entry}
-use Rattle.page_model.specs.declared.request.Request.{Request}
 use Rattle.page_model.specs.Journal.{asked, answers}
 use Rattle.page_model.specs.Steps.{step}
 use Rattle.page_model.specs.Pages.{State}

@@ -1,0 +1,71 @@
+//! Taking a round's requests.
+ghost use Rattle.std.specs.Prelude.{◌≡◌, ◌+◌, ◌<◌, ◌≤◌, length, replicate, vec_capacity};
+ghost use Rattle.merge_machine.specs.Taking.{Took, TookSo, Visits};
+
+use page_model::Entry;
+use share_rings::MergerEnd;
+use std::alloc::Allocator;
+
+/// Takes requests into the journal, one at each visit to a guest, guest by guest in turn, until there are so many or a turn
+/// gives none. For the verdict of each a slot is known to be free.
+pub(crate) fn take_requests<A: Allocator>(
+    ends: &mut Vec<MergerEnd<A>, A>,
+    journal: &mut Vec<Entry, A>,
+    most: usize,
+)
+    requires few { length ends.old.items ≤ 64 }
+    requires room { length journal.old.items + most ≤ vec_capacity journal.old }
+    requires most { most ≤ 1024 }
+    ensures took { Took most ends.old.items ends.new.items journal.old.items journal.new.items }
+    ensures capacity { vec_capacity journal.new ≡ vec_capacity journal.old }
+{
+    // How many verdicts each guest is owed.
+    let mut owed = no_debts();
+    let guests = ends.len();
+    let full = journal.len() + most;
+    let mut seen = journal.len();
+    for visit in 0..guests * (most + 1) {
+        let guest = visit % guests;
+        if guest == 0 && visit > 0 {
+            if journal.len() == seen {
+                return;
+            }
+            seen = journal.len();
+        }
+        if journal.len() >= full {
+            return;
+        }
+        owed[guest] += visit_guest(&mut ends[guest], journal, guest as u8, owed[guest]);
+    }
+}
+
+/// Takes a guest's next request into the journal, where a slot is free beyond those for the verdicts that it is owed. Tells
+/// how many it took.
+fn visit_guest<A: Allocator>(
+    end: &mut MergerEnd<A>,
+    journal: &mut Vec<Entry, A>,
+    guest: u8,
+    owed: u32,
+) -> u32
+    requires { length journal.old.items < vec_capacity journal.old }
+    ensures visits { Visits guest owed result end.old end.new journal.old.items journal.new.items }
+    ensures capacity { vec_capacity journal.new ≡ vec_capacity journal.old }
+{
+    if end.free() <= owed {
+        return 0;
+    }
+    match end.take() {
+        None => 0,
+        Some(request) => {
+            journal.push_reserved(Entry { guest, request });
+            1
+        }
+    }
+}
+
+/// Nothing is owed to anybody.
+fn no_debts() -> [u32; 64]
+    ensures { result ≡ replicate 64 0 }
+{
+    [0; 64]
+}

@@ -1,0 +1,10 @@
+//! Who computes the hashes of a round.
+use std::alloc::Allocator;
+
+/// How many workers compute hashes, the runtime that starts their threads, and where their lists are.
+#[derive(Drop)]
+pub(crate) struct Workers<'a, R, B: Allocator> {
+    pub(crate) rt: &'a R,
+    pub(crate) alloc: B,
+    pub(crate) count: u32,
+}
