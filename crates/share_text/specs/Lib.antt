@@ -1,11 +1,2 @@
-pub mod Words
-pub mod Cursor
-pub mod Headers
-pub mod Requests
-pub mod Texts
-pub mod Views
-pub mod Printed
-pub mod Ends
-pub mod Replayed
-pub mod Written
-pub mod Expected
+pub mod Runs
+pub mod Threads

@@ -1,29 +1,18 @@
-//! Journals as texts, and the engine that replays one.
+//! Texts of page requests, and the engines that serve them.
 //!
-//! The texts, the output and the order of faults stand in `docs/FORMATS.md`; `specs/` defines them apart
-//! from the code.
+//! This crate gives the whole surface of journals (`journal_text`) and scripts (`script_text`), so that a user names it
+//! alone, and the engine that runs a script with a thread for each guest. The texts, the output and the order of faults
+//! stand in `docs/FORMATS.md`.
 #![tactic(auto)]
 
-mod ahead;
-mod ends;
 mod engine;
-mod expect;
-mod fault;
-mod header;
-mod journal;
-pub mod laws;
-mod output;
-mod print;
-mod reader;
-mod request;
-mod word;
-mod writer;
+mod form;
+mod printing;
 
-pub use ends::{Noted, Sink, Source};
-pub use engine::replay;
-pub use expect::expectation;
-pub use fault::{Cause, TextFault};
-pub use journal::Journal;
-pub use print::{fault_line, report_line, verdict_line};
-pub use reader::read_journal;
-pub use writer::write_journal;
+pub use engine::threaded;
+pub use form::Output;
+pub use journal_text::{
+    Cause, Journal, Noted, Sink, Source, TextFault, expectation, fault_line, laws, read_journal,
+    replay, report_line, verdict_line, write_journal,
+};
+pub use script_text::{Script, read_script, serial};

@@ -1,0 +1,55 @@
+-- What would have been right where a text or the work on it is at fault, in words for a person.
+use Rattle.std.specs.Prelude.{ℕ, ◌==◌, if◌then◌else◌, List, codes}
+use Rattle.merge_run.specs.declared.run_fault.RunFault.{RunFault}
+use Rattle.merge_run.specs.declared.run_fault.RunFault.TheVariants as runs
+use Rattle.journal_text.specs.declared.fault.Cause.{Cause}
+use Rattle.journal_text.specs.declared.fault.Cause.TheVariants as causes
+use Rattle.journal_text.specs.declared.fault.TextFault.{TextFault}
+use Rattle.journal_text.specs.declared.fault.TextFault.TheVariants as faults
+
+-- the form of line n
+abbrev pub line_form : ℕ → List ℕ
+line_form n =
+    if n == 1 then codes "\"pageshare journal 1\" or \"pageshare journal 2\""
+    else if n == 2 then codes "\"frames NUMBER\""
+    else if n == 3 then codes "\"pages NUMBER ..\""
+    else if n == 4 then codes "a request line, as \"GUEST propose PPN\", or \"end NUMBER\" with nothing behind that line; in version 2 \"salts NUMBER ..\""
+    else codes "a request line, as \"GUEST propose PPN\", or \"end NUMBER\" with nothing behind that line"
+
+-- what line n is to be, where it is at fault for this cause
+abbrev pub expected_on : ℕ → Cause → List ℕ
+expected_on n causes.Header = line_form n
+expected_on n causes.Form = line_form n
+expected_on n causes.Frames = codes "1 to 1,048,576 frames"
+expected_on n causes.Guests = codes "at most 64 guests"
+expected_on n causes.Pages = codes "a page or more for each guest, and at most 1,048,576 together"
+expected_on n causes.Ring = codes "a ring of 1 to 65,536 requests"
+expected_on n causes.Journal = codes "a journal of 1 to 16,777,216 requests"
+expected_on n causes.NoGuest = codes "a guest of the \"pages\" line, counted from 0"
+expected_on n causes.Length = codes "1 to 64 bytes"
+expected_on n causes.Crosses = codes "bytes that stay within the page's 4,096"
+expected_on n causes.AfterClose = codes "nothing of this guest after its close"
+expected_on n causes.TooMany = codes "no more requests than the \"journal\" line allows"
+expected_on n causes.Salts = codes "one salt for each guest"
+
+-- what a run needs, where it is refused for this cause
+abbrev pub expected_of_run : RunFault → List ℕ
+expected_of_run runs.Frames = codes "1 to 1,048,576 frames"
+expected_of_run runs.Guests = codes "1 to 64 guests, with a salt each"
+expected_of_run runs.Pages = codes "a page or more for each guest, and at most 1,048,576 together"
+expected_of_run runs.Ring = codes "a ring of 1 to 65,536 requests"
+expected_of_run runs.Journal = codes "a journal of 1 to 16,777,216 requests"
+expected_of_run (runs.Stopped full) = codes "a journal with room for all requests and a close for each guest"
+expected_of_run runs.OutOfMemory = codes "memory for the run"
+expected_of_run runs.NoThread = codes "a thread for each guest"
+
+-- what would have been right
+abbrev pub expectation : TextFault → List ℕ
+expectation (faults.Line n cause) = expected_on n cause
+expectation (faults.Truncated n) = line_form n
+expectation faults.Count = codes "\"end NUMBER\" with the number of request lines"
+expectation faults.OutOfMemory = codes "memory for the text, the machine and the output"
+expectation faults.Read = codes "an input that can be read"
+expectation faults.Write = codes "an output that takes what is written"
+expectation faults.Long = codes "at most 67,108,864 bytes"
+expectation (faults.Run f) = expected_of_run f

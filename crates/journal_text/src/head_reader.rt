@@ -1,0 +1,86 @@
+//! The reader of the lines at a text's head: the version, the frames, and the guests' pages and salts.
+ghost use Rattle.std.specs.Prelude.{◌≡◌, ◌≤◌, Option, Some, None, length, replicate, IfOk, IfErr};
+ghost use Rattle.journal_text.specs.declared.fault.TextFault.TheVariants.{OutOfMemory};
+ghost use Rattle.journal_text.specs.Texts.{header_of, salts_at, head_in, line_behind_head};
+ghost use Rattle.journal_text.specs.Views.{Gives, head_seen};
+
+use crate::fault::{Cause, TextFault};
+use crate::head::Head;
+use crate::header::{at_line, frames, next_line, pages, salts};
+use std::alloc::Allocator;
+
+/// Whether the first line is that of version 2, which has a line of salts: it is one of two.
+#[tactic(auto, unfolding(crate::specs::Texts::header_of))]
+fn header(one: &[u8], two: &[u8], line: &[u8]) -> Result<bool, Cause>
+    ensures { result ≡ header_of one.now two.now line.now }
+{
+    if line == one {
+        Ok(false)
+    } else if line == two {
+        Ok(true)
+    } else {
+        Err(Cause::Header)
+    }
+}
+
+/// The salts of version 1.
+fn no_salts<A: Allocator>(alloc: A, guests: usize) -> Result<Vec<u32, A>, TextFault>
+    ensures salts { IfOk result (λ v. v.items ≡ replicate guests 0) }
+    ensures err { IfErr result (λ e. e ≡ OutOfMemory) }
+{
+    Ok(vec![in alloc; 0; guests]?)
+}
+
+/// The salts of so many guests, and what stands behind them.
+#[tactic(auto, unfolding(crate::specs::Texts::salts_at))]
+fn salts_in<'a, A: Allocator>(
+    alloc: A,
+    has_salts: bool,
+    guests: usize,
+    text: &'a [u8],
+) -> Result<(Vec<u32, A>, &'a [u8]), TextFault>
+    ensures value { Gives (λ x. (x.0.items, x.1.now)) result (salts_at has_salts guests text.now) }
+    ensures count { IfOk result (λ x. length x.0.items ≡ guests) }
+    ensures shorter { IfOk result (λ x. length x.1.now ≤ length text.now) }
+{
+    if !has_salts {
+        return Ok((no_salts(alloc, guests)?, text));
+    }
+    let (line, rest) = next_line(4, text)?;
+    Ok((salts(alloc, guests, line)?, rest))
+}
+
+/// The lines at the head of a text whose first line is `one` or `two`, and what stands behind them.
+#[tactic(auto, unfolding(crate::specs::Texts::head_in))]
+pub fn read_head<'a, A: Allocator + Clone>(
+    alloc: A,
+    one: &[u8],
+    two: &[u8],
+    text: &'a [u8],
+) -> Result<(Head<A>, &'a [u8]), TextFault>
+    ensures value { Gives (λ x. (head_seen x.0, x.1.now)) result (head_in one.now two.now text.now) }
+    ensures shorter { IfOk result (λ x. length x.1.now ≤ length text.now) }
+{
+    let (line, rest) = next_line(1, text)?;
+    let has_salts = at_line(1, header(one, two, line))?;
+    let (line, rest) = next_line(2, rest)?;
+    let frames = at_line(2, frames(line))?;
+    let (line, rest) = next_line(3, rest)?;
+    let pages = pages(alloc.clone()?, line)?;
+    let (salts, rest) = salts_in(alloc, has_salts, pages.len(), rest)?;
+    let head = Head {
+        has_salts,
+        frames,
+        pages,
+        salts,
+    };
+    Ok((head, rest))
+}
+
+/// The number of the line behind the lines of the machine.
+pub fn line_behind_head(has_salts: bool) -> u32
+    ensures line { result ≡ line_behind_head has_salts }
+    ensures small { result ≤ 5 }
+{
+    if has_salts { 5 } else { 4 }
+}

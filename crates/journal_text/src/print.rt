@@ -1,0 +1,277 @@
+//! Verdicts, reports and faults as lines.
+//!
+//! Each `push_` function appends to a string, and says how many bytes it may append at most. So room that
+//! was reserved for a longest line is always enough.
+ghost use Rattle.std.specs.Prelude.{◌≡◌, ◌+◌, ◌*◌, ◌<◌, ◌≤◌, ◌++◌, ◌^◌, length, codes, decimal, string_bytes, string_len, string_capacity, IfOk, OnOk, OnErr};
+ghost use Rattle.hex.specs.Hex.{encode_lower};
+ghost use Rattle.journal_text.specs.Printed.{pages_words, saved_words, frames_words, report_words, report_line, verdict_words, verdict_line, cause_word, run_word, fault_line};
+
+use crate::fault::{Cause, TextFault};
+use itoa::Buffer;
+use merge_run::RunFault;
+use page_model::{Report, Verdict};
+use std::alloc::{AllocError, Allocator};
+
+/// Appends a number: at most 10 bytes.
+pub fn push_number<A: Allocator>(out: &mut String<A>, n: u32) -> Result<(), AllocError>
+    ensures bytes { OnOk result (string_bytes out.new ≡ string_bytes out.old ++ decimal n) }
+    ensures len { OnOk result (string_len out.new ≤ string_len out.old + 10) }
+    ensures capacity { string_capacity out.old ≤ string_capacity out.new }
+    ensures full { OnErr result (string_capacity out.old < string_len out.old + 10) }
+{
+    let mut buffer = Buffer::new();
+    out.push_str(buffer.format(n))
+}
+
+/// Appends words and a number.
+pub fn push_counted<A: Allocator>(
+    out: &mut String<A>,
+    words: &str,
+    n: u32,
+) -> Result<(), AllocError>
+    ensures bytes { OnOk result (string_bytes out.new ≡ string_bytes out.old ++ (words.now ++ decimal n)) }
+    ensures len { OnOk result (string_len out.new ≤ string_len out.old + (length words.now + 10)) }
+    ensures capacity { string_capacity out.old ≤ string_capacity out.new }
+    ensures full { OnErr result (string_capacity out.old < string_len out.old + (length words.now + 10)) }
+{
+    out.push_str(words)?;
+    push_number(out, n)
+}
+
+/// Appends what a report says of pages: at most 54 bytes.
+#[tactic(auto, unfolding(crate::specs::Printed::pages_words))]
+fn push_pages<A: Allocator>(out: &mut String<A>, report: &Report) -> Result<(), AllocError>
+    ensures bytes { OnOk result (string_bytes out.new ≡ string_bytes out.old ++ pages_words report.now) }
+    ensures len { OnOk result (string_len out.new ≤ string_len out.old + 54) }
+    ensures capacity { string_capacity out.old ≤ string_capacity out.new }
+    ensures full { OnErr result (string_capacity out.old < string_len out.old + 54) }
+{
+    push_counted(out, "entries ", report.entries())?;
+    push_counted(out, " mapped ", report.mapped())?;
+    push_counted(out, " shared ", report.shared())
+}
+
+/// Appends what a report says of reclaimed frames and of hints: at most 38 bytes.
+#[tactic(auto, unfolding(crate::specs::Printed::saved_words))]
+fn push_saved<A: Allocator>(out: &mut String<A>, report: &Report) -> Result<(), AllocError>
+    ensures bytes { OnOk result (string_bytes out.new ≡ string_bytes out.old ++ saved_words report.now) }
+    ensures len { OnOk result (string_len out.new ≤ string_len out.old + 38) }
+    ensures capacity { string_capacity out.old ≤ string_capacity out.new }
+    ensures full { OnErr result (string_capacity out.old < string_len out.old + 38) }
+{
+    push_counted(out, " reclaimed ", report.reclaimed())?;
+    push_counted(out, " hints ", report.hints())
+}
+
+/// Appends what a report says of frames and of hints: at most 56 bytes.
+#[tactic(auto, unfolding(crate::specs::Printed::frames_words))]
+fn push_frames<A: Allocator>(out: &mut String<A>, report: &Report) -> Result<(), AllocError>
+    ensures bytes { OnOk result (string_bytes out.new ≡ string_bytes out.old ++ frames_words report.now) }
+    ensures len { OnOk result (string_len out.new ≤ string_len out.old + 56) }
+    ensures capacity { string_capacity out.old ≤ string_capacity out.new }
+    ensures full { OnErr result (string_capacity out.old < string_len out.old + 56) }
+{
+    push_counted(out, " frames ", report.frames())?;
+    push_saved(out, report)
+}
+
+/// Appends the words of a report: at most 110 bytes.
+fn push_report<A: Allocator>(out: &mut String<A>, report: &Report) -> Result<(), AllocError>
+    ensures bytes { OnOk result (string_bytes out.new ≡ string_bytes out.old ++ report_words report.now) }
+    ensures len { OnOk result (string_len out.new ≤ string_len out.old + 110) }
+    ensures capacity { string_capacity out.old ≤ string_capacity out.new }
+    ensures full { OnErr result (string_capacity out.old < string_len out.old + 110) }
+{
+    push_pages(out, report)?;
+    push_frames(out, report)
+}
+
+/// Appends the words of a report behind a word of 7 bytes, as `report ` or `totals `: at most 117 bytes.
+pub fn push_totals<A: Allocator>(
+    out: &mut String<A>,
+    word: &str,
+    report: &Report,
+) -> Result<(), AllocError>
+    requires { length word.now ≡ 7 }
+    ensures bytes { OnOk result (string_bytes out.new ≡ string_bytes out.old ++ (word.now ++ report_words report.now)) }
+    ensures len { OnOk result (string_len out.new ≤ string_len out.old + 117) }
+    ensures capacity { string_capacity out.old ≤ string_capacity out.new }
+    ensures full { OnErr result (string_capacity out.old < string_len out.old + 117) }
+{
+    out.push_str(word)?;
+    push_report(out, report)
+}
+
+/// Writes the digits of bytes, two for each.
+fn spell(bytes: &[u8], digits: &mut [u8])
+    requires { length digits.old ≡ 2 * length bytes.now }
+    ensures { digits.new ≡ encode_lower bytes.now }
+{
+    let _ = hex::encode_to_slice(bytes, digits);
+}
+
+/// Appends the digits of at most 64 bytes: at most 128 bytes.
+pub fn push_digits<A: Allocator>(out: &mut String<A>, bytes: &[u8]) -> Result<(), AllocError>
+    requires { length bytes.now ≤ 64 }
+    ensures bytes { OnOk result (string_bytes out.new ≡ string_bytes out.old ++ encode_lower bytes.now) }
+    ensures len { OnOk result (string_len out.new ≤ string_len out.old + 128) }
+    ensures capacity { string_capacity out.old ≤ string_capacity out.new }
+    ensures full { OnErr result (string_capacity out.old < string_len out.old + 128) }
+{
+    let mut room = [0; 128];
+    let digits = &mut room[..2 * bytes.len()];
+    spell(bytes, digits);
+    match str::from_utf8(digits) {
+        Ok(text) => out.push_str(text),
+        Err(_) => unreachable!(),
+    }
+}
+
+/// Appends the bytes of a load: at most 134 bytes.
+fn push_loaded<A: Allocator>(out: &mut String<A>, bytes: &[u8]) -> Result<(), AllocError>
+    requires { length bytes.now ≤ 64 }
+    ensures bytes { OnOk result (string_bytes out.new ≡ string_bytes out.old ++ (codes "bytes " ++ encode_lower bytes.now)) }
+    ensures len { OnOk result (string_len out.new ≤ string_len out.old + 134) }
+    ensures capacity { string_capacity out.old ≤ string_capacity out.new }
+    ensures full { OnErr result (string_capacity out.old < string_len out.old + 134) }
+{
+    out.push_str("bytes ")?;
+    push_digits(out, bytes)
+}
+
+/// Appends the words of a verdict: at most 134 bytes.
+#[tactic(auto, unfolding(crate::specs::Printed::verdict_words))]
+fn push_words<A: Allocator>(out: &mut String<A>, verdict: &Verdict) -> Result<(), AllocError>
+    ensures bytes { OnOk result (string_bytes out.new ≡ string_bytes out.old ++ verdict_words verdict.now) }
+    ensures len { OnOk result (string_len out.new ≤ string_len out.old + 134) }
+    ensures capacity { string_capacity out.old ≤ string_capacity out.new }
+    ensures full { OnErr result (string_capacity out.old < string_len out.old + 134) }
+{
+    match verdict {
+        Verdict::NoPage => out.push_str("no-page"),
+        Verdict::Unmapped => out.push_str("unmapped"),
+        Verdict::Already => out.push_str("already"),
+        Verdict::Joined(n) => push_counted(out, "joined ", *n),
+        Verdict::Paired => out.push_str("paired"),
+        Verdict::Hinted => out.push_str("hinted"),
+        Verdict::Kept => out.push_str("kept"),
+        Verdict::Replaced => out.push_str("replaced"),
+        Verdict::Ineligible => out.push_str("ineligible"),
+        Verdict::Mapped => out.push_str("mapped"),
+        Verdict::Stored => out.push_str("stored"),
+        Verdict::Copied => out.push_str("copied"),
+        Verdict::Taken => out.push_str("taken"),
+        Verdict::NoFrame => out.push_str("no-frame"),
+        Verdict::Bytes(bytes) => push_loaded(out, bytes.as_slice()),
+        Verdict::Released(true) => out.push_str("released freed"),
+        Verdict::Released(false) => out.push_str("released held"),
+        Verdict::Totals(report) => push_totals(out, "totals ", report),
+        Verdict::Closed => out.push_str("closed"),
+    }
+}
+
+/// Appends a verdict's line, without its line feed: at most 145 bytes.
+pub fn push_verdict<A: Allocator>(
+    out: &mut String<A>,
+    guest: u8,
+    verdict: &Verdict,
+) -> Result<(), AllocError>
+    ensures bytes { OnOk result (string_bytes out.new ≡ string_bytes out.old ++ verdict_line guest verdict.now) }
+    ensures len { OnOk result (string_len out.new ≤ string_len out.old + 145) }
+    ensures capacity { string_capacity out.old ≤ string_capacity out.new }
+    ensures full { OnErr result (string_capacity out.old < string_len out.old + 145) }
+{
+    push_number(out, u32::from(guest))?;
+    out.push_str(" ")?;
+    push_words(out, verdict)
+}
+
+fn cause_word(cause: &Cause) -> &'static str
+    ensures { result.now ≡ cause_word cause.now }
+{
+    match cause {
+        Cause::Header => "header",
+        Cause::Form => "form",
+        Cause::Frames => "frames",
+        Cause::Guests => "guests",
+        Cause::Pages => "pages",
+        Cause::Ring => "ring",
+        Cause::Journal => "journal",
+        Cause::NoGuest => "no-guest",
+        Cause::Length => "length",
+        Cause::Crosses => "crosses",
+        Cause::AfterClose => "after-close",
+        Cause::TooMany => "too-many",
+        Cause::Salts => "salts",
+    }
+}
+
+fn run_word(fault: &RunFault) -> &'static str
+    ensures { result.now ≡ run_word fault.now }
+{
+    match fault {
+        RunFault::Frames => "frames",
+        RunFault::Guests => "guests",
+        RunFault::Pages => "pages",
+        RunFault::Ring => "ring",
+        RunFault::Journal => "journal",
+        RunFault::Stopped(_) => "stopped",
+        RunFault::OutOfMemory => "memory",
+        RunFault::NoThread => "no-thread",
+    }
+}
+
+/// Appends a fault's line, without its line feed.
+#[tactic(auto, unfolding(crate::specs::Printed::fault_line))]
+fn push_fault<A: Allocator>(out: &mut String<A>, fault: &TextFault) -> Result<(), AllocError>
+    ensures { OnOk result (string_bytes out.new ≡ string_bytes out.old ++ fault_line fault.now) }
+{
+    match fault {
+        TextFault::Line(n, cause) => {
+            push_counted(out, "fault line ", *n)?;
+            out.push_str(": ")?;
+            out.push_str(cause_word(cause))
+        }
+        TextFault::Truncated(n) => push_counted(out, "fault truncated line ", *n),
+        TextFault::Count => out.push_str("fault count"),
+        TextFault::OutOfMemory => out.push_str("fault memory"),
+        TextFault::Read => out.push_str("fault read"),
+        TextFault::Write => out.push_str("fault write"),
+        TextFault::Long => out.push_str("fault long"),
+        TextFault::Run(fault) => {
+            out.push_str("fault run: ")?;
+            out.push_str(run_word(fault))
+        }
+    }
+}
+
+/// A verdict's line: the guest's number and the verdict's words, without a line feed.
+pub fn verdict_line<A: Allocator>(
+    alloc: A,
+    guest: u8,
+    verdict: &Verdict,
+) -> Result<String<A>, AllocError>
+    ensures { IfOk result (λ s. string_bytes s ≡ verdict_line guest verdict.now) }
+{
+    let mut line = String::new(alloc);
+    push_verdict(&mut line, guest, verdict)?;
+    Ok(line)
+}
+
+/// A report's line, without a line feed.
+pub fn report_line<A: Allocator>(alloc: A, report: &Report) -> Result<String<A>, AllocError>
+    ensures { IfOk result (λ s. string_bytes s ≡ report_line report.now) }
+{
+    let mut line = String::new(alloc);
+    push_totals(&mut line, "report ", report)?;
+    Ok(line)
+}
+
+/// A fault's line, without a line feed.
+pub fn fault_line<A: Allocator>(alloc: A, fault: &TextFault) -> Result<String<A>, AllocError>
+    ensures { IfOk result (λ s. string_bytes s ≡ fault_line fault.now) }
+{
+    let mut line = String::new(alloc);
+    push_fault(&mut line, fault)?;
+    Ok(line)
+}

@@ -1,0 +1,5 @@
+pub mod Works
+pub mod Bodies
+pub mod Lists
+pub mod Turns
+pub mod Replies

@@ -1,0 +1,58 @@
+//! Room for a script's requests, which is taken before its lines are read.
+ghost use Rattle.std.specs.Prelude.{◌≡◌, ◌≤◌, [], length, replicate, IfErr, IfOk};
+ghost use Rattle.journal_text.specs.declared.fault.TextFault.TheVariants.{OutOfMemory};
+ghost use Rattle.script_text.specs.Views.{lists_of};
+
+use journal_text::TextFault;
+use journal_text::word::{cut, first_word, number};
+use page_model::{MAX_GUESTS, Request};
+use std::alloc::Allocator;
+
+/// No line of a request is shorter, its line feed not counted.
+const LEAST_LINE_BYTES: usize = 7;
+
+/// For each guest, how many lines of the text may be requests of it. A scan counts as one of them.
+fn count_lines(text: &[u8]) -> [usize; MAX_GUESTS] {
+    let mut counts = [0; MAX_GUESTS];
+    let mut rest = text;
+    while let Some((line, more)) = cut(b'\n', rest) {
+        if line.len() >= LEAST_LINE_BYTES {
+            count_line(&mut counts, line);
+        }
+        rest = more;
+    }
+    counts
+}
+
+/// Counts a line for the guest whose number is its first word.
+fn count_line(counts: &mut [usize; MAX_GUESTS], line: &[u8]) {
+    let (first, _rest) = first_word(line);
+    if let Ok(guest) = number(first) {
+        if (guest as usize) < MAX_GUESTS {
+            let count = counts[guest as usize];
+            counts[guest as usize] = count.saturating_add(1);
+        }
+    }
+}
+
+/// An empty list for each of so many guests, with room for what the text's lines ask but for scans.
+///
+/// So the lists needn't grow where no scan is asked for, and a text takes no more memory than its least lines need.
+pub(crate) fn empty_scripts<A: Allocator + Clone>(
+    alloc: A,
+    guests: usize,
+    text: &[u8],
+) -> Result<Vec<Vec<Request, A>, A>, TextFault>
+    requires { guests ≤ 64 }
+    ensures lists { IfOk result (λ v. lists_of v.items ≡ replicate guests []) }
+    ensures guests { IfOk result (λ v. length v.items ≡ guests) }
+    ensures err { IfErr result (λ e. e ≡ OutOfMemory) }
+{
+    let counts = count_lines(text);
+    let mut scripts = Vec::with_capacity(alloc.clone()?, guests)?;
+    for guest in 0..guests {
+        let script = Vec::with_capacity(alloc.clone()?, counts[guest])?;
+        scripts.push(script)?;
+    }
+    Ok(scripts)
+}

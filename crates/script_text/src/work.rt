@@ -1,0 +1,36 @@
+//! What the lines of scripts ask for.
+ghost use Rattle.std.specs.Prelude.{◌≡◌};
+ghost use Rattle.script_text.specs.Works.{size_of};
+
+use page_model::Request;
+
+/// What a line of a script asks for.
+#[derive(Debug, PartialEq, Eq, Drop)]
+pub enum Work {
+    /// One request.
+    Asks(Request),
+    /// So many proposals of a scan in order.
+    ScansInOrder(u32),
+    /// So many proposals of the scan at random with this seed.
+    ScansAtRandom(u64, u32),
+}
+
+/// A guest's line of a script.
+#[derive(Debug, PartialEq, Eq, Drop)]
+pub struct Item {
+    pub guest: u8,
+    pub work: Work,
+}
+
+impl Work {
+    /// How many requests it stands for.
+    pub fn size(&self) -> u32
+        ensures { result ≡ size_of self.now }
+    {
+        match self {
+            Work::Asks(_) => 1,
+            Work::ScansInOrder(n) => *n,
+            Work::ScansAtRandom(_, n) => *n,
+        }
+    }
+}

@@ -1,0 +1,21 @@
+use Rattle.std.proofs.Common.{◌≡◌, Ok, ap, sym, subst, ◌∙◌}
+use Rattle.journal_text.specs.Views.{Fails}
+use Rattle.script_text.specs.Texts.{script_of}
+use Rattle.script_text.specs.Views.{script_seen}
+use Rattle.share_text.proofs.Serving.{threads_unread, threads_refused, threads_served}
+use Rattle.share_text.proofs.engine.threaded.Goals as goal
+
+pub returns-in-Err-clause-bytes : goal.returns-in-Err-clause-bytes
+returns-in-Err-clause-bytes g c = threads_unread g.H.HashFunction.hash_of c.args.form (g.R.Source.remaining c.args.reader.now) _ c.in-Err.fault c.in-Err.ensures.err
+
+pub returns-in-Ok-read_script-clause-bytes : goal.returns-in-Ok-read_script-clause-bytes
+returns-in-Ok-read_script-clause-bytes g c =
+    let text = c.in-Ok.text.items in
+    let read : script_of text ≡ Ok (script_seen c.in-Ok-read_script.script) = ap script_of (sym c.deref.ensures.value) ∙ c.in-Ok-read_script.ensures in
+    threads_served g.H.HashFunction.hash_of c.args.form (script_seen c.in-Ok-read_script.script) (g.R.Source.remaining c.args.reader.now) _ _ text c.run_script.result c.in-Ok.ensures.ok read c.run_script.ensures.serves
+
+pub returns-in-Err-read_script-clause-bytes : goal.returns-in-Err-read_script-clause-bytes
+returns-in-Err-read_script-clause-bytes g c =
+    let text = c.in-Ok.text.items in
+    let fails : Fails c.in-Err-read_script.fault (script_of text) = rw c.deref.ensures.value at c.in-Err-read_script.ensures in
+    threads_refused g.H.HashFunction.hash_of c.args.form (g.R.Source.remaining c.args.reader.now) _ _ text c.in-Err-read_script.fault c.tell_fault.result c.in-Ok.ensures.ok fails c.tell_fault.ensures.told

@@ -1,6 +1,0 @@
-use Rattle.std.proofs.Common.{◌≡◌, ◌++◌, drop, string_bytes}
-use Rattle.share_text.specs.Written.{number_words}
-use Rattle.share_text.proofs.writer.push_numbers.Given as goal
-
-abbrev pub invariant-loop-n : goal.invariant-loop-n
-invariant-loop-n g l = string_bytes l.out ++ number_words (drop l.n-index l.numbers) ≡ string_bytes l.fn.out ++ number_words l.numbers

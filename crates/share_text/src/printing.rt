@@ -1,0 +1,172 @@
+//! What a run gave back, as lines or as a journal's text.
+ghost use Rattle.std.specs.Prelude.{◌≡◌, ◌+◌, ◌≤◌, ◌++◌, [], codes, false, true, length, map, string_bytes, string_capacity, IfErr, OnOk, OnErr};
+ghost use Rattle.std.specs.Io.KnownBytes.{Appends};
+ghost use Rattle.merge_core.specs.Shown.{state_of};
+ghost use Rattle.merge_run.specs.View.{settled_core};
+ghost use Rattle.journal_text.specs.Ends.{AppendsFront, Sends, tells_read, tells_write};
+ghost use Rattle.journal_text.specs.Printed.{verdict_line};
+ghost use Rattle.journal_text.specs.Replayed.{report_text, NotPrinted};
+ghost use Rattle.share_text.specs.Runs.{guest_lines, lists_lines};
+ghost use Rattle.share_text.specs.Threads.{finished_text};
+
+use crate::form::Output;
+use journal_text::ends::write_all;
+use journal_text::engine::print_report;
+use journal_text::output::{LINE_BYTES, buffer, make_room, put_verdict};
+use journal_text::writer::write_entries;
+use journal_text::{Sink, TextFault};
+use merge_core::Core;
+use merge_machine::Config;
+use merge_run::Finished;
+use page_digest::PageHash;
+use page_model::Verdict;
+use std::alloc::Allocator;
+
+/// Puts a verdict's line behind what the buffer holds.
+fn print_verdict<W: Sink, A: Allocator>(
+    guest: u8,
+    verdict: &Verdict,
+    writer: &mut W,
+    out: &mut String<A>,
+) -> Result<(), TextFault>
+    requires fine { W.has_failed writer.old ≡ false }
+    requires room { LINE_BYTES ≤ string_capacity out.old }
+    ensures sends { OnOk result (Sends (W.contents writer.old) (W.contents writer.new) (string_bytes out.new) (string_bytes out.old ++ (verdict_line guest verdict.now ++ codes "\n"))) }
+    ensures fine { OnOk result (W.has_failed writer.new ≡ false) }
+    ensures room { OnOk result (LINE_BYTES ≤ string_capacity out.new) }
+    ensures err { OnErr result (AppendsFront (W.contents writer.old) (W.contents writer.new) (string_bytes out.old)) }
+    ensures failed { OnErr result (W.has_failed writer.new ≡ true) }
+    ensures fault { IfErr result (λ e. e ≡ TextFault.Write) }
+{
+    make_room(writer, out)?;
+    put_verdict(out, guest, verdict);
+    Ok(())
+}
+
+/// Puts the lines of a guest's verdicts behind what the buffer holds.
+fn print_guest<W: Sink, A: Allocator>(
+    guest: u8,
+    verdicts: &[Verdict],
+    writer: &mut W,
+    out: &mut String<A>,
+) -> Result<(), TextFault>
+    requires fine { W.has_failed writer.old ≡ false }
+    requires room { LINE_BYTES ≤ string_capacity out.old }
+    ensures sends { OnOk result (Sends (W.contents writer.old) (W.contents writer.new) (string_bytes out.new) (string_bytes out.old ++ guest_lines guest verdicts.now)) }
+    ensures fine { OnOk result (W.has_failed writer.new ≡ false) }
+    ensures room { OnOk result (LINE_BYTES ≤ string_capacity out.new) }
+    ensures err { OnErr result (AppendsFront (W.contents writer.old) (W.contents writer.new) (string_bytes out.old ++ guest_lines guest verdicts.now)) }
+    ensures failed { OnErr result (W.has_failed writer.new ≡ true) }
+    ensures fault { IfErr result (λ e. e ≡ TextFault.Write) }
+{
+    for verdict in verdicts {
+        print_verdict(guest, verdict, writer, out)?;
+    }
+    Ok(())
+}
+
+/// Puts the lines of all guests' verdicts, guest 0's first, behind what the buffer holds.
+fn print_guests<W: Sink, A: Allocator>(
+    lists: &[Vec<Verdict, A>],
+    writer: &mut W,
+    out: &mut String<A>,
+) -> Result<(), TextFault>
+    requires guests { length lists.now ≤ 64 }
+    requires fine { W.has_failed writer.old ≡ false }
+    requires room { LINE_BYTES ≤ string_capacity out.old }
+    ensures sends { OnOk result (Sends (W.contents writer.old) (W.contents writer.new) (string_bytes out.new) (string_bytes out.old ++ lists_lines 0 (map (λ list. list.items) lists.now))) }
+    ensures fine { OnOk result (W.has_failed writer.new ≡ false) }
+    ensures room { OnOk result (LINE_BYTES ≤ string_capacity out.new) }
+    ensures err { OnErr result (AppendsFront (W.contents writer.old) (W.contents writer.new) (string_bytes out.old ++ lists_lines 0 (map (λ list. list.items) lists.now))) }
+    ensures failed { OnErr result (W.has_failed writer.new ≡ true) }
+    ensures fault { IfErr result (λ e. e ≡ TextFault.Write) }
+{
+    let mut guest = 0;
+    for list in lists {
+        print_guest(guest, list, writer, out)?;
+        guest += 1;
+    }
+    Ok(())
+}
+
+/// Writes the lines of all guests' verdicts and of the report, by way of an empty buffer.
+fn print_lines<H: PageHash, W: Sink, A: Allocator>(
+    core: &Core<H, A>,
+    lists: &[Vec<Verdict, A>],
+    writer: &mut W,
+    out: &mut String<A>,
+) -> Result<(), TextFault>
+    requires guests { length lists.now ≤ 64 }
+    requires fine { W.has_failed writer.old ≡ false }
+    requires empty { string_bytes out.old ≡ [] }
+    requires room { LINE_BYTES ≤ string_capacity out.old }
+    ensures ok { OnOk result (Appends (W.contents writer.old) (W.contents writer.new) (lists_lines 0 (map (λ list. list.items) lists.now) ++ report_text (state_of core.now))) }
+    ensures err { OnErr result (AppendsFront (W.contents writer.old) (W.contents writer.new) (lists_lines 0 (map (λ list. list.items) lists.now) ++ report_text (state_of core.now))) }
+    ensures fine { OnOk result (W.has_failed writer.new ≡ false) }
+    ensures failed { OnErr result (W.has_failed writer.new ≡ true) }
+    ensures fault { IfErr result (λ e. e ≡ TextFault.Write) }
+{
+    print_guests(lists, writer, out)?;
+    print_report(core, writer, out)
+}
+
+/// Writes the journal's text of a run. All memory is taken before the first write.
+fn print_journal<H: PageHash, W: Sink, A: Allocator + Copy>(
+    alloc: A,
+    config: &Config<A>,
+    finished: &Finished<H, A>,
+    writer: &mut W,
+) -> Result<(), TextFault>
+    requires fine { W.has_failed writer.old ≡ false }
+    ensures ok { OnOk result (Appends (W.contents writer.old) (W.contents writer.new) (finished_text Output.JournalText config.now finished.now)) }
+    ensures err { IfErr result (λ e. NotPrinted (W.contents writer.old) (W.contents writer.new) (finished_text Output.JournalText config.now finished.now) e) }
+    ensures reader { tells_read result ≡ false }
+    ensures writer { W.has_failed writer.new ≡ tells_write result }
+{
+    let entries = finished.settled.journal();
+    let text = write_entries(alloc, config.frames, &config.pages, &config.salts, entries)?;
+    write_all(writer, text.as_bytes())
+}
+
+/// Writes the guests' verdicts and the report of a run. All memory is taken before the first write.
+fn print_verdicts<H: PageHash, W: Sink, A: Allocator + Copy>(
+    alloc: A,
+    finished: &Finished<H, A>,
+    writer: &mut W,
+) -> Result<(), TextFault>
+    requires guests { length finished.now.verdicts.items ≤ 64 }
+    requires fine { W.has_failed writer.old ≡ false }
+    ensures ok { OnOk result (Appends (W.contents writer.old) (W.contents writer.new) (lists_lines 0 (map (λ list. list.items) finished.now.verdicts.items) ++ report_text (state_of (settled_core finished.now.settled)))) }
+    ensures err { IfErr result (λ e. NotPrinted (W.contents writer.old) (W.contents writer.new) (lists_lines 0 (map (λ list. list.items) finished.now.verdicts.items) ++ report_text (state_of (settled_core finished.now.settled))) e) }
+    ensures reader { tells_read result ≡ false }
+    ensures writer { W.has_failed writer.new ≡ tells_write result }
+{
+    let mut out = buffer(alloc)?;
+    print_lines(
+        finished.settled.core(),
+        &finished.verdicts,
+        writer,
+        &mut out,
+    )
+}
+
+/// Writes what is to be written of a run. All memory is taken before the first write.
+pub(crate) fn print_run<H: PageHash, W: Sink, A: Allocator + Copy>(
+    alloc: A,
+    form: Output,
+    config: &Config<A>,
+    finished: &Finished<H, A>,
+    writer: &mut W,
+) -> Result<(), TextFault>
+    requires guests { length finished.now.verdicts.items ≤ 64 }
+    requires fine { W.has_failed writer.old ≡ false }
+    ensures ok { OnOk result (Appends (W.contents writer.old) (W.contents writer.new) (finished_text form config.now finished.now)) }
+    ensures err { IfErr result (λ e. NotPrinted (W.contents writer.old) (W.contents writer.new) (finished_text form config.now finished.now) e) }
+    ensures reader { tells_read result ≡ false }
+    ensures writer { W.has_failed writer.new ≡ tells_write result }
+{
+    match form {
+        Output::Verdicts => print_verdicts(alloc, finished, writer),
+        Output::JournalText => print_journal(alloc, config, finished, writer),
+    }
+}

@@ -1,0 +1,15 @@
+//! Worked scripts through `share_text::threaded`, which starts a thread for each guest. This crate has tests alone.
+#![tactic(auto)]
+
+#[cfg(test)]
+mod cut;
+#[cfg(test)]
+mod ends;
+#[cfg(test)]
+mod refusals;
+#[cfg(test)]
+mod rows;
+#[cfg(test)]
+mod runs;
+#[cfg(test)]
+mod versions;
