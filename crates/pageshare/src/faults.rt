@@ -16,6 +16,7 @@ fn line_of(fault: &TextFault) -> Option<&'static str> {
         TextFault::Line(_, _) => None,
         TextFault::Truncated(_) => None,
         TextFault::Count => None,
+        TextFault::Run(_) => None,
         TextFault::OutOfMemory => Some("fault memory"),
         TextFault::Read => Some("fault read"),
         TextFault::Write => Some("fault write"),

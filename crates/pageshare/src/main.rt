@@ -1,7 +1,7 @@
-//! The program `pageshare`: it replays journals of page requests.
+//! The program `pageshare`: it replays journals of page requests, and runs scripts of them.
 //!
 //! It reads a file or standard input, and writes standard output. Its status is 0 where the work was done, 1
-//! where input, output or memory was at fault, and 2 for a bad command line.
+//! where input, output, memory or a thread was at fault, and 2 for a bad command line.
 #![tactic(auto)]
 
 mod faults;
@@ -10,19 +10,39 @@ mod words;
 use clap::Error;
 use clap::error::ErrorKind;
 use faults::{Ending, tell};
+use merge_run::OpenGate;
 use page_digest::Sha256Hash;
-use share_text::{Noted, TextFault, replay};
+use share_text::{Noted, TextFault, replay, serial, threaded};
+use std::alloc::Global;
 use std::fs::File;
-use std::io::{self, IsTerminal, Read};
+use std::io::{self, IsTerminal, Read, Write};
 use std::process::ExitCode;
-use words::{Task, task_of};
+use std::sync::Wait;
+use std::thread::Threads;
+use words::{Work, task_of};
 
 fn main(rt: HostRuntime) -> io::Result<ExitCode> {
     let alloc = rt.alloc();
     let words: Vec<String> = std::env::args(&rt)?.collect(alloc)?;
     let ending = match task_of(alloc, &words) {
-        Ok(Task::Replay(None)) => replay_of(&rt, "standard input", rt.stdin()),
-        Ok(Task::Replay(Some(path))) => replay_file(&rt, path),
+        Ok(task) => match task.file {
+            None => done_of(
+                &rt,
+                alloc,
+                task.work,
+                "standard input",
+                rt.stdin(),
+                rt.stdout(),
+            ),
+            Some(path) => match File::open(&rt, path) {
+                Ok(file) => done_of(&rt, alloc, task.work, path, file, rt.stdout()),
+                // A file that can't be opened is an input that can't be read.
+                Err(error) => Ending {
+                    done: Err(TextFault::Read),
+                    failure: Some((path, error)),
+                },
+            },
+        },
         Err(error) if error.kind() == ErrorKind::OutOfMemory => Ending {
             done: Err(TextFault::OutOfMemory),
             failure: None,
@@ -32,22 +52,30 @@ fn main(rt: HostRuntime) -> io::Result<ExitCode> {
     tell(&rt, rt.stderr().is_terminal(), &ending)
 }
 
-/// Replays the journal in a file. One that can't be opened is an input that can't be read.
-fn replay_file<'a>(rt: &HostRuntime, path: &'a str) -> Ending<'a> {
-    match File::open(rt, path) {
-        Ok(file) => replay_of(rt, path, file),
-        Err(error) => Ending {
-            done: Err(TextFault::Read),
-            failure: Some((path, error)),
-        },
-    }
-}
-
-/// Replays the journal of a reader to standard output.
-fn replay_of<'a, R: Read + Drop>(rt: &HostRuntime, name: &'a str, reader: R) -> Ending<'a> {
+/// Does the work on a reader's text; `name` tells the reader where it fails.
+fn done_of<'a, T: Threads + Wait + Sync, R: Read + Drop, W: Write + Drop>(
+    rt: &T,
+    alloc: Global,
+    work: Work,
+    name: &'a str,
+    reader: R,
+    writer: W,
+) -> Ending<'a> {
     let mut input = Noted::new(reader);
-    let mut output = Noted::new(rt.stdout());
-    let done = replay(rt.alloc(), &mut input, &mut output, Sha256Hash);
+    let mut output = Noted::new(writer);
+    let done = match work {
+        Work::Replay => replay(alloc, &mut input, &mut output, Sha256Hash),
+        Work::Serial => serial(alloc, &mut input, &mut output, Sha256Hash),
+        Work::Run(form) => threaded(
+            rt,
+            alloc,
+            &mut input,
+            &mut output,
+            Sha256Hash,
+            &OpenGate,
+            form,
+        ),
+    };
     let failure = match (input.error(), output.error()) {
         (Some(error), _) => Some((name, error)),
         (None, Some(error)) => Some(("standard output", error)),

@@ -1,5 +1,6 @@
 //! The command line.
-use clap::{Arg, Command, Error};
+use clap::{Arg, ArgAction, Command, Error};
+use share_text::Output;
 use std::alloc::Global;
 
 /// Version of the program; those of the texts that it reads stand in their first lines.
@@ -26,19 +27,84 @@ docs/FORMATS.md has each line, verdict and fault; examples/ has more journals, a
 
 The status is 0 where the work was done, 1 where input, output or memory was at fault, and 2 for a bad command line.";
 
-/// What the words ask for.
+/// What stands below the help of `run` and `serial`.
+const SCRIPT: &str = "\
+A script says what each guest asks; each line ends with a line feed, and one space parts its words:
+
+    pageshare script 1
+    frames 2
+    pages 1
+    ring 1
+    journal 5
+    0 store 0 0 41
+    0 scan random 7 2
+    0 release 0
+    end 3
+
+Machine memory has 2 frames, and guest 0 has 1 page; its rings hold 1 request and 1 verdict, and the journal holds 5 requests. The guest stores the byte 0x41, proposes 2 pages drawn at random by the seed 7, and releases page 0; its close follows by itself.
+
+`serial` serves one request of each guest in turn. `run` gives each guest a thread of its own, and in which order the guests are served depends on these. With --journal that order is written as a journal, which replays to the same verdicts:
+
+    pageshare run --journal examples/two-guests.script > two.journal
+    pageshare replay two.journal
+
+docs/FORMATS.md has each line, verdict and fault. The status is 0 where the work was done, 1 where input, output, memory or a thread was at fault, and 2 for a bad command line.";
+
+/// What is to be done with a text.
 #[derive(Clone, Copy, Debug, PartialEq, Eq)]
-pub enum Task<'a> {
-    /// Replay the journal in this file, or on standard input.
-    Replay(Option<&'a str>),
+pub enum Work {
+    /// Replay the journal.
+    Replay,
+    /// Serve the script on one thread.
+    Serial,
+    /// Run the script, and write this of it.
+    Run(Output),
 }
 
-fn command<'a>(alloc: Global) -> Result<Command<'a>, Error> {
+/// What the words ask for: the text is in the file, or on standard input.
+#[derive(Clone, Copy, Debug, PartialEq, Eq)]
+pub struct Task<'a> {
+    pub work: Work,
+    pub file: Option<&'a str>,
+}
+
+fn replay_command<'a>(alloc: Global) -> Result<Command<'a>, Error> {
     let file = Arg::new(alloc, "FILE").help("The journal; without it, standard input is read");
     let replay = Command::new(alloc, "replay")
         .about("Replay a journal: print a verdict for each request, then the report")
         .after_help(FORMAT)
         .arg(file)?;
+    Ok(replay)
+}
+
+fn serial_command<'a>(alloc: Global) -> Result<Command<'a>, Error> {
+    let file = Arg::new(alloc, "FILE").help("The script; without it, standard input is read");
+    let serial = Command::new(alloc, "serial")
+        .about(
+            "Serve a script on one thread, one request of each guest in turn: print a verdict for each request, then the report",
+        )
+        .after_help(SCRIPT)
+        .arg(file)?;
+    Ok(serial)
+}
+
+fn run_command<'a>(alloc: Global) -> Result<Command<'a>, Error> {
+    let journal = Arg::new(alloc, "journal")
+        .long("journal")
+        .help("Print the journal of the run in place of verdicts and report")
+        .action(ArgAction::SetTrue);
+    let file = Arg::new(alloc, "FILE").help("The script; without it, standard input is read");
+    let run = Command::new(alloc, "run")
+        .about(
+            "Run a script, a thread for each guest: print each guest's verdicts, then the report",
+        )
+        .after_help(SCRIPT)
+        .arg(journal)?
+        .arg(file)?;
+    Ok(run)
+}
+
+fn command<'a>(alloc: Global) -> Result<Command<'a>, Error> {
     let pageshare = Command::new(alloc, "pageshare")
         .version(VERSION)
         .about(
@@ -46,24 +112,48 @@ fn command<'a>(alloc: Global) -> Result<Command<'a>, Error> {
         )
         .after_help(FORMAT)
         .subcommand_required(true)
-        .subcommand(replay)?;
+        .subcommand(replay_command(alloc)?)?
+        .subcommand(serial_command(alloc)?)?
+        .subcommand(run_command(alloc)?)?;
     Ok(pageshare)
 }
 
 /// What these words ask for; the first is the program's own name.
 pub fn task_of<'a>(alloc: Global, words: &'a [String]) -> Result<Task<'a>, Error> {
     let matches = command(alloc)?.try_get_matches_from(words)?;
-    // A subcommand is required, and there is one.
-    match matches.subcommand_matches("replay") {
-        Some(replay) => Ok(Task::Replay(replay.get_str("FILE"))),
-        None => Ok(Task::Replay(None)),
+    if let Some(run) = matches.subcommand_matches("run") {
+        let form = if run.get_flag("journal") {
+            Output::JournalText
+        } else {
+            Output::Verdicts
+        };
+        return Ok(Task {
+            work: Work::Run(form),
+            file: run.get_str("FILE"),
+        });
     }
+    if let Some(serial) = matches.subcommand_matches("serial") {
+        return Ok(Task {
+            work: Work::Serial,
+            file: serial.get_str("FILE"),
+        });
+    }
+    // A subcommand is required, so what is left is `replay`.
+    let file = match matches.subcommand_matches("replay") {
+        Some(replay) => replay.get_str("FILE"),
+        None => None,
+    };
+    Ok(Task {
+        work: Work::Replay,
+        file,
+    })
 }
 
 #[cfg(test)]
 mod tests {
-    use super::{Task, task_of};
+    use super::{Task, Work, task_of};
     use clap::error::ErrorKind;
+    use share_text::Output;
     use std::alloc::{AllocError, Global};
     use std::test::Fail;
 
@@ -79,22 +169,42 @@ mod tests {
     #[test]
     fn reads_the_words(rt: HostRuntime) -> Result<(), Fail> {
         let alloc = rt.alloc();
-        let replay = words(alloc, &["replay"])?;
-        assert_eq!(rt; task_of(alloc, &replay).ok(), Some(Task::Replay(None)));
-        let file = words(alloc, &["replay", "a.journal"])?;
-        assert_eq!(rt;
-            task_of(alloc, &file).ok(),
-            Some(Task::Replay(Some("a.journal")))
-        );
-        let mistakes: [(&[&str], ErrorKind); 6] = [
+        let asked: [(&[&str], Work, Option<&str>); 8] = [
+            (&["replay"], Work::Replay, None),
+            (&["replay", "a.journal"], Work::Replay, Some("a.journal")),
+            (&["serial"], Work::Serial, None),
+            (&["serial", "a.script"], Work::Serial, Some("a.script")),
+            (&["run"], Work::Run(Output::Verdicts), None),
+            (
+                &["run", "a.script"],
+                Work::Run(Output::Verdicts),
+                Some("a.script"),
+            ),
+            (&["run", "--journal"], Work::Run(Output::JournalText), None),
+            (
+                &["run", "--journal", "a.script"],
+                Work::Run(Output::JournalText),
+                Some("a.script"),
+            ),
+        ];
+        for (texts, work, file) in asked {
+            let given = words(alloc, texts)?;
+            assert_eq!(rt; task_of(alloc, &given).ok(), Some(Task { work, file }));
+        }
+        let mistakes: [(&[&str], ErrorKind); 11] = [
             (&[], ErrorKind::MissingSubcommand),
-            (&["serial"], ErrorKind::InvalidSubcommand),
+            (&["journal"], ErrorKind::InvalidSubcommand),
             (
                 &["replay", "a.journal", "b.journal"],
                 ErrorKind::UnknownArgument,
             ),
+            (&["replay", "--journal"], ErrorKind::UnknownArgument),
+            (&["serial", "--journal"], ErrorKind::UnknownArgument),
+            (&["run", "a.script", "b.script"], ErrorKind::UnknownArgument),
             (&["--help"], ErrorKind::DisplayHelp),
             (&["replay", "--help"], ErrorKind::DisplayHelp),
+            (&["run", "--help"], ErrorKind::DisplayHelp),
+            (&["serial", "--help"], ErrorKind::DisplayHelp),
             (&["--version"], ErrorKind::DisplayVersion),
         ];
         for (texts, kind) in mistakes {

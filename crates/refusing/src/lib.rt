@@ -21,6 +21,7 @@ pub struct Refusing<B: Allocator = Global> {
 #[derive(Drop)]
 struct Requests {
     asked: AtomicU64,
+    bytes: AtomicU64,
     granted: AtomicU64,
     returned: AtomicU64,
     first_refused: AtomicU64,
@@ -28,8 +29,9 @@ struct Requests {
 }
 
 impl Requests {
-    // Counts one more request, and answers whether it is refused.
-    fn refuses_next(&self) -> bool {
+    // Counts one more request, of so many bytes, and answers whether it is refused.
+    fn refuses_next(&self, size: usize) -> bool {
+        self.bytes.fetch_add(size as u64, Ordering::SeqCst);
         let number = self.asked.fetch_add(1, Ordering::SeqCst);
         let first = self.first_refused.load(Ordering::SeqCst);
         let more = self.more_refused.load(Ordering::SeqCst);
@@ -53,6 +55,7 @@ impl<B: Allocator> Refusing<B> {
             inner,
             requests: Requests {
                 asked: AtomicU64::new(0),
+                bytes: AtomicU64::new(0),
                 granted: AtomicU64::new(0),
                 returned: AtomicU64::new(0),
                 first_refused: AtomicU64::new(first),
@@ -72,6 +75,11 @@ impl<B: Allocator> Refusing<B> {
         self.requests.asked.load(Ordering::SeqCst) > self.requests.granted.load(Ordering::SeqCst)
     }
 
+    /// How many bytes were asked for so far, by all requests together, modulo 2^64.
+    pub fn bytes_asked(&self) -> u64 {
+        self.requests.bytes.load(Ordering::SeqCst)
+    }
+
     /// Whether each block that was granted has been handed back.
     pub fn holds_nothing(&self) -> bool {
         self.requests.granted.load(Ordering::SeqCst)
@@ -83,7 +91,7 @@ unsafe impl<B: Allocator> Allocator for Refusing<B> {
     ghost dealloc_token = { λ heap ty ptr. B.dealloc_token heap.inner ty ptr };
 
     fn allocate(&self, size: usize, align: usize) -> Result<*mut u8, AllocError> {
-        if self.requests.refuses_next() {
+        if self.requests.refuses_next(size) {
             return Err(AllocError);
         }
         self.inner.allocate(size, align)

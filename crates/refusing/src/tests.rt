@@ -19,7 +19,9 @@ fn two_of_four_requests(rt: HostRuntime) -> Result<(), Fail> {
     assert_eq!(rt; *granted, 7);
     drop(granted);
     assert!(rt; heap.holds_nothing());
+    assert_eq!(rt; heap.bytes_asked(), 4);
     heap.refuse_all();
-    assert!(rt; Box::new(heap, 11u8).is_err());
+    assert!(rt; Box::new(heap, 11u64).is_err());
+    assert_eq!(rt; heap.bytes_asked(), 12);
     Ok(())
 }

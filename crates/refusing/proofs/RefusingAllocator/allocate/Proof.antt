@@ -95,7 +95,7 @@ module _ (Z : Al) {M : Type 1} {𝓤 : Ura M} (𝓛 : Logic 𝓤) (𝓜 : Model 
     walk small_n small_a inner_takes count_asks =
         let x : (Handle Z).Denot = handle.now in let inner : ℕ × ℕ = inner_at Z handle.ref_ptr in let counts : ℕ × ℕ = counts_at Z handle.ref_ptr in
         let Right : Type 0 = (capped (size τ) ≡ n) × (capped (align τ) ≡ a) in
-        let asking : (Ask 𝓛 𝓜.mem 𝓡.returns).Ghost = at_ask 𝓛 𝓜.mem 𝓡.returns κ s x.requests counts in
+        let asking : (Ask 𝓛 𝓜.mem 𝓡.returns).Ghost = at_ask 𝓛 𝓜.mem 𝓡.returns κ s x.requests counts n in
         let taking : (Takes Z 𝓛 𝓜.mem 𝓡.returns).Ghost = at_takes Z 𝓛 𝓜.mem 𝓡.returns κ s inner x.inner n a τ in
         qed 𝓛 (((‵ (flft κ s) ⊛ ‵ (flft ρ t) ⊛ ‵ ftrue) ⊛ ‵ (owns (types_at (E Z).signature.params call.0.0) call.0.3 call.0.4)) ∷ (raw (fact 𝓤 (ρ ⊑ Z.row.lives)) ⊛ raw (fact 𝓤 Right)) ∷ []) ∵
         move ! (1 ∷ []) $ split ! $ heard ! (ρ ⊑ Z.row.lives) (λ lives. heard ! Right (λ right.
@@ -106,9 +106,9 @@ module _ (Z : Al) {M : Type 1} {𝓤 : Ura M} (𝓛 : Logic 𝓤) (𝓜 : Model 
         keep ! (1 ∷ 4 ∷ 0 ∷ 5 ∷ []) $
         enter ! 𝓣.C 𝓣.Λ (body Z) _ _ $ alloc_all ! (λ l. pass_all ! refl ((tt, tt), ((tt, record { fits = small_n }), ((tt, record { fits = small_a }), tt))) $
         sets ! (addr ! (through ! refl (fld ! refl (stop !)))) refl (tt, tt) $
-        use2 𝓛 (raw ((Ask 𝓛 𝓜.mem 𝓡.returns).pre asking)) (Ask-goes 𝓛 𝓜.mem 𝓡.returns κ s x.requests counts) $
-        calls_at ! (fm_of 𝓤 𝓛.H 𝓛.laws 𝓣) (Ask 𝓛 𝓜.mem 𝓡.returns) count_asks asking (and_then ! (get ! refl) (no_more !)) (λ u.
-        use1 𝓛 (later (some (λ (y : Bool). given (u ≡ vbool y) (‵ (flft κ s))))) (Ask-gives 𝓛 𝓜.mem 𝓡.returns κ s x.requests counts u) $ await ! tt $ pick ! (λ refused. learn ! (λ is.
+        use2 𝓛 (raw ((Ask 𝓛 𝓜.mem 𝓡.returns).pre asking)) (Ask-goes 𝓛 𝓜.mem 𝓡.returns κ s x.requests counts n small_n) $
+        calls_at ! (fm_of 𝓤 𝓛.H 𝓛.laws 𝓣) (Ask 𝓛 𝓜.mem 𝓡.returns) count_asks asking (and_then ! (get ! refl) (and_then ! (get ! refl) (no_more !))) (λ u.
+        use1 𝓛 (later (some (λ (y : Bool). given (u ≡ vbool y) (‵ (flft κ s))))) (Ask-gives 𝓛 𝓜.mem 𝓡.returns κ s x.requests counts n u) $ await ! tt $ pick ! (λ refused. learn ! (λ is.
         lands_as ! is refl (tt, tt) $ move ! (1 ∷ []) $ first ! $ branches ! (get ! refl)
         (λ yes. drop ! $ nothing ! $ sets ! (agg ! (no_more !)) refl (tt, tt) $
         sets ! (agg ! (and_then ! (lit ! tt) (and_then ! (get ! refl) (no_more !)))) refl (Answer-typed false 0 0) $
