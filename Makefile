@@ -1,4 +1,4 @@
-.PHONY: test build demo no-thread embed
+.PHONY: test build demo no-thread embed fuzz soak
 
 # The gate: every proof from nothing, the edits that must be refused, the tests and the programs.
 test:
@@ -23,10 +23,18 @@ demo:
 no-thread: out/run_bench
 	checks/no_thread.sh out/run_bench
 
-out/run_bench: $(SOURCES)
-	cd crates/run_bench && rt run > /dev/null
+out/%_bench: $(SOURCES)
+	cd crates/$*_bench && rt run > /dev/null
 	mkdir -p out
-	cp crates/run_bench/out/run_bench $@
+	cp crates/$*_bench/out/$*_bench $@
+
+# Outside the gate: 100,000 broken texts, each of which must get its output or one fault line (COUNT and SEED may be given).
+fuzz: out/pageshare
+	checks/fuzz.py $(or $(COUNT),100000) $(SEED)
+
+# Outside the gate: random scripts through threads, their journals replayed, for ten minutes (MINUTES and SEED may be given).
+soak: out/pageshare
+	checks/soak.py $(or $(MINUTES),10) $(SEED)
 
 # Outside the gate: the library for C and Rust, left at out/libpageshare.a, with its examples and tests. What this machine has no
 # program for is left out, and told.

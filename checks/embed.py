@@ -15,6 +15,8 @@ import random
 import subprocess
 import sys
 
+from random_texts import journal
+
 TOP = pathlib.Path(__file__).resolve().parent.parent
 PROGRAMS = {
     "pageshare replay": [TOP / "out/pageshare", "replay"],
@@ -23,39 +25,6 @@ PROGRAMS = {
 }
 
 SALTED = "pageshare journal 2\nframes 1\npages 1\nsalts 1\nend 0\n"
-
-
-def content(rng):
-    """The place and bytes of a store: mostly of few kinds, so that pages come to be equal."""
-    if rng.random() < 0.85:
-        return 0, bytes([rng.choice(b"\x00AB")])
-    data = rng.choice([rng.randbytes(rng.choice([1, 2, 8, 63, 64])), bytes(64), b"A" * 64])
-    return rng.choice([0, 1, 4096 - len(data), rng.randint(0, 4096 - len(data))]), data
-
-
-def request(rng, pages):
-    guest = rng.randrange(len(pages))
-    ppn = rng.randrange(pages[guest] + (rng.random() < 0.05))
-    kind = rng.choices(["propose", "store", "load", "release", "count"], [40, 40, 10, 8, 2])[0]
-    if kind == "store":
-        at, data = content(rng)
-        return f"{guest} store {ppn} {at} {data.hex()}"
-    if kind == "load":
-        length = rng.choice([1, 2, 64, rng.randint(1, 64)])
-        return f"{guest} load {ppn} {rng.choice([0, rng.randint(0, 4096 - length)])} {length}"
-    return f"{guest} count" if kind == "count" else f"{guest} {kind} {ppn}"
-
-
-def journal(rng):
-    pages = [rng.randint(1, 6) for _ in range(rng.choice([1, 2, 2, 3, 5, 64 if rng.random() < 0.1 else 4]))]
-    salts = [rng.choice([0, 0, 7, 4294967295]) for _ in pages]
-    salted = rng.random() < 0.3
-    lines = [f"pageshare journal {2 if salted else 1}", f"frames {rng.randint((sum(pages) + 1) // 2, sum(pages))}"]
-    lines.append("pages " + " ".join(map(str, pages)))
-    if salted:
-        lines.append("salts " + " ".join(map(str, salts)))
-    requests = [request(rng, pages) for _ in range(rng.choice([0, 10, 100, 300]))]
-    return "\n".join(lines + requests + [f"end {len(requests)}"]) + "\n"
 
 
 def replay(words, text):

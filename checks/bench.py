@@ -1,0 +1,222 @@
+#!/usr/bin/env python3
+"""Times the proved programs beside plain Rust, in turns, and prints one table.
+
+    checks/bench.py [--crates FOLDER] [--turns N] [--quick] [--only WORD] [--table FILE]
+
+The proved programs are those in out/: pageshare (`make build`) and the crates *_bench (`make out/frames_bench` and so on). The opponents are the
+Cargo package benches/, which is copied to out/bench and built there. --crates names a folder with the sources of its
+crates, as Debian's packages librust-hex-dev, librust-sha2-dev and librust-slab-dev leave it at /usr/share/cargo/registry;
+without it cargo looks for them as it is set up to. Where cargo or a crate isn't at hand the table says so, and shows our
+side alone. Standard library only; nothing else may run on the machine meanwhile.
+
+Each measure is made in turns, ours and theirs, --turns times; the table has the least and the middle of each, and the
+ratio of the least ones. The last lines name each ratio above its goal, and the status is then 1. --table writes the
+table as lines of words parted by tabs, from which checks/plots.py draws docs/*.svg.
+"""
+import argparse
+import os
+import random
+import re
+import shutil
+import statistics
+import subprocess
+import sys
+import time
+
+TOP = os.path.dirname(os.path.dirname(os.path.abspath(__file__)))
+OUT = os.path.join(TOP, "out", "bench")
+GROWTH = [10_000, 30_000, 100_000, 300_000, 1_000_000]
+GUESTS = [1, 2, 4, 8, 64]
+
+
+def journal(name, frames, pages, requests):
+    """Writes a journal of guest 0's requests, and answers where it is."""
+    path = os.path.join(OUT, name + ".journal")
+    with open(path, "w", encoding="ascii") as out:
+        out.write(f"pageshare journal 1\nframes {frames}\npages {pages}\n")
+        count = 0
+        for request in requests:
+            out.write(f"0 {request}\n")
+            count += 1
+        out.write(f"end {count}\n")
+    return path
+
+
+def different(pages):
+    """Each page is stored to and proposed, and each has another content."""
+    for ppn in range(pages):
+        yield f"store {ppn} 0 {ppn:08x}"
+        yield f"propose {ppn}"
+
+
+def equal(pages):
+    """Each page is stored to and proposed, and all have one content."""
+    for ppn in range(pages):
+        yield f"store {ppn} 0 41"
+        yield f"propose {ppn}"
+
+
+def stores_and_loads(count, pages):
+    """Stores and loads of 32 bytes, half and half, at random places of random pages."""
+    dice = random.Random(7)
+    for _ in range(count):
+        ppn, at = dice.randrange(pages), dice.randrange(4064)
+        if dice.random() < 0.5:
+            yield f"store {ppn} {at} {dice.getrandbits(256):064x}"
+        else:
+            yield f"load {ppn} {at} 32"
+
+
+def build_opponents(crates):
+    """Builds benches/ in out/bench, and answers its folder of programs, or why there is none."""
+    if not shutil.which("cargo"):
+        return None, "there is no cargo"
+    source = os.path.join(OUT, "opponents")
+    shutil.rmtree(source, ignore_errors=True)
+    shutil.copytree(os.path.join(TOP, "benches"), source)
+    command = ["cargo", "build", "--release", "--quiet", "--target-dir", os.path.join(OUT, "target")]
+    if crates:
+        command += ["--offline", "--config", 'source.crates-io.replace-with="at-hand"']
+        command += ["--config", f'source.at-hand.directory="{crates}"']
+    done = subprocess.run(command, cwd=source, capture_output=True, text=True, check=False)
+    if done.returncode != 0:
+        return None, "cargo: " + (done.stderr.strip().splitlines() or ["failed"])[-1]
+    return os.path.join(OUT, "target", "release"), None
+
+
+def seconds(program, words, path):
+    """How long a program takes with a file as its input."""
+    with open(path, "rb") as text:
+        start = time.perf_counter()
+        subprocess.run([program, *words], stdin=text, stdout=subprocess.DEVNULL, check=True)
+        return time.perf_counter() - start
+
+
+def output(program, words, path):
+    with open(path, "rb") as text:
+        return subprocess.run([program, *words], stdin=text, capture_output=True, check=True).stdout
+
+
+def told(program, words):
+    """The figures that a benchmark prints, by their names."""
+    text = subprocess.run([program, *words], capture_output=True, text=True, check=True, timeout=900).stdout
+    figures = {}
+    for line in text.splitlines():
+        if found := re.fullmatch(r"ns a round trip: (\d+) on one thread, (\d+) between two", line):
+            figures["on one thread"], figures["between two"] = float(found[1]), float(found[2])
+        elif found := re.match(r"(\d+) guests: ", line):
+            guests = found[1]
+            if rate := re.search(r", (\d+) a second", line):
+                figures[guests + " guests"] = 1e9 / max(1.0, float(rate[1]))
+        elif found := re.match(r"requests a second: (\d+) in threads", line):
+            figures[guests + " guests"] = 1e9 / max(1.0, float(found[1]))
+        elif found := re.fullmatch(r"(.+): (\d+)( ns a page)?", line):
+            figures[found[1]] = float(found[2])
+    return figures
+
+
+class Table:
+    """The rows: a name, the unit, the goal of the ratio or None, and the times of both sides."""
+
+    def __init__(self, turns):
+        self.turns = turns
+        self.rows = []
+
+    def add(self, name, unit, goal, ours, theirs):
+        self.rows.append((name, unit, goal, ours, theirs))
+        print(self.line(self.rows[-1]), flush=True)
+
+    def in_turns(self, ours, theirs):
+        mine, others = [], []
+        for _ in range(self.turns):
+            mine.append(ours())
+            if theirs:
+                others.append(theirs())
+        return mine, others
+
+    @staticmethod
+    def line(row):
+        name, unit, goal, ours, theirs = row
+        text = f"{name:<36} {min(ours):>10.1f} {statistics.median(ours):>10.1f}"
+        if theirs:
+            text += f" {min(theirs):>10.1f} {statistics.median(theirs):>10.1f} {min(ours) / min(theirs):>6.2f}"
+            text += f" {goal:>5.2f}" if goal else "     -"
+        return text + f"  {unit}"
+
+    def missed(self):
+        return [row for row in self.rows if row[4] and row[2] and min(row[3]) / min(row[4]) > row[2]]
+
+    def write(self, path):
+        with open(path, "w", encoding="utf-8") as out:
+            for name, unit, _, ours, theirs in self.rows:
+                out.write("\t".join([name, unit, f"{min(ours):.2f}", f"{min(theirs):.2f}" if theirs else "-"]) + "\n")
+
+
+def replays(table, theirs, quick):
+    pageshare = os.path.join(TOP, "out", "pageshare")
+    part = 10 if quick else 1
+    journals = [
+        ("replay: 30,000 different contents", 1.0, journal("different", 30_000, 30_000, different(30_000 // part))),
+        ("replay: 70,000 equal pages", 1.0, journal("equal", 70_000, 70_000, equal(70_000 // part))),
+        ("replay: 500,000 stores and loads", 1.0, journal("stores", 20_000, 20_000, stores_and_loads(500_000 // part, 20_000))),
+    ]
+    for count in GROWTH[: 2 if quick else None]:
+        requests = stores_and_loads(count, 2_000)
+        journals.append((f"replay: {count:,} requests", None, journal(f"growth-{count}", 2_000, 2_000, requests)))
+    for name, goal, path in journals:
+        other = os.path.join(theirs, "replay") if theirs else None
+        if other and output(pageshare, ["replay"], path) != output(other, [], path):
+            sys.exit(f"{name}: the two programs print different verdicts")
+        rows = table.in_turns(
+            lambda p=path: 1e3 * seconds(pageshare, ["replay"], p),
+            (lambda p=path: 1e3 * seconds(other, [], p)) if other else None,
+        )
+        table.add(name, "ms", goal, *rows)
+
+
+def counted(table, theirs, name, opponent, words, goals):
+    """The figures that one benchmark and its opponent print."""
+    ours = os.path.join(TOP, "out", name)
+    other = os.path.join(theirs, opponent) if theirs and opponent else None
+    mine, others = table.in_turns(lambda: told(ours, words), (lambda: told(other, words)) if other else None)
+    for figure in mine[0]:
+        same = "one by one" if figure in ("four at once", "one worker") else figure
+        rest = [turn[same] for turn in others] if others and same in others[0] else []
+        table.add(f"{name[:-6]}: {figure}", "ns", goals.get(figure, goals.get("")), [turn[figure] for turn in mine], rest)
+
+
+def main():
+    parser = argparse.ArgumentParser(description="Times the proved programs beside plain Rust.")
+    parser.add_argument("--crates", default=os.environ.get("CRATES"))
+    parser.add_argument("--turns", type=int, default=7)
+    parser.add_argument("--quick", action="store_true", help="few turns of little work, to try the script")
+    parser.add_argument("--only", default="", help="the parts whose names have this word")
+    parser.add_argument("--table", help="a file for the figures")
+    asked = parser.parse_args()
+    os.makedirs(OUT, exist_ok=True)
+    theirs, why = build_opponents(asked.crates)
+    if why:
+        print(f"No opponents: {why}. Our side alone follows.")
+    print(f"{'':<36} {'ours least':>10} {'middle':>10} {'Rust least':>10} {'middle':>10} {'ratio':>6} {'goal':>5}")
+    table = Table(2 if asked.quick else asked.turns)
+    size = str(20_000 if asked.quick else 200_000)
+    parts = {
+        "replay": lambda: replays(table, theirs, asked.quick),
+        "frames": lambda: counted(table, theirs, "frames_bench", "frames", [size], {"": 1.2, "give_back": None}),
+        "table": lambda: counted(table, theirs, "table_bench", "table", [size], {"": 1.2}),
+        "rings": lambda: counted(table, theirs, "rings_bench", "rings", [size], {"": 1.2, "between two": None}),
+        "hash": lambda: counted(table, theirs, "hash_bench", "hashing", ["2000"], {"": 1.0}),
+        "run": lambda: counted(table, theirs, "run_bench", "runs", [str(2_000 if asked.quick else 20_000)], {"": 1.0}),
+    }
+    for name, part in parts.items():
+        if asked.only in name:
+            part()
+    if asked.table:
+        table.write(asked.table)
+    for name, _, goal, ours, others in table.missed():
+        print(f"above its goal: {name}: {min(ours) / min(others):.2f}, and {goal:.2f} is wanted")
+    sys.exit(1 if table.missed() else 0)
+
+
+if __name__ == "__main__":
+    main()

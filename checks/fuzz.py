@@ -1,0 +1,146 @@
+#!/usr/bin/env python3
+"""Gives broken texts to the program. Whatever it reads, it must answer with its output or with one fault line, and soon.
+
+    checks/fuzz.py [COUNT [SEED]]
+
+COUNT texts, by default 10,000, follow from SEED, by default 1. Each is a random journal or script that had bytes changed,
+cut or doubled, lines swapped or left out, or numbers put at a limit, and goes to one of the commands that read such texts.
+It takes out/pageshare (`make build`). Prints how many texts got which answer (status 0), or the first text that got a wrong
+one, which it leaves at out/fuzz.text (status 1).
+
+An answer is right where the status is 0, every line but the last is a verdict line, and the last is the report of as many
+entries (or, for `run --journal`, the output is a journal that `replay` accepts); or where the status is 1 and the whole
+output is one fault line. It must come within SECONDS and BYTE_SECONDS for each byte of the text.
+"""
+import collections
+import concurrent.futures
+import os
+import pathlib
+import random
+import re
+import subprocess
+import sys
+
+from random_texts import journal, script
+
+TOP = pathlib.Path(__file__).resolve().parent.parent
+PROGRAM = str(TOP / "out/pageshare")
+SECONDS, BYTE_SECONDS = 5.0, 1e-4
+
+COMMANDS = {"journal": [["replay"]], "script": [["serial"], ["run"], ["run", "--journal"]]}
+CAUSES = "header|form|frames|guests|pages|ring|journal|no-guest|length|crosses|after-close|too-many|salts"
+FAULT = re.compile(rf"fault (line [1-9][0-9]*: ({CAUSES})|truncated line [1-9][0-9]*|count|memory|run: no-thread)\n")
+COUNTS = r"entries (\d+) mapped \d+ shared \d+ frames \d+ reclaimed \d+ hints \d+"
+VERDICTS = (
+    "no-page|unmapped|already|joined [0-9]+|paired|hinted|kept|replaced|ineligible|mapped|stored|copied|taken|no-frame|"
+    rf"bytes ([0-9a-f]{{2}})+|released (freed|held)|totals {COUNTS.replace('(', '(?:')}|closed"
+)
+VERDICT = re.compile(rf"[0-9]+ ({VERDICTS})")
+REPORT = re.compile(f"report {COUNTS}")
+
+LIMITS = [0, 1, 2, 64, 65, 4032, 4033, 4095, 4096, 65535, 65536, 65537, 1048576, 1048577, 16777216, 16777217]
+LIMITS += [2**32 - 1, 2**32, 2**64 - 1, 2**64]
+
+
+def changed_bytes(rng, text):
+    at = rng.randrange(len(text))
+    other = rng.choice([b" ", b"\n", b"0", b"9", b"f", b"G", b"\x00", b"\xff", b"\r", rng.randbytes(1)])
+    return text[:at] + other + text[at + rng.randrange(2) :]
+
+
+def cut(rng, text):
+    return text[: rng.randrange(len(text))]
+
+
+def doubled(rng, text):
+    at, size = rng.randrange(len(text)), rng.choice([1, 1, 2, 10, 100])
+    return text[: at + size] + text[at:]
+
+
+def without(rng, text):
+    at, size = rng.randrange(len(text)), rng.choice([1, 1, 2, 10, 100])
+    return text[:at] + text[at + size :]
+
+
+def swapped_lines(rng, text):
+    lines = text.splitlines(keepends=True)
+    one, other = rng.randrange(len(lines)), rng.randrange(len(lines))
+    lines[one], lines[other] = lines[other], lines[one]
+    return b"".join(lines)
+
+
+def number_at_limit(rng, text):
+    found = list(re.finditer(rb"[0-9]+", text))
+    if not found:
+        return text
+    at = rng.choice(found)
+    return text[: at.start()] + str(rng.choice(LIMITS)).encode() + text[at.end() :]
+
+
+CHANGES = [changed_bytes, changed_bytes, cut, doubled, without, swapped_lines, number_at_limit, number_at_limit]
+
+
+def case(seed, nth, commands):
+    """Text number nth, and the command that reads it."""
+    rng = random.Random(f"{seed} {nth}")
+    kind = rng.choice(sorted(commands))
+    text = (journal(rng) if kind == "journal" else script(rng)[0]).encode()
+    for _ in range(rng.choice([0, 1, 1, 1, 2, 4])):
+        text = rng.choice(CHANGES)(rng, text) if text else text
+    return text, rng.choice(commands[kind])
+
+
+def ask(words, text):
+    limit = SECONDS + BYTE_SECONDS * len(text)
+    return subprocess.run([PROGRAM, *words], input=text, capture_output=True, timeout=limit, check=False)
+
+
+def verdict_lines_are_right(output):
+    lines = output.split("\n")
+    report = REPORT.fullmatch(lines[-2]) if len(lines) > 1 and not lines[-1] else None
+    return bool(report) and int(report[1]) == len(lines) - 2 and all(map(VERDICT.fullmatch, lines[:-2]))
+
+
+def answer_of(words, text):
+    """The answer's name, and whether it is right."""
+    try:
+        done = ask(words, text)
+    except subprocess.TimeoutExpired:
+        return "too late", False
+    output = done.stdout.decode("latin-1")
+    if done.returncode == 1:
+        fault = FAULT.fullmatch(output)
+        return f"{' '.join(words)}: {re.sub('[0-9]+', 'N', output.strip())}", bool(fault)
+    if done.returncode != 0:
+        return f"{' '.join(words)}: status {done.returncode}", False
+    if words[-1] == "--journal":
+        return "run --journal: a journal", ask(["replay"], done.stdout).returncode == 0
+    return f"{' '.join(words)}: verdicts", verdict_lines_are_right(output)
+
+
+def main(count=10000, seed=1):
+    known = subprocess.run([PROGRAM, "--help"], capture_output=True, text=True, check=True).stdout
+    commands = {kind: [words for words in many if words[0] in known] for kind, many in COMMANDS.items()}
+    commands = {kind: many for kind, many in commands.items() if many}
+    answers = collections.Counter()
+
+    def tried(nth):
+        text, words = case(seed, nth, commands)
+        return nth, text, words, answer_of(words, text)
+
+    with concurrent.futures.ThreadPoolExecutor(os.cpu_count()) as pool:
+        for nth, text, words, (answer, is_right) in pool.map(tried, range(count)):
+            if not is_right:
+                (TOP / "out/fuzz.text").write_bytes(text)
+                print(f"text {nth} of seed {seed}, by {' '.join(words)}: {answer}; it is at {TOP / 'out/fuzz.text'}")
+                pool.shutdown(cancel_futures=True)
+                return 1
+            answers[answer] += 1
+    print(f"{count} texts of seed {seed}: each got its output or one fault line")
+    for answer, times in sorted(answers.items()):
+        print(f"{times:8} {answer}")
+    return 0
+
+
+if __name__ == "__main__":
+    sys.exit(main(*map(int, sys.argv[1:3])))
