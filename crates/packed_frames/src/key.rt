@@ -26,8 +26,8 @@ impl Key {
 }
 
 impl Entry {
-    /// What the frame is found by.
-    pub fn key(&self) -> Key
+    // What the frame is found by.
+    pub(crate) fn key(&self) -> Key
         ensures { result ≡ key_of self.now }
     {
         match *self {
@@ -36,8 +36,8 @@ impl Entry {
         }
     }
 
-    /// The MPN and the count of a shared frame.
-    pub fn shared(&self) -> Option<(u32, u16)>
+    // The MPN and the count of a shared frame.
+    pub(crate) fn shared(&self) -> Option<(u32, u16)>
         ensures parts { result ≡ shared_parts (Some self.now) }
         ensures fits { IfSome result (λ frame. frame.0 < 2 ^ 24) }
     {
@@ -47,8 +47,8 @@ impl Entry {
         }
     }
 
-    /// The guest, the PPN and the MPN of a hint frame.
-    pub fn hint(&self) -> Option<(u8, u32, u32)>
+    // The guest, the PPN and the MPN of a hint frame.
+    pub(crate) fn hint(&self) -> Option<(u8, u32, u32)>
         ensures { result ≡ hint_parts (Some self.now) }
     {
         match *self {

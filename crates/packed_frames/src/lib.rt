@@ -16,5 +16,5 @@ mod places;
 pub use chains::Chains;
 pub use entry::Entry;
 pub use key::Key;
-pub use numbers::{U23, U24};
+pub use numbers::{Below, U23, U24};
 pub use packed::Packed;

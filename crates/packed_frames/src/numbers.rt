@@ -1,66 +1,27 @@
 //! Numbers of 23 and 24 bits.
-ghost use Rattle.std.specs.Prelude.{◌≡◌, ◌<◌, ◌^◌, Some, None, if◌then◌else◌, nat_lt};
+ghost use Rattle.std.specs.Prelude.{◌≡◌, ◌<◌, Some, None, if◌then◌else◌, nat_lt};
 
 use std::marker::Model;
 
-/// A number of 24 bits: an MPN or a PPN.
+// How many numbers of 24 bits there are, and how many of 23.
+const OF_24_BITS: u32 = 1 << 24;
+
+const OF_23_BITS: u32 = 1 << 23;
+
+/// A number below `LIMIT`.
 #[derive(Clone, Copy, Debug, PartialEq, Eq)]
-pub struct U24 {
+pub struct Below<const LIMIT: u32> {
     number: u32,
 }
 
-impl Model for U24 {
-    ghost use Rattle.std.specs.Prelude.{ℕ, ◌<◌, ◌^◌};
-    ghost use Rattle.std.specs.Coded.{coded_ℕ};
-
-    ghost Value = { ℕ };
-
-    ghost coded = { coded_ℕ };
-
-    ghost view = { λ s. s.number };
-
-    ghost invariant = { λ s. s.number < 2 ^ 24 };
-
-    ghost inverse = { λ n. record { number = n } };
-}
-
-impl U24 {
-    /// `None` where the number doesn't fit 24 bits.
-    pub fn new(number: u32) -> Option<U24>
-        ensures { result ≡ (if nat_lt number (2 ^ 24) then Some number else None) }
-    {
-        if number < 1 << 24 {
-            Some(U24 { number })
-        } else {
-            None
-        }
-    }
-
-    /// A number that is known to fit.
-    pub fn of(number: u32) -> U24
-        requires { number < 2 ^ 24 }
-        ensures { result ≡ number }
-    {
-        U24 { number }
-    }
-
-    /// The number.
-    pub fn get(self) -> u32
-        ensures value { result ≡ self }
-        ensures fits { result < 2 ^ 24 }
-    {
-        self.number
-    }
-}
+/// A number of 24 bits: an MPN or a PPN.
+pub type U24 = Below<OF_24_BITS>;
 
 /// A number of 23 bits: a link. 0 is no link, and n names the place n − 1.
-#[derive(Clone, Copy, Debug, PartialEq, Eq)]
-pub struct U23 {
-    number: u32,
-}
+pub type U23 = Below<OF_23_BITS>;
 
-impl Model for U23 {
-    ghost use Rattle.std.specs.Prelude.{ℕ, ◌<◌, ◌^◌};
+impl<const LIMIT: u32> Model for Below<LIMIT> {
+    ghost use Rattle.std.specs.Prelude.{ℕ, ◌<◌};
     ghost use Rattle.std.specs.Coded.{coded_ℕ};
 
     ghost Value = { ℕ };
@@ -69,35 +30,35 @@ impl Model for U23 {
 
     ghost view = { λ s. s.number };
 
-    ghost invariant = { λ s. s.number < 2 ^ 23 };
+    ghost invariant = { λ s. s.number < LIMIT };
 
     ghost inverse = { λ n. record { number = n } };
 }
 
-impl U23 {
-    /// `None` where the number doesn't fit 23 bits.
-    pub fn new(number: u32) -> Option<U23>
-        ensures { result ≡ (if nat_lt number (2 ^ 23) then Some number else None) }
+impl<const LIMIT: u32> Below<LIMIT> {
+    /// `None` where the number isn't below the limit.
+    pub fn new(number: u32) -> Option<Self>
+        ensures { result ≡ (if nat_lt number LIMIT then Some number else None) }
     {
-        if number < 1 << 23 {
-            Some(U23 { number })
+        if number < LIMIT {
+            Some(Below { number })
         } else {
             None
         }
     }
 
     /// A number that is known to fit.
-    pub fn of(number: u32) -> U23
-        requires { number < 2 ^ 23 }
+    pub fn of(number: u32) -> Self
+        requires { number < LIMIT }
         ensures { result ≡ number }
     {
-        U23 { number }
+        Below { number }
     }
 
     /// The number.
     pub fn get(self) -> u32
-        ensures value { result ≡ self }
-        ensures fits { result < 2 ^ 23 }
+        ensures value { result ≡ self.entry }
+        ensures fits { result < LIMIT }
     {
         self.number
     }

@@ -18,6 +18,7 @@ use Rattle.packed_frames.specs.Keys.{truncated, first_with, with_other, without_
 use Rattle.packed_frames.specs.Entries.{EntryChains, home, entries_in, chain_of, with_chain, empty_chains, entry_count as chained}
 use Rattle.share_table.specs.TableMaps.{SharedFrame, HintFrame, SharedMap, HintMap, TableMaps, shared_at, hint_at, entry_count, empty_table, with_shared, with_hint, without_hint, with_count, with_one_less, count_at, field_of}
 use Rattle.share_table.specs.declared.entries.SharedEntry.{SharedEntry}
+use Rattle.share_table.specs.Buckets.{IsGreatestPower}
 use Rattle.share_table.specs.Stored.{WideMap, widened, frame_of, Agrees, shared_of, hint_of, all_pairs, value_of, shared_in, maps_of, rewidened, BelongInto, HasEachOnce, IsFiled, IsCounted, IsKept}
 use Rattle.share_table.proofs.Maps.{true_not_false, tied, found, len_new, len_gone}
 use Rattle.share_table.proofs.Chained.{shared_kind, hint_kind, found_value, found_there, absent_first, changed, found_other, found_without, all_stay, stay_other, stay_without, no_hint, no_shared, each_set, once_without, once_other, belong_without, belong_other, length_other, length_without, entries_in_set}
@@ -56,7 +57,7 @@ module _ (total : ℕ) (T : EntryChains) (wide : WideMap) (k : IsKept total T wi
   home_of key = home (length T.chains) key
 
   within : (key : Key) → home_of key < length T.chains
-  within key = let some : zero < length T.chains = k.filed.some in mod-lt (truncated key) some
+  within key = let some : zero < length T.chains = omega (arith, k.filed.buckets.greatest) in mod-lt (truncated key) some
 
   -- what is found in the chains is what the maps have
   pub shared_found : (h : ℕ) → shared_in shared_pairs h ≡ value_of shared_of (first_with (keys.Shared h) (chain_of T (keys.Shared h)))
@@ -135,11 +136,8 @@ module _ (total : ℕ) (T : EntryChains) (wide : WideMap) (k : IsKept total T wi
     filed_set : HasEachOnce es → entries_in (set T.chains (home_of key) es) ≤ T.capacity → IsFiled (with_chain T key es)
     filed_set once room =
         let len : length (set T.chains (home_of key) es) ≡ length T.chains = length-set T.chains (home_of key) es in
-        let some : 1 ≤ length T.chains = k.filed.some in
-        let few : length T.chains ≤ T.capacity = k.filed.few in
         record {
-          some = omega (arith, len, some);
-          few = omega (arith, len, few);
+          buckets = rw len k.filed.buckets;
           at_home = λ i. subst (λ n. BelongInto n i (get_or (set T.chains (home_of key) es) i [])) (sym len) (homes i);
           once = each_set (λ i. HasEachOnce) T.chains (home_of key) es k.filed.once once (within key);
           limit = k.filed.limit;
@@ -380,15 +378,14 @@ nothing_shown n capacity = rw (no_pairs shared_of n, no_pairs hint_of n) refl
 no_entry_told : (n : ℕ) → len (empty {K = ℕ} {X = SharedFrame} {R = nat_cmp}) + len (empty {K = ℕ} {X = HintFrame} {R = nat_cmp}) ≡ entries_in (replicate n [])
 no_entry_told n = omega (arith, no_entries n, len-empty nat_cmp SharedFrame, len-empty nat_cmp HintFrame)
 
-pub nothing_kept : (n capacity : ℕ) → 1 ≤ n → n ≤ capacity → capacity ≤ 1048576 → IsKept 0 (empty_chains n capacity) empty
-nothing_kept n capacity some few most =
+pub nothing_kept : (n capacity : ℕ) → IsGreatestPower capacity n → capacity ≤ 1048576 → IsKept 0 (empty_chains n capacity) empty
+nothing_kept n capacity buckets most =
     let chains : List (List Entry) = replicate n [] in
     let lens : length chains ≡ n = length-replicate n [] in
     let none : entries_in (replicate n []) ≡ 0 = no_entries n in
     record {
       filed = record {
-        some = omega (arith, lens, some);
-        few = omega (arith, lens, few);
+        buckets = rw lens buckets;
         at_home = λ i. subst (BelongInto (length chains) i) (sym (no_chain n i)) tt;
         once = λ i. subst HasEachOnce (sym (no_chain n i)) tt;
         limit = most;

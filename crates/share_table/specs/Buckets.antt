@@ -1,5 +1,18 @@
-use Rattle.std.specs.Prelude.{◌≡◌, ℕ, ◌^◌}
+-- How many buckets a table has, and the bytes of its room.
+use Rattle.std.specs.Prelude.{◌≡◌, ℕ, ◌+◌, ◌*◌, ◌^◌, ◌≤◌, ◌<◌}
 
 pub record IsPowerOfTwo (number : ℕ) : Type 0 where
   pub exponent : ℕ
   pub is : number ≡ 2 ^ exponent
+
+-- the greatest power of two that is at most the limit
+pub record IsGreatestPower (limit number : ℕ) : Type 0 where
+  pub power : IsPowerOfTwo number
+  pub within : number ≤ limit
+  pub greatest : limit < 2 * number
+
+-- the bytes of the room for so many entries: 16 for each frame, and 4 for the head of each bucket
+pub record IsRoom (capacity bytes : ℕ) : Type 0 where
+  pub heads : ℕ
+  pub buckets : IsGreatestPower capacity heads
+  pub is : bytes ≡ 16 * capacity + 4 * heads

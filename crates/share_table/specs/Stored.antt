@@ -6,6 +6,7 @@ use Rattle.packed_frames.specs.declared.entry.Entry.{Entry}
 use Rattle.packed_frames.specs.declared.entry.Entry.TheVariants.{Shared, Hint}
 use Rattle.packed_frames.specs.Keys.{key_of, first_with}
 use Rattle.packed_frames.specs.Entries.{EntryChains, home, entry_count as chained}
+use Rattle.share_table.specs.Buckets.{IsGreatestPower}
 use Rattle.share_table.specs.TableMaps.{SharedFrame, HintFrame, TableMaps, references, extended, entry_count}
 use Rattle.share_table.specs.declared.entries.SharedEntry.{SharedEntry}
 use Rattle.share_table.specs.declared.entries.WideCount.{WideCount}
@@ -113,9 +114,8 @@ pub record IsCounted (total : ℕ) (shared : List (ℕ × SharedEntry)) (wide : 
 
 -- the entries of these chains
 pub record IsFiled (chains : EntryChains) : Type 0 where
-  pub some : 1 ≤ length chains.chains
-  -- no more buckets than places
-  pub few : length chains.chains ≤ chains.capacity
+  -- as many buckets as the greatest power of two that is at most the capacity
+  pub buckets : IsGreatestPower chains.capacity (length chains.chains)
   pub at_home : (b : ℕ) → BelongInto (length chains.chains) b (slice_index_or chains.chains b [])
   pub once : (b : ℕ) → HasEachOnce (slice_index_or chains.chains b [])
   pub limit : chains.capacity ≤ 1048576

@@ -1,13 +1,11 @@
 //! How many buckets a table has.
-ghost use Rattle.std.specs.Prelude.{◌≤◌, ◌<◌, ◌*◌};
-ghost use Rattle.share_table.specs.Buckets.{IsPowerOfTwo};
+ghost use Rattle.std.specs.Prelude.{◌≤◌};
+ghost use Rattle.share_table.specs.Buckets.{IsGreatestPower};
 
 // The greatest power of two that is at most the capacity.
 pub(crate) fn bucket_count(capacity: u32) -> u32
     requires { 1 ≤ capacity }
-    ensures power { IsPowerOfTwo result }
-    ensures most { result ≤ capacity }
-    ensures least { capacity < 2 * result }
+    ensures { IsGreatestPower capacity result }
 {
     let mut buckets = 1;
     while buckets <= capacity / 2 {

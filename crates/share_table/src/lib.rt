@@ -15,6 +15,7 @@ mod frames;
 mod wide;
 
 ghost use Rattle.std.specs.Prelude.{◌≡◌, ◌+◌, ◌*◌, ◌≤◌, ◌<◌, ◌^◌, None, IsSome, IfOk, option_map};
+ghost use Rattle.share_table.specs.Buckets.{IsRoom};
 ghost use Rattle.share_table.specs.TableMaps.{shared_at, hint_at, entry_count, references, extended, field_of, count_at, with_shared, with_count, with_one_less, with_hint, without_hint, empty_table};
 
 use buckets::bucket_count;
@@ -93,10 +94,11 @@ impl<A: Allocator> Table<A> {
         self.wide.len() as u32
     }
 
-    /// The bytes of all room that the entries lie in: 16 for each frame, and 4 for each bucket head. At most
-    /// 20 for each frame are under 0.5 % of the 4,096 that it has.
+    /// The bytes of all room that the entries lie in: 16 for each frame, and 4 for each bucket head, of which there are as
+    /// many as the greatest power of two up to the capacity. At most 20 for each frame are under 0.5 % of the 4,096 that it
+    /// has.
     pub fn bytes(&self) -> u64
-        ensures least { 16 * self.now.capacity ≤ result }
+        ensures exact { IsRoom self.now.capacity result }
         ensures most { result ≤ 20 * self.now.capacity }
     {
         self.chains.bytes()

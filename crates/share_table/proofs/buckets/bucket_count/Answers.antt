@@ -12,3 +12,6 @@ loop-buckets-init c = record { power = record { exponent = 0; is = refl }; some 
 
 pub loop-buckets-preserved : goal.loop-buckets-preserved
 loop-buckets-preserved c = record { power = twice c.loop-buckets.buckets c.loop-buckets.invariant.power; some = omega arith; most = omega arith }
+
+pub returns : goal.returns
+returns c = record { power = c.loop-buckets.invariant.power; within = c.loop-buckets.invariant.most; greatest = omega arith }
