@@ -1,4 +1,4 @@
-.PHONY: test build demo no-thread embed fuzz soak
+.PHONY: test build demo no-thread embed fuzz soak hints
 
 # The gate: every proof from nothing, the edits that must be refused, the tests and the programs.
 test:
@@ -35,6 +35,10 @@ fuzz: out/pageshare
 # Outside the gate: random scripts through threads, their journals replayed, for ten minutes (MINUTES and SEED may be given).
 soak: out/pageshare
 	checks/soak.py $(or $(MINUTES),10) $(SEED)
+
+# Outside the gate: a replay's time grows with the number of its hints and no faster. Nothing else may run meanwhile.
+hints: out/pageshare
+	checks/hints.py
 
 # Outside the gate: the library for C and Rust, left at out/libpageshare.a, with its examples and tests. What this machine has no
 # program for is left out, and told.
