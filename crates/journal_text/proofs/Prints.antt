@@ -37,10 +37,6 @@ unfolding printed_from
 printed_whole hash s es = refl
 
 -- no entry is left
-pub lines_none : (hash : ℕ → List ℕ → ℕ) (s : State) → lines_from hash s [] ≡ []
-unfolding verdicts_of
-lines_none hash s = refl
-
 pub state_none : (hash : ℕ → List ℕ → ℕ) (s : State) → state_after hash s [] ≡ s
 unfolding state_after
 state_none hash s = refl

@@ -6,10 +6,10 @@ use Rattle.page_model.specs.Replay.{state_after}
 use Rattle.page_model.specs.Steps.{step}
 use Rattle.page_model.specs.declared.request.Entry.{Entry}
 use Rattle.merge_core.specs.Shown.{state_of}
-use Rattle.journal_text.specs.Ends.{AppendsFront, Sends}
+use Rattle.journal_text.specs.Ends.{Sends}
 use Rattle.journal_text.specs.Printed.{verdict_line}
 use Rattle.journal_text.specs.Replayed.{lines_from}
-use Rattle.journal_text.proofs.Prints.{lines_at, state_at, lines_none, state_none}
+use Rattle.journal_text.proofs.Prints.{lines_at, state_at, state_none}
 use Rattle.journal_text.proofs.Sent.{on_err, front_more, sends_front, sends_more, sends_trans}
 use Rattle.journal_text.proofs.engine.print_run.Goals as goal
 

@@ -1,4 +1,4 @@
-use Rattle.std.proofs.Common.{◌≡◌, ◌+◌, ◌-◌, ◌++◌, ◌<◌, ◌≤◌, ℕ, suc, List, [], length, map, string_bytes, vec_capacity, sym, ap, ◌∙◌, arith, length-append}
+use Rattle.std.proofs.Common.{◌≡◌, ◌+◌, ◌-◌, ◌++◌, ℕ, suc, List, [], length, map, string_bytes, vec_capacity, sym, ap, ◌∙◌, arith, length-append}
 use Rattle.std.specs.Io.KnownBytes.{Appends}
 use Rattle.page_model.specs.Pages.{State}
 use Rattle.page_model.specs.Replay.{state_after}
@@ -8,7 +8,7 @@ use Rattle.merge_core.specs.Shown.{state_of}
 use Rattle.journal_text.specs.Ends.{AppendsFront, Sends}
 use Rattle.journal_text.specs.Replayed.{lines_from, printed_from, report_text}
 use Rattle.journal_text.proofs.Sent.{on_err, on_err_map, on_ok_map, sends_none, sends_all, sends_front}
-use Rattle.script_text.specs.Order.{with_close, firsts, turns, longest, left_of, serial_order}
+use Rattle.script_text.specs.Order.{with_close, turns, longest, left_of, serial_order}
 use Rattle.script_text.specs.Views.{lists_of}
 use Rattle.script_text.proofs.Turns.{turn_more, turn_none, left_first, serial_few}
 use Rattle.script_text.proofs.Runs.{run_sent, run_cut, last_sent, last_cut}
