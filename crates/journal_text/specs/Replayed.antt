@@ -19,13 +19,17 @@ verdict_lines [] verdicts = []
 verdict_lines (e ∷ es) [] = []
 verdict_lines (e ∷ es) (verdict ∷ verdicts) = (verdict_line e.guest verdict ++ codes "\n") ++ verdict_lines es verdicts
 
+-- the lines of the entries' verdicts from a state on
+abbrev pub lines_from : (ℕ → List ℕ → ℕ) → State → List Entry → List ℕ
+lines_from hash s es = verdict_lines es (verdicts_of hash s es)
+
 -- the line of a machine's report, with its line feed
 abbrev pub report_text : State → List ℕ
 report_text s = report_line (totals s.entries s.guests) ++ codes "\n"
 
 -- the lines of the entries' verdicts from a state on, and of the report after them
 unfoldable pub printed_from : (ℕ → List ℕ → ℕ) → State → List Entry → List ℕ
-printed_from hash s es = verdict_lines es (verdicts_of hash s es) ++ report_text (state_after hash s es)
+printed_from hash s es = lines_from hash s es ++ report_text (state_after hash s es)
 
 -- what the replay of a journal prints, under a hash
 abbrev pub printed : (ℕ → List ℕ → ℕ) → Journal → List ℕ

@@ -1,44 +1,29 @@
 //! Hashes of the pages that the next requests propose, which are computed four at once.
-ghost use Rattle.std.specs.Prelude.{◌≡◌, ◌+◌, ◌<◌, ◌≤◌, length};
-ghost use Rattle.merge_core.specs.Shown.{state_of};
-ghost use Rattle.page_model.specs.Steps.{step};
+ghost use Rattle.std.specs.Prelude.{◌≡◌, ◌<◌, ◌≤◌, length};
 
 use arrayvec::ArrayVec;
 use merge_core::Core;
 use page_digest::PageHash;
-use page_model::{Entry, Request, Verdict};
+use page_model::{Entry, Request};
 use std::alloc::Allocator;
 
 /// How many requests are looked at together.
-const WINDOW: usize = 64;
+pub const WINDOW: usize = 64;
 
-/// Serves an entry. Where `entries` are all requests of the core, the first one first, the hashes of what the next of
-/// them propose are noted before: that changes no verdict.
-pub(crate) fn serve<H: PageHash, A: Allocator>(
+/// At each 64th of these entries, notes the hashes of the pages that it and the next 63 propose: that changes no verdict.
+pub(crate) fn look_ahead<H: PageHash, A: Allocator>(
     core: &mut Core<H, A>,
     entries: &[Entry],
-    entry: &Entry,
-) -> Verdict
-    requires guest { entry.now.guest < length (state_of core.old).guests }
-    requires room { core.old.entries < 16777216 }
-    ensures step { record { state = state_of core.new; verdict = result } ≡ step H.hash_of (state_of core.old) entry.now.guest entry.now.request }
-    ensures entries { core.new.entries ≡ core.old.entries + 1 }
-    ensures guests { length (state_of core.new).guests ≡ length (state_of core.old).guests }
-{
-    look_ahead(core, entries);
-    core.apply(entry.guest, &entry.request)
-}
-
-/// At each 64th request, notes the hashes of the pages that it and the next 63 propose.
-fn look_ahead<H: PageHash, A: Allocator>(core: &mut Core<H, A>, entries: &[Entry])
+    at: usize,
+)
+    requires { at < length entries.now }
     ensures { core.new ≡ core.old }
 {
-    let next = core.entries() as usize;
-    if next % WINDOW != 0 || next >= entries.len() {
+    if at % WINDOW != 0 {
         return;
     }
-    let end = entries.len().min(next + WINDOW);
-    let pages = proposed(&entries[next..end]);
+    let count = (entries.len() - at).min(WINDOW);
+    let pages = proposed(&entries[at..at + count]);
     core.note_hashes(pages.as_slice());
 }
 

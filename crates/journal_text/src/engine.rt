@@ -3,16 +3,16 @@ ghost use Rattle.std.specs.Prelude.{◌≡◌, ◌+◌, ◌<◌, ◌≤◌, ◌+
 ghost use Rattle.std.specs.Io.KnownBytes.{Appends};
 ghost use Rattle.merge_core.specs.Shown.{state_of};
 ghost use Rattle.page_model.specs.Limits.{shapes};
-ghost use Rattle.page_model.specs.Replay.{empty_state};
+ghost use Rattle.page_model.specs.Replay.{empty_state, state_after};
 ghost use Rattle.page_model.specs.Steps.{step};
 ghost use Rattle.journal_text.specs.declared.fault.TextFault.TheVariants.{OutOfMemory};
 ghost use Rattle.journal_text.specs.Printed.{verdict_line};
 ghost use Rattle.journal_text.specs.Texts.{AreBelow};
 ghost use Rattle.journal_text.specs.Views.{journal_seen};
 ghost use Rattle.journal_text.specs.Ends.{AppendsFront, Sends, is_read_fault, is_write_fault, tells_read, tells_write};
-ghost use Rattle.journal_text.specs.Replayed.{report_text, printed_from, printed, Replays, Refuses, Refused, NotPrinted};
+ghost use Rattle.journal_text.specs.Replayed.{lines_from, report_text, printed_from, printed, Replays, Refuses, Refused, NotPrinted};
 
-use crate::ahead::serve;
+use crate::ahead::look_ahead;
 use crate::ends::{Sink, Source, read_all, write_all};
 use crate::fault::TextFault;
 use crate::journal::Journal;
@@ -25,7 +25,7 @@ use page_model::{Entry, MachineShape};
 use std::alloc::Allocator;
 
 /// The machine of this shape, before its first request.
-fn core_of<H: PageHash + Drop, A: Allocator + Clone>(
+pub fn core_of<H: PageHash + Drop, A: Allocator + Clone>(
     alloc: A,
     shape: &MachineShape<'_>,
     hash: H,
@@ -38,10 +38,9 @@ fn core_of<H: PageHash + Drop, A: Allocator + Clone>(
     Ok(core)
 }
 
-/// Serves one of the entries, and puts its verdict's line behind what the buffer holds.
+/// Serves an entry, and puts its verdict's line behind what the buffer holds.
 fn print_entry<H: PageHash, W: Sink, A: Allocator>(
     core: &mut Core<H, A>,
-    entries: &[Entry],
     entry: &Entry,
     writer: &mut W,
     out: &mut String<A>,
@@ -61,8 +60,36 @@ fn print_entry<H: PageHash, W: Sink, A: Allocator>(
     ensures fault { IfErr result (λ e. e ≡ TextFault.Write) }
 {
     make_room(writer, out)?;
-    let verdict = serve(core, entries, entry);
+    let verdict = core.apply(entry.guest, &entry.request);
     put_verdict(out, entry.guest, &verdict);
+    Ok(())
+}
+
+/// Serves these entries, and puts the lines of their verdicts behind what the buffer holds.
+pub fn print_run<H: PageHash, W: Sink, A: Allocator>(
+    core: &mut Core<H, A>,
+    entries: &[Entry],
+    writer: &mut W,
+    out: &mut String<A>,
+) -> Result<(), TextFault>
+    requires guests { AreBelow (length (state_of core.old).guests) entries.now }
+    requires few { core.old.entries + length entries.now ≤ 16777216 }
+    requires fine { W.has_failed writer.old ≡ false }
+    requires room { LINE_BYTES ≤ string_capacity out.old }
+    ensures sends { OnOk result (Sends (W.contents writer.old) (W.contents writer.new) (string_bytes out.new) (string_bytes out.old ++ lines_from H.hash_of (state_of core.old) entries.now)) }
+    ensures state { OnOk result (state_of core.new ≡ state_after H.hash_of (state_of core.old) entries.now) }
+    ensures entries { OnOk result (core.new.entries ≡ core.old.entries + length entries.now) }
+    ensures guests { OnOk result (length (state_of core.new).guests ≡ length (state_of core.old).guests) }
+    ensures fine { OnOk result (W.has_failed writer.new ≡ false) }
+    ensures room { OnOk result (LINE_BYTES ≤ string_capacity out.new) }
+    ensures err { OnErr result (AppendsFront (W.contents writer.old) (W.contents writer.new) (string_bytes out.old ++ lines_from H.hash_of (state_of core.old) entries.now)) }
+    ensures failed { OnErr result (W.has_failed writer.new ≡ true) }
+    ensures fault { IfErr result (λ e. e ≡ TextFault.Write) }
+{
+    for at in 0..entries.len() {
+        look_ahead(core, entries, at);
+        print_entry(core, &entries[at], writer, out)?;
+    }
     Ok(())
 }
 
@@ -103,15 +130,13 @@ fn print_all<H: PageHash, W: Sink, A: Allocator>(
     ensures failed { OnErr result (W.has_failed writer.new ≡ true) }
     ensures fault { IfErr result (λ e. e ≡ TextFault.Write) }
 {
-    for entry in entries {
-        print_entry(core, entries, entry, writer, out)?;
-    }
+    print_run(core, entries, writer, out)?;
     print_report(core, writer, out)
 }
 
 /// Writes the lines of the verdicts of a new machine's first entries, and of the report after them. All memory is
 /// taken before the first write.
-pub fn print_entries<H: PageHash + Drop, W: Sink, A: Allocator + Clone>(
+fn print_entries<H: PageHash + Drop, W: Sink, A: Allocator + Clone>(
     alloc: A,
     shape: &MachineShape<'_>,
     entries: &[Entry],

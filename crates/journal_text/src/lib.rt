@@ -4,7 +4,7 @@
 //! from the code.
 #![tactic(auto)]
 
-mod ahead;
+pub mod ahead;
 pub mod ends;
 pub mod engine;
 mod expect;
@@ -18,6 +18,7 @@ pub mod output;
 mod print;
 mod reader;
 pub mod request;
+pub mod room;
 pub mod word;
 pub mod writer;
 

@@ -10,6 +10,7 @@ use crate::head::Head;
 use crate::head_reader::{line_behind_head, read_head};
 use crate::journal::Journal;
 use crate::request::{Line, check_end, read_line};
+use crate::room::count_lines;
 use crate::word::cut;
 use page_model::{Entry, MAX_GUESTS, MAX_TEXT_BYTES};
 use std::alloc::Allocator;
@@ -53,7 +54,7 @@ fn entries<A: Allocator>(
     ensures guests { IfOk result (λ v. AreBelow (length closed.old) v.items) }
     ensures few { IfOk result (λ v. length v.items < 2 ^ 24) }
 {
-    let mut found = Vec::new(alloc);
+    let mut found = Vec::with_capacity(alloc, count_lines(text))?;
     let mut rest = text;
     let mut n = first;
     while let Some((line, more)) = cut(b'\n', rest) {

@@ -1,5 +1,5 @@
 -- The serial order, a guest or a turn at a time.
-use Rattle.std.proofs.Common.{◌≡◌, ℕ, zero, suc, ◌+◌, ◌<◌, ◌≤◌, List, [], ◌∷◌, ◌++◌, length, drop, map, max, Option, Some, None, refl, sym, ap, ◌∙◌, arith, append_assoc, get_or, length-append}
+use Rattle.std.proofs.Common.{◌≡◌, ℕ, zero, suc, ◌+◌, ◌<◌, ◌≤◌, List, [], ◌∷◌, ◌++◌, length, drop, map, max, Option, Some, None, refl, sym, ap, ◌∙◌, arith, append_assoc, append-nil, get_or, length-append}
 use Rattle.std.specs.declared.vec.Vec.{Vec}
 use Rattle.std.proofs.lemmas.List.{length-map, drop_more, get_or-map}
 use Rattle.std.proofs.lemmas.List.Sums.{sum_by-cons}
@@ -32,6 +32,20 @@ turns_step n turn scripts = ap (λ (lists : List (List Request)). firsts 0 (left
 pub turns_none : (lists : List (List Request)) → turns 0 lists ≡ []
 unfolding turns
 turns_none lists = refl
+
+-- what waits, and what is left, when the requests of one more turn wait
+pub turn_more : (waiting : List Entry) (lists : List (List Request)) (n m turn : ℕ) → n ≡ suc m
+    → waiting ++ turns n (left_of turn lists) ≡ (waiting ++ firsts 0 (left_of turn lists)) ++ turns m (left_of (turn + 1) lists)
+turn_more waiting lists n m turn next =
+    let left : List (List Request) = left_of turn lists in
+    let both : ℕ → List Entry = λ k. (waiting ++ firsts 0 left) ++ turns m (left_of k lists) in
+    let same : turn + 1 ≡ suc turn = omega arith in
+    ap (λ (k : ℕ). waiting ++ turns k left) next ∙ ap (λ (xs : List Entry). waiting ++ xs) (turns_step m turn lists) ∙ sym (append_assoc waiting (firsts 0 left) (turns m (left_of (suc turn) lists))) ∙ ap both (sym same)
+
+-- behind the last turn only what waits is left
+pub turn_none : (waiting : List Entry) (lists : List (List Request)) (n turn : ℕ) → n ≡ 0 → waiting ++ turns n (left_of turn lists) ≡ waiting
+turn_none waiting lists n turn none =
+    ap (λ (k : ℕ). waiting ++ turns k (left_of turn lists)) none ∙ ap (λ (xs : List Entry). waiting ++ xs) (turns_none (left_of turn lists)) ∙ append-nil waiting
 
 -- before the first turn
 pub left_first : (scripts : List (List Request)) → turns (longest (map with_close scripts)) (left_of 0 scripts) ≡ serial_order scripts

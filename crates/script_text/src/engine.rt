@@ -1,19 +1,64 @@
 //! The engine that serves a script in its serial order.
-ghost use Rattle.std.specs.Prelude.{◌≡◌, false, IfErr, OnOk};
+ghost use Rattle.std.specs.Prelude.{◌≡◌, ◌+◌, ◌≤◌, [], false, true, length, string_bytes, string_capacity, vec_capacity, IfErr, OnOk, OnErr};
 ghost use Rattle.std.specs.Io.KnownBytes.{Appends};
-ghost use Rattle.journal_text.specs.Ends.{tells_read, tells_write};
-ghost use Rattle.journal_text.specs.Replayed.{NotPrinted};
+ghost use Rattle.merge_core.specs.Shown.{state_of};
+ghost use Rattle.merge_run.specs.Runs.{entries_of};
+ghost use Rattle.journal_text.specs.Ends.{AppendsFront, tells_read, tells_write};
+ghost use Rattle.journal_text.specs.Replayed.{NotPrinted, printed_from};
+ghost use Rattle.script_text.specs.Order.{serial_order};
 ghost use Rattle.script_text.specs.Served.{serial_printed, Serves};
-ghost use Rattle.script_text.specs.Views.{script_seen};
+ghost use Rattle.script_text.specs.Views.{lists_of, script_seen};
 
-use crate::order::serial_entries;
+use crate::order::{push_turn, turns_of};
 use crate::reader::read_script;
 use crate::script::Script;
+use journal_text::ahead::WINDOW;
 use journal_text::ends::read_all;
-use journal_text::engine::{print_entries, tell_fault};
+use journal_text::engine::{core_of, print_report, print_run, tell_fault};
+use journal_text::output::{LINE_BYTES, buffer};
 use journal_text::{Sink, Source, TextFault};
+use merge_core::Core;
 use page_digest::PageHash;
+use page_model::{Entry, MAX_GUESTS, Request};
 use std::alloc::Allocator;
+
+/// Room for the entries that are served together: turns are taken into it until it has `WINDOW` entries or more, and a turn
+/// has at most an entry of each guest.
+const ROOM: usize = WINDOW + MAX_GUESTS;
+
+/// Serves scripts in their serial order, and writes the lines of the verdicts and of the report after them, by way of an empty
+/// list and an empty buffer, which take no more memory.
+fn print_turns<H: PageHash, W: Sink, A: Allocator>(
+    core: &mut Core<H, A>,
+    scripts: &[Vec<Request, A>],
+    entries: &mut Vec<Entry, A>,
+    writer: &mut W,
+    out: &mut String<A>,
+) -> Result<(), TextFault>
+    requires many { length scripts.now ≤ 64 }
+    requires guests { length (state_of core.old).guests ≡ length scripts.now }
+    requires few { core.old.entries + entries_of scripts.now ≤ 16777216 }
+    requires none { entries.old.items ≡ [] }
+    requires space { ROOM ≤ vec_capacity entries.old }
+    requires fine { W.has_failed writer.old ≡ false }
+    requires empty { string_bytes out.old ≡ [] }
+    requires room { LINE_BYTES ≤ string_capacity out.old }
+    ensures ok { OnOk result (Appends (W.contents writer.old) (W.contents writer.new) (printed_from H.hash_of (state_of core.old) (serial_order (lists_of scripts.now)))) }
+    ensures err { OnErr result (AppendsFront (W.contents writer.old) (W.contents writer.new) (printed_from H.hash_of (state_of core.old) (serial_order (lists_of scripts.now)))) }
+    ensures fine { OnOk result (W.has_failed writer.new ≡ false) }
+    ensures failed { OnErr result (W.has_failed writer.new ≡ true) }
+    ensures fault { IfErr result (λ e. e ≡ TextFault.Write) }
+{
+    for turn in 0..turns_of(scripts) {
+        push_turn(entries, scripts, turn);
+        if entries.len() >= WINDOW {
+            print_run(core, entries, writer, out)?;
+            entries.clear();
+        }
+    }
+    print_run(core, entries, writer, out)?;
+    print_report(core, writer, out)
+}
 
 /// Writes what a script prints in its serial order. All memory is taken before the first write.
 fn print_script<H: PageHash + Drop, W: Sink, A: Allocator + Clone>(
@@ -28,9 +73,11 @@ fn print_script<H: PageHash + Drop, W: Sink, A: Allocator + Clone>(
     ensures reader { tells_read result ≡ false }
     ensures writer { W.has_failed writer.new ≡ tells_write result }
 {
-    let entries = serial_entries(alloc.clone()?, &script.scripts)?;
+    let mut out = buffer(alloc.clone()?)?;
+    let mut entries = Vec::with_capacity(alloc.clone()?, ROOM)?;
     let shape = script.shape();
-    print_entries(alloc, &shape, &entries, writer, hash)
+    let mut core = core_of(alloc, &shape, hash)?;
+    print_turns(&mut core, &script.scripts, &mut entries, writer, &mut out)
 }
 
 /// Reads a script, and writes a verdict line for each request in its serial order and then the report line.

@@ -4,12 +4,10 @@ ghost use Rattle.journal_text.specs.declared.fault.TextFault.TheVariants.{OutOfM
 ghost use Rattle.script_text.specs.Views.{lists_of};
 
 use journal_text::TextFault;
+use journal_text::room::LEAST_LINE_BYTES;
 use journal_text::word::{cut, first_word, number};
 use page_model::{MAX_GUESTS, Request};
 use std::alloc::Allocator;
-
-/// No line of a request is shorter, its line feed not counted.
-const LEAST_LINE_BYTES: usize = 7;
 
 /// For each guest, how many lines of the text may be requests of it. A scan counts as one of them.
 fn count_lines(text: &[u8]) -> [usize; MAX_GUESTS] {

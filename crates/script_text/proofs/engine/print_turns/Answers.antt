@@ -1,0 +1,170 @@
+use Rattle.std.proofs.Common.{◌≡◌, ◌+◌, ◌-◌, ◌++◌, ℕ, suc, List, [], length, map, string_bytes, vec_capacity, sym, ap, ◌∙◌, arith, length-append}
+use Rattle.std.specs.Io.KnownBytes.{Appends}
+use Rattle.page_model.specs.Pages.{State}
+use Rattle.page_model.specs.Replay.{state_after}
+use Rattle.page_model.specs.declared.request.Entry.{Entry}
+use Rattle.page_model.specs.declared.request.Request.{Request}
+use Rattle.merge_core.specs.Shown.{state_of}
+use Rattle.journal_text.specs.Ends.{AppendsFront, Sends}
+use Rattle.journal_text.specs.Replayed.{lines_from, printed_from, report_text}
+use Rattle.journal_text.proofs.Sent.{on_err, on_err_map, on_ok_map, sends_none, sends_all, sends_front}
+use Rattle.script_text.specs.Order.{with_close, turns, longest, left_of, serial_order}
+use Rattle.script_text.specs.Views.{lists_of}
+use Rattle.script_text.proofs.Turns.{turn_more, turn_none, left_first, serial_few}
+use Rattle.script_text.proofs.Runs.{run_sent, run_cut, last_sent, last_cut}
+use Rattle.script_text.proofs.engine.print_turns.Goals.{then-len-ge-WINDOW+in_ok-print_run, else-len-ge-WINDOW}
+use Rattle.script_text.proofs.engine.print_turns.Goals as goal
+
+pub loop-turn-init : goal.loop-turn-init
+loop-turn-init g c =
+    let hash = g.H.HashFunction.hash_of in
+    let s : State = state_of c.args.core.now in
+    let lists : List (List Request) = lists_of c.args.scripts.now in
+    let t : ℕ = longest (map with_close lists) in
+    let whole : t - 0 ≡ t = omega arith in
+    let left : List (List Request) = left_of 0 lists in
+    let same : c.args.entries.now.items ++ turns (t - 0) left ≡ serial_order lists = ap (λ (xs : List Entry). xs ++ turns (t - 0) left) c.requires.none ∙ ap (λ (k : ℕ). turns k left) whole ∙ left_first lists in
+    let all : string_bytes c.args.out.now ++ printed_from hash s (c.args.entries.now.items ++ turns (t - 0) left) ≡ printed_from hash s (serial_order lists) =
+    ap (λ (xs : List ℕ). xs ++ printed_from hash s (c.args.entries.now.items ++ turns (t - 0) left)) c.requires.empty ∙ ap (λ (es : List Entry). printed_from hash s es) same in
+    record {
+      sends = rw all (sends_none (g.W.Sink.contents c.args.writer.now) (printed_from hash s (serial_order lists)));
+      few = omega (arith, c.requires.few, ap length same, serial_few c.args.scripts.now);
+      guests = c.requires.guests;
+      below = rw c.requires.none (λ k d l. absurd (omega (arith, l)));
+      waiting = omega (arith, ap length c.requires.none);
+      space = c.requires.space;
+      fine = c.requires.fine;
+      room = c.requires.room;
+    }
+
+pub print_run-requires-clause-few : goal.print_run-requires-clause-few
+print_run-requires-clause-few g c κs within =
+    let lists : List (List Request) = lists_of c.args.scripts.now in
+    let t : ℕ = longest (map with_close lists) in
+    let turn : ℕ = c.loop-turn.turn in
+    let next : t - turn ≡ suc (t - (turn + 1)) = omega (arith, c.turns_of-turn-end.ensures) in
+    let later : List Entry = turns (t - (turn + 1)) (left_of (turn + 1) lists) in
+    let run : List Entry = c.push_turn.new.entries.items in
+    let same : c.loop-turn.entries.items ++ turns (t - turn) (left_of turn lists) ≡ run ++ later = turn_more c.loop-turn.entries.items lists (t - turn) (t - (turn + 1)) turn next ∙ ap (λ (xs : List Entry). xs ++ later) (sym c.push_turn.ensures.items) in
+    omega (arith, c.loop-turn.invariant.few, ap length same, length-append run later, ap length c.deref.ensures.value)
+
+pub returns-in_err-print_run-clause-err : goal.returns-in_err-print_run-clause-err
+returns-in_err-print_run-clause-err g c =
+    let hash = g.H.HashFunction.hash_of in
+    let contents = g.W.Sink.contents in
+    let s : State = state_of c.loop-turn.core in
+    let lists : List (List Request) = lists_of c.args.scripts.now in
+    let t : ℕ = longest (map with_close lists) in
+    let turn : ℕ = c.loop-turn.turn in
+    let next : t - turn ≡ suc (t - (turn + 1)) = omega (arith, c.turns_of-turn-end.ensures) in
+    let later : List Entry = turns (t - (turn + 1)) (left_of (turn + 1) lists) in
+    let run : List Entry = c.push_turn.new.entries.items in
+    let same : c.loop-turn.entries.items ++ turns (t - turn) (left_of turn lists) ≡ run ++ later = turn_more c.loop-turn.entries.items lists (t - turn) (t - (turn + 1)) turn next ∙ ap (λ (xs : List Entry). xs ++ later) (sym c.push_turn.ensures.items) in
+    let out = string_bytes c.loop-turn.out in
+    let whole : List ℕ = printed_from hash (state_of c.args.core.now) (serial_order lists) in
+    let front : AppendsFront (contents c.loop-turn.writer) (contents c.print_run.new.writer) (out ++ lines_from hash s run) = rw c.deref.ensures.value at c.in_err-print_run.ensures.err in
+    on_err c.from_residual.result _ (run_cut hash (contents c.args.writer.now) (contents c.loop-turn.writer) (contents c.print_run.new.writer) out whole s run later _ same c.loop-turn.invariant.sends front)
+
+pub loop-turn-preserved : goal.loop-turn-preserved
+loop-turn-preserved g c =
+    let hash = g.H.HashFunction.hash_of in
+    let contents = g.W.Sink.contents in
+    let s : State = state_of c.loop-turn.core in
+    let lists : List (List Request) = lists_of c.args.scripts.now in
+    let t : ℕ = longest (map with_close lists) in
+    let turn : ℕ = c.loop-turn.turn in
+    let next : t - turn ≡ suc (t - (turn + 1)) = omega (arith, c.turns_of-turn-end.ensures) in
+    let later : List Entry = turns (t - (turn + 1)) (left_of (turn + 1) lists) in
+    let run : List Entry = c.push_turn.new.entries.items in
+    let all : List Entry = c.loop-turn.entries.items ++ turns (t - turn) (left_of turn lists) in
+    let same : all ≡ run ++ later = turn_more c.loop-turn.entries.items lists (t - turn) (t - (turn + 1)) turn next ∙ ap (λ (xs : List Entry). xs ++ later) (sym c.push_turn.ensures.items) in
+    let out = string_bytes c.loop-turn.out in
+    let whole : List ℕ = printed_from hash (state_of c.args.core.now) (serial_order lists) in
+    elim c.if-len-ge-WINDOW.branch [
+      | then-len-ge-WINDOW+in_ok-print_run w ↦
+          let sent : Sends (contents c.loop-turn.writer) (contents w.print_run.new.writer) (string_bytes w.print_run.new.out) (out ++ lines_from hash s run) = rw w.deref.ensures.value at w.in_ok-print_run.ensures.sends in
+          let state : state_of w.print_run.new.core ≡ state_after hash s run = rw w.deref.ensures.value at w.in_ok-print_run.ensures.state in
+          let none : c.if-len-ge-WINDOW.entries.items ≡ [] = ap (λ x. x.items) w.entries-is ∙ w.clear.ensures.items in
+          record {
+            sends = rw (w.writer-is, w.out-is, w.core-is, none, state) (run_sent hash (contents c.args.writer.now) (contents c.loop-turn.writer) (contents w.print_run.new.writer) out (string_bytes w.print_run.new.out) whole s run later all same c.loop-turn.invariant.sends sent);
+            few = omega (arith, c.loop-turn.invariant.few, ap length same, length-append run later, ap (λ x. x.entries) w.core-is, w.in_ok-print_run.ensures.entries, ap length w.deref.ensures.value, ap (λ (xs : List Entry). length (xs ++ later)) none);
+            guests = ap (λ x. length (state_of x).guests) w.core-is ∙ w.in_ok-print_run.ensures.guests ∙ c.loop-turn.invariant.guests;
+            below = rw none (λ k d l. absurd (omega (arith, l)));
+            waiting = omega (arith, ap length none);
+            space = omega (arith, ap (λ x. vec_capacity x) w.entries-is, w.clear.ensures.capacity, c.push_turn.ensures.capacity, c.loop-turn.invariant.space);
+            fine = rw w.writer-is w.in_ok-print_run.ensures.fine;
+            room = rw w.out-is w.in_ok-print_run.ensures.room;
+          }
+      | else-len-ge-WINDOW w ↦
+          let kept : c.if-len-ge-WINDOW.entries.items ≡ run = ap (λ x. x.items) w.entries-is in
+          let sends : Sends (contents c.args.writer.now) (contents c.loop-turn.writer) (out ++ printed_from hash s (run ++ later)) whole = rw same at c.loop-turn.invariant.sends in
+          record {
+            sends = rw (w.writer-is, w.out-is, w.core-is, kept) sends;
+            few = omega (arith, c.loop-turn.invariant.few, ap length same, ap (λ x. x.entries) w.core-is, ap (λ (xs : List Entry). length (xs ++ later)) kept);
+            guests = ap (λ x. length (state_of x).guests) w.core-is ∙ c.loop-turn.invariant.guests;
+            below = rw kept c.push_turn.ensures.below;
+            waiting = omega (arith, ap length kept, w.if-len-ge-WINDOW.false, c.len.ensures, c.push_turn.new.entries.ok.0);
+            space = omega (arith, ap (λ x. vec_capacity x) w.entries-is, c.push_turn.ensures.capacity, c.loop-turn.invariant.space);
+            fine = rw w.writer-is c.loop-turn.invariant.fine;
+            room = rw w.out-is c.loop-turn.invariant.room;
+          }
+    ]
+
+pub returns-in_err-print_run-2-clause-err : goal.returns-in_err-print_run-2-clause-err
+returns-in_err-print_run-2-clause-err g c =
+    let hash = g.H.HashFunction.hash_of in
+    let contents = g.W.Sink.contents in
+    let s : State = state_of c.loop-turn.core in
+    let lists : List (List Request) = lists_of c.args.scripts.now in
+    let t : ℕ = longest (map with_close lists) in
+    let turn : ℕ = c.loop-turn.turn in
+    let none : t - turn ≡ 0 = omega (arith, c.turns_of-turn-end.ensures) in
+    let run : List Entry = c.loop-turn.entries.items in
+    let out = string_bytes c.loop-turn.out in
+    let whole : List ℕ = printed_from hash (state_of c.args.core.now) (serial_order lists) in
+    let front : AppendsFront (contents c.loop-turn.writer) (contents c.print_run-2.new.writer) (out ++ lines_from hash s run) = rw c.deref-2.ensures.value at c.in_err-print_run-2.ensures.err in
+    on_err c.from_residual-in_err-print_run-2.result _ (last_cut hash (contents c.args.writer.now) (contents c.loop-turn.writer) (contents c.print_run-2.new.writer) out whole s run _ (turn_none run lists (t - turn) turn none) c.loop-turn.invariant.sends front)
+
+pub returns-clause-ok : goal.returns-clause-ok
+returns-clause-ok g c =
+    let hash = g.H.HashFunction.hash_of in
+    let contents = g.W.Sink.contents in
+    let a = contents c.args.writer.now in
+    let b = contents c.print_run-2.new.writer in
+    let d = contents c.print_report.new.writer in
+    let s : State = state_of c.loop-turn.core in
+    let after : State = state_of c.print_run-2.new.core in
+    let lists : List (List Request) = lists_of c.args.scripts.now in
+    let t : ℕ = longest (map with_close lists) in
+    let turn : ℕ = c.loop-turn.turn in
+    let none : t - turn ≡ 0 = omega (arith, c.turns_of-turn-end.ensures) in
+    let run : List Entry = c.loop-turn.entries.items in
+    let out = string_bytes c.loop-turn.out in
+    let ahead = string_bytes c.print_run-2.new.out in
+    let whole : List ℕ = printed_from hash (state_of c.args.core.now) (serial_order lists) in
+    let sent : Sends (contents c.loop-turn.writer) b ahead (out ++ lines_from hash s run) = rw c.deref-2.ensures.value at c.in_ok-print_run-2.ensures.sends in
+    let state : after ≡ state_after hash s run = rw c.deref-2.ensures.value at c.in_ok-print_run-2.ensures.state in
+    let sends : Sends a b (ahead ++ report_text after) whole = last_sent hash a (contents c.loop-turn.writer) b out ahead whole s after run _ (turn_none run lists (t - turn) turn none) state c.loop-turn.invariant.sends sent in
+    on_ok_map c.print_report.result _ _ (λ (h : Appends b d (ahead ++ report_text after)). sends_all a b d _ _ sends h) c.print_report.ensures.ok
+
+pub returns-clause-err : goal.returns-clause-err
+returns-clause-err g c =
+    let hash = g.H.HashFunction.hash_of in
+    let contents = g.W.Sink.contents in
+    let a = contents c.args.writer.now in
+    let b = contents c.print_run-2.new.writer in
+    let d = contents c.print_report.new.writer in
+    let s : State = state_of c.loop-turn.core in
+    let after : State = state_of c.print_run-2.new.core in
+    let lists : List (List Request) = lists_of c.args.scripts.now in
+    let t : ℕ = longest (map with_close lists) in
+    let turn : ℕ = c.loop-turn.turn in
+    let none : t - turn ≡ 0 = omega (arith, c.turns_of-turn-end.ensures) in
+    let run : List Entry = c.loop-turn.entries.items in
+    let out = string_bytes c.loop-turn.out in
+    let ahead = string_bytes c.print_run-2.new.out in
+    let whole : List ℕ = printed_from hash (state_of c.args.core.now) (serial_order lists) in
+    let sent : Sends (contents c.loop-turn.writer) b ahead (out ++ lines_from hash s run) = rw c.deref-2.ensures.value at c.in_ok-print_run-2.ensures.sends in
+    let state : after ≡ state_after hash s run = rw c.deref-2.ensures.value at c.in_ok-print_run-2.ensures.state in
+    let sends : Sends a b (ahead ++ report_text after) whole = last_sent hash a (contents c.loop-turn.writer) b out ahead whole s after run _ (turn_none run lists (t - turn) turn none) state c.loop-turn.invariant.sends sent in
+    on_err_map c.print_report.result _ _ (λ (h : AppendsFront b d (ahead ++ report_text after)). sends_front a b d _ _ sends h) c.print_report.ensures.err
