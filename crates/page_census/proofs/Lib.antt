@@ -7,3 +7,4 @@ pub mod Gathered
 pub mod Summed
 pub mod Transfer
 pub mod Totals
+pub mod Between

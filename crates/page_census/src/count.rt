@@ -1,7 +1,7 @@
 //! The census.
-ghost use Rattle.std.specs.Prelude.{◌≡◌, ◌≤◌, ◌<◌, ◌^◌, Err, IfOk, length};
+ghost use Rattle.std.specs.Prelude.{◌≡◌, ◌+◌, ◌≤◌, ◌<◌, ◌^◌, Err, IfOk, length};
 ghost use Rattle.page_census.specs.Contents.{AreSteady, contents};
-ghost use Rattle.page_census.specs.Numbers.{copies_table, numbers_of, total_numbers};
+ghost use Rattle.page_census.specs.Numbers.{copies_table, numbers_of, sum_alone, total_numbers};
 ghost use Rattle.page_census.specs.declared.fault.CensusFault.{CensusFault};
 
 use crate::classes::classes_of;
@@ -50,6 +50,7 @@ pub fn census<
     ensures guests { IfOk result (λ census. AreSteady S.is_steady guests.now → census.guests.items ≡ numbers_of S.pages guests.now) }
     ensures total { IfOk result (λ census. AreSteady S.is_steady guests.now → census.total ≡ total_numbers S.pages guests.now) }
     ensures copies { IfOk result (λ census. AreSteady S.is_steady guests.now → census.copies.items ≡ copies_table (contents S.pages guests.now)) }
+    ensures between { IfOk result (λ census. AreSteady S.is_steady guests.now → census.total.reclaimed ≡ census.total.between + sum_alone census.guests.items) }
 {
     let Some(count) = count_pages(guests) else {
         return Err(CensusFault::TooManyPages);

@@ -5,8 +5,10 @@ use Rattle.page_census.specs.Classes.{class_of}
 use Rattle.page_census.specs.Contents.{Content, contents}
 use Rattle.page_census.specs.Counted.{counted_guests, counted_table, counted_total}
 use Rattle.page_census.specs.Marks.{mark_at}
-use Rattle.page_census.specs.Numbers.{copies, distinct, numbers_of}
+use Rattle.page_census.specs.Numbers.{copies, distinct, numbers_of, sum_alone}
 use Rattle.page_census.specs.declared.numbers.GuestNumbers.{GuestNumbers}
+use Rattle.page_census.specs.declared.numbers.TotalNumbers.{TotalNumbers}
+use Rattle.page_census.proofs.Between.{alone_within}
 use Rattle.page_census.proofs.Summed.{sum_copies}
 use Rattle.page_census.proofs.Totals.{table_is, total_is}
 use Rattle.page_census.proofs.Transfer.{all_in, counted_are, tells}
@@ -83,3 +85,16 @@ returns-clause-copies g c =
     λ k lt. c.in_ok-tally.ensures.copies k (omega (arith, lt, size, c.len.ensures, c.in_ok-classes.ensures.len, c.deref.ensures.len, c.in_ok-marks.ensures.len)) ∙ ap (copies eqb k) (c.deref-2.ensures.value ∙ classes) in
     let len : length counts ≡ length all = omega (arith, size, c.in_ok-tally.ensures.len, c.len.ensures, c.in_ok-classes.ensures.len, c.deref.ensures.len, c.in_ok-marks.ensures.len, c.in_ok-tally.tally.copies.ok.0) in
     c.in_ok-copies.ensures ∙ ap counted_table c.deref-10.ensures.value ∙ table_is all counts len told
+
+pub returns-clause-between : goal.returns-clause-between
+returns-clause-between g c =
+    let pages = g.S.PageSource.pages in
+    let guests = c.args.guests.now in
+    let all : List Content = contents pages guests in
+    λ steady.
+    let numbers = ap sum_alone (returns-clause-guests g c steady) in
+    let total = returns-clause-total g c steady in
+    let reclaimed = ap (λ (t : TotalNumbers). t.reclaimed) total in
+    let between = ap (λ (t : TotalNumbers). t.between) total in
+    let within = alone_within pages all guests in
+    omega (arith, numbers, reclaimed, between, within)
