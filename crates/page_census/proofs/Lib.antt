@@ -4,4 +4,7 @@ pub mod Chained
 pub mod Noted
 pub mod Tallied
 pub mod Gathered
+pub mod Summed
 pub mod Transfer
+pub mod Totals
+pub mod Between

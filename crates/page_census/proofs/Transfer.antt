@@ -1,5 +1,5 @@
 -- What is counted of contents is what is counted of their classes and marks.
-use Rattle.std.proofs.Common.{◌≡◌, ℕ, ◌-◌, ◌++◌, ◌<◌, Bool, true, false, cond, max, List, [], ◌∷◌, length, map, get_or, eqb, ltb, refl, ap, sym, ◌∙◌, ⊎_elim, arith}
+use Rattle.std.proofs.Common.{◌≡◌, ℕ, ◌++◌, ◌<◌, Bool, true, false, cond, max, List, [], ◌∷◌, length, map, get_or, eqb, ltb, refl, ap, sym, ◌∙◌, ⊎_elim, arith}
 use Rattle.std.specs.Prelude.{count_by, All}
 use Rattle.std.specs.List.{list_any}
 use Rattle.std.specs.Str.{bytes_eq}
@@ -12,13 +12,12 @@ use Rattle.page_model.specs.Pages.{blank}
 use Rattle.page_census.specs.Classes.{TellApart, class_of}
 use Rattle.page_census.specs.Contents.{Content, content_at, contents, contents_of, is_same}
 use Rattle.page_census.specs.Counted.{counted_guests, counted_numbers}
-use Rattle.page_census.specs.declared.numbers.TotalNumbers.{TotalNumbers}
 use Rattle.page_census.specs.declared.source.Guest.{Guest}
 use Rattle.page_census.specs.Marks.{mark_at}
 use Rattle.page_census.specs.Numbers.{copies, distinct, guest_numbers, is_zero, shared}
 use Rattle.page_census.proofs.Chained.{is_itself, is_one}
 
-mark_zero : (z : Bool) (h : ℕ) → eqb (cond z 0 (max h 1)) 0 ≡ z
+pub mark_zero : (z : Bool) (h : ℕ) → eqb (cond z 0 (max h 1)) 0 ≡ z
 mark_zero true h = refl
 mark_zero false h = ne_eqb (max h 1) 0 (λ e. omega (arith, e))
 
@@ -29,7 +28,7 @@ zero_marked hash (c ∷ cs) =
     sum_by-cons (λ (m : ℕ). cond (eqb m 0) 1 0) (mark_at hash c) (map (mark_at hash) cs) ∙ rw (here, zero_marked hash cs) (sym (sum_by-cons (λ (x : Content). cond (is_zero x) 1 0) c cs))
 
 module _ (all : List Content) where
-  abbrev IsIn : Content → Type 0
+  abbrev pub IsIn : Content → Type 0
   IsIn c = class_of all c < length all
 
   -- two pages have one class exactly where their contents are one
@@ -117,15 +116,3 @@ module _ {S : Type 0} (pages : S → List (List ℕ)) (hash : ℕ → List ℕ �
         one_guest own first,
         counted_are guests later,
       ) refl
-
-  -- and so are those in total
-  pub total_is : (n zeros some frames : ℕ) → n ≡ length all → zeros ≡ count_by (λ mark. eqb mark 0) (map (mark_at hash) all) → some ≡ count_by (λ class. ltb 1 (get_or counts class 0)) (map (class_of all) all)
-      → frames ≡ distinct eqb (map (class_of all) all)
-      → let told : TotalNumbers = record { pages = n; zero = zeros; shared = some; frames = frames; reclaimed = n - frames } in
-      let meant : TotalNumbers = record { pages = length all; zero = count_by is_zero all; shared = shared is_same all all; frames = distinct is_same all; reclaimed = length all - distinct is_same all } in
-      told ≡ meant
-  total_is n zeros some frames en ez es ef =
-      let z : zeros ≡ count_by is_zero all = ez ∙ zero_marked hash all in
-      let s : some ≡ shared is_same all all = es ∙ sym (shared_same all counts told all (all_in all)) in
-      let f : frames ≡ distinct is_same all = ef ∙ sym (distinct_same all all (all_in all)) in
-      rw (en, z, s, f) refl

@@ -1,7 +1,9 @@
 -- The same numbers, by marks and classes in place of contents.
-use Rattle.std.specs.Prelude.{ℕ, ◌-◌, ◌==◌, nat_eq, nat_lt, List, [], ◌∷◌, length, take, drop, count_by, slice_index}
-use Rattle.page_census.specs.Numbers.{distinct}
+use Rattle.std.specs.Prelude.{ℕ, zero, suc, ◌+◌, ◌-◌, ◌==◌, ◌&&◌, nat_eq, nat_lt, Bool, if◌then◌else◌, List, [], ◌∷◌, length, map, take, drop, count_by, filter, slice_index, sum_by}
+use Rattle.page_census.specs.Numbers.{class_numbers, distinct, fewest, has_contents, is_between, most, sum_alone}
 use Rattle.page_census.specs.declared.numbers.GuestNumbers.{GuestNumbers}
+use Rattle.page_census.specs.declared.numbers.TotalNumbers.{TotalNumbers}
+use Rattle.page_census.specs.declared.table.CopiesClass.{CopiesClass}
 use Rattle.page_census.specs.declared.source.Guest.{Guest}
 
 -- the numbers of pages of these marks and classes, by how often each class occurs among all pages
@@ -20,3 +22,40 @@ counted_guests pages copies [] marks classes = []
 counted_guests pages copies (guest ∷ guests) marks classes =
     let n = length (pages guest.source) in
     counted_numbers copies (take n marks) (take n classes) ∷ counted_guests pages copies guests (drop n marks) (drop n classes)
+
+-- the sum of what f gives for the numbers below n
+abbrev pub sum_below : (ℕ → ℕ) → ℕ → ℕ
+sum_below f zero = 0
+sum_below f (suc n) = sum_below f n + f n
+
+-- how many numbers below n pass
+abbrev pub count_below : (ℕ → Bool) → ℕ → ℕ
+count_below p n = sum_below (λ k. if p k then 1 else 0) n
+
+-- the class occurs, and its first page has the mark of zeros
+abbrev pub is_zero_class : List ℕ → List ℕ → ℕ → Bool
+is_zero_class copies marks class = slice_index marks class == 0 && nat_lt 0 (slice_index copies class)
+
+-- the numbers in total, where so many classes occur
+abbrev pub counted_total : List ℕ → ℕ → List ℕ → List ℕ → List GuestNumbers → TotalNumbers
+counted_total copies frames marks classes numbers = record {
+  pages = length classes;
+  zero = count_by (λ mark. mark == 0) marks;
+  shared = count_by (λ class. nat_lt 1 (slice_index copies class)) classes;
+  frames = frames;
+  reclaimed = length classes - frames;
+  zero_reclaimed = count_by (λ mark. mark == 0) marks - count_below (is_zero_class copies marks) (length copies);
+  between = length classes - frames - sum_alone numbers;
+}
+
+-- the classes with at least `from` and at most `to` copies
+abbrev pub counted_class : List ℕ → ℕ → ℕ → CopiesClass
+counted_class copies from to = record {
+  from = from;
+  to = to;
+  contents = count_by (is_between from to) copies;
+  pages = sum_by (λ count. if is_between from to count then count else 0) copies;
+}
+
+abbrev pub counted_table : List ℕ → List CopiesClass
+counted_table copies = filter has_contents (map (λ number. counted_class copies (fewest number) (most number)) class_numbers)

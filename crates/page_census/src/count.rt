@@ -1,14 +1,15 @@
 //! The census.
-ghost use Rattle.std.specs.Prelude.{◌≡◌, ◌≤◌, ◌<◌, ◌^◌, Err, IfOk, length};
+ghost use Rattle.std.specs.Prelude.{◌≡◌, ◌+◌, ◌≤◌, ◌<◌, ◌^◌, Err, IfOk, length};
 ghost use Rattle.page_census.specs.Contents.{AreSteady, contents};
-ghost use Rattle.page_census.specs.Numbers.{numbers_of, total_numbers};
+ghost use Rattle.page_census.specs.Numbers.{copies_table, numbers_of, sum_alone, total_numbers};
 ghost use Rattle.page_census.specs.declared.fault.CensusFault.{CensusFault};
 
 use crate::classes::classes_of;
 use crate::marks::{count_pages, marks_of_all};
-use crate::numbers::numbers_of;
-use crate::tally::{count_copies, count_shared, count_zero};
-use crate::{CensusFault, Guest, GuestNumbers, PageSource, Progress, TotalNumbers};
+use crate::numbers::{numbers_of, total_of};
+use crate::table::copies_table;
+use crate::tally::count_copies;
+use crate::{CensusFault, CopiesClass, Guest, GuestNumbers, PageSource, Progress, TotalNumbers};
 use page_digest::PageHash;
 use std::alloc::Allocator;
 use std::thread::Threads;
@@ -20,6 +21,9 @@ pub struct CensusNumbers<A: Allocator> {
     pub guests: Vec<GuestNumbers, A>,
     /// The numbers in total.
     pub total: TotalNumbers,
+    /// How many contents have 1 copy, 2, 3 to 4, 5 to 8, and so on in powers of two: those of these classes that have
+    /// contents, rising.
+    pub copies: Vec<CopiesClass, A>,
 }
 
 /// Counts the pages of the guests, guest 0 first. Each source is read once in order, by so many workers, and pages that
@@ -45,6 +49,8 @@ pub fn census<
     ensures few { IfOk result (λ _. length (contents S.pages guests.now) < 2 ^ 32) }
     ensures guests { IfOk result (λ census. AreSteady S.is_steady guests.now → census.guests.items ≡ numbers_of S.pages guests.now) }
     ensures total { IfOk result (λ census. AreSteady S.is_steady guests.now → census.total ≡ total_numbers S.pages guests.now) }
+    ensures copies { IfOk result (λ census. AreSteady S.is_steady guests.now → census.copies.items ≡ copies_table (contents S.pages guests.now)) }
+    ensures between { IfOk result (λ census. AreSteady S.is_steady guests.now → census.total.reclaimed ≡ census.total.between + sum_alone census.guests.items) }
 {
     let Some(count) = count_pages(guests) else {
         return Err(CensusFault::TooManyPages);
@@ -53,15 +59,11 @@ pub fn census<
     let classes = classes_of(&alloc, guests, &marks)?;
     let tally = count_copies(alloc.clone()?, classes.len(), &classes)?;
     let numbers = numbers_of(&alloc, guests, &tally.copies, &marks, &classes)?;
-    let total = TotalNumbers {
-        pages: count,
-        zero: count_zero(&marks),
-        shared: count_shared(&tally.copies, &classes),
-        frames: tally.distinct,
-        reclaimed: count - tally.distinct,
-    };
+    let total = total_of(&tally.copies, tally.distinct, &marks, &classes, &numbers);
+    let copies = copies_table(alloc, &tally.copies)?;
     Ok(CensusNumbers {
         guests: numbers,
         total,
+        copies,
     })
 }

@@ -13,9 +13,11 @@ mod numbers;
 mod part;
 mod place;
 mod source;
+mod table;
 mod tally;
 
 pub use count::{CensusNumbers, census};
 pub use fault::CensusFault;
 pub use numbers::{GuestNumbers, TotalNumbers};
 pub use source::{Guest, PageSource, Progress};
+pub use table::CopiesClass;

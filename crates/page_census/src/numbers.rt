@@ -1,9 +1,10 @@
 //! The numbers of a census.
-ghost use Rattle.std.specs.Prelude.{◌≡◌, ◌<◌, ◌^◌, All, IfOk, length};
+ghost use Rattle.std.specs.Prelude.{◌≡◌, ◌-◌, ◌<◌, ◌≤◌, ◌^◌, All, IfOk, length};
 ghost use Rattle.page_census.specs.Contents.{contents};
-ghost use Rattle.page_census.specs.Counted.{counted_guests, counted_numbers};
+ghost use Rattle.page_census.specs.Counted.{counted_guests, counted_numbers, counted_total};
+ghost use Rattle.page_census.specs.Numbers.{sum_alone};
 
-use crate::tally::{count_copies, count_shared, count_zero};
+use crate::tally::{count_copies, count_shared, count_zero, count_zero_classes};
 use crate::{Guest, PageSource};
 use std::alloc::{AllocError, Allocator};
 
@@ -35,6 +36,10 @@ pub struct TotalNumbers {
     pub frames: u32,
     /// The pages that sharing would reclaim: pages less frames.
     pub reclaimed: u32,
+    /// What is zeros of the pages to reclaim: pages of zeros less the different salts of these.
+    pub zero_reclaimed: u32,
+    /// The pages that only sharing between guests reclaims: pages to reclaim less what the guests reclaim alone.
+    pub between: u32,
 }
 
 /// The numbers of pages by their marks and classes, where `copies` tells how often each class occurs among all pages.
@@ -88,4 +93,45 @@ pub(crate) fn numbers_of<S: PageSource, A: Allocator + Clone>(
         start = end;
     }
     Ok(numbers)
+}
+
+/// The pages to reclaim less what each guest reclaims alone.
+fn less_alone(reclaimed: u32, numbers: &[GuestNumbers]) -> u32
+    ensures { result ≡ reclaimed - sum_alone numbers.now }
+{
+    let mut left = reclaimed;
+    for guest in numbers {
+        left = left.saturating_sub(guest.alone);
+    }
+    left
+}
+
+/// The numbers in total, by the marks and classes of all pages and the numbers of each guest, where `copies` tells how
+/// often each class occurs and `frames` how many occur.
+pub(crate) fn total_of(
+    copies: &[u32],
+    frames: u32,
+    marks: &[u64],
+    classes: &[u32],
+    numbers: &[GuestNumbers],
+) -> TotalNumbers
+    requires below { All (λ class. class < length copies.now) classes.now }
+    requires few { length classes.now < 2 ^ 32 }
+    requires marks { length marks.now ≡ length classes.now }
+    requires copies { length copies.now ≡ length classes.now }
+    requires frames { frames ≤ length classes.now }
+    ensures { result ≡ counted_total copies.now frames marks.now classes.now numbers.now }
+{
+    let pages = classes.len() as u32;
+    let zero = count_zero(marks);
+    let reclaimed = pages - frames;
+    TotalNumbers {
+        pages,
+        zero,
+        shared: count_shared(copies, classes),
+        frames,
+        reclaimed,
+        zero_reclaimed: zero.saturating_sub(count_zero_classes(copies, marks)),
+        between: less_alone(reclaimed, numbers),
+    }
 }

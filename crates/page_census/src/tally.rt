@@ -1,6 +1,7 @@
 //! How often each class occurs.
 ghost use Rattle.std.specs.Prelude.{◌≡◌, ◌<◌, ◌≤◌, ◌^◌, ◌==◌, ℕ, nat_eq, nat_lt, All, IfOk, length, vec_len, count_by, slice_index};
 ghost use Rattle.page_census.specs.Numbers.{copies, distinct};
+ghost use Rattle.page_census.specs.Counted.{count_below, is_zero_class};
 
 use std::alloc::{AllocError, Allocator};
 
@@ -60,4 +61,26 @@ pub(crate) fn count_zero(marks: &[u64]) -> u32
     ensures { result ≡ count_by (λ mark. mark == 0) marks.now }
 {
     marks.iter().filter(|mark| **mark == 0).count() as u32
+}
+
+fn is_zero_class(copies: &[u32], marks: &[u64], class: usize) -> bool
+    requires { (class < length copies.now) × (class < length marks.now) }
+    ensures { result ≡ is_zero_class copies.now marks.now class }
+{
+    marks[class] == 0 && copies[class] > 0
+}
+
+/// How many classes that occur are those of pages of zeros. The mark of a class is that of its first page.
+pub(crate) fn count_zero_classes(copies: &[u32], marks: &[u64]) -> u32
+    requires few { length copies.now < 2 ^ 32 }
+    requires same { length marks.now ≡ length copies.now }
+    ensures { result ≡ count_below (is_zero_class copies.now marks.now) (length copies.now) }
+{
+    let mut count = 0;
+    for class in 0..copies.len() {
+        if is_zero_class(copies, marks, class) {
+            count += 1;
+        }
+    }
+    count
 }

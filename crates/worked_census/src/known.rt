@@ -2,7 +2,7 @@
 ghost use Rattle.std.specs.Prelude.{◌≤◌};
 
 use crate::pages::{Memory, Quiet, ZeroHash, guest_of};
-use page_census::{CensusFault, Guest, GuestNumbers, TotalNumbers, census};
+use page_census::{CensusFault, CopiesClass, Guest, GuestNumbers, TotalNumbers, census};
 use page_digest::{FirstByteHash, PageHash, Sha256Hash};
 use refusing::Refusing;
 use std::alloc::Global;
@@ -40,7 +40,30 @@ const TOTAL: TotalNumbers = TotalNumbers {
     shared: 9,
     frames: 7,
     reclaimed: 5,
+    zero_reclaimed: 2,
+    between: 2,
 };
+
+const COPIES: [CopiesClass; 3] = [
+    CopiesClass {
+        from: 1,
+        to: 1,
+        contents: 3,
+        pages: 3,
+    },
+    CopiesClass {
+        from: 2,
+        to: 2,
+        contents: 3,
+        pages: 6,
+    },
+    CopiesClass {
+        from: 3,
+        to: 4,
+        contents: 1,
+        pages: 3,
+    },
+];
 
 // More than a census takes.
 const MOST_REQUESTS: u64 = 100;
@@ -67,6 +90,7 @@ fn counts<R: Threads + Abort + Sync, H: PageHash>(
     let told = census(rt, alloc, workers, hash, &guests, &Quiet).map_err(|_| "fault")?;
     assert_eq!(rt; told.guests.as_slice(), GUESTS.as_slice());
     assert_eq!(rt; told.total, TOTAL);
+    assert_eq!(rt; told.copies.as_slice(), COPIES.as_slice());
     Ok(())
 }
 

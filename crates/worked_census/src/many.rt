@@ -1,6 +1,6 @@
 //! More pages than are read at once, in parts by several workers, and none.
 use crate::pages::{Memory, Quiet, guest_of};
-use page_census::{Guest, GuestNumbers, TotalNumbers, census};
+use page_census::{CopiesClass, Guest, GuestNumbers, TotalNumbers, census};
 use page_digest::Sha256Hash;
 use std::test::Fail;
 
@@ -19,6 +19,15 @@ const BOTH: TotalNumbers = TotalNumbers {
     shared: 400,
     frames: 100,
     reclaimed: 300,
+    zero_reclaimed: 0,
+    between: 0,
+};
+
+const FOUR_TIMES: CopiesClass = CopiesClass {
+    from: 3,
+    to: 4,
+    contents: 100,
+    pages: 400,
 };
 
 const NONE: TotalNumbers = TotalNumbers {
@@ -27,6 +36,8 @@ const NONE: TotalNumbers = TotalNumbers {
     shared: 0,
     frames: 0,
     reclaimed: 0,
+    zero_reclaimed: 0,
+    between: 0,
 };
 
 // The same pages under two salts are different contents.
@@ -49,6 +60,11 @@ fn in_parts(rt: HostRuntime) -> Result<(), Fail> {
             "by {workers}"
         );
         assert_eq!(rt; told.total, BOTH, "by {workers}");
+        assert_eq!(rt;
+            told.copies.as_slice(),
+            [FOUR_TIMES].as_slice(),
+            "by {workers}"
+        );
     }
     Ok(())
 }
@@ -59,5 +75,6 @@ fn none(rt: HostRuntime) -> Result<(), Fail> {
     let told = census(&rt, rt.alloc(), 4, &Sha256Hash, &guests, &Quiet).map_err(|_| "fault")?;
     assert_eq!(rt; told.guests.len(), 0);
     assert_eq!(rt; told.total, NONE);
+    assert_eq!(rt; told.copies.len(), 0);
     Ok(())
 }
