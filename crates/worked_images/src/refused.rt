@@ -59,6 +59,7 @@ fn unreadable_pages(rt: HostRuntime) -> Result<(), Fail> {
     let mut file = core_file(rt.alloc(), 1000, &[load(400, 20), load(500, 20)])?;
     file.readable = 519;
     let image = Image::open(rt.alloc(), file).map_err(|_| "fault")?;
+    assert_eq!(rt; image.count(), 2);
     let mut pages = [[0; PAGE_BYTES]; 2];
     assert!(rt; image.read(0, &mut pages).is_err());
     assert!(rt; image.read(0, &mut pages[..1]).is_ok());
