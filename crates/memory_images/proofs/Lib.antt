@@ -1,0 +1,3 @@
+mod Cut
+mod Walked
+mod Loaded

@@ -1,0 +1,5 @@
+pub mod Words
+pub mod Pages
+pub mod Headers
+pub mod Images
+pub mod Told

@@ -1,0 +1,106 @@
+//! Images of files.
+ghost use Rattle.std.specs.Prelude.{◌≡◌, ◌<◌, ◌≤◌, ◌^◌, IfOk, IfErr, OnOk, Some, None, length};
+ghost use Rattle.memory_images.specs.Images as said;
+ghost use Rattle.memory_images.specs.Pages.{AreWithin, count_of};
+ghost use Rattle.memory_images.specs.Told.{Tells, HasNoForm};
+
+use crate::elf::{core_segments, read_part};
+use crate::pages::page_count;
+use crate::{FormFault, Image, ImageFault, ReadAt, Segment};
+use std::alloc::{AllocError, Allocator};
+
+/// What an ELF file begins with.
+const MAGIC: [u8; 4] = [0x7f, 0x45, 0x4c, 0x46];
+
+impl<R: ReadAt + Drop, A: Allocator> Image<R, A> {
+    /// The image of a raw file, whatever it begins with: page n is its bytes 4096n to 4096n + 4095.
+    pub fn raw(alloc: A, reader: R) -> Result<Image<R, A>, ImageFault<R::Fault>>
+        ensures told { Tells (λ image. image.segments.items) result (said.raw_of (R.bytes reader)) }
+        ensures reader { IfOk result (λ image. image.reader ≡ reader) }
+    {
+        let segments = whole_file(alloc, reader.len())?;
+        image_with(reader, segments)
+    }
+
+    /// The image of a file: an ELF core where it begins as an ELF file, and else a raw file.
+    pub fn open(alloc: A, reader: R) -> Result<Image<R, A>, ImageFault<R::Fault>>
+        ensures told { R.is_steady reader → Tells (λ image. image.segments.items) result (said.image_of (R.bytes reader)) }
+        ensures reader { IfOk result (λ image. image.reader ≡ reader) }
+    {
+        let segments = file_segments(alloc, &reader)?;
+        image_with(reader, segments)
+    }
+}
+
+/// The segments of a file.
+fn file_segments<R: ReadAt, A: Allocator>(
+    alloc: A,
+    reader: &R,
+) -> Result<Vec<Segment, A>, ImageFault<R::Fault>>
+    ensures told { R.is_steady reader.now → Tells (λ segments. segments.items) result (said.file_segments (R.bytes reader.now)) }
+    ensures within { IfOk result (λ segments. AreWithin (length (R.bytes reader.now)) segments.items) }
+    ensures fits { length (R.bytes reader.now) < 2 ^ 64 }
+{
+    let size = reader.len();
+    if is_elf(reader)? {
+        return core_segments(alloc, reader);
+    }
+    Ok(whole_file(alloc, size)?)
+}
+
+/// Whether a file begins as an ELF file.
+#[tactic(auto, unfolding(crate::specs::Images::is_elf))]
+fn is_elf<R: ReadAt>(reader: &R) -> Result<bool, ImageFault<R::Fault>>
+    ensures fault { IfErr result (λ fault. HasNoForm fault) }
+    ensures told { IfOk result (λ yes. R.is_steady reader.now → yes ≡ said.is_elf (R.bytes reader.now)) }
+{
+    if reader.len() < MAGIC.len() as u64 {
+        return Ok(false);
+    }
+    let mut bytes = [0; 4];
+    read_part(reader, 0, &mut bytes)?;
+    Ok(bytes == MAGIC)
+}
+
+/// All bytes of a file as one segment.
+fn whole_file<A: Allocator>(alloc: A, len: u64) -> Result<Vec<Segment, A>, AllocError>
+    ensures { IfOk result (λ segments. segments.items ≡ said.whole_file len) }
+{
+    let mut segments = Vec::new(alloc);
+    segments.push(Segment { offset: 0, len })?;
+    Ok(segments)
+}
+
+/// The image of these segments, where they aren't too many pages.
+fn image_with<R: ReadAt + Drop, A: Allocator>(
+    reader: R,
+    segments: Vec<Segment, A>,
+) -> Result<Image<R, A>, ImageFault<R::Fault>>
+    requires within { AreWithin (length (R.bytes reader)) segments.items }
+    requires fits { length (R.bytes reader) < 2 ^ 64 }
+    ensures told { Tells (λ image. image.segments.items) result (said.few segments.items) }
+    ensures reader { IfOk result (λ image. image.reader ≡ reader) }
+{
+    match count_pages(&segments) {
+        Some(count) => Ok(Image {
+            reader,
+            segments,
+            count,
+        }),
+        None => Err(ImageFault::Form(FormFault::TooManyPages)),
+    }
+}
+
+/// How many pages segments hold; `None` where more than 4,294,967,295.
+fn count_pages(segments: &[Segment]) -> Option<u32>
+    ensures { result ≡ said.counted (count_of segments.now) }
+{
+    let mut count: u64 = 0;
+    for segment in segments {
+        count += page_count(segment.len);
+        if count > u64::from(u32::MAX) {
+            return None;
+        }
+    }
+    Some(count as u32)
+}

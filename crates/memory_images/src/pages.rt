@@ -1,0 +1,62 @@
+//! The pages of a segment.
+ghost use Rattle.std.specs.Prelude.{◌≡◌, ◌+◌, ◌<◌, ◌≤◌, ◌^◌, OnOk, length, take, drop};
+ghost use Rattle.memory_images.specs.Pages.{page_count, page_of, segment_pages};
+ghost use Rattle.memory_images.specs.Words.{part};
+
+use crate::{ReadAt, Segment};
+use page_model::{PAGE_BYTES, Page};
+
+/// How many pages so many bytes are.
+#[tactic(auto, unfolding(crate::specs::Pages::page_count))]
+pub(crate) fn page_count(len: u64) -> u64
+    ensures value { result ≡ page_count len }
+    ensures fits { result < 2 ^ 53 }
+{
+    let whole = len / PAGE_BYTES as u64;
+    if len % PAGE_BYTES as u64 == 0 {
+        whole
+    } else {
+        whole + 1
+    }
+}
+
+/// Reads page `n` of a segment.
+#[tactic(auto, unfolding(crate::specs::Pages::page_count))]
+pub(crate) fn read_page<R: ReadAt>(
+    reader: &R,
+    segment: Segment,
+    n: u32,
+    into: &mut Page,
+) -> Result<(), R::Fault>
+    requires within { segment.offset + segment.len ≤ length (R.bytes reader.now) }
+    requires size { length (R.bytes reader.now) < 2 ^ 64 }
+    requires page { n < page_count segment.len }
+    ensures { OnOk result (R.is_steady reader.now → into.new ≡ page_of (part (R.bytes reader.now) segment.offset segment.len) n) }
+{
+    let start = u64::from(n) * PAGE_BYTES as u64;
+    let len = (segment.len - start).min(PAGE_BYTES as u64) as usize;
+    if len < PAGE_BYTES {
+        *into = [0; PAGE_BYTES];
+    }
+    reader.read_at(segment.offset + start, &mut into[..len])?;
+    Ok(())
+}
+
+/// Reads as many pages of a segment as the list has, from page `first` on.
+pub(crate) fn read_run<R: ReadAt>(
+    reader: &R,
+    segment: Segment,
+    first: u32,
+    into: &mut [Page],
+) -> Result<(), R::Fault>
+    requires within { segment.offset + segment.len ≤ length (R.bytes reader.now) }
+    requires size { length (R.bytes reader.now) < 2 ^ 64 }
+    requires pages { first + length into.old ≤ page_count segment.len }
+    requires fits { first + length into.old < 4294967296 }
+    ensures { OnOk result (R.is_steady reader.now → into.new ≡ take (length into.old) (drop first (segment_pages (R.bytes reader.now) segment))) }
+{
+    for i in 0..into.len() {
+        read_page(reader, segment, first + i as u32, &mut into[i])?;
+    }
+    Ok(())
+}
