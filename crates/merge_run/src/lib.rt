@@ -13,6 +13,7 @@ mod finished;
 mod gate;
 mod guest_thread;
 mod inbox;
+mod patience;
 mod rounds;
 mod run_fault;
 mod task;
