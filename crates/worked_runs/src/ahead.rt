@@ -108,14 +108,24 @@ fn script() -> [Ask; REQUESTS] {
     asks
 }
 
-fn check_whole<H: PageHash, A: Allocator>(rt: &impl Abort, finished: &Finished<H, A>) {
-    let mut verdicts = [Verdict::Closed; REQUESTS + 1];
-    for n in 0..PAGES {
-        verdicts[n] = Verdict::Mapped;
-        verdicts[PAGES + n] = Verdict::Hinted;
+/// The verdict of request number `nth`.
+fn due(nth: usize) -> Verdict {
+    if nth < PAGES {
+        Verdict::Mapped
+    } else if nth < REQUESTS {
+        Verdict::Hinted
+    } else {
+        Verdict::Closed
     }
+}
+
+fn check_whole<H: PageHash, A: Allocator>(rt: &impl Abort, finished: &Finished<H, A>) {
+    let verdicts = got(finished, 0);
     assert_eq!(rt; finished.verdicts.len(), 1);
-    assert_eq!(rt; got(finished, 0), verdicts.as_slice());
+    assert_eq!(rt; verdicts.len(), REQUESTS + 1);
+    for nth in 0..verdicts.len() {
+        assert!(rt; verdicts[nth] == due(nth), "verdict {nth}");
+    }
     assert_eq!(rt; numbers(&finished.settled.report()), [83, 41, 0, 41, 0, 41]);
 }
 
