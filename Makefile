@@ -19,9 +19,9 @@ demo:
 	@echo 'This build is for a first look and is not the proved one: make build makes that.'
 	@cd crates/pageshare && rt try -- replay < ../../examples/three-share.journal
 
-# Outside the gate: where the system refuses to start a thread, a run, a script and a hashing of many pages answer so and end.
-no-thread: out/run_bench out/hash_bench out/pageshare
-	checks/no_thread.sh out
+# Outside the gate: where the system refuses to start a guest's thread, a run answers so and ends.
+no-thread: out/run_bench
+	checks/no_thread.sh out/run_bench
 
 out/%_bench: $(SOURCES)
 	cd crates/$*_bench && rt run > /dev/null
