@@ -7,12 +7,15 @@ ghost use Rattle.merge_run.specs.Tasks.{IsReady, IsDone};
 
 use crate::gate::Gate;
 use crate::inbox::Inbox;
+use crate::patience::Patience;
 use crate::task::{DoneTask, Task};
 use page_model::Request;
 use share_rings::{ClosedPort, Port};
 use std::alloc::Allocator;
 use std::sync::Wait;
-use std::thread;
+
+/// How long a guest sleeps where it waited in vain, in microseconds: about as long as the merger takes for a round.
+const NAP: u64 = 100;
 
 /// Sends the script and then a close, and takes the verdicts up to `Closed`.
 pub(crate) fn do_task<R: Wait, A: Allocator, G: Gate>(
@@ -34,6 +37,7 @@ pub(crate) fn do_task<R: Wait, A: Allocator, G: Gate>(
         guest,
         most: script.len() + 1,
         verdicts,
+        patience: Patience::new(NAP),
     };
     let mut nth = 0;
     for request in script {
@@ -50,7 +54,7 @@ pub(crate) fn do_task<R: Wait, A: Allocator, G: Gate>(
     }
 }
 
-/// Sends a request. While the ring is full, it takes verdicts, or yields where none is seen.
+/// Sends a request. While the ring is full, it takes verdicts, or waits where none is seen.
 fn send<R: Wait, A: Allocator, G: Gate>(
     rt: &R,
     port: &mut Port<A>,
@@ -71,7 +75,7 @@ fn send<R: Wait, A: Allocator, G: Gate>(
             Err((back, _)) => request = back,
         }
         if !collect(port, inbox) {
-            thread::yield_now();
+            inbox.patience.wait(rt);
         }
     }
     unreachable!()
@@ -96,13 +100,13 @@ fn close<R: Wait, A: Allocator, G: Gate>(
             Err(back) => port = back,
         }
         if !collect(&mut port, inbox) {
-            thread::yield_now();
+            inbox.patience.wait(rt);
         }
     }
     unreachable!()
 }
 
-/// Takes the verdicts up to `Closed`, and yields where none is seen.
+/// Takes the verdicts up to `Closed`, and waits where none is seen.
 fn drain<R: Wait, A: Allocator, G: Gate>(
     rt: &R,
     port: &mut ClosedPort<A>,
@@ -120,7 +124,7 @@ fn drain<R: Wait, A: Allocator, G: Gate>(
             return;
         }
         if !collect_closed(port, inbox) {
-            thread::yield_now();
+            inbox.patience.wait(rt);
         }
     }
     unreachable!()

@@ -2,8 +2,12 @@
 ghost use Rattle.std.specs.Prelude.{◌≤◌, vec_capacity};
 
 use crate::gate::Gate;
+use crate::patience::Patience;
 use page_model::Verdict;
 use std::alloc::Allocator;
+
+/// How many looks in vain a verdict makes up for.
+const LOOKS_A_VERDICT: u32 = 32;
 
 /// Where a guest's verdicts go as they come.
 ///
@@ -14,6 +18,7 @@ pub(crate) struct Inbox<'g, A: Allocator, G: Gate> {
     pub(crate) guest: u8,
     pub(crate) most: usize,
     pub(crate) verdicts: Vec<Verdict, A>,
+    pub(crate) patience: Patience,
     ghost room: { most ≤ vec_capacity verdicts },
     // As many as a journal holds at most, so that they can be numbered.
     ghost few: { most ≤ 16777216 },
@@ -36,6 +41,7 @@ impl<'g, A: Allocator, G: Gate> Inbox<'g, A, G> {
     {
         let nth = self.verdicts.len() as u32;
         self.verdicts.push_reserved(verdict);
+        self.patience.regain(LOOKS_A_VERDICT);
         self.gate.after(self.guest, nth);
     }
 }

@@ -2,21 +2,23 @@
 //! the calling thread.
 //!
 //! This crate gives the whole surface of machines with threads, so that a user names it alone: [`Machine::new`] makes a
-//! [`Merger`] and one port for each guest (`merge_machine`). Each [`Merger::step`] serves one request of one guest. Once
-//! every guest has closed its port and got its `Closed`, [`settle`] takes the merger and all ports together
-//! (`merge_settle`): each guest has then got one verdict for each request that it sent, and they are those of one thread
-//! that replays the journal. [`run`] does all of this.
+//! [`Merger`] and one port for each guest (`merge_machine`). Each [`Merger::step`] serves one request of one guest, and
+//! each [`Merger::round`] what waits of all guests, as far as its limit goes. Once every guest has closed its port and got
+//! its `Closed`, [`settle`] takes the merger and all ports together (`merge_settle`): each guest has then got one verdict
+//! for each request that it sent, and they are those of one thread that replays the journal. [`run`] does all of this, and
+//! serves by rounds.
 #![tactic(auto)]
 
 mod finished;
 mod gate;
 mod guest_thread;
 mod inbox;
+mod patience;
+mod rounds;
 mod run_fault;
 mod task;
 mod task_list;
 mod threads;
-mod turn;
 mod whole_run;
 
 pub use finished::Finished;

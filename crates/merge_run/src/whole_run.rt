@@ -19,11 +19,11 @@ ghost use Rattle.merge_run.specs.declared.run_fault.RunFault.TheVariants.{OutOfM
 
 use crate::finished::Finished;
 use crate::gate::Gate;
+use crate::rounds::serve_all;
 use crate::run_fault::RunFault;
 use crate::task::{DoneTask, Handles, Task};
 use crate::task_list::{has_room, into_lists, new_tasks};
 use crate::threads::{join_all, start_all};
-use crate::turn::serve_all;
 use merge_machine::{Config, JournalFull, Machine, Merger};
 use merge_settle::settle;
 use page_digest::PageHash;
@@ -52,7 +52,7 @@ use std::thread::{Scope, Threads};
 pub fn run<
     R: Threads + Wait + Sync,
     H: PageHash + Drop,
-    A: Allocator + Copy + Send,
+    A: Allocator + Copy + Send + Sync,
     G: Gate + Sync,
 >(
     rt: &R,
@@ -85,7 +85,7 @@ pub fn run<
 fn run_tasks<
     R: Threads + Wait + Sync,
     H: PageHash + Drop,
-    A: Allocator + Copy + Send,
+    A: Allocator + Copy + Send + Sync,
     G: Gate + Sync,
 >(
     rt: &R,
@@ -108,7 +108,7 @@ fn run_tasks<
     let done = Vec::with_capacity(alloc, guests)?;
     let ports = Vec::with_capacity(alloc, guests)?;
     let verdicts = Vec::with_capacity(alloc, guests)?;
-    let (merger, done) = run_threads(rt, gate, merger, tasks, handles, done);
+    let (merger, done) = run_threads(rt, &alloc, gate, merger, tasks, handles, done);
     if done.len() < guests {
         return Err(RunFault::NoThread);
     }
@@ -140,8 +140,14 @@ fn finish<H: PageHash, A: Allocator>(
 }
 
 /// Starts the guests' threads, serves those that could be started to their end, and joins them. The others are dropped.
-fn run_threads<R: Threads + Wait + Sync, H: PageHash + Drop, A: Allocator + Send, G: Gate + Sync>(
+fn run_threads<
+    R: Threads + Wait + Sync,
+    H: PageHash + Drop,
+    A: Allocator + Send + Sync,
+    G: Gate + Sync,
+>(
     rt: &R,
+    alloc: &A,
     gate: &G,
     merger: Merger<H, A>,
     tasks: Vec<Task<A>, A>,
@@ -157,7 +163,7 @@ fn run_threads<R: Threads + Wait + Sync, H: PageHash + Drop, A: Allocator + Send
         |scope| -> (Merger<H, A>, Vec<DoneTask<A>, A>)
             requires { CanRun tasks.items merger handles done }
             ensures { HasRun tasks.items merger result.0 result.1.items }
-        { run_in(scope, rt, gate, merger, tasks, handles, done) },
+        { run_in(scope, rt, alloc, gate, merger, tasks, handles, done) },
     )
 }
 
@@ -167,11 +173,12 @@ fn run_in<
     E,
     R: Threads + Wait + Sync,
     H: PageHash + Drop,
-    A: Allocator + Send + 's,
+    A: Allocator + Send + Sync + 's,
     G: Gate + Sync,
 >(
     scope: &Scope<'s, E>,
     rt: &'s R,
+    alloc: &'s A,
     gate: &'s G,
     mut merger: Merger<H, A>,
     tasks: Vec<Task<A>, A>,
@@ -182,7 +189,7 @@ fn run_in<
     ensures { HasRun tasks.items merger result.0 result.1.items }
 {
     start_all(scope, rt, gate, tasks, &mut handles);
-    serve_all(rt, &mut merger, handles.len() as u8);
+    serve_all(rt, alloc, &mut merger, handles.len() as u8);
     join_all(rt, handles, &mut done);
     (merger, done)
 }

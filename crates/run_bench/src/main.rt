@@ -1,7 +1,9 @@
 //! Times whole runs, one thread for each guest, beside the same scripts through a core on one thread.
 //!
-//! With a number of requests for each guest as its argument it prints how many requests a second were served, for 1, 2, 4
-//! and 8 guests over rings of 64 items; with none it runs a few, and prints how many verdicts came.
+//! With a number of requests for each guest as its argument it prints how many requests a second were served, for 1, 2, 4,
+//! 8 and 64 guests over rings of 64 items; with none it runs a few, and prints how many verdicts came.
+//!
+//! Scripts are made before the clock is started. Both times hold the making of the machine.
 #![tactic(auto)]
 
 ghost use Rattle.std.specs.Prelude.{◌≡◌, ◌+◌, ◌*◌, ◌≤◌, false, All, length, IfOk};
@@ -13,6 +15,7 @@ use merge_run::{Config, OpenGate, RunFault, run};
 use page_digest::Sha256Hash;
 use page_model::Request;
 use std::alloc::{AllocError, Global};
+use std::rt::Clock;
 use std::sync::Wait;
 use std::thread::Threads;
 use std::time::Instant;
@@ -25,7 +28,7 @@ const RING: u32 = 64;
 
 const CHECKED: u32 = 100;
 
-const MOST: u32 = 1_000_000;
+const MOST: u32 = 100_000;
 
 // Request number n of each guest: page after page is stored to, read and proposed, a request in 16 being a proposal, since
 // a page's hash costs far more than all else. Every fourth page holds the same.
@@ -63,7 +66,7 @@ fn scripts(alloc: Global, guests: u8, requests: u32) -> Result<Vec<Vec<Request>>
 }
 
 fn config(alloc: Global, guests: u8, requests: u32) -> Result<Config, AllocError>
-    requires { requests ≤ 1000000 }
+    requires { (guests ≤ 64) × (requests ≤ 100000) }
     ensures { IfOk result (λ config. length config.pages.items ≡ guests) }
 {
     Ok(Config {
@@ -71,28 +74,42 @@ fn config(alloc: Global, guests: u8, requests: u32) -> Result<Config, AllocError
         pages: vec![in alloc; PAGES; guests as usize]?,
         salts: vec![in alloc; 0u32; guests as usize]?,
         ring: RING,
-        // Room for the most guests that are timed.
-        journal: 8 * (requests + 1),
+        journal: u32::from(guests) * (requests + 1),
     })
 }
 
-// How many verdicts the guests' threads got.
-fn in_threads<R: Threads + Wait + Sync>(
+// How many verdicts came, and how long that took.
+#[derive(Clone, Copy)]
+struct Measure {
+    verdicts: u64,
+    nanoseconds: u128,
+}
+
+// A run in threads, or why there was none.
+fn in_threads<R: Clock + Threads + Wait + Sync>(
     rt: &R,
     alloc: Global,
     guests: u8,
     requests: u32,
-) -> Result<u64, RunFault>
-    requires { requests ≤ 1000000 }
+) -> io::Result<Result<Measure, RunFault>>
+    requires { (guests ≤ 64) × (requests ≤ 100000) }
 {
     let config = config(alloc, guests, requests)?;
     let scripts = scripts(alloc, guests, requests)?;
-    let finished = run(rt, alloc, &config, Sha256Hash, scripts, &OpenGate)?;
+    let start = Instant::now(rt)?;
+    let finished = match run(rt, alloc, &config, Sha256Hash, scripts, &OpenGate) {
+        Ok(finished) => finished,
+        Err(fault) => return Ok(Err(fault)),
+    };
+    let nanoseconds = start.elapsed(rt)?.as_nanos();
     let mut verdicts = 0u64;
     for got in &finished.verdicts {
         verdicts = verdicts.wrapping_add(got.len() as u64);
     }
-    Ok(verdicts)
+    Ok(Ok(Measure {
+        verdicts,
+        nanoseconds,
+    }))
 }
 
 // The same request of each guest in turn.
@@ -107,29 +124,42 @@ fn turn(core: &mut Core<Sha256Hash>, guests: u8, request: &Request)
     }
 }
 
-// How many verdicts the core gave, on one thread.
-fn on_one_thread(alloc: Global, guests: u8, requests: u32) -> Result<u64, CoreFault>
-    requires { (requests ≤ 1000000) × (guests ≤ 8) }
+// The same requests through a core on one thread, or why there was none.
+fn on_one_thread<R: Clock>(
+    rt: &R,
+    alloc: Global,
+    guests: u8,
+    requests: u32,
+) -> io::Result<Result<Measure, CoreFault>>
+    requires { (guests ≤ 64) × (requests ≤ 100000) }
 {
-    let Ok(config) = config(alloc, guests, requests) else {
-        return Err(CoreFault::OutOfMemory);
-    };
-    let mut core = Core::new(
+    let config = config(alloc, guests, requests)?;
+    let start = Instant::now(rt)?;
+    let made = Core::new(
         alloc,
         config.frames,
         &config.pages,
         &config.salts,
         Sha256Hash,
-    )?;
+    );
+    let mut core = match made {
+        Ok(core) => core,
+        Err(fault) => return Ok(Err(fault)),
+    };
     for n in 0..requests {
         turn(&mut core, guests, &request(n));
     }
     turn(&mut core, guests, &Request::Close);
-    Ok(u64::from(core.entries()))
+    let nanoseconds = start.elapsed(rt)?.as_nanos();
+    Ok(Ok(Measure {
+        verdicts: u64::from(core.entries()),
+        nanoseconds,
+    }))
 }
 
-fn rate(requests: u64, nanoseconds: u128) -> u128 {
-    u128::from(requests) * 1_000_000_000 / nanoseconds.max(1)
+// How many verdicts came in a second.
+fn rate(measure: Measure) -> u128 {
+    u128::from(measure.verdicts) * 1_000_000_000 / measure.nanoseconds.max(1)
 }
 
 fn main(rt: HostRuntime) -> io::Result<()> {
@@ -138,24 +168,24 @@ fn main(rt: HostRuntime) -> io::Result<()> {
         None => None,
     };
     let requests = asked.unwrap_or(CHECKED).min(MOST);
-    for guests in [1u8, 2, 4, 8] {
-        let start = Instant::now(&rt)?;
-        let threaded = match in_threads(&rt, rt.alloc(), guests, requests) {
-            Ok(verdicts) => verdicts,
+    for guests in [1u8, 2, 4, 8, 64] {
+        let threaded = match in_threads(&rt, rt.alloc(), guests, requests)? {
+            Ok(threaded) => threaded,
             Err(fault) => return println!(rt; "{guests} guests: {fault}"),
         };
-        let threaded_time = start.elapsed(&rt)?;
-        let start = Instant::now(&rt)?;
-        let Ok(plain) = on_one_thread(rt.alloc(), guests, requests) else {
-            return println!(rt; "no core");
+        let plain = match on_one_thread(&rt, rt.alloc(), guests, requests)? {
+            Ok(plain) => plain,
+            Err(fault) => return println!(rt; "{guests} guests: {fault}"),
         };
-        let plain_time = start.elapsed(&rt)?;
-        println!(rt; "{guests} guests: {threaded} verdicts in threads, {plain} on one thread")?;
+        println!(rt;
+            "{guests} guests: {} verdicts in threads, {} on one thread",
+            threaded.verdicts, plain.verdicts
+        )?;
         if asked.is_some() {
-            let threaded_rate = rate(threaded, threaded_time.as_nanos());
-            let plain_rate = rate(plain, plain_time.as_nanos());
             println!(rt;
-                "requests a second: {threaded_rate} in threads, {plain_rate} on one thread"
+                "requests a second: {} in threads, {} on one thread",
+                rate(threaded),
+                rate(plain)
             )?;
         }
     }

@@ -39,7 +39,7 @@ fn run_script<
     T: Threads + Wait + Sync,
     W: Sink,
     H: PageHash + Drop,
-    A: Allocator + Copy + Send,
+    A: Allocator + Copy + Send + Sync,
     G: Gate + Sync,
 >(
     rt: &T,
@@ -79,7 +79,7 @@ pub fn threaded<
     R: Source,
     W: Sink,
     H: PageHash + Drop,
-    A: Allocator + Copy + Send,
+    A: Allocator + Copy + Send + Sync,
     G: Gate + Sync,
 >(
     rt: &T,

@@ -3,7 +3,7 @@ ghost use Rattle.std.specs.Prelude.{◌≡◌, false, All, length, IfOk};
 ghost use Rattle.share_rings.specs.Closing.{has_close, is_close};
 
 use merge_run::{Config, Finished};
-use page_digest::Sha256Hash;
+use page_digest::{PageHash, Sha256Hash};
 use page_model::{Report, Request, Verdict};
 use std::alloc::{AllocError, Allocator};
 
@@ -81,7 +81,7 @@ pub fn config_of<A: Allocator + Copy>(
 }
 
 /// A guest's verdicts, oldest first; none where there is no such guest.
-pub fn got<A: Allocator>(finished: &Finished<Sha256Hash, A>, guest: usize) -> &[Verdict] {
+pub fn got<H: PageHash, A: Allocator>(finished: &Finished<H, A>, guest: usize) -> &[Verdict] {
     match finished.verdicts.get(guest) {
         Some(list) => list,
         None => &[],

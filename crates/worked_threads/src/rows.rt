@@ -73,7 +73,7 @@ pub fn verdicts_of_two() -> &'static str {
 
 /// What the engine answers and writes for a text. `heap` is what the engine allocates by, and the output stands in other
 /// memory.
-pub fn ran_in<T: Threads + Wait + Sync, A: Allocator + Copy + Send>(
+pub fn ran_in<T: Threads + Wait + Sync, A: Allocator + Copy + Send + Sync>(
     rt: &T,
     alloc: Global,
     heap: A,

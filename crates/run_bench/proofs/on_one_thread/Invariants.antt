@@ -3,4 +3,4 @@ use Rattle.merge_core.specs.Shown.{state_of}
 use Rattle.run_bench.proofs.on_one_thread.Given as goal
 
 abbrev pub invariant-loop-n : goal.invariant-loop-n
-invariant-loop-n l = (l.core.entries ≤ 8 * l.n) × (length (state_of l.core).guests ≡ l.guests)
+invariant-loop-n g l = (l.core.entries ≤ 64 * l.n) × (length (state_of l.core).guests ≡ l.guests)

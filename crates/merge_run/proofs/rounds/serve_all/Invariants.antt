@@ -1,7 +1,7 @@
 use Rattle.std.proofs.Common.{◌≡◌}
 use Rattle.merge_machine.specs.Kept.{end_names}
 use Rattle.merge_machine.specs.View.{ends_of, limit_of, machine_of, guest_count}
-use Rattle.merge_run.proofs.turn.serve_all.Given as goal
+use Rattle.merge_run.proofs.rounds.serve_all.Given as goal
 
 abbrev pub invariant-loop : goal.invariant-loop
 invariant-loop g l = record {

@@ -1,0 +1,49 @@
+//! How a thread of a run waits.
+use std::hint::spin_loop;
+use std::sync::Wait;
+use std::sync::atomic::AtomicU64;
+use std::time::Duration;
+
+/// How often a thread may look in vain, one look after the other, before it sleeps: some 100 microseconds.
+const MOST_LOOKS: u32 = 2_000;
+
+/// How often a thread looks once more where it looked in vain, and how long it sleeps after that.
+///
+/// It doesn't yield: where other work wants the processors, a thread that yields may wait for a whole slice of their time,
+/// thousands of times longer than what it waits for. A thread that sleeps is soon woken, and leaves its processor to those that
+/// have work, as the merger among many guests that wait for it.
+#[derive(Drop)]
+pub(crate) struct Patience {
+    looks: u32,
+    // In microseconds.
+    nap: u64,
+    // What the thread sleeps on. Nobody wakes it.
+    word: AtomicU64,
+}
+
+impl Patience {
+    /// The patience of a thread that sleeps so many microseconds at a time.
+    pub(crate) fn new(nap: u64) -> Patience {
+        Patience {
+            looks: MOST_LOOKS,
+            nap,
+            word: AtomicU64::new(0),
+        }
+    }
+
+    /// Waits a moment before the next look, or sleeps where so many were in vain.
+    pub(crate) fn wait<R: Wait>(&mut self, rt: &R) {
+        if self.looks == 0 {
+            let nap = Duration::from_micros(self.nap);
+            self.word.park_timeout(rt, 0, nap);
+        } else {
+            self.looks -= 1;
+            spin_loop();
+        }
+    }
+
+    /// So many more looks are worth while, since one wasn't in vain.
+    pub(crate) fn regain(&mut self, looks: u32) {
+        self.looks = self.looks.saturating_add(looks).min(MOST_LOOKS);
+    }
+}
