@@ -1,4 +1,4 @@
-.PHONY: test build demo no-thread embed fuzz soak hints
+.PHONY: test build demo commands no-thread embed fuzz soak hints
 
 # The gate: every proof from nothing, the edits that must be refused, the tests and the programs.
 test:
@@ -14,10 +14,15 @@ out/pageshare: $(SOURCES)
 	mkdir -p out
 	cp crates/pageshare/out/pageshare $@
 
-# A first look, in about 40 seconds: three equal pages of two guests come to share one frame.
+# A first look: three equal pages of two guests come to share one frame, and two guests' scans meet, a thread for each.
 demo:
 	@echo 'This build is for a first look and is not the proved one: make build makes that.'
 	@cd crates/pageshare && rt try -- replay < ../../examples/three-share.journal
+	@cd crates/pageshare && rt try -- run < ../../examples/scans-meet.script
+
+# Outside the gate: status, standard output and standard error of each command, on texts, ends and words of each kind.
+commands: out/pageshare
+	checks/commands.py
 
 # Outside the gate: where the system refuses to start a guest's thread, a run answers so and ends.
 no-thread: out/run_bench

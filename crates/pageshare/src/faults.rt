@@ -1,11 +1,13 @@
 //! What is told of a fault, and the status that it gives.
+use crate::script_forms::script_form;
 use share_text::TextFault;
 use std::io;
 use std::process::ExitCode;
 
-/// How the work ended, and where a read or a write failed, what of and the system's error.
+/// How the work on a journal or a script ended, and where a read or a write failed, what of and the system's error.
 #[derive(Drop)]
 pub struct Ending<'a> {
+    pub is_of_script: bool,
     pub done: Result<(), TextFault>,
     pub failure: Option<(&'a str, io::Error)>,
 }
@@ -35,19 +37,30 @@ pub fn tell(rt: &impl Eprint, is_terminal: bool, ending: &Ending<'_>) -> io::Res
         eprintln!(rt; "{line}")?;
     }
     if is_terminal {
-        explain(rt, fault, &ending.failure)?;
+        explain(rt, fault, ending)?;
     }
     Ok(ExitCode::FAILURE)
 }
 
 /// Why it is a fault: in the system's own words where there are some, and else by what was expected.
-fn explain(
-    rt: &impl Eprint,
-    fault: &TextFault,
-    failure: &Option<(&str, io::Error)>,
-) -> io::Result<()> {
-    match failure {
+fn explain(rt: &impl Eprint, fault: &TextFault, ending: &Ending<'_>) -> io::Result<()> {
+    match &ending.failure {
         Some((name, error)) => eprintln!(rt; "{name}: {error}"),
+        None if ending.is_of_script => explain_script(rt, fault),
         None => eprintln!(rt; "{fault}"),
+    }
+}
+
+/// What was expected in a script.
+fn explain_script(rt: &impl Eprint, fault: &TextFault) -> io::Result<()> {
+    match (fault, script_form(fault)) {
+        (TextFault::Line(n, _), Some(form)) => eprintln!(rt; "line {n}: expected {form}"),
+        (TextFault::Truncated(n), Some(form)) => {
+            eprintln!(rt; "line {n} is cut off: expected {form}, and a line feed behind it")
+        }
+        (TextFault::Count, Some(form)) => {
+            eprintln!(rt; "the number of script lines is wrong: expected {form}")
+        }
+        (fault, _) => eprintln!(rt; "{fault}"),
     }
 }

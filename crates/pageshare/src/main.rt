@@ -5,6 +5,7 @@
 #![tactic(auto)]
 
 mod faults;
+mod script_forms;
 mod words;
 
 use clap::Error;
@@ -38,12 +39,14 @@ fn main(rt: HostRuntime) -> io::Result<ExitCode> {
                 Ok(file) => done_of(&rt, alloc, task.work, path, file, rt.stdout()),
                 // A file that can't be opened is an input that can't be read.
                 Err(error) => Ending {
+                    is_of_script: task.work.is_of_script(),
                     done: Err(TextFault::Read),
                     failure: Some((path, error)),
                 },
             },
         },
         Err(error) if error.kind() == ErrorKind::OutOfMemory => Ending {
+            is_of_script: false,
             done: Err(TextFault::OutOfMemory),
             failure: None,
         },
@@ -81,7 +84,11 @@ fn done_of<'a, T: Threads + Wait + Sync, R: Read + Drop, W: Write + Drop>(
         (None, Some(error)) => Some(("standard output", error)),
         (None, None) => None,
     };
-    Ending { done, failure }
+    Ending {
+        is_of_script: work.is_of_script(),
+        done,
+        failure,
+    }
 }
 
 /// Prints why the words are no command line, or the help or version that they ask for, and gives the status.

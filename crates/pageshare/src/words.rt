@@ -61,6 +61,17 @@ pub enum Work {
     Run(Output),
 }
 
+impl Work {
+    /// Whether the text is a script, and no journal.
+    pub fn is_of_script(self) -> bool {
+        match self {
+            Work::Replay => false,
+            Work::Serial => true,
+            Work::Run(_) => true,
+        }
+    }
+}
+
 /// What the words ask for: the text is in the file, or on standard input.
 #[derive(Clone, Copy, Debug, PartialEq, Eq)]
 pub struct Task<'a> {

@@ -6,6 +6,12 @@ mod cut;
 #[cfg(test)]
 mod ends;
 #[cfg(test)]
+mod faults;
+#[cfg(test)]
+mod hashes;
+#[cfg(test)]
+mod once;
+#[cfg(test)]
 mod refusals;
 #[cfg(test)]
 mod rows;

@@ -1,0 +1,211 @@
+#!/usr/bin/env python3
+"""Looks at what each command of the program leaves: its status, standard output and standard error.
+
+    checks/commands.py [PROGRAM]
+
+PROGRAM is by default out/pageshare (`make build`). Nothing is built here. Prints each case that went wrong, and then how many
+cases went right (status 0 where all did, else 1).
+
+The cases: each command on good texts, from a file and from standard input; each cause for which a text is at fault; texts that
+are too long; inputs that can't be opened or read, outputs that take nothing, too little memory, no room for a thread's stack;
+words that are no command line, help and the version; and what a terminal is told.
+"""
+import os
+import pathlib
+import pty
+import resource
+import subprocess
+import sys
+import tempfile
+
+TOP = pathlib.Path(__file__).resolve().parent.parent
+PROGRAM = sys.argv[1] if len(sys.argv) > 1 else str(TOP / "out/pageshare")
+SECONDS = 60
+MOST_BYTES = 67_108_864
+
+JOURNAL = "pageshare journal 1\nframes 1\npages 1\n0 close\nend 1\n"
+JOURNAL_OUT = "0 closed\nreport entries 1 mapped 0 shared 0 frames 0 reclaimed 0 hints 0\n"
+SCRIPT_HEAD = "pageshare script 1\nframes 2\npages 1\nring 1\njournal 5\n"
+SCRIPT = SCRIPT_HEAD + "0 store 0 0 41\n0 scan random 7 2\n0 release 0\nend 3\n"
+SCRIPT_OUT = (
+    "0 mapped\n0 hinted\n0 kept\n0 released freed\n0 closed\n"
+    "report entries 5 mapped 0 shared 0 frames 0 reclaimed 0 hints 0\n"
+)
+SCRIPT_JOURNAL = (
+    "pageshare journal 1\nframes 2\npages 1\n0 store 0 0 41\n0 propose 0\n0 propose 0\n0 release 0\n0 close\nend 5\n"
+)
+# Two guests: the first column is the serial order's, the second each guest's own.
+TWO = "pageshare script 1\nframes 2\npages 1 1\nring 1\njournal 5\n1 store 0 0 41\n0 store 0 0 41\n1 propose 0\nend 3\n"
+TWO_REPORT = "report entries 5 mapped 2 shared 0 frames 2 reclaimed 0 hints 1\n"
+TWO_SERIAL = "0 mapped\n1 mapped\n0 closed\n1 hinted\n1 closed\n" + TWO_REPORT
+TWO_RUN = "0 mapped\n0 closed\n1 mapped\n1 hinted\n1 closed\n" + TWO_REPORT
+
+OF_JOURNALS = [["replay"]]
+OF_SCRIPTS = [["serial"], ["run"], ["run", "--journal"]]
+
+HEAD = "pageshare journal 1\nframes 1\npages 1\n"
+JOURNAL_FAULTS = [
+    ("", "truncated line 1"),
+    ("pageshare journal 3\n", "line 1: header"),
+    (SCRIPT, "line 1: header"),
+    ("pageshare journal 1\nframes 0\n", "line 2: frames"),
+    ("pageshare journal 1\nframes 1\npages" + " 1" * 65 + "\n", "line 3: guests"),
+    ("pageshare journal 1\nframes 1\npages 0\n", "line 3: pages"),
+    ("pageshare journal 2\nframes 1\npages 1\nsalts 1 1\n", "line 4: salts"),
+    (HEAD + "0  close\n", "line 4: form"),
+    (HEAD + "1 close\n", "line 4: no-guest"),
+    (HEAD + "0 close\n0 close\n", "line 5: after-close"),
+    (HEAD + "0 load 0 0 65\n", "line 4: length"),
+    (HEAD + "0 load 0 4096 1\n", "line 4: crosses"),
+    (HEAD + "0 close\nend 2\n", "count"),
+    (HEAD + "0 close\nend 1\n0 close\n", "line 6: form"),
+    (HEAD + "0 close\nend 1", "truncated line 5"),
+]
+SCRIPT_FAULTS = [
+    ("", "truncated line 1"),
+    (JOURNAL, "line 1: header"),
+    ("pageshare script 1\nframes 1048577\n", "line 2: frames"),
+    ("pageshare script 1\nframes 1\npages" + " 1" * 65 + "\n", "line 3: guests"),
+    ("pageshare script 1\nframes 1\npages 1 0\n", "line 3: pages"),
+    ("pageshare script 2\nframes 1\npages 1\nsalts 1 1\n", "line 4: salts"),
+    ("pageshare script 1\nframes 1\npages 1\nring 0\n", "line 4: ring"),
+    ("pageshare script 1\nframes 1\npages 1\nring 1\njournal 0\n", "line 5: journal"),
+    ("pageshare script 1\nframes 1\npages 1 1\nring 1\njournal 1\n", "line 5: too-many"),
+    (SCRIPT_HEAD + "0 close\n", "line 6: form"),
+    (SCRIPT_HEAD + "1 scan sequential 1\n", "line 6: no-guest"),
+    (SCRIPT_HEAD + "0 scan sequential 0\n", "line 6: length"),
+    (SCRIPT_HEAD + "0 store 0 4096 41\n", "line 6: crosses"),
+    (SCRIPT_HEAD + "0 scan sequential 5\n", "line 6: too-many"),
+    (SCRIPT_HEAD + "0 count\nend 2\n", "count"),
+    (SCRIPT_HEAD + "0 count\nend 1", "truncated line 7"),
+]
+
+wrong, tried = [], 0
+
+
+def limits_of(limits):
+    """What sets a child's limits; None sets none."""
+    return lambda: [resource.setrlimit(name, (size, size)) for name, size in (limits or [])]
+
+
+def ran(words, text=b"", output=subprocess.PIPE, limits=None):
+    return subprocess.run(
+        [PROGRAM, *words], input=text, stdout=output, stderr=subprocess.PIPE, timeout=SECONDS, check=False,
+        preexec_fn=limits_of(limits),
+    )
+
+
+def expect(name, words, text, status, out, err, **how):
+    """One case. `out` and `err` are the whole text that is due, or True where any text is, or None where nobody sees it."""
+    global tried
+    tried += 1
+    done = ran(words, text.encode() if isinstance(text, str) else text, **how)
+    for what, is_due, given in [("output", out, done.stdout), ("error", err, done.stderr)]:
+        if is_due is None:
+            continue
+        given = given.decode("utf-8", "replace")
+        if not (bool(given) if is_due is True else given == is_due):
+            wrong.append(f"{name}: standard {what} is {given[:200]!r}, and {is_due!r} was due")
+    if done.returncode != status:
+        wrong.append(f"{name}: status {done.returncode}, and {status} was due")
+
+
+def good_texts(folder):
+    texts = [
+        (["replay"], JOURNAL, JOURNAL_OUT),
+        (["serial"], SCRIPT, SCRIPT_OUT),
+        (["run"], SCRIPT, SCRIPT_OUT),
+        (["run", "--journal"], SCRIPT, SCRIPT_JOURNAL),
+        (["replay"], SCRIPT_JOURNAL, SCRIPT_OUT),
+        (["serial"], TWO, TWO_SERIAL),
+        (["run"], TWO, TWO_RUN),
+    ]
+    file = folder / "text"
+    for words, text, out in texts:
+        name = " ".join(words)
+        expect(f"{name}, standard input", words, text, 0, out, "")
+        file.write_text(text)
+        expect(f"{name}, a file", [*words, str(file)], "", 0, out, "")
+
+
+def texts_at_fault():
+    for commands, faults in [(OF_JOURNALS, JOURNAL_FAULTS), (OF_SCRIPTS, SCRIPT_FAULTS)]:
+        for words in commands:
+            for text, fault in faults:
+                expect(f"{' '.join(words)}, {fault}", words, text, 1, f"fault {fault}\n", "")
+
+
+def ends_and_limits(folder):
+    for words in [*OF_JOURNALS, *OF_SCRIPTS]:
+        name = " ".join(words)
+        expect(f"{name}, too long", words, b"a" * (MOST_BYTES + 1), 1, "", "fault long\n")
+        expect(f"{name}, as long as may be", words, b"a" * MOST_BYTES, 1, "fault truncated line 1\n", "")
+        expect(f"{name}, no such file", [*words, str(folder / "none")], "", 1, "", "fault read\n")
+        expect(f"{name}, a folder", [*words, str(folder)], "", 1, "", "fault read\n")
+        text = JOURNAL if words == ["replay"] else SCRIPT
+        with open("/dev/full", "wb") as full:
+            expect(f"{name}, a full device", words, text, 1, None, "fault write\n", output=full)
+            expect(f"{name}, a fault to a full device", words, "", 1, None, "fault write\n", output=full)
+        little = [(resource.RLIMIT_AS, 48 << 20)]
+        expect(f"{name}, little memory", words, b"a" * MOST_BYTES, 1, "", "fault memory\n", limits=little)
+    # A thread's stack is as large as the one limit says, and the other leaves no room for it.
+    stack = [(resource.RLIMIT_STACK, 1_000_000 << 10), (resource.RLIMIT_AS, 500_000 << 10)]
+    for words in [["run"], ["run", "--journal"]]:
+        expect(f"{' '.join(words)}, no thread", words, SCRIPT, 1, "fault run: no-thread\n", "", limits=stack)
+    expect("serial, no thread", ["serial"], SCRIPT, 0, SCRIPT_OUT, "", limits=stack)
+
+
+def command_lines():
+    for words in [[], ["journal"], ["replay", "a", "b"], ["replay", "--journal"], ["serial", "--journal"], ["run", "--salts"]]:
+        expect(f"the words {words}", words, JOURNAL, 2, "", True)
+    for words in [["--help"], ["replay", "--help"], ["serial", "--help"], ["run", "--help"]]:
+        expect(f"the words {words}", words, "", 0, True, "")
+    expect("the version", ["--version"], "", 0, "pageshare 0.1.0\n", "")
+
+
+def told(words, text):
+    """What is written on standard error where that is a terminal."""
+    ours, theirs = pty.openpty()
+    done = subprocess.run([PROGRAM, *words], input=text.encode(), stdout=subprocess.PIPE, stderr=theirs, timeout=SECONDS)
+    os.close(theirs)
+    try:
+        given = os.read(ours, 4096).decode()
+    except OSError:
+        given = ""
+    os.close(ours)
+    return done.returncode, given.replace("\r\n", "\n")
+
+
+def terminals(folder):
+    global tried
+    none = str(folder / "none")
+    cases = [
+        (["replay"], JOURNAL, (0, "")),
+        (["replay"], "pageshare journal 1\npages 1\n", (1, 'line 2: expected "frames NUMBER"\n')),
+        (["run"], "", (1, 'line 1 is cut off: expected "pageshare script 1" or "pageshare script 2", and a line feed behind it\n')),
+        (["serial"], SCRIPT_HEAD.replace("ring", "rings"), (1, 'line 4: expected "ring NUMBER"; in version 2 "salts NUMBER .."\n')),
+        (["replay", none], "", (1, f"fault read\n{none}: No such file or directory (os error 2)\n")),
+    ]
+    for words, text, due in cases:
+        tried += 1
+        given = told(words, text)
+        if given != due:
+            wrong.append(f"{' '.join(words)}, a terminal: {given}, and {due} was due")
+
+
+def main():
+    with tempfile.TemporaryDirectory() as name:
+        folder = pathlib.Path(name)
+        good_texts(folder)
+        texts_at_fault()
+        ends_and_limits(folder)
+        command_lines()
+        terminals(folder)
+    for line in wrong:
+        print(line)
+    print(f"{tried} cases, {len(wrong)} answers that are wrong")
+    return 1 if wrong else 0
+
+
+if __name__ == "__main__":
+    sys.exit(main())
