@@ -24,9 +24,9 @@ demo:
 commands: out/pageshare
 	checks/commands.py
 
-# Outside the gate: where the system refuses to start a guest's thread, a run answers so and ends.
-no-thread: out/run_bench
-	checks/no_thread.sh out/run_bench
+# Outside the gate: where the system refuses to start a thread, a run, a script and a hashing of many pages answer so and end.
+no-thread: out/run_bench out/hash_bench out/pageshare
+	checks/no_thread.sh out
 
 out/%_bench: $(SOURCES)
 	cd crates/$*_bench && rt run > /dev/null

@@ -1,14 +1,14 @@
 //! Times the hashes of as many pages as the argument says, in whole fours: one by one, four at once, and as listed
-//! frames by one worker and by four. With no argument it only tries them.
+//! frames by one worker, by two and by four. With no argument it only tries them.
 //!
 //! The frames listed are two in turn, which stay in the processor's cache, so the times are those of the hash itself.
 #![tactic(auto)]
 
-ghost use Rattle.std.specs.Prelude.{◌≤◌};
+ghost use Rattle.std.specs.Prelude.{◌<◌, ◌≤◌};
 
 mod pages;
 
-use page_digest::{Sha256Hash, hash_many};
+use page_digest::{HashFault, Sha256Hash, hash_many};
 use pages::{Listed, four_at_once, list_pages, one_by_one};
 use std::alloc::Global;
 use std::rt::{Clock, Env};
@@ -27,24 +27,37 @@ fn main(rt: HostRuntime) -> io::Result<()> {
     let asked = count_asked(&rt)?;
     let count = asked.unwrap_or(FEW) / 4 * 4;
     let page = [0x41; 4096];
-    let mut least = [u128::MAX; 4];
+    let mut alone = [u128::MAX; 2];
+    let mut by = [Ok(u128::MAX); 3];
     let mut has_passed = true;
     for _turn in 0..TURNS {
         let start = Instant::now(&rt)?;
         let one = one_by_one(&page, count);
-        least[0] = least[0].min(start.elapsed(&rt)?.as_nanos());
+        alone[0] = alone[0].min(start.elapsed(&rt)?.as_nanos());
         let start = Instant::now(&rt)?;
         let four = four_at_once(&page, count);
-        least[1] = least[1].min(start.elapsed(&rt)?.as_nanos());
-        least[2] = least[2].min(nanos_by(&rt, rt.alloc(), 1, count)?);
-        least[3] = least[3].min(nanos_by(&rt, rt.alloc(), 4, count)?);
+        alone[1] = alone[1].min(start.elapsed(&rt)?.as_nanos());
+        by[0] = lesser(by[0], nanos_by(&rt, rt.alloc(), 1, count)?);
+        by[1] = lesser(by[1], nanos_by(&rt, rt.alloc(), 2, count)?);
+        by[2] = lesser(by[2], nanos_by(&rt, rt.alloc(), 4, count)?);
         has_passed = has_passed && one == four;
     }
-    print_times(&rt, asked, &least)?;
+    if let Some(count) = asked {
+        print_times(&rt, count, &alone, &by)?;
+    }
     println!(rt;
         "hash_bench: {}",
         if has_passed { "passed" } else { "failed" }
     )
+}
+
+// The lesser of two times, or why one was not had.
+fn lesser(one: Result<u128, HashFault>, other: Result<u128, HashFault>) -> Result<u128, HashFault> {
+    match (one, other) {
+        (Ok(one), Ok(other)) => Ok(one.min(other)),
+        (Err(fault), _) => Err(fault),
+        (Ok(_), Err(fault)) => Err(fault),
+    }
 }
 
 fn count_asked(rt: &(impl Env + Alloc)) -> io::Result<Option<u32>> {
@@ -56,34 +69,51 @@ fn count_asked(rt: &(impl Env + Alloc)) -> io::Result<Option<u32>> {
     }
 }
 
-// The time of one call, the greatest number where it was refused.
+// The time of one call, or why it was refused.
 fn nanos_by<R: Clock + Threads + Wait + Sync>(
     rt: &R,
     alloc: Global,
     workers: u32,
     count: u32,
-) -> io::Result<u128>
+) -> io::Result<Result<u128, HashFault>>
     requires { (1 ≤ workers) × (workers ≤ 64) }
 {
     let Some(Listed { frames, pairs }) = list_pages(alloc, count) else {
-        return Ok(u128::MAX);
+        return Ok(Err(HashFault::OutOfMemory));
     };
     let start = Instant::now(rt)?;
     let hashes = hash_many(rt, alloc, workers, &Sha256Hash, &frames, &pairs);
     let nanos = start.elapsed(rt)?.as_nanos();
     match hashes {
-        Ok(_hashes) => Ok(nanos),
-        Err(_fault) => Ok(u128::MAX),
+        Ok(_hashes) => Ok(Ok(nanos)),
+        Err(fault) => Ok(Err(fault)),
     }
 }
 
-fn print_times(rt: &impl Print, asked: Option<u32>, least: &[u128; 4]) -> io::Result<()> {
-    let Some(count) = asked else {
-        return Ok(());
-    };
+fn print_times(
+    rt: &impl Print,
+    count: u32,
+    alone: &[u128; 2],
+    by: &[Result<u128, HashFault>; 3],
+) -> io::Result<()> {
     let pages = u128::from(count.max(1));
-    println!(rt; "one by one: {} ns a page", least[0] / pages)?;
-    println!(rt; "four at once: {} ns a page", least[1] / pages)?;
-    println!(rt; "one worker: {} ns a page", least[2] / pages)?;
-    println!(rt; "four workers: {} ns a page", least[3] / pages)
+    println!(rt; "one by one: {} ns a page", alone[0] / pages)?;
+    println!(rt; "four at once: {} ns a page", alone[1] / pages)?;
+    print_by(rt, "one worker", by[0], pages)?;
+    print_by(rt, "two workers", by[1], pages)?;
+    print_by(rt, "four workers", by[2], pages)
+}
+
+fn print_by(
+    rt: &impl Print,
+    name: &str,
+    nanos: Result<u128, HashFault>,
+    pages: u128,
+) -> io::Result<()>
+    requires { 0 < pages }
+{
+    match nanos {
+        Ok(nanos) => println!(rt; "{name}: {} ns a page", nanos / pages),
+        Err(fault) => println!(rt; "{name}: {fault}"),
+    }
 }

@@ -1,0 +1,170 @@
+//! A run whose round has proposals enough for a second worker, with each growth of memory refused in turn.
+ghost use Rattle.std.specs.Prelude.{◌≡◌};
+
+use crate::makes::{Ask, config_of, got, numbers, scripts_of};
+use merge_run::{Finished, Gate, RunFault, run};
+use page_digest::PageHash;
+use page_model::{HashFunction, Page, Verdict};
+use refusing::Refusing;
+use std::alloc::Allocator;
+use std::process::Abort;
+use std::sync::atomic::{AtomicBool, Ordering};
+use std::test::Fail;
+use std::thread;
+
+const TRIES: u64 = 1 << 30;
+
+const MOST: u64 = 200;
+
+// The requests before those of the run: the two lists of the configuration, and two for the script.
+const BEFORE: u64 = 4;
+
+// All these pages are stored to; the last is proposed first.
+const PAGES: usize = 41;
+
+const REQUESTS: usize = 2 * PAGES;
+
+// The proposal after the first one.
+const SECOND_PROPOSAL: u32 = 42;
+
+const CLOSE: u32 = 82;
+
+// All requests and their verdicts have room in the rings.
+const RING: u32 = 128;
+
+/// The guest proposes the other pages while the first proposal is being served. So one round has all of them.
+#[derive(Drop)]
+struct Meeting {
+    first_came: AtomicBool,
+    all_sent: AtomicBool,
+    missed: AtomicBool,
+}
+
+impl Meeting {
+    fn new() -> Meeting {
+        Meeting {
+            first_came: AtomicBool::new(false),
+            all_sent: AtomicBool::new(false),
+            missed: AtomicBool::new(false),
+        }
+    }
+
+    // Notes where the flag is never seen.
+    fn wait_for(&self, flag: &AtomicBool) {
+        for _ in 0..TRIES {
+            if flag.load(Ordering::SeqCst) {
+                return;
+            }
+            thread::yield_now();
+        }
+        self.missed.store(true, Ordering::SeqCst);
+    }
+}
+
+impl Gate for Meeting {
+    fn before(&self, _guest: u8, nth: u32) {
+        match nth {
+            SECOND_PROPOSAL => self.wait_for(&self.first_came),
+            CLOSE => self.all_sent.store(true, Ordering::SeqCst),
+            _ => {}
+        }
+    }
+
+    fn after(&self, _guest: u8, _nth: u32) {}
+}
+
+/// Byte 0 of the page, told for the page that is proposed first once all others were proposed.
+#[derive(Drop)]
+struct Waiting<'a> {
+    meeting: &'a Meeting,
+}
+
+impl<'a> HashFunction for Waiting<'a> {
+    ghost use Rattle.page_digest.specs.Hashes.{first_byte_hash};
+
+    ghost hash_of = { first_byte_hash };
+}
+
+impl<'a> PageHash for Waiting<'a> {
+    fn hash(&self, _salt: u32, page: &Page) -> u64 {
+        if page[0] as usize == PAGES {
+            self.meeting.first_came.store(true, Ordering::SeqCst);
+            self.meeting.wait_for(&self.meeting.all_sent);
+        }
+        page[0].into()
+    }
+}
+
+/// A store to each page, each of another byte, and then the proposals.
+fn script() -> [Ask; REQUESTS] {
+    let mut asks = [Ask::Count; REQUESTS];
+    for n in 0..PAGES {
+        asks[n] = Ask::Store(n as u32, n as u8 + 1);
+    }
+    asks[PAGES] = Ask::Propose(PAGES as u32 - 1);
+    for n in 0..PAGES - 1 {
+        asks[PAGES + 1 + n] = Ask::Propose(n as u32);
+    }
+    asks
+}
+
+/// The verdict of request number `nth`.
+fn due(nth: usize) -> Verdict {
+    if nth < PAGES {
+        Verdict::Mapped
+    } else if nth < REQUESTS {
+        Verdict::Hinted
+    } else {
+        Verdict::Closed
+    }
+}
+
+fn check_whole<H: PageHash, A: Allocator>(rt: &impl Abort, finished: &Finished<H, A>) {
+    let verdicts = got(finished, 0);
+    assert_eq!(rt; finished.verdicts.len(), 1);
+    assert_eq!(rt; verdicts.len(), REQUESTS + 1);
+    for nth in 0..verdicts.len() {
+        assert!(rt; verdicts[nth] == due(nth), "verdict {nth}");
+    }
+    assert_eq!(rt; numbers(&finished.settled.report()), [83, 41, 0, 41, 0, 41]);
+}
+
+// The run's nth request for memory is refused, n counting up until a run has no refusal. Before the first whole run each
+// refusal is told. The later ones are of a round, whose memory is for its workers alone: they change nothing, and there
+// are some, so that the run serves by rounds.
+#[test]
+fn rounds_refused_in_turn(rt: HostRuntime) -> Result<(), Fail> {
+    let asks = script();
+    let mut whole_though_refused = 0u32;
+    let mut has_ended = false;
+    for n in 0..MOST {
+        let heap = Refusing::new(rt.alloc(), BEFORE + n, 0);
+        let config = config_of(&heap, 41, &[41], &[0], RING, 83)?;
+        let scripts = scripts_of(&heap, &[&asks])?;
+        let meeting = Meeting::new();
+        let hash = Waiting { meeting: &meeting };
+        match run(&rt, &heap, &config, hash, scripts, &meeting) {
+            Ok(finished) => {
+                assert!(rt; !meeting.missed.load(Ordering::SeqCst), "at {n}");
+                check_whole(&rt, &finished);
+                has_ended = !heap.has_refused();
+                whole_though_refused = whole_though_refused.wrapping_add(u32::from(
+                    heap.has_refused(),
+                ));
+            }
+            Err(fault) => {
+                assert!(rt; heap.has_refused(), "at {n}");
+                assert_eq!(rt; fault, RunFault::OutOfMemory, "at {n}");
+                assert_eq!(rt; whole_though_refused, 0, "at {n}");
+            }
+        }
+        drop(config);
+        assert!(rt; heap.holds_nothing(), "at {n}");
+        if has_ended {
+            break;
+        }
+    }
+    assert!(rt; has_ended);
+    assert!(rt; whole_though_refused > 0);
+    Ok(())
+}
