@@ -1,0 +1,11 @@
+//! A stored run of the command that the file args names.
+#![tactic(auto)]
+
+use pageshare_commands::do_command;
+use std::io::{self, IsTerminal};
+use std::process::ExitCode;
+
+fn main(rt: HostRuntime) -> io::Result<ExitCode> {
+    let is_terminal = rt.stderr().is_terminal();
+    do_command(&rt, rt.stdin(), rt.stdout(), is_terminal)
+}
