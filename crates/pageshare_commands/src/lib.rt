@@ -15,7 +15,6 @@ use merge_run::OpenGate;
 use page_digest::Sha256Hash;
 use share_text::{Noted, TextFault, replay, serial, threaded};
 use std::alloc::Global;
-use std::env::Env;
 use std::fs::{self, Files};
 use std::io::{self, Eprint, Print, Read, Write};
 use std::process::ExitCode;
@@ -23,19 +22,23 @@ use std::sync::Wait;
 use std::thread::Threads;
 use words::{Work, task_of};
 
-/// Does what the words of the command line ask for, and gives the program's status.
+/// Does what the words of a command line ask for, and gives the program's status. The first word is the program's name.
 ///
 /// `input` and `output` are standard input and standard output; `is_terminal` says that somebody sees standard error,
 /// who is told there what was expected where a text was at fault.
 pub fn do_command<
-    T: Threads + Wait + Sync + Files + Env + Print + Eprint + AllocGlobal,
+    T: Threads + Wait + Sync + Files + Print + Eprint,
     R: Read + Drop,
     W: Write + Drop,
->(rt: &T, input: R, output: W, is_terminal: bool) -> io::Result<ExitCode> {
-    let alloc = rt.alloc();
-    let alloc = rt.alloc();
-    let words: Vec<String> = std::env::args(rt)?.collect(alloc)?;
-    let ending = match task_of(alloc, &words) {
+>(
+    rt: &T,
+    alloc: Global,
+    words: &[String],
+    input: R,
+    output: W,
+    is_terminal: bool,
+) -> io::Result<ExitCode> {
+    let ending = match task_of(alloc, words) {
         Ok(task) => match task.file {
             None => done_of(rt, alloc, task.work, "standard input", input, output),
             Some(path) => match fs::open(rt, path) {

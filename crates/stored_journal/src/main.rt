@@ -6,6 +6,8 @@ use std::io::{self, IsTerminal};
 use std::process::ExitCode;
 
 fn main(rt: HostRuntime) -> io::Result<ExitCode> {
+    let alloc = rt.alloc();
+    let words: Vec<String> = std::env::args(&rt)?.collect(alloc)?;
     let is_terminal = rt.stderr().is_terminal();
-    do_command(&rt, rt.stdin(), rt.stdout(), is_terminal)
+    do_command(&rt, alloc, &words, rt.stdin(), rt.stdout(), is_terminal)
 }
