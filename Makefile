@@ -14,10 +14,9 @@ out/pageshare: $(SOURCES)
 	mkdir -p out
 	cp crates/pageshare/out/pageshare $@
 
-# A first look: three equal pages of two guests come to share one frame, and two guests' scans meet, a thread for each.
+# A first look, in about 40 seconds: two guests' scans meet, a thread for each.
 demo:
 	@echo 'This build is for a first look and is not the proved one: make build makes that.'
-	@cd crates/pageshare && rt try -- replay < ../../examples/three-share.journal
 	@cd crates/pageshare && rt try -- run < ../../examples/scans-meet.script
 
 # Outside the gate: status, standard output and standard error of each command, on texts, ends and words of each kind.
