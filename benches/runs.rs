@@ -9,10 +9,11 @@ use std::time::Instant;
 const PAGES: u32 = 64;
 const RING: usize = 64;
 
-// Request number n of each guest.
-fn request(n: u32) -> Request {
-    let ppn = n / 16 % PAGES;
-    match n % 16 {
+// Request number n of each guest: with a proposal in 16, or stores and loads alone.
+fn request(proposes: bool, n: u32) -> Request {
+    let turn = if proposes { 16 } else { 2 };
+    let ppn = n / turn % PAGES;
+    match n % turn {
         0 => Request::Store { ppn, at: 0, bytes: Bytes::new(&[(ppn % 4) as u8; 8]) },
         15 => Request::Propose(ppn),
         _ => Request::Load { ppn, at: 0, len: 8 },
@@ -51,27 +52,32 @@ fn merge(machine: &mut Machine, ends: Vec<(Receiver<Request>, SyncSender<Verdict
     }
 }
 
+// How many requests of so many guests are served in a second.
+fn rate(guests: usize, requests: u32, proposes: bool) -> u128 {
+    let scripts: Vec<Vec<Request>> = (0..guests).map(|_| (0..requests).map(|n| request(proposes, n)).collect()).collect();
+    let pages = vec![PAGES; guests];
+    let mut machine = Machine::new(guests * PAGES as usize, &pages, &vec![0; guests]);
+    let start = Instant::now();
+    let got: usize = thread::scope(|scope| {
+        let mut ends = Vec::new();
+        let mut threads = Vec::new();
+        for script in scripts {
+            let (requests, taken) = sync_channel(RING);
+            // A guest that waits to send takes no verdict meanwhile, so there is room for all that it may owe.
+            let (given, verdicts) = sync_channel(2 * RING + 2);
+            ends.push((taken, given));
+            threads.push(scope.spawn(move || serve_guest(Port { requests, verdicts }, script)));
+        }
+        merge(&mut machine, ends);
+        threads.into_iter().map(|thread| thread.join().unwrap()).sum()
+    });
+    got as u128 * 1_000_000_000 / start.elapsed().as_nanos().max(1)
+}
+
 fn main() {
     let requests: u32 = std::env::args().nth(1).and_then(|word| word.parse().ok()).unwrap_or(100_000);
     for guests in [1usize, 2, 4, 8, 64] {
-        let scripts: Vec<Vec<Request>> = (0..guests).map(|_| (0..requests).map(request).collect()).collect();
-        let pages = vec![PAGES; guests];
-        let mut machine = Machine::new(guests * PAGES as usize, &pages, &vec![0; guests]);
-        let start = Instant::now();
-        let got: usize = thread::scope(|scope| {
-            let mut ends = Vec::new();
-            let mut threads = Vec::new();
-            for script in scripts {
-                let (requests, taken) = sync_channel(RING);
-                // A guest that waits to send takes no verdict meanwhile, so there is room for all that it may owe.
-                let (given, verdicts) = sync_channel(2 * RING + 2);
-                ends.push((taken, given));
-                threads.push(scope.spawn(move || serve_guest(Port { requests, verdicts }, script)));
-            }
-            merge(&mut machine, ends);
-            threads.into_iter().map(|thread| thread.join().unwrap()).sum()
-        });
-        let nanos = start.elapsed().as_nanos().max(1);
-        println!("{guests} guests: {got} verdicts, {} a second", got as u128 * 1_000_000_000 / nanos);
+        println!("{guests} guests, a proposal in 16: {} a second", rate(guests, requests, true));
+        println!("{guests} guests, stores and loads: {} a second", rate(guests, requests, false));
     }
 }

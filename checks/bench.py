@@ -1,12 +1,13 @@
 #!/usr/bin/env python3
 """Times the proved programs beside plain Rust, in turns, and prints one table.
 
-    checks/bench.py [--crates FOLDER] [--turns N] [--quick] [--only WORD] [--table FILE]
+    checks/bench.py [--crates FOLDER] [--turns N] [--quick] [--only WORD] [--table FILE] [--instructions]
 
 The proved programs are those in out/: pageshare (`make build`) and the crates *_bench (`make out/frames_bench` and so on). The opponents are the
 Cargo package benches/, which is copied to out/bench and built there. --crates names a folder with the sources of its
-crates, as Debian's packages librust-hex-dev, librust-sha2-dev and librust-slab-dev leave it at /usr/share/cargo/registry;
-without it cargo looks for them as it is set up to. Where cargo or a crate isn't at hand the table says so, and shows our
+crates, as Debian's packages librust-hex-dev, librust-rayon-dev, librust-sha2-dev and librust-slab-dev leave it at
+/usr/share/cargo/registry; without it cargo looks for them as it is set up to. The opponents hash in software, as the proved
+programs must, unless --instructions is given: the kit has no way to a processor's SHA instructions. Where cargo or a crate isn't at hand the table says so, and shows our
 side alone. Standard library only; nothing else may run on the machine meanwhile.
 
 Each measure is made in turns, ours and theirs, --turns times; the table has the least and the middle of each, and the
@@ -67,7 +68,7 @@ def stores_and_loads(count, pages):
             yield f"load {ppn} {at} 32"
 
 
-def build_opponents(crates):
+def build_opponents(crates, instructions):
     """Builds benches/ in out/bench, and answers its folder of programs, or why there is none."""
     if not shutil.which("cargo"):
         return None, "there is no cargo"
@@ -75,6 +76,8 @@ def build_opponents(crates):
     shutil.rmtree(source, ignore_errors=True)
     shutil.copytree(os.path.join(TOP, "benches"), source)
     command = ["cargo", "build", "--release", "--quiet", "--target-dir", os.path.join(OUT, "target")]
+    if not instructions:
+        command += ["--features", "soft"]
     if crates:
         command += ["--offline", "--config", 'source.crates-io.replace-with="at-hand"']
         command += ["--config", f'source.at-hand.directory="{crates}"']
@@ -104,12 +107,10 @@ def told(program, words):
     for line in text.splitlines():
         if found := re.fullmatch(r"ns a round trip: (\d+) on one thread, (\d+) between two", line):
             figures["on one thread"], figures["between two"] = float(found[1]), float(found[2])
-        elif found := re.match(r"(\d+) guests: ", line):
-            guests = found[1]
-            if rate := re.search(r", (\d+) a second", line):
-                figures[guests + " guests"] = 1e9 / max(1.0, float(rate[1]))
-        elif found := re.match(r"requests a second: (\d+) in threads", line):
-            figures[guests + " guests"] = 1e9 / max(1.0, float(found[1]))
+        elif found := re.match(r"(\d+ guests, [^:]+): (\d+) a second(?: in threads, (\d+) on one thread)?$", line):
+            figures[found[1]] = 1e9 / max(1.0, float(found[2]))
+            if found[3]:
+                figures[found[1] + ", one thread"] = 1e9 / max(1.0, float(found[3]))
         elif found := re.fullmatch(r"(.+): (\d+)( ns a page)?", line):
             figures[found[1]] = float(found[2])
     return figures
@@ -192,9 +193,10 @@ def main():
     parser.add_argument("--quick", action="store_true", help="few turns of little work, to try the script")
     parser.add_argument("--only", default="", help="the parts whose names have this word")
     parser.add_argument("--table", help="a file for the figures")
+    parser.add_argument("--instructions", action="store_true", help="let the opponents use the processor's SHA instructions")
     asked = parser.parse_args()
     os.makedirs(OUT, exist_ok=True)
-    theirs, why = build_opponents(asked.crates)
+    theirs, why = build_opponents(asked.crates, asked.instructions)
     if why:
         print(f"No opponents: {why}. Our side alone follows.")
     print(f"{'':<36} {'ours least':>10} {'middle':>10} {'Rust least':>10} {'middle':>10} {'ratio':>6} {'goal':>5}")

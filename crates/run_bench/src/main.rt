@@ -1,7 +1,8 @@
 //! Times whole runs, one thread for each guest, beside the same scripts through a core on one thread.
 //!
 //! With a number of requests for each guest as its argument it prints how many requests a second were served, for 1, 2, 4,
-//! 8 and 64 guests over rings of 64 items; with none it runs a few, and prints how many verdicts came.
+//! 8 and 64 guests over rings of 64 items: of a mix with a proposal in 16, and of stores and loads alone. With none it runs a
+//! few, and prints how many verdicts came.
 //!
 //! Scripts are made before the clock is started. Both times hold the making of the machine.
 #![tactic(auto)]
@@ -30,9 +31,47 @@ const CHECKED: u32 = 100;
 
 const MOST: u32 = 100_000;
 
-// Request number n of each guest: page after page is stored to, read and proposed, a request in 16 being a proposal, since
-// a page's hash costs far more than all else. Every fourth page holds the same.
-fn request(n: u32) -> Request
+// What each guest asks.
+#[derive(Clone, Copy)]
+enum Mix {
+    // Page after page is stored to, read and proposed, a request in 16 being a proposal, since a page's hash costs far more
+    // than all else. Every fourth page holds the same.
+    Proposals,
+    // Stores and loads in turn.
+    Plain,
+}
+
+impl Mix {
+    fn name(self) -> &'static str {
+        match self {
+            Mix::Proposals => "a proposal in 16",
+            Mix::Plain => "stores and loads",
+        }
+    }
+}
+
+// Request number n of each guest.
+fn request(mix: Mix, n: u32) -> Request
+    ensures { is_close result ≡ false }
+{
+    match mix {
+        Mix::Proposals => request_of_proposals(n),
+        Mix::Plain => plain_request(n),
+    }
+}
+
+fn plain_request(n: u32) -> Request
+    ensures { is_close result ≡ false }
+{
+    let ppn = n / 2 % PAGES;
+    let made = match n % 2 {
+        0 => Request::store(ppn, 0, &[(ppn % 4) as u8; 8]),
+        _ => Request::load(ppn, 0, 8),
+    };
+    made.unwrap_or(Request::Count)
+}
+
+fn request_of_proposals(n: u32) -> Request
     ensures { is_close result ≡ false }
 {
     let ppn = n / 16 % PAGES;
@@ -44,23 +83,28 @@ fn request(n: u32) -> Request
     made.unwrap_or(Request::Count)
 }
 
-fn script(alloc: Global, requests: u32) -> Result<Vec<Request>, AllocError>
+fn script(alloc: Global, mix: Mix, requests: u32) -> Result<Vec<Request>, AllocError>
     ensures { IfOk result (λ script. has_close script.items ≡ false) }
 {
     let mut script = Vec::with_capacity(alloc, requests as usize)?;
     for n in 0..requests {
-        script.push_reserved(request(n));
+        script.push_reserved(request(mix, n));
     }
     Ok(script)
 }
 
-fn scripts(alloc: Global, guests: u8, requests: u32) -> Result<Vec<Vec<Request>>, AllocError>
+fn scripts(
+    alloc: Global,
+    mix: Mix,
+    guests: u8,
+    requests: u32,
+) -> Result<Vec<Vec<Request>>, AllocError>
     ensures len { IfOk result (λ scripts. length scripts.items ≡ guests) }
     ensures plain { IfOk result (λ scripts. All (λ script. has_close script.items ≡ false) scripts.items) }
 {
     let mut scripts = Vec::with_capacity(alloc, guests as usize)?;
     for _guest in 0..guests {
-        scripts.push_reserved(script(alloc, requests)?);
+        scripts.push_reserved(script(alloc, mix, requests)?);
     }
     Ok(scripts)
 }
@@ -89,13 +133,14 @@ struct Measure {
 fn in_threads<R: Clock + Threads + Wait + Sync>(
     rt: &R,
     alloc: Global,
+    mix: Mix,
     guests: u8,
     requests: u32,
 ) -> io::Result<Result<Measure, RunFault>>
     requires { (guests ≤ 64) × (requests ≤ 100000) }
 {
     let config = config(alloc, guests, requests)?;
-    let scripts = scripts(alloc, guests, requests)?;
+    let scripts = scripts(alloc, mix, guests, requests)?;
     let start = Instant::now(rt)?;
     let finished = match run(rt, alloc, &config, Sha256Hash, scripts, &OpenGate) {
         Ok(finished) => finished,
@@ -128,6 +173,7 @@ fn turn(core: &mut Core<Sha256Hash>, guests: u8, request: &Request)
 fn on_one_thread<R: Clock>(
     rt: &R,
     alloc: Global,
+    mix: Mix,
     guests: u8,
     requests: u32,
 ) -> io::Result<Result<Measure, CoreFault>>
@@ -147,7 +193,7 @@ fn on_one_thread<R: Clock>(
         Err(fault) => return Ok(Err(fault)),
     };
     for n in 0..requests {
-        turn(&mut core, guests, &request(n));
+        turn(&mut core, guests, &request(mix, n));
     }
     turn(&mut core, guests, &Request::Close);
     let nanoseconds = start.elapsed(rt)?.as_nanos();
@@ -162,31 +208,57 @@ fn rate(measure: Measure) -> u128 {
     u128::from(measure.verdicts) * 1_000_000_000 / measure.nanoseconds.max(1)
 }
 
+// Prints the rates of a mix, or how many verdicts came where no number was asked for. Where a run was refused it prints why,
+// and tells so.
+fn print_mix<R: Clock + Threads + Wait + Print + Sync>(
+    rt: &R,
+    alloc: Global,
+    mix: Mix,
+    guests: u8,
+    asked: Option<u32>,
+) -> io::Result<bool>
+    requires { guests ≤ 64 }
+{
+    let requests = asked.unwrap_or(CHECKED).min(MOST);
+    let threaded = match in_threads(rt, alloc, mix, guests, requests)? {
+        Ok(threaded) => threaded,
+        Err(fault) => {
+            println!(rt; "{guests} guests: {fault}")?;
+            return Ok(false);
+        }
+    };
+    let plain = match on_one_thread(rt, alloc, mix, guests, requests)? {
+        Ok(plain) => plain,
+        Err(fault) => {
+            println!(rt; "{guests} guests: {fault}")?;
+            return Ok(false);
+        }
+    };
+    let name = mix.name();
+    if asked.is_some() {
+        let (threads, one) = (rate(threaded), rate(plain));
+        println!(rt;
+            "{guests} guests, {name}: {threads} a second in threads, {one} on one thread"
+        )?;
+    } else {
+        let (threads, one) = (threaded.verdicts, plain.verdicts);
+        println!(rt;
+            "{guests} guests, {name}: {threads} verdicts in threads, {one} on one thread"
+        )?;
+    }
+    Ok(true)
+}
+
 fn main(rt: HostRuntime) -> io::Result<()> {
     let asked = match env::args(&rt)?.nth(1) {
         Some(text) => text.parse::<u32>().ok(),
         None => None,
     };
-    let requests = asked.unwrap_or(CHECKED).min(MOST);
     for guests in [1u8, 2, 4, 8, 64] {
-        let threaded = match in_threads(&rt, rt.alloc(), guests, requests)? {
-            Ok(threaded) => threaded,
-            Err(fault) => return println!(rt; "{guests} guests: {fault}"),
-        };
-        let plain = match on_one_thread(&rt, rt.alloc(), guests, requests)? {
-            Ok(plain) => plain,
-            Err(fault) => return println!(rt; "{guests} guests: {fault}"),
-        };
-        println!(rt;
-            "{guests} guests: {} verdicts in threads, {} on one thread",
-            threaded.verdicts, plain.verdicts
-        )?;
-        if asked.is_some() {
-            println!(rt;
-                "requests a second: {} in threads, {} on one thread",
-                rate(threaded),
-                rate(plain)
-            )?;
+        for mix in [Mix::Proposals, Mix::Plain] {
+            if !print_mix(&rt, rt.alloc(), mix, guests, asked)? {
+                return Ok(());
+            }
         }
     }
     Ok(())
