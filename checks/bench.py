@@ -43,18 +43,27 @@ def journal(name, frames, pages, requests):
     return path
 
 
-def different(pages):
-    """Each page is stored to and proposed, and each has another content."""
+def scanned(pages, content):
+    """Each page is stored to, and then each is proposed, as a scan finds pages at rest."""
     for ppn in range(pages):
-        yield f"store {ppn} 0 {ppn:08x}"
+        yield f"store {ppn} 0 {content(ppn)}"
+    for ppn in range(pages):
         yield f"propose {ppn}"
 
 
-def equal(pages):
-    """Each page is stored to and proposed, and all have one content."""
+def in_turn(pages, content):
+    """Each page is proposed just after it was stored to, so that no hash can be computed ahead."""
     for ppn in range(pages):
-        yield f"store {ppn} 0 41"
+        yield f"store {ppn} 0 {content(ppn)}"
         yield f"propose {ppn}"
+
+
+def different(ppn):
+    return f"{ppn:08x}"
+
+
+def equal(_):
+    return "41"
 
 
 def stores_and_loads(count, pages):
@@ -157,8 +166,10 @@ def replays(table, theirs, quick):
     pageshare = os.path.join(TOP, "out", "pageshare")
     part = 10 if quick else 1
     journals = [
-        ("replay: 30,000 different contents", 1.0, journal("different", 30_000, 30_000, different(30_000 // part))),
-        ("replay: 70,000 equal pages", 1.0, journal("equal", 70_000, 70_000, equal(70_000 // part))),
+        ("replay: 30,000 different contents", 0.45, journal("different", 30_000, 30_000, scanned(30_000 // part, different))),
+        ("replay: 70,000 equal pages", 0.5, journal("equal", 70_000, 70_000, scanned(70_000 // part, equal))),
+        ("replay: 30,000 different, in turn", 1.0, journal("different-in-turn", 30_000, 30_000, in_turn(30_000 // part, different))),
+        ("replay: 70,000 equal, in turn", 1.0, journal("equal-in-turn", 70_000, 70_000, in_turn(70_000 // part, equal))),
         ("replay: 500,000 stores and loads", 1.0, journal("stores", 20_000, 20_000, stores_and_loads(500_000 // part, 20_000))),
     ]
     for count in GROWTH[: 2 if quick else None]:
