@@ -4,6 +4,7 @@ ghost use Rattle.merge_machine.specs.Same.{SameMachine};
 ghost use Rattle.merge_machine.specs.View.{ends_of, guest_count};
 ghost use Rattle.merge_run.specs.Turns.{HaveEnded};
 
+use crate::gate::Gate;
 use crate::patience::Patience;
 use merge_machine::{JournalFull, Merger};
 use page_digest::PageHash;
@@ -24,12 +25,14 @@ const LOOKS_A_ROUND: u32 = 1_000;
 /// How long the merger sleeps where it waited in vain, in microseconds.
 const NAP: u64 = 20;
 
-/// Serves by rounds until each of the first so many guests has ended, and waits after a round that served nothing.
+/// Serves by rounds until each of the first so many guests has ended, and waits after a round that served nothing. The gate
+/// is told of each other.
 ///
 /// The other guests, whose threads were not started, send nothing: what they are asked for decides nothing.
-pub(crate) fn serve_all<R: Threads + Wait + Sync, H: PageHash, A: Allocator + Send + Sync>(
+pub(crate) fn serve_all<R: Threads + Wait + Sync, H: PageHash, A: Allocator + Send + Sync, G: Gate>(
     rt: &R,
     alloc: &A,
+    gate: &G,
     merger: &mut Merger<H, A>,
     guests: u8,
 )
@@ -40,6 +43,7 @@ pub(crate) fn serve_all<R: Threads + Wait + Sync, H: PageHash, A: Allocator + Se
     let mut patience = Patience::new(NAP);
     for _ in rt.forever() {
         if serve_round(rt, alloc, merger) > 0 {
+            gate.served(&merger.report());
             patience.regain(LOOKS_A_ROUND);
         } else if have_ended(merger.ends(), guests as usize) {
             return;

@@ -57,6 +57,17 @@ pub(crate) fn new_tasks<A: Allocator + Copy>(
     Ok(tasks)
 }
 
+/// How many requests the guests will send, their closes among them.
+pub(crate) fn count_requests<A: Allocator>(tasks: &[Task<A>]) -> u64 {
+    let mut count: u64 = 0;
+    for task in tasks {
+        count = count
+            .saturating_add(task.script.len() as u64)
+            .saturating_add(1);
+    }
+    count
+}
+
 /// The ports and the lists of verdicts, each in a list of its own.
 pub(crate) fn into_lists<A: Allocator>(
     done: Vec<DoneTask<A>, A>,

@@ -22,7 +22,7 @@ use crate::gate::Gate;
 use crate::rounds::serve_all;
 use crate::run_fault::RunFault;
 use crate::task::{DoneTask, Handles, Task};
-use crate::task_list::{has_room, into_lists, new_tasks};
+use crate::task_list::{count_requests, has_room, into_lists, new_tasks};
 use crate::threads::{join_all, start_all};
 use merge_machine::{Config, JournalFull, Machine, Merger};
 use merge_settle::settle;
@@ -38,7 +38,7 @@ use std::thread::{Scope, Threads};
 /// the merger serves them on the calling thread.
 ///
 /// There is one script for each guest, guest 0's first, and no script holds a close. `gate` is called in the guests'
-/// threads, around each send and verdict.
+/// threads, around each send and verdict, and on the calling thread as the run goes on.
 ///
 /// At `Ok` the machine is settled. Each guest sent its script and a close, and got exactly one verdict for each request,
 /// in order, and they are those of one thread that replays the journal on plain page contents.
@@ -78,6 +78,7 @@ pub fn run<
     }
     let (merger, ports) = Machine::open(alloc, &checked, hash)?;
     let tasks = new_tasks(alloc, ports, scripts)?;
+    gate.starting(count_requests(&tasks));
     run_tasks(rt, alloc, gate, merger, tasks)
 }
 
@@ -189,7 +190,7 @@ fn run_in<
     ensures { HasRun tasks.items merger result.0 result.1.items }
 {
     start_all(scope, rt, gate, tasks, &mut handles);
-    serve_all(rt, alloc, &mut merger, handles.len() as u8);
+    serve_all(rt, alloc, gate, &mut merger, handles.len() as u8);
     join_all(rt, handles, &mut done);
     (merger, done)
 }

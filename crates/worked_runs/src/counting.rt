@@ -3,7 +3,8 @@ use crate::makes::{Ask, config_of, scripts_of};
 use crate::replays::check_replay;
 use merge_run::{Gate, run};
 use page_digest::Sha256Hash;
-use std::sync::atomic::{AtomicBool, AtomicU32, Ordering};
+use page_model::Report;
+use std::sync::atomic::{AtomicBool, AtomicU32, AtomicU64, Ordering};
 use std::test::Fail;
 
 const GUESTS: usize = 3;
@@ -32,10 +33,13 @@ impl Calls {
     }
 }
 
-/// It counts the calls of each guest, and notes one whose number isn't the next, or a verdict before its send.
+/// It counts the calls of each guest, and notes one whose number isn't the next, or a verdict before its send. It keeps what
+/// it is told of the whole run, and notes where that falls, or comes before the start.
 #[derive(Drop)]
 struct Counting {
     guests: [Calls; GUESTS],
+    requests: AtomicU64,
+    entries: AtomicU32,
     failed: AtomicBool,
 }
 
@@ -43,6 +47,8 @@ impl Counting {
     fn new() -> Counting {
         Counting {
             guests: [Calls::new(), Calls::new(), Calls::new()],
+            requests: AtomicU64::new(0),
+            entries: AtomicU32::new(0),
             failed: AtomicBool::new(false),
         }
     }
@@ -59,6 +65,17 @@ impl Counting {
 }
 
 impl Gate for Counting {
+    fn starting(&self, requests: u64) {
+        let before = self.requests.swap(requests, Ordering::SeqCst);
+        self.fail_unless(before == 0);
+    }
+
+    fn served(&self, report: &Report) {
+        self.fail_unless(self.requests.load(Ordering::SeqCst) > 0);
+        let before = self.entries.swap(report.entries(), Ordering::SeqCst);
+        self.fail_unless(before < report.entries());
+    }
+
     fn before(&self, guest: u8, nth: u32) {
         match self.guests.get(guest as usize) {
             Some(calls) => self.fail_unless(calls.before.fetch_add(1, Ordering::SeqCst) == nth),
@@ -89,5 +106,7 @@ fn gate_is_called_once_for_each_number(rt: HostRuntime) -> Result<(), Fail> {
     for (calls, sends) in gate.guests.iter().zip([1, 2, 21]) {
         assert_eq!(rt; calls.numbers(), (sends, sends));
     }
+    assert_eq!(rt; gate.requests.load(Ordering::SeqCst), 24);
+    assert_eq!(rt; gate.entries.load(Ordering::SeqCst), 24);
     check_replay(&rt, rt.alloc(), &config, &finished)
 }
