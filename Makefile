@@ -1,4 +1,4 @@
-.PHONY: test build demo commands no-thread embed fuzz soak hints
+.PHONY: test build demo commands no-thread embed fuzz soak hints bench
 
 # The gate: every proof from nothing, the edits that must be refused, the tests and the programs.
 test:
@@ -43,6 +43,12 @@ soak: out/pageshare
 # Outside the gate: a replay's time grows with the number of its hints and no faster. Nothing else may run meanwhile.
 hints: out/pageshare
 	checks/hints.py
+
+# Outside the gate: the proved programs beside plain Rust, in one table; status 1 where a ratio is above its goal. CRATES may name
+# a folder with the sources of the opponents' crates. Nothing else may run meanwhile.
+bench: out/pageshare out/frames_bench out/table_bench out/hash_bench out/rings_bench out/run_bench
+	checks/bench.py --table out/bench.tsv $(if $(CRATES),--crates $(CRATES))
+	checks/plots.py out/bench.tsv out
 
 # Outside the gate: the library for C and Rust, left at out/libpageshare.a, with its examples and tests. What this machine has no
 # program for is left out, and told.
