@@ -147,7 +147,7 @@ class Table:
     @staticmethod
     def line(row):
         name, unit, goal, ours, theirs = row
-        text = f"{name:<36} {min(ours):>10.1f} {statistics.median(ours):>10.1f}"
+        text = f"{name:<44} {min(ours):>10.1f} {statistics.median(ours):>10.1f}"
         if theirs:
             text += f" {min(theirs):>10.1f} {statistics.median(theirs):>10.1f} {min(ours) / min(theirs):>6.2f}"
             text += f" {goal:>5.2f}" if goal else "     -"
@@ -186,6 +186,50 @@ def replays(table, theirs, quick):
         table.add(name, "ms", goal, *rows)
 
 
+def image(name, seed, pages):
+    """Writes a raw image of so many pages, and answers where it is: 7 in 10 are zeros, and half of the rest stand in each
+    image alike."""
+    path = os.path.join(OUT, name + ".raw")
+    own, common = random.Random(seed), random.Random(0)
+    with open(path, "wb") as out:
+        for n in range(pages):
+            if n % 10 < 7:
+                out.write(bytes(4096))
+            else:
+                out.write((own if n % 2 else common).randbytes(4096))
+    return path
+
+
+def kilobytes(command):
+    """The most memory that a program held."""
+    _, status, used = os.wait4(subprocess.Popen(command, stdout=subprocess.DEVNULL).pid, 0)
+    return used.ru_maxrss if status == 0 else 0
+
+
+def estimates(table, theirs, quick):
+    pageshare = os.path.join(TOP, "out", "pageshare")
+    pages = 4096 if quick else 65_536
+    images = [image(f"image-{n}", n, pages) for n in range(1, 5)]
+    python = [sys.executable, os.path.join(TOP, "benches", "estimate.py")]
+    rust = [os.path.join(theirs, "estimate")] if theirs else None
+    opponents = [("Python", python, {1: None, 4: 0.2})] + ([("Rust", rust, {1: 1.2, 4: 0.35})] if rust else [])
+    for count in (2, 4):
+        for workers in (1, 4):
+            ours = [pageshare, "estimate", "--progress", "never", "--workers", str(workers), *images[:count]]
+            for name, other, goals in opponents:
+                rows = table.in_turns(lambda: run_time(ours), lambda: run_time(other + images[:count]))
+                label = f"estimate: {count} images, {workers} worker{'s' if workers > 1 else ''}, by {name}"
+                table.add(label, "ms", goals[workers] if count == 2 else None, *rows)
+        held = kilobytes([pageshare, "estimate", *images[:count]])
+        print(f"estimate: {count} images of {pages // 256} MiB: {held / 1024:.0f} MiB of memory at most")
+
+
+def run_time(command):
+    start = time.perf_counter()
+    subprocess.run(command, stdout=subprocess.DEVNULL, check=True)
+    return 1e3 * (time.perf_counter() - start)
+
+
 def counted(table, theirs, name, opponent, words, goals):
     """The figures that one benchmark and its opponent print."""
     ours = os.path.join(TOP, "out", name)
@@ -210,7 +254,7 @@ def main():
     theirs, why = build_opponents(asked.crates, asked.instructions)
     if why:
         print(f"No opponents: {why}. Our side alone follows.")
-    print(f"{'':<36} {'ours least':>10} {'middle':>10} {'Rust least':>10} {'middle':>10} {'ratio':>6} {'goal':>5}")
+    print(f"{'':<44} {'ours least':>10} {'middle':>10} {'Rust least':>10} {'middle':>10} {'ratio':>6} {'goal':>5}")
     table = Table(2 if asked.quick else asked.turns)
     size = str(20_000 if asked.quick else 200_000)
     parts = {
@@ -219,6 +263,7 @@ def main():
         "table": lambda: counted(table, theirs, "table_bench", "table", [size], {"": 1.2}),
         "rings": lambda: counted(table, theirs, "rings_bench", "rings", [size], {"": 1.2, "between two": None}),
         "hash": lambda: counted(table, theirs, "hash_bench", "hashing", ["2000"], {"": 1.0}),
+        "estimate": lambda: estimates(table, theirs, asked.quick),
         "run": lambda: counted(table, theirs, "run_bench", "runs", [str(2_000 if asked.quick else 20_000)], {"": 1.0}),
     }
     for name, part in parts.items():
