@@ -1,0 +1,4 @@
+pub mod Fronts
+pub mod View
+pub mod Publishing
+pub mod Opened

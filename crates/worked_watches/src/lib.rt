@@ -1,0 +1,21 @@
+//! Worked machines that are watched, in one thread and in several. This crate has tests alone.
+#![tactic(auto)]
+
+#[cfg(test)]
+mod console;
+#[cfg(test)]
+mod dropped;
+#[cfg(test)]
+mod guests;
+#[cfg(test)]
+mod makes;
+#[cfg(test)]
+mod places;
+#[cfg(test)]
+mod refused;
+#[cfg(test)]
+mod runs;
+#[cfg(test)]
+mod settling;
+#[cfg(test)]
+mod watching;
