@@ -26,7 +26,7 @@ use std::sync::Wait;
 use std::thread::Threads;
 
 /// Runs a machine to its end, as [`merge_run::run`]: a thread for each guest sends its script and then a close, and takes
-/// its verdicts, while the merger serves them on the calling thread. `gate` is called in the guests' threads.
+/// its verdicts, while the merger serves them on the calling thread. `gate` is called as there.
 ///
 /// There is one script for each guest, guest 0's first, and no script holds a close.
 ///
