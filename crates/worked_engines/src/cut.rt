@@ -1,5 +1,6 @@
 //! Scripts that are cut off.
-use crate::rows::{refuses, scan};
+use crate::engine::refuses;
+use crate::rows::scan;
 use share_text::TextFault;
 use std::test::Fail;
 
@@ -13,14 +14,9 @@ fn cut_texts(rt: HostRuntime) -> Result<(), Fail> {
             lines = lines.saturating_add(1);
         }
         let line = format!(in rt.alloc(); "fault truncated line {lines}\n")?;
+        let fault = TextFault::Truncated(lines);
         assert!(rt;
-            refuses(
-                &rt,
-                rt.alloc(),
-                front,
-                TextFault::Truncated(lines),
-                line.as_str()
-            ),
+            refuses(&rt, rt.alloc(), front, fault, line.as_str()),
             "{len}"
         );
     }

@@ -1,7 +1,4 @@
-//! Worked scripts with what their serving prints, and calls of the engine on them.
-use page_digest::{PageHash, Sha256Hash};
-use share_text::{Noted, TextFault, serial};
-use std::alloc::{Allocator, Global};
+//! Worked scripts with what their serving prints, and two journals.
 
 /// A script's text, and what `serial` prints of it.
 #[derive(Clone, Copy)]
@@ -34,6 +31,18 @@ pub fn scan() -> Row {
             report entries 5 mapped 0 shared 0 frames 0 reclaimed 0 hints 0\n",
     }
 }
+
+/// The journal of each run of `scan`.
+pub const SCAN_JOURNAL: &str = "\
+    pageshare journal 1\n\
+    frames 2\n\
+    pages 1\n\
+    0 store 0 0 41\n\
+    0 propose 0\n\
+    0 propose 0\n\
+    0 release 0\n\
+    0 close\n\
+    end 5\n";
 
 /// The same, for a guest with the salt 5.
 pub fn salted_scan() -> Row {
@@ -77,6 +86,16 @@ pub fn two_guests() -> Row {
             report entries 5 mapped 2 shared 0 frames 2 reclaimed 0 hints 1\n",
     }
 }
+
+/// What each run of `two_guests` writes by threads. Guest 1 alone proposes, so each order of their requests gives the same
+/// verdicts.
+pub const VERDICTS_OF_TWO: &str = "\
+    0 mapped\n\
+    0 closed\n\
+    1 mapped\n\
+    1 hinted\n\
+    1 closed\n\
+    report entries 5 mapped 2 shared 0 frames 2 reclaimed 0 hints 1\n";
 
 /// Three guests, of whom guest 2 asks nothing and guest 1 the most.
 pub fn three_guests() -> Row {
@@ -225,6 +244,33 @@ pub fn false_match() -> Row {
     }
 }
 
+/// The same for one guest, whose proposals are a scan.
+pub fn false_match_of_one() -> Row {
+    Row {
+        name: "false match of one guest",
+        script: "\
+            pageshare script 1\n\
+            frames 3\n\
+            pages 3\n\
+            ring 2\n\
+            journal 7\n\
+            0 store 0 0 4101\n\
+            0 store 1 0 4102\n\
+            0 store 2 0 4101\n\
+            0 scan sequential 3\n\
+            end 4\n",
+        output: "\
+            0 mapped\n\
+            0 mapped\n\
+            0 mapped\n\
+            0 hinted\n\
+            0 ineligible\n\
+            0 paired\n\
+            0 closed\n\
+            report entries 7 mapped 3 shared 2 frames 2 reclaimed 1 hints 0\n",
+    }
+}
+
 /// Equal pages of guests with the salts 1, 2 and 1.
 pub fn salts_1_2_1() -> Row {
     Row {
@@ -257,31 +303,17 @@ pub fn salts_1_2_1() -> Row {
     }
 }
 
-/// What the engine answers and writes for a text. `heap` is what the engine allocates by, and the output stands in other
-/// memory.
-pub fn served_in<H: PageHash + Drop, A: Allocator + Clone>(
-    alloc: Global,
-    heap: A,
-    text: &[u8],
-    hash: H,
-) -> (Result<(), TextFault>, Vec<u8>) {
-    let mut out = Vec::new(alloc);
-    let answer = {
-        let mut source = Noted::new(text);
-        let mut sink = Noted::new(&mut out);
-        serial(heap, &mut source, &mut sink, hash)
-    };
-    (answer, out)
-}
+/// A journal of a close alone.
+pub const CLOSE_ALONE: &str = "pageshare journal 1\nframes 1\npages 1\n0 close\nend 1\n";
 
-/// Whether the engine answers Ok and prints the row's output.
-pub fn prints<H: PageHash + Drop>(alloc: Global, row: &Row, hash: H) -> bool {
-    let (answer, out) = served_in(alloc, alloc, row.script.as_bytes(), hash);
-    answer == Ok(()) && out.as_slice() == row.output.as_bytes()
-}
-
-/// Whether the engine answers this fault and writes this line alone.
-pub fn refuses(alloc: Global, text: &[u8], fault: TextFault, line: &str) -> bool {
-    let (answer, out) = served_in(alloc, alloc, text, Sha256Hash);
-    answer == Err(fault) && out.as_slice() == line.as_bytes()
-}
+/// A journal of loads, most of them of zeros.
+pub const ZEROS: &str = "\
+    pageshare journal 1\n\
+    frames 4\n\
+    pages 2\n\
+    0 store 0 0 6869\n\
+    0 load 0 0 2\n\
+    0 load 0 100 2\n\
+    0 load 1 0 1\n\
+    0 close\n\
+    end 5\n";

@@ -1,5 +1,6 @@
-//! Scripts at fault: what the engine answers, and the line that it writes.
-use crate::rows::{nothing, refuses, salted_scan, scan};
+//! Scripts at fault: what the engines answer, and the line that they write.
+use crate::engine::refuses;
+use crate::rows::{SCAN_JOURNAL, nothing, salted_scan, scan};
 use share_text::{Cause, TextFault};
 use std::alloc::{AllocError, Global};
 use std::test::Fail;
@@ -13,7 +14,7 @@ fn one_guest(alloc: Global, lines: &str) -> Result<String, AllocError> {
 }
 
 /// A text with one of its words in place of another.
-fn with(alloc: Global, text: &str, old: &str, new: &str) -> Result<String, Fail> {
+pub fn with(alloc: Global, text: &str, old: &str, new: &str) -> Result<String, Fail> {
     let (head, tail) = text.split_once(old).ok_or("no such word")?;
     let text = format!(in alloc; "{head}{new}{tail}")?;
     Ok(text)
@@ -52,13 +53,14 @@ fn lines_at_fault(rt: HostRuntime) -> Result<(), Fail> {
         let text = one_guest(rt.alloc(), lines)?;
         let fault = TextFault::Line(n, cause);
         assert!(rt;
-            refuses(rt.alloc(), text.as_bytes(), fault, line),
+            refuses(&rt, rt.alloc(), text.as_bytes(), fault, line),
             "{lines}"
         );
     }
     let text = one_guest(rt.alloc(), "0 count\nend 2\n")?;
     assert!(rt;
         refuses(
+            &rt,
             rt.alloc(),
             text.as_bytes(),
             TextFault::Count,
@@ -70,8 +72,11 @@ fn lines_at_fault(rt: HostRuntime) -> Result<(), Fail> {
 
 #[test]
 fn heads_at_fault(rt: HostRuntime) -> Result<(), Fail> {
-    for (old, new, n, cause, line) in [
+    let none = nothing().script;
+    let one = scan().script;
+    for (text, old, new, n, cause, line) in [
         (
+            none,
             "script 1",
             "journal 1",
             1,
@@ -79,6 +84,7 @@ fn heads_at_fault(rt: HostRuntime) -> Result<(), Fail> {
             "fault line 1: header\n",
         ),
         (
+            none,
             "script 1",
             "script 3",
             1,
@@ -86,6 +92,7 @@ fn heads_at_fault(rt: HostRuntime) -> Result<(), Fail> {
             "fault line 1: header\n",
         ),
         (
+            none,
             "frames 1",
             "frames 0",
             2,
@@ -93,14 +100,47 @@ fn heads_at_fault(rt: HostRuntime) -> Result<(), Fail> {
             "fault line 2: frames\n",
         ),
         (
+            one,
+            "frames 2",
+            "frames 1048577",
+            2,
+            Cause::Frames,
+            "fault line 2: frames\n",
+        ),
+        (
+            none,
             "pages 1 1",
             "pages 1 0",
             3,
             Cause::Pages,
             "fault line 3: pages\n",
         ),
-        ("ring 1", "ring 0", 4, Cause::Ring, "fault line 4: ring\n"),
         (
+            none,
+            "ring 1",
+            "ring 0",
+            4,
+            Cause::Ring,
+            "fault line 4: ring\n",
+        ),
+        (
+            one,
+            "ring 1",
+            "ring 65537",
+            4,
+            Cause::Ring,
+            "fault line 4: ring\n",
+        ),
+        (
+            one,
+            "journal 5",
+            "journal 0",
+            5,
+            Cause::Journal,
+            "fault line 5: journal\n",
+        ),
+        (
+            none,
             "journal 2",
             "journal 1",
             5,
@@ -108,11 +148,21 @@ fn heads_at_fault(rt: HostRuntime) -> Result<(), Fail> {
             "fault line 5: too-many\n",
         ),
     ] {
-        let text = with(rt.alloc(), nothing().script, old, new)?;
+        let text = with(rt.alloc(), text, old, new)?;
         let fault = TextFault::Line(n, cause);
-        assert!(rt; refuses(rt.alloc(), text.as_bytes(), fault, line), "{new}");
+        assert!(rt;
+            refuses(&rt, rt.alloc(), text.as_bytes(), fault, line),
+            "{new}"
+        );
     }
     Ok(())
+}
+
+#[test]
+fn journal_in_place_of_script(rt: HostRuntime) {
+    let text = SCAN_JOURNAL.as_bytes();
+    let fault = TextFault::Line(1, Cause::Header);
+    assert!(rt; refuses(&rt, rt.alloc(), text, fault, "fault line 1: header\n"));
 }
 
 #[test]
@@ -121,6 +171,7 @@ fn no_room_for_the_close(rt: HostRuntime) -> Result<(), Fail> {
     let fault = TextFault::Line(8, Cause::TooMany);
     assert!(rt;
         refuses(
+            &rt,
             rt.alloc(),
             text.as_bytes(),
             fault,
@@ -131,6 +182,7 @@ fn no_room_for_the_close(rt: HostRuntime) -> Result<(), Fail> {
     let fault = TextFault::Line(9, Cause::TooMany);
     assert!(rt;
         refuses(
+            &rt,
             rt.alloc(),
             text.as_bytes(),
             fault,
@@ -139,6 +191,14 @@ fn no_room_for_the_close(rt: HostRuntime) -> Result<(), Fail> {
     );
     let text = with(rt.alloc(), salted_scan().script, "salts 5", "salts 5 5")?;
     let fault = TextFault::Line(4, Cause::Salts);
-    assert!(rt; refuses(rt.alloc(), text.as_bytes(), fault, "fault line 4: salts\n"));
+    assert!(rt;
+        refuses(
+            &rt,
+            rt.alloc(),
+            text.as_bytes(),
+            fault,
+            "fault line 4: salts\n"
+        )
+    );
     Ok(())
 }

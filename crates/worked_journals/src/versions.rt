@@ -1,6 +1,7 @@
 //! Journals of version 2, and what stays as it was in version 1.
+use crate::rows::{refuses, writes};
 use page_digest::Sha256Hash;
-use share_text::{Cause, Noted, TextFault, read_journal, replay};
+use share_text::{Cause, TextFault, read_journal};
 use std::alloc::{AllocError, Global};
 use std::test::Fail;
 
@@ -11,17 +12,6 @@ fn two_guests(alloc: Global, first: &str, salts: &str) -> Result<String, AllocEr
     text.push_str(salts)?;
     text.push_str("0 store 0 0 41\n1 store 0 0 41\n0 propose 0\n1 propose 0\nend 4\n")?;
     Ok(text)
-}
-
-/// What a replay answers, and whether it writes these lines.
-fn replayed(alloc: Global, input: &[u8], output: &str) -> (Result<(), TextFault>, bool) {
-    let mut out = Vec::new(alloc);
-    let answer = {
-        let mut source = Noted::new(input);
-        let mut sink = Noted::new(&mut out);
-        replay(alloc, &mut source, &mut sink, Sha256Hash)
-    };
-    (answer, out.as_slice() == output.as_bytes())
 }
 
 #[test]
@@ -37,17 +27,13 @@ fn equal_pages_of_equal_salts(rt: HostRuntime) -> Result<(), Fail> {
         ("salts 1 2\n", apart),
     ] {
         let text = two_guests(rt.alloc(), "pageshare journal 2", salts)?;
-        assert_eq!(rt;
-            replayed(rt.alloc(), text.as_bytes(), output),
-            (Ok(()), true),
+        assert!(rt;
+            writes(rt.alloc(), text.as_bytes(), Sha256Hash, output.as_bytes()),
             "{salts}"
         );
     }
     let text = two_guests(rt.alloc(), "pageshare journal 1", "")?;
-    assert_eq!(rt;
-        replayed(rt.alloc(), text.as_bytes(), shared),
-        (Ok(()), true)
-    );
+    assert!(rt; writes(rt.alloc(), text.as_bytes(), Sha256Hash, shared.as_bytes()));
     Ok(())
 }
 
@@ -120,18 +106,14 @@ fn faults_of_salts(rt: HostRuntime) -> Result<(), Fail> {
     ] {
         let text = two_guests(rt.alloc(), first, salts)?;
         let fault = TextFault::Line(n, cause);
-        assert_eq!(rt;
-            replayed(rt.alloc(), text.as_bytes(), line),
-            (Err(fault), true),
+        assert!(rt;
+            refuses(rt.alloc(), text.as_bytes(), fault, line),
             "{first} {salts}"
         );
     }
     let cut = b"pageshare journal 2\nframes 2\npages 1 1\n".as_slice();
     let fault = TextFault::Truncated(4);
-    assert_eq!(rt;
-        replayed(rt.alloc(), cut, "fault truncated line 4\n"),
-        (Err(fault), true)
-    );
+    assert!(rt; refuses(rt.alloc(), cut, fault, "fault truncated line 4\n"));
     Ok(())
 }
 
