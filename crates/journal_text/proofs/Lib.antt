@@ -2,10 +2,7 @@ pub mod Values
 pub mod Bytes
 pub mod Cuts
 pub mod Lines
-pub mod Known
-pub mod Sent
-pub mod Prints
-pub mod Refusals
+pub mod Fails
 pub mod Written
 pub mod Spelled
 pub mod Asked

@@ -5,7 +5,5 @@ pub mod Requests
 pub mod Texts
 pub mod Views
 pub mod Printed
-pub mod Ends
-pub mod Replayed
 pub mod Written
 pub mod Expected

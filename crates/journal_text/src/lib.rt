@@ -1,12 +1,9 @@
-//! Journals as texts, and the engine that replays one.
+//! Journals as texts, read and written, and the lines of verdicts, reports and faults.
 //!
-//! The texts, the output and the order of faults stand in `docs/FORMATS.md`; `specs/` defines them apart
+//! The texts, the lines and the order of faults stand in `docs/FORMATS.md`; `specs/` defines them apart
 //! from the code.
 #![tactic(auto)]
 
-pub mod ahead;
-pub mod ends;
-pub mod engine;
 mod expect;
 mod fault;
 pub mod head;
@@ -14,16 +11,13 @@ pub mod head_reader;
 pub mod header;
 mod journal;
 pub mod laws;
-pub mod output;
-mod print;
+pub mod print;
 mod reader;
 pub mod request;
 pub mod room;
 pub mod word;
 pub mod writer;
 
-pub use ends::{Noted, Sink, Source};
-pub use engine::replay;
 pub use expect::expectation;
 pub use fault::{Cause, TextFault};
 pub use journal::Journal;

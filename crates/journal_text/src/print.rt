@@ -13,7 +13,7 @@ use page_model::{Report, Verdict};
 use std::alloc::{AllocError, Allocator};
 
 /// Appends a number: at most 10 bytes.
-pub fn push_number<A: Allocator>(out: &mut String<A>, n: u32) -> Result<(), AllocError>
+pub(crate) fn push_number<A: Allocator>(out: &mut String<A>, n: u32) -> Result<(), AllocError>
     ensures bytes { OnOk result (string_bytes out.new ≡ string_bytes out.old ++ decimal n) }
     ensures len { OnOk result (string_len out.new ≤ string_len out.old + 10) }
     ensures capacity { string_capacity out.old ≤ string_capacity out.new }
@@ -24,7 +24,7 @@ pub fn push_number<A: Allocator>(out: &mut String<A>, n: u32) -> Result<(), Allo
 }
 
 /// Appends words and a number.
-pub fn push_counted<A: Allocator>(
+pub(crate) fn push_counted<A: Allocator>(
     out: &mut String<A>,
     words: &str,
     n: u32,
@@ -111,7 +111,7 @@ fn spell(bytes: &[u8], digits: &mut [u8])
 }
 
 /// Appends the digits of at most 64 bytes: at most 128 bytes.
-pub fn push_digits<A: Allocator>(out: &mut String<A>, bytes: &[u8]) -> Result<(), AllocError>
+pub(crate) fn push_digits<A: Allocator>(out: &mut String<A>, bytes: &[u8]) -> Result<(), AllocError>
     requires { length bytes.now ≤ 64 }
     ensures bytes { OnOk result (string_bytes out.new ≡ string_bytes out.old ++ encode_lower bytes.now) }
     ensures len { OnOk result (string_len out.new ≤ string_len out.old + 128) }

@@ -1,6 +1,6 @@
 -- The guests' lists while lines are read.
-use Rattle.std.proofs.Common.{◌≡◌, ℕ, zero, suc, ◌+◌, ◌*◌, ◌<◌, ◌==◌, Bool, true, false, cond, List, [], ◌∷◌, ◌++◌, length, map, Result, Ok, Err, refl, sym, ap, ◌∙◌, arith, get_or, replicate, length-append}
-use Rattle.std.specs.Prelude.{slice_set, All, sum_by}
+use Rattle.std.proofs.Common.{◌≡◌, ℕ, zero, suc, ◌+◌, ◌<◌, ◌==◌, Bool, true, false, cond, List, [], ◌∷◌, ◌++◌, length, Result, Ok, Err, refl, sym, ap, ◌∙◌, arith, get_or, replicate, length-append}
+use Rattle.std.specs.Prelude.{slice_set, All}
 use Rattle.std.specs.declared.vec.Vec.{Vec}
 use Rattle.std.proofs.lemmas.List.{length-map, length-set, map-set, length-replicate, get_or-replicate, get_or-map}
 use Rattle.std.proofs.lemmas.List.Elements.{All-set}
@@ -15,7 +15,7 @@ use Rattle.journal_text.specs.Texts.{ended, nothing_more}
 use Rattle.script_text.specs.declared.work.Item.{Item}
 use Rattle.script_text.specs.Lines.{IsPlain}
 use Rattle.script_text.specs.Views.{lists_of, Adds, Fills}
-use Rattle.script_text.specs.Works.{requests_of, size_of, written_out}
+use Rattle.script_text.specs.Works.{requests_of, size_of}
 use Rattle.script_text.proofs.Works.{onto_said, onto_last, plain_both, requests_plain, requests_length}
 
 module _ {A : Type 0} where

@@ -1,10 +1,9 @@
 -- What serving a text answers.
-use Rattle.std.proofs.Common.{◌≡◌, ◌<◌, ◌^◌, ℕ, List, length, Result, Ok, Err, true, refl, ap, nat_lt}
+use Rattle.std.proofs.Common.{◌≡◌, ◌^◌, ℕ, List, length, Result, Ok, Err, true, refl, ap, nat_lt}
 use Rattle.std.proofs.lemmas.Bool.{lt-ltb}
 use Rattle.journal_text.specs.declared.fault.TextFault.{TextFault}
-use Rattle.journal_text.specs.declared.fault.TextFault.TheVariants as faults
 use Rattle.journal_text.specs.Words.{◌>>=◌}
-use Rattle.journal_text.proofs.Refusals.{KnowsLong}
+use Rattle.journal_replay.proofs.Refusals.{KnowsLong}
 use Rattle.script_text.specs.Texts.{Script, script_of}
 use Rattle.script_text.specs.Served.{serial_printed, serial_answer}
 

@@ -3,10 +3,10 @@ use Rattle.std.proofs.Common.{◌≡◌, ℕ, List, [], ◌++◌, Option, sym, a
 use Rattle.page_model.specs.Pages.{State}
 use Rattle.page_model.specs.Replay.{state_after}
 use Rattle.page_model.specs.declared.request.Entry.{Entry}
-use Rattle.journal_text.specs.Ends.{AppendsFront, Sends}
-use Rattle.journal_text.specs.Replayed.{lines_from, printed_from, report_text}
-use Rattle.journal_text.proofs.Prints.{printed_append, printed_none}
-use Rattle.journal_text.proofs.Sent.{front_more, sends_front, sends_more, sends_trans}
+use Rattle.journal_replay.specs.Ends.{AppendsFront, Sends}
+use Rattle.journal_replay.specs.Replayed.{lines_from, printed_from, report_text}
+use Rattle.journal_replay.proofs.Prints.{printed_append, printed_none}
+use Rattle.journal_replay.proofs.Sent.{front_more, sends_front, sends_more, sends_trans}
 
 -- of all that is to be printed, the lines of some entries come first
 run_first : (hash : ℕ → List ℕ → ℕ) (a b : Option (List ℕ)) (out whole : List ℕ) (s : State) (run later all : List Entry) → all ≡ run ++ later → Sends a b (out ++ printed_from hash s all) whole

@@ -1,5 +1,5 @@
 -- A script's text, version 1 or 2: what it says, or its first fault. Its lines are looked at in the order of every text's.
-use Rattle.std.specs.Prelude.{ℕ, ◌+◌, ◌^◌, ◌==◌, ◌||◌, nat_lt, Bool, if◌then◌else◌, List, length, Some, Result, Ok, Err, codes}
+use Rattle.std.specs.Prelude.{ℕ, ◌+◌, ◌^◌, ◌==◌, ◌||◌, nat_lt, if◌then◌else◌, List, length, Some, Result, Ok, Err, codes}
 use Rattle.page_model.specs.declared.request.Request.{Request}
 use Rattle.journal_text.specs.declared.fault.Cause.{Cause}
 use Rattle.journal_text.specs.declared.fault.Cause.TheVariants as causes

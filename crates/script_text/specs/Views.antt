@@ -1,5 +1,5 @@
 -- How what the code answers is compared with what the definitions say.
-use Rattle.std.specs.Prelude.{◌≡◌, ℕ, List, [], ◌++◌, map, slice_index_or, slice_set, Result, Ok, Err}
+use Rattle.std.specs.Prelude.{◌≡◌, ℕ, List, ◌++◌, map, slice_index_or, slice_set, Result, Ok, Err}
 use Rattle.std.specs.declared.vec.Vec.{Vec}
 use Rattle.page_model.specs.declared.request.Request.{Request}
 use Rattle.journal_text.specs.Views.{Fails}

@@ -16,8 +16,8 @@ use Rattle.merge_run.specs.Tasks.{with_close, all_sent}
 use Rattle.merge_run.specs.View.{opening, settled_journal, settled_ports, settled_core}
 use Rattle.merge_run.specs.declared.finished.Finished.{Finished}
 use Rattle.std.specs.Prelude.{OnErr, IfErr}
-use Rattle.journal_text.specs.Ends.{AppendsFront}
-use Rattle.journal_text.specs.Replayed.{report_text, NotPrinted}
+use Rattle.journal_replay.specs.Ends.{AppendsFront}
+use Rattle.journal_replay.specs.Replayed.{report_text, NotPrinted}
 use Rattle.journal_text.specs.declared.fault.TextFault.{TextFault}
 use Rattle.journal_text.specs.declared.fault.TextFault.TheVariants as faults
 use Rattle.journal_text.specs.Texts.{AreBelow}

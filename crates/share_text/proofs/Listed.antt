@@ -1,5 +1,5 @@
 -- Lines of verdicts, a verdict or a guest at a time.
-use Rattle.std.proofs.Common.{◌≡◌, ◌+◌, ◌<◌, ◌++◌, ℕ, List, ◌∷◌, length, drop, get_or, map, ap}
+use Rattle.std.proofs.Common.{◌≡◌, ◌+◌, ◌<◌, ◌++◌, ℕ, List, length, drop, get_or, map, ap}
 use Rattle.std.specs.Prelude.{codes}
 use Rattle.std.specs.declared.vec.Vec.{Vec}
 use Rattle.page_model.specs.declared.verdict.Verdict.{Verdict}

@@ -1,6 +1,6 @@
 -- How the work on a script ends, and on a text.
-use Rattle.std.proofs.Common.{◌≡◌, ◌<◌, ◌≤◌, ◌^◌, ◌++◌, inl, inr, ℕ, List, length, Option, Some, None, Result, Ok, Err, true, false, refl, ap, sym, subst, ◌∙◌, nat_lt, arith}
-use Rattle.std.specs.Prelude.{IfSome, IfOk, IfErr, OnOk, IsOk, IsErr, codes}
+use Rattle.std.proofs.Common.{◌≡◌, ◌≤◌, ◌^◌, inl, inr, ℕ, List, length, Option, Some, None, Result, Ok, Err, true, refl, ap, sym, subst, nat_lt, arith}
+use Rattle.std.specs.Prelude.{IfSome, IfOk, IfErr, OnOk, IsOk, IsErr}
 use Rattle.std.specs.Io.KnownBytes.{Appends, Keeps}
 use Rattle.std.specs.declared.vec.Vec.{Vec}
 use Rattle.std.proofs.lemmas.Bool.{lt-ltb}
@@ -11,14 +11,13 @@ use Rattle.merge_machine.specs.declared.config.Config.{Config}
 use Rattle.merge_run.specs.Runs.{NotRunFor, entries_of}
 use Rattle.merge_run.specs.declared.run_fault.RunFault.{RunFault}
 use Rattle.merge_run.specs.declared.run_fault.RunFault.TheVariants as runs
-use Rattle.journal_text.specs.Ends.{AppendsFront, NotRead}
-use Rattle.journal_text.specs.Printed.{fault_line}
-use Rattle.journal_text.specs.Replayed.{written_for, Told, NotPrinted, Refuses, Refused, Writes}
+use Rattle.journal_replay.specs.Ends.{AppendsFront, NotRead}
+use Rattle.journal_replay.specs.Replayed.{written_for, Told, NotPrinted, Refuses, Refused, Writes}
 use Rattle.journal_text.specs.Views.{Fails}
 use Rattle.journal_text.specs.Words.{◌>>=◌}
 use Rattle.journal_text.specs.declared.fault.TextFault.{TextFault}
 use Rattle.journal_text.specs.declared.fault.TextFault.TheVariants as faults
-use Rattle.journal_text.proofs.Refusals.{KnowsLong, on_input, unread, refused}
+use Rattle.journal_replay.proofs.Refusals.{KnowsLong, on_input, unread, refused}
 use Rattle.script_text.specs.Texts.{Script, script_of}
 use Rattle.share_text.specs.Runs.{IsRunOf, run_text}
 use Rattle.share_text.specs.Threads.{Outcome, Ran, NoThread, CanEnd, outcome_text, run_answer, RunWrites, Threads, as_text_fault, EndsAs, Serves}

@@ -8,7 +8,7 @@ use Rattle.page_model.specs.declared.request.Entry.{Entry}
 use Rattle.page_model.specs.declared.verdict.Verdict.{Verdict}
 use Rattle.merge_run.specs.Tasks.{with_close}
 use Rattle.journal_text.specs.Printed.{verdict_line}
-use Rattle.journal_text.specs.Replayed.{report_text}
+use Rattle.journal_replay.specs.Replayed.{report_text}
 use Rattle.journal_text.specs.Texts.{AreBelow}
 use Rattle.journal_text.specs.Written.{journal_text}
 use Rattle.script_text.specs.Texts.{Script}

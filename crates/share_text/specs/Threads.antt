@@ -9,8 +9,8 @@ use Rattle.merge_run.specs.View.{settled_journal, settled_core}
 use Rattle.merge_run.specs.declared.finished.Finished.{Finished}
 use Rattle.merge_run.specs.declared.run_fault.RunFault.{RunFault}
 use Rattle.merge_run.specs.declared.run_fault.RunFault.TheVariants as runs
-use Rattle.journal_text.specs.Ends.{AppendsFront}
-use Rattle.journal_text.specs.Replayed.{report_text, written_for, Told, Writes}
+use Rattle.journal_replay.specs.Ends.{AppendsFront}
+use Rattle.journal_replay.specs.Replayed.{report_text, written_for, Told, Writes}
 use Rattle.journal_text.specs.Words.{◌>>=◌}
 use Rattle.journal_text.specs.Written.{journal_text}
 use Rattle.journal_text.specs.declared.fault.TextFault.{TextFault}

@@ -1,14 +1,15 @@
 //! The engine that runs a script, with a thread for each guest.
 ghost use Rattle.std.specs.Prelude.{◌≡◌, false};
-ghost use Rattle.journal_text.specs.Ends.{is_read_fault, is_write_fault, tells_read, tells_write};
+ghost use Rattle.journal_replay.specs.Ends.{is_read_fault, is_write_fault, tells_read, tells_write};
 ghost use Rattle.script_text.specs.Views.{script_seen};
 ghost use Rattle.share_text.specs.Threads.{Threads, Serves, as_text_fault};
 
 use crate::form::Output;
 use crate::printing::print_run;
-use journal_text::ends::read_all;
-use journal_text::engine::tell_fault;
-use journal_text::{Sink, Source, TextFault};
+use journal_replay::ends::read_all;
+use journal_replay::engine::tell_fault;
+use journal_replay::{Sink, Source};
+use journal_text::TextFault;
 use merge_run::{Gate, RunFault, run};
 use page_digest::PageHash;
 use script_text::{Script, read_script};

@@ -1,8 +1,8 @@
 //! Texts of page requests, and the engines that serve them.
 //!
-//! This crate gives the whole surface of journals (`journal_text`) and scripts (`script_text`), so that a user names it
-//! alone, and the engine that runs a script with a thread for each guest. The texts, the output and the order of faults
-//! stand in `docs/FORMATS.md`.
+//! This crate gives the whole surface of journals (`journal_text`, `journal_replay`) and scripts (`script_text`), so that
+//! a user names it alone, and the engine that runs a script with a thread for each guest. The texts, the output and the
+//! order of faults stand in `docs/FORMATS.md`.
 #![tactic(auto)]
 
 mod engine;
@@ -11,8 +11,9 @@ mod printing;
 
 pub use engine::threaded;
 pub use form::Output;
+pub use journal_replay::{Noted, Sink, Source, replay};
 pub use journal_text::{
-    Cause, Journal, Noted, Sink, Source, TextFault, expectation, fault_line, laws, read_journal,
-    replay, report_line, verdict_line, write_journal,
+    Cause, Journal, TextFault, expectation, fault_line, laws, read_journal, report_line,
+    verdict_line, write_journal,
 };
 pub use script_text::{Script, read_script, serial};

@@ -3,18 +3,19 @@ ghost use Rattle.std.specs.Prelude.{◌≡◌, ◌+◌, ◌≤◌, ◌++◌, [],
 ghost use Rattle.std.specs.Io.KnownBytes.{Appends};
 ghost use Rattle.merge_core.specs.Shown.{state_of};
 ghost use Rattle.merge_run.specs.View.{settled_core};
-ghost use Rattle.journal_text.specs.Ends.{AppendsFront, Sends, tells_read, tells_write};
+ghost use Rattle.journal_replay.specs.Ends.{AppendsFront, Sends, tells_read, tells_write};
 ghost use Rattle.journal_text.specs.Printed.{verdict_line};
-ghost use Rattle.journal_text.specs.Replayed.{report_text, NotPrinted};
+ghost use Rattle.journal_replay.specs.Replayed.{report_text, NotPrinted};
 ghost use Rattle.share_text.specs.Runs.{guest_lines, lists_lines};
 ghost use Rattle.share_text.specs.Threads.{finished_text};
 
 use crate::form::Output;
-use journal_text::ends::write_all;
-use journal_text::engine::print_report;
-use journal_text::output::{LINE_BYTES, buffer, make_room, put_verdict};
+use journal_replay::Sink;
+use journal_replay::ends::write_all;
+use journal_replay::engine::print_report;
+use journal_replay::output::{LINE_BYTES, buffer, make_room, put_verdict};
+use journal_text::TextFault;
 use journal_text::writer::write_entries;
-use journal_text::{Sink, TextFault};
 use merge_core::Core;
 use merge_machine::Config;
 use merge_run::Finished;

@@ -1,20 +1,8 @@
 //! Texts at fault: the fault that is answered, and its line.
-use crate::rows::zeros;
-use page_digest::Sha256Hash;
-use share_text::{Cause, Noted, TextFault, replay};
+use crate::rows::{refuses, zeros};
+use share_text::{Cause, TextFault};
 use std::alloc::{AllocError, Global};
 use std::test::Fail;
-
-/// Whether a replay answers this fault and writes this line.
-fn refused(alloc: Global, input: &[u8], fault: TextFault, line: &str) -> bool {
-    let mut out = Vec::new(alloc);
-    let answer = {
-        let mut source = Noted::new(input);
-        let mut sink = Noted::new(&mut out);
-        replay(alloc, &mut source, &mut sink, Sha256Hash)
-    };
-    answer == Err(fault) && out.as_slice() == line.as_bytes()
-}
 
 /// The text of a machine with one frame and a guest with one page, and these lines behind its head.
 fn one_page(alloc: Global, lines: &str) -> Result<String, AllocError> {
@@ -59,7 +47,7 @@ fn form_faults(rt: HostRuntime) -> Result<(), Fail> {
     ] {
         let text = one_page(rt.alloc(), lines)?;
         assert!(rt;
-            refused(rt.alloc(), text.as_bytes(), fault, line),
+            refuses(rt.alloc(), text.as_bytes(), fault, line),
             "{lines}"
         );
     }
@@ -76,7 +64,7 @@ fn a_store_that_crosses(rt: HostRuntime) -> Result<(), Fail> {
     text.push_str("\n")?;
     let fault = TextFault::Line(4, Cause::Crosses);
     assert!(rt;
-        refused(
+        refuses(
             rt.alloc(),
             text.as_bytes(),
             fault,
@@ -139,7 +127,7 @@ fn head_faults(rt: HostRuntime) {
         ),
     ] {
         assert!(rt;
-            refused(rt.alloc(), text.as_bytes(), TextFault::Line(n, cause), line),
+            refuses(rt.alloc(), text.as_bytes(), TextFault::Line(n, cause), line),
             "{text}"
         );
     }
@@ -165,7 +153,7 @@ fn too_many_guests(rt: HostRuntime) -> Result<(), Fail> {
     ] {
         let text = many_guests(rt.alloc(), last)?;
         assert!(rt;
-            refused(rt.alloc(), text.as_bytes(), TextFault::Line(3, cause), line),
+            refuses(rt.alloc(), text.as_bytes(), TextFault::Line(3, cause), line),
             "{last}"
         );
     }
@@ -183,7 +171,7 @@ fn cut_texts(rt: HostRuntime) -> Result<(), Fail> {
         let n = feeds as u32 + 1;
         let line = format!(in rt.alloc(); "fault truncated line {n}\n")?;
         assert!(rt;
-            refused(rt.alloc(), front, TextFault::Truncated(n), line.as_str()),
+            refuses(rt.alloc(), front, TextFault::Truncated(n), line.as_str()),
             "{len}"
         );
     }
@@ -197,7 +185,7 @@ fn a_count_of_four_and_a_tenth_line(rt: HostRuntime) -> Result<(), Fail> {
     let mut four = String::from_str(rt.alloc(), head)?;
     four.push_str("end 4\n")?;
     assert!(rt;
-        refused(
+        refuses(
             rt.alloc(),
             four.as_bytes(),
             TextFault::Count,
@@ -207,7 +195,7 @@ fn a_count_of_four_and_a_tenth_line(rt: HostRuntime) -> Result<(), Fail> {
     let mut ten = String::from_str(rt.alloc(), text)?;
     ten.push_str("0 close\n")?;
     let fault = TextFault::Line(10, Cause::Form);
-    assert!(rt; refused(rt.alloc(), ten.as_bytes(), fault, "fault line 10: form\n"));
+    assert!(rt; refuses(rt.alloc(), ten.as_bytes(), fault, "fault line 10: form\n"));
     Ok(())
 }
 
@@ -227,7 +215,7 @@ fn wrong_ends(rt: HostRuntime) -> Result<(), Fail> {
     ] {
         let text = one_page(rt.alloc(), lines)?;
         assert!(rt;
-            refused(rt.alloc(), text.as_bytes(), fault, line),
+            refuses(rt.alloc(), text.as_bytes(), fault, line),
             "{lines}"
         );
     }

@@ -1,19 +1,14 @@
 //! Each growth of memory refused in turn.
-use crate::rows::{Row, close_alone, zeros};
+use crate::rows::{Row, close_alone, replayed_in, zeros};
 use page_digest::Sha256Hash;
 use page_model::{Report, Verdict};
 use refusing::Refusing;
-use share_text::{Noted, TextFault, fault_line, read_journal, replay, report_line, verdict_line};
+use share_text::{TextFault, fault_line, read_journal, report_line, verdict_line};
 use std::alloc::{AllocError, Allocator, Global};
 
 /// Whether a replay under this allocator is the row's, or wants memory and writes nothing.
 fn replays_or_wants(alloc: Global, heap: &Refusing, row: &Row) -> bool {
-    let mut out = Vec::new(alloc);
-    let answer = {
-        let mut source = Noted::new(row.input.as_bytes());
-        let mut sink = Noted::new(&mut out);
-        replay(heap, &mut source, &mut sink, Sha256Hash)
-    };
+    let (answer, out) = replayed_in(alloc, heap, row.input.as_bytes(), Sha256Hash);
     if heap.has_refused() {
         answer == Err(TextFault::OutOfMemory) && out.is_empty()
     } else {

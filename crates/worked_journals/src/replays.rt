@@ -2,7 +2,7 @@
 use crate::rows::*;
 use page_digest::{FirstByteHash, PageHash, Sha256Hash, TwoByteHash};
 use page_model::{Entry, HashFunction, Page, Request, Verdict};
-use share_text::{Noted, TextFault, fault_line, read_journal, replay, report_line, verdict_line};
+use share_text::{TextFault, fault_line, read_journal, report_line, verdict_line};
 use std::alloc::Global;
 use std::test::Fail;
 
@@ -22,13 +22,7 @@ impl PageHash for ZeroHash {
 
 /// Whether a replay prints the row's output.
 fn prints<H: PageHash + Drop>(alloc: Global, row: &Row, hash: H) -> bool {
-    let mut out = Vec::new(alloc);
-    let answer = {
-        let mut source = Noted::new(row.input.as_bytes());
-        let mut sink = Noted::new(&mut out);
-        replay(alloc, &mut source, &mut sink, hash)
-    };
-    answer.is_ok() && out.as_slice() == row.output.as_bytes()
+    writes(alloc, row.input.as_bytes(), hash, row.output.as_bytes())
 }
 
 #[test]
@@ -118,13 +112,6 @@ fn long_output(rt: HostRuntime) -> Result<(), Fail> {
     output.extend_from_slice(
         b"report entries 3000 mapped 0 shared 0 frames 0 reclaimed 0 hints 0\n",
     )?;
-    let mut out = Vec::new(rt.alloc());
-    let answer = {
-        let mut source = Noted::new(input.as_bytes());
-        let mut sink = Noted::new(&mut out);
-        replay(rt.alloc(), &mut source, &mut sink, Sha256Hash)
-    };
-    assert_eq!(rt; answer, Ok(()));
-    assert!(rt; out.as_slice() == output.as_slice());
+    assert!(rt; writes(rt.alloc(), input.as_bytes(), Sha256Hash, &output));
     Ok(())
 }

@@ -1,4 +1,7 @@
-//! Journals, and what their replays print.
+//! Journals, with what their replays print, and replays in memory.
+use page_digest::{PageHash, Sha256Hash};
+use share_text::{Noted, TextFault, replay};
+use std::alloc::{Allocator, Global};
 
 /// A journal's text, and what its replay prints.
 #[derive(Clone, Copy)]
@@ -395,4 +398,32 @@ pub fn weak_hash() -> Row {
             0 kept\n\
             report entries 6 mapped 2 shared 0 frames 2 reclaimed 0 hints 1\n",
     }
+}
+
+/// What a replay answers and writes. `heap` is what it allocates by, and the output stands in other memory.
+pub fn replayed_in<H: PageHash + Drop, A: Allocator + Clone>(
+    alloc: Global,
+    heap: A,
+    input: &[u8],
+    hash: H,
+) -> (Result<(), TextFault>, Vec<u8>) {
+    let mut out = Vec::new(alloc);
+    let answer = {
+        let mut source = Noted::new(input);
+        let mut sink = Noted::new(&mut out);
+        replay(heap, &mut source, &mut sink, hash)
+    };
+    (answer, out)
+}
+
+/// Whether a replay answers Ok and writes this.
+pub fn writes<H: PageHash + Drop>(alloc: Global, input: &[u8], hash: H, output: &[u8]) -> bool {
+    let (answer, out) = replayed_in(alloc, alloc, input, hash);
+    answer == Ok(()) && out.as_slice() == output
+}
+
+/// Whether a replay answers this fault and writes this line alone.
+pub fn refuses(alloc: Global, input: &[u8], fault: TextFault, line: &str) -> bool {
+    let (answer, out) = replayed_in(alloc, alloc, input, Sha256Hash);
+    answer == Err(fault) && out.as_slice() == line.as_bytes()
 }

@@ -1,7 +1,7 @@
 use Rattle.std.proofs.Common.{◌≡◌, ◌+◌, ◌-◌, ◌++◌, ◌<◌, ◌≤◌, false, length, map, string_bytes, string_capacity, vec_capacity}
 use Rattle.merge_core.specs.Shown.{state_of}
-use Rattle.journal_text.specs.Ends.{Sends}
-use Rattle.journal_text.specs.Replayed.{printed_from}
+use Rattle.journal_replay.specs.Ends.{Sends}
+use Rattle.journal_replay.specs.Replayed.{printed_from}
 use Rattle.journal_text.specs.Texts.{AreBelow}
 use Rattle.script_text.specs.Order.{with_close, longest, turns, left_of, serial_order}
 use Rattle.script_text.specs.Views.{lists_of}

@@ -1,5 +1,5 @@
 use Rattle.std.proofs.Common.{◌≡◌, Ok, ap, sym, ◌∙◌}
-use Rattle.journal_text.proofs.Refusals.{unread, prints, refused}
+use Rattle.journal_replay.proofs.Refusals.{unread, prints, refused}
 use Rattle.script_text.specs.Texts.{script_of}
 use Rattle.script_text.specs.Views.{script_seen}
 use Rattle.script_text.specs.Served.{serial_answer}

@@ -1,4 +1,4 @@
-use Rattle.std.proofs.Common.{◌≡◌, ◌++◌, List, ap, ◌∙◌}
+use Rattle.std.proofs.Common.{◌++◌, List, ap, ◌∙◌}
 use Rattle.page_model.specs.declared.request.Request.{Request}
 use Rattle.share_rings.specs.Numbers.{number_of, sequential_number, random_number}
 use Rattle.script_text.specs.Works.{requests_of}

@@ -1,7 +1,6 @@
-use Rattle.std.proofs.Common.{◌≡◌, ◌++◌, List, refl, ap, ◌∙◌, arith, get_or, length}
-use Rattle.std.specs.declared.vec.Vec.{Vec}
+use Rattle.std.proofs.Common.{◌≡◌, ◌++◌, List, refl, ap, ◌∙◌, arith, get_or}
 use Rattle.page_model.specs.declared.request.Request.{Request}
-use Rattle.journal_text.proofs.Sent.{on_ok_map}
+use Rattle.journal_replay.proofs.Sent.{on_ok_map}
 use Rattle.script_text.specs.Works.{requests_of}
 use Rattle.script_text.proofs.Works.{same_at}
 use Rattle.script_text.proofs.reader.add_item.Goals as goal

@@ -1,4 +1,4 @@
-use Rattle.std.proofs.Common.{◌≡◌, ◌+◌, ◌<◌, ◌≤◌, ◌==◌, ℕ, List, [], length, Result, Ok, Err, refl, sym, ap, ◌∙◌, arith}
+use Rattle.std.proofs.Common.{◌≡◌, ◌+◌, ◌<◌, ◌≤◌, ◌==◌, ℕ, List, length, Result, Ok, Err, sym, ap, ◌∙◌, arith}
 use Rattle.std.specs.List.{before_first, after_first}
 use Rattle.page_model.specs.declared.request.Request.{Request}
 use Rattle.journal_text.specs.declared.fault.Cause.{Cause}

@@ -1,7 +1,3 @@
-use Rattle.std.proofs.Common.{◌≡◌, List, ℕ, subst}
-use Rattle.std.specs.Prelude.{OnOk, IfErr}
-use Rattle.std.specs.Io.KnownBytes.{Appends}
-use Rattle.journal_text.specs.Replayed.{NotPrinted}
 use Rattle.merge_run.specs.View.{settled_journal}
 use Rattle.script_text.specs.Views.{script_seen}
 use Rattle.share_text.proofs.Ended.{is_run, text_of_run}

@@ -1,4 +1,4 @@
-use Rattle.std.proofs.Common.{◌≡◌, Ok, ap, sym, subst, ◌∙◌}
+use Rattle.std.proofs.Common.{◌≡◌, Ok, ap, sym, ◌∙◌}
 use Rattle.journal_text.specs.Views.{Fails}
 use Rattle.script_text.specs.Texts.{script_of}
 use Rattle.script_text.specs.Views.{script_seen}

@@ -2,9 +2,8 @@ use Rattle.std.proofs.Common.{◌≡◌, ◌+◌, ◌++◌, ◌<◌, ℕ, List, 
 use Rattle.std.specs.Prelude.{codes}
 use Rattle.std.proofs.lemmas.List.{drop_all}
 use Rattle.page_model.specs.declared.verdict.Verdict.{Verdict}
-use Rattle.journal_text.specs.Ends.{Sends}
 use Rattle.journal_text.specs.Printed.{verdict_line}
-use Rattle.journal_text.proofs.Sent.{on_err, front_more, sends_front, sends_more, sends_trans}
+use Rattle.journal_replay.proofs.Sent.{on_err, front_more, sends_front, sends_more, sends_trans}
 use Rattle.share_text.specs.Runs.{guest_lines}
 use Rattle.share_text.proofs.Listed.{verdicts_at}
 use Rattle.share_text.proofs.printing.print_guest.Goals as goal

@@ -1,5 +1,5 @@
 use Rattle.std.proofs.Common.{◌≡◌, ◌++◌, ◌≤◌, drop, false, string_bytes, string_capacity}
-use Rattle.journal_text.specs.Ends.{Sends}
+use Rattle.journal_replay.specs.Ends.{Sends}
 use Rattle.share_text.specs.Runs.{guest_lines}
 use Rattle.share_text.proofs.printing.print_guest.Given as goal
 

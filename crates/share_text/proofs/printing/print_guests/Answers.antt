@@ -1,9 +1,7 @@
 use Rattle.std.proofs.Common.{◌≡◌, ◌+◌, ◌++◌, ◌<◌, ℕ, List, [], length, drop, string_bytes, sym, ap, ◌∙◌, arith, append_assoc, append-nil}
 use Rattle.std.proofs.lemmas.List.{drop_all}
-use Rattle.std.specs.declared.vec.Vec.{Vec}
-use Rattle.page_model.specs.declared.verdict.Verdict.{Verdict}
-use Rattle.journal_text.specs.Ends.{AppendsFront, Sends}
-use Rattle.journal_text.proofs.Sent.{on_err, front_more, sends_front, sends_more, sends_trans}
+use Rattle.journal_replay.specs.Ends.{AppendsFront}
+use Rattle.journal_replay.proofs.Sent.{on_err, front_more, sends_front, sends_more, sends_trans}
 use Rattle.share_text.specs.Runs.{guest_lines, lists_lines}
 use Rattle.share_text.proofs.Listed.{items_of, lists_at}
 use Rattle.share_text.proofs.printing.print_guests.Goals as goal

@@ -1,5 +1,5 @@
 use Rattle.std.proofs.Common.{◌≡◌, ◌++◌, ◌≤◌, drop, false, string_bytes, string_capacity}
-use Rattle.journal_text.specs.Ends.{Sends}
+use Rattle.journal_replay.specs.Ends.{Sends}
 use Rattle.share_text.specs.Runs.{lists_lines}
 use Rattle.share_text.proofs.Listed.{items_of}
 use Rattle.share_text.proofs.printing.print_guests.Given as goal

@@ -1,9 +1,9 @@
-use Rattle.std.proofs.Common.{◌≡◌, ◌++◌, List, ℕ, [], ap, string_bytes}
+use Rattle.std.proofs.Common.{◌++◌, List, ℕ, string_bytes}
 use Rattle.std.specs.Io.KnownBytes.{Appends}
 use Rattle.merge_core.specs.Shown.{state_of}
-use Rattle.journal_text.specs.Ends.{AppendsFront, Sends}
-use Rattle.journal_text.specs.Replayed.{report_text}
-use Rattle.journal_text.proofs.Sent.{on_err, on_err_map, on_ok_map, front_more, sends_all, sends_front, sends_more}
+use Rattle.journal_replay.specs.Ends.{AppendsFront, Sends}
+use Rattle.journal_replay.specs.Replayed.{report_text}
+use Rattle.journal_replay.proofs.Sent.{on_err, on_err_map, on_ok_map, front_more, sends_all, sends_front, sends_more}
 use Rattle.share_text.specs.Runs.{lists_lines}
 use Rattle.share_text.proofs.Listed.{items_of}
 use Rattle.share_text.proofs.printing.print_lines.Goals as goal

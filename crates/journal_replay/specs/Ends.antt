@@ -1,0 +1,71 @@
+-- Readers and writers: when a call on one failed, and what reading all and writing all do to their bytes.
+use Rattle.std.specs.Prelude.{ℕ, ◌<◌, ◌^◌, ◌==◌, ◌&&◌, ◌++◌, ◌≡◌, nat_lt, is_some, Bool, true, false, List, length, take, Option, Result, Ok, Err, IfSome}
+use Rattle.std.specs.Io.KnownBytes.{Appends}
+use Rattle.journal_replay.specs.declared.ends.Noted.{Noted}
+use Rattle.journal_text.specs.declared.fault.TextFault.{TextFault}
+use Rattle.journal_text.specs.declared.fault.TextFault.TheVariants as faults
+
+-- the reader or writer that is noted
+abbrev pub inner_of : {T : Type 0} → Noted T → T
+inner_of noted = noted.inner
+
+-- whether a call on it failed
+abbrev pub failed_of : {T : Type 0} → Noted T → Bool
+failed_of noted = is_some noted.error
+
+-- a write failed: it answered an error, or took 0 of some bytes
+abbrev pub write_failed : {E : Type 0} → Result ℕ E → List ℕ → Bool
+write_failed (Ok n) bytes = n == 0 && nat_lt 0 (length bytes)
+write_failed (Err e) bytes = true
+
+-- known bytes grew by a front of these bytes
+abbrev pub AppendsFront : Option (List ℕ) → Option (List ℕ) → List ℕ → Type 0
+AppendsFront old new bytes = (n : ℕ) × Appends old new (take n bytes)
+
+-- known bytes grew by what stands before ahead in a whole text
+pub record Sends (old new : Option (List ℕ)) (ahead whole : List ℕ) : Type 0 where
+  pub sent : List ℕ
+  pub appends : Appends old new sent
+  pub rest : sent ++ ahead ≡ whole
+
+-- the fault tells of a failed read
+abbrev pub is_read_fault : TextFault → Bool
+is_read_fault faults.Read = true
+is_read_fault faults.Write = false
+is_read_fault (faults.Line n cause) = false
+is_read_fault (faults.Truncated n) = false
+is_read_fault faults.Count = false
+is_read_fault faults.OutOfMemory = false
+is_read_fault faults.Long = false
+is_read_fault (faults.Run f) = false
+
+-- the fault tells of a failed write
+abbrev pub is_write_fault : TextFault → Bool
+is_write_fault faults.Write = true
+is_write_fault faults.Read = false
+is_write_fault (faults.Line n cause) = false
+is_write_fault (faults.Truncated n) = false
+is_write_fault faults.Count = false
+is_write_fault faults.OutOfMemory = false
+is_write_fault faults.Long = false
+is_write_fault (faults.Run f) = false
+
+-- the answer is that a read failed, and that a write did
+abbrev pub tells_read : {X : Type 0} → Result X TextFault → Bool
+tells_read (Ok x) = false
+tells_read (Err fault) = is_read_fault fault
+
+abbrev pub tells_write : {X : Type 0} → Result X TextFault → Bool
+tells_write (Ok x) = false
+tells_write (Err fault) = is_write_fault fault
+
+-- Why reading all failed. known: what the reader had.
+abbrev pub NotRead : Option (List ℕ) → TextFault → Type 0
+NotRead known faults.OutOfMemory = Unit {0}
+NotRead known faults.Read = Unit {0}
+NotRead known faults.Long = IfSome known (λ text. 2 ^ 26 < length text)
+NotRead known (faults.Line n cause) = ⊥
+NotRead known (faults.Truncated n) = ⊥
+NotRead known faults.Count = ⊥
+NotRead known faults.Write = ⊥
+NotRead known (faults.Run f) = ⊥

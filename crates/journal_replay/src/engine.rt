@@ -1,0 +1,244 @@
+//! The engine that replays a journal.
+ghost use Rattle.std.specs.Prelude.{◌≡◌, ◌+◌, ◌<◌, ◌≤◌, ◌++◌, [], length, codes, true, false, string_bytes, string_len, string_capacity, IfOk, OnOk, OnErr, IfErr, IsErr};
+ghost use Rattle.std.specs.Io.KnownBytes.{Appends};
+ghost use Rattle.merge_core.specs.Shown.{state_of};
+ghost use Rattle.page_model.specs.Limits.{shapes};
+ghost use Rattle.page_model.specs.Replay.{empty_state, state_after};
+ghost use Rattle.page_model.specs.Steps.{step};
+ghost use Rattle.journal_text.specs.declared.fault.TextFault.TheVariants.{OutOfMemory};
+ghost use Rattle.journal_text.specs.Printed.{verdict_line};
+ghost use Rattle.journal_text.specs.Texts.{AreBelow};
+ghost use Rattle.journal_text.specs.Views.{journal_seen};
+ghost use Rattle.journal_replay.specs.Ends.{AppendsFront, Sends, is_read_fault, is_write_fault, tells_read, tells_write};
+ghost use Rattle.journal_replay.specs.Replayed.{lines_from, report_text, printed_from, printed, Replays, Refuses, Refused, NotPrinted};
+
+use crate::ahead::look_ahead;
+use crate::ends::{Sink, Source, read_all, write_all};
+use crate::output::{LINE_BYTES, buffer, make_room, put_report, put_verdict};
+use journal_text::{Journal, TextFault, fault_line, read_journal};
+use merge_core::Core;
+use page_digest::PageHash;
+use page_model::{Entry, MachineShape};
+use std::alloc::Allocator;
+
+/// The machine of this shape, before its first request.
+pub fn core_of<H: PageHash + Drop, A: Allocator + Clone>(
+    alloc: A,
+    shape: &MachineShape<'_>,
+    hash: H,
+) -> Result<Core<H, A>, TextFault>
+    ensures empty { IfOk result (λ core. state_of core ≡ empty_state shape.now.frames (shapes shape.now.salts shape.now.pages)) }
+    ensures guests { IfOk result (λ core. length (state_of core).guests ≡ length shape.now.pages) }
+    ensures fault { IfErr result (λ e. e ≡ OutOfMemory) }
+{
+    let core = Core::with_shape(alloc, shape, hash)?;
+    Ok(core)
+}
+
+/// Serves an entry, and puts its verdict's line behind what the buffer holds.
+fn print_entry<H: PageHash, W: Sink, A: Allocator>(
+    core: &mut Core<H, A>,
+    entry: &Entry,
+    writer: &mut W,
+    out: &mut String<A>,
+) -> Result<(), TextFault>
+    requires guest { entry.now.guest < length (state_of core.old).guests }
+    requires few { core.old.entries < 16777216 }
+    requires fine { W.has_failed writer.old ≡ false }
+    requires room { LINE_BYTES ≤ string_capacity out.old }
+    ensures step { OnOk result (state_of core.new ≡ (step H.hash_of (state_of core.old) entry.now.guest entry.now.request).state) }
+    ensures entries { OnOk result (core.new.entries ≡ core.old.entries + 1) }
+    ensures guests { OnOk result (length (state_of core.new).guests ≡ length (state_of core.old).guests) }
+    ensures sends { OnOk result (Sends (W.contents writer.old) (W.contents writer.new) (string_bytes out.new) (string_bytes out.old ++ (verdict_line entry.now.guest (step H.hash_of (state_of core.old) entry.now.guest entry.now.request).verdict ++ codes "\n"))) }
+    ensures fine { OnOk result (W.has_failed writer.new ≡ false) }
+    ensures room { OnOk result (LINE_BYTES ≤ string_capacity out.new) }
+    ensures err { OnErr result (AppendsFront (W.contents writer.old) (W.contents writer.new) (string_bytes out.old)) }
+    ensures failed { OnErr result (W.has_failed writer.new ≡ true) }
+    ensures fault { IfErr result (λ e. e ≡ TextFault.Write) }
+{
+    make_room(writer, out)?;
+    let verdict = core.apply(entry.guest, &entry.request);
+    put_verdict(out, entry.guest, &verdict);
+    Ok(())
+}
+
+/// Serves these entries, and puts the lines of their verdicts behind what the buffer holds.
+pub fn print_run<H: PageHash, W: Sink, A: Allocator>(
+    core: &mut Core<H, A>,
+    entries: &[Entry],
+    writer: &mut W,
+    out: &mut String<A>,
+) -> Result<(), TextFault>
+    requires guests { AreBelow (length (state_of core.old).guests) entries.now }
+    requires few { core.old.entries + length entries.now ≤ 16777216 }
+    requires fine { W.has_failed writer.old ≡ false }
+    requires room { LINE_BYTES ≤ string_capacity out.old }
+    ensures sends { OnOk result (Sends (W.contents writer.old) (W.contents writer.new) (string_bytes out.new) (string_bytes out.old ++ lines_from H.hash_of (state_of core.old) entries.now)) }
+    ensures state { OnOk result (state_of core.new ≡ state_after H.hash_of (state_of core.old) entries.now) }
+    ensures entries { OnOk result (core.new.entries ≡ core.old.entries + length entries.now) }
+    ensures guests { OnOk result (length (state_of core.new).guests ≡ length (state_of core.old).guests) }
+    ensures fine { OnOk result (W.has_failed writer.new ≡ false) }
+    ensures room { OnOk result (LINE_BYTES ≤ string_capacity out.new) }
+    ensures err { OnErr result (AppendsFront (W.contents writer.old) (W.contents writer.new) (string_bytes out.old ++ lines_from H.hash_of (state_of core.old) entries.now)) }
+    ensures failed { OnErr result (W.has_failed writer.new ≡ true) }
+    ensures fault { IfErr result (λ e. e ≡ TextFault.Write) }
+{
+    for at in 0..entries.len() {
+        look_ahead(core, entries, at);
+        print_entry(core, &entries[at], writer, out)?;
+    }
+    Ok(())
+}
+
+/// Writes what the buffer holds, and the report's line behind it.
+pub fn print_report<H: PageHash, W: Sink, A: Allocator>(
+    core: &Core<H, A>,
+    writer: &mut W,
+    out: &mut String<A>,
+) -> Result<(), TextFault>
+    requires fine { W.has_failed writer.old ≡ false }
+    requires room { LINE_BYTES ≤ string_capacity out.old }
+    ensures ok { OnOk result (Appends (W.contents writer.old) (W.contents writer.new) (string_bytes out.old ++ report_text (state_of core.now))) }
+    ensures err { OnErr result (AppendsFront (W.contents writer.old) (W.contents writer.new) (string_bytes out.old ++ report_text (state_of core.now))) }
+    ensures fine { OnOk result (W.has_failed writer.new ≡ false) }
+    ensures failed { OnErr result (W.has_failed writer.new ≡ true) }
+    ensures fault { IfErr result (λ e. e ≡ TextFault.Write) }
+{
+    make_room(writer, out)?;
+    put_report(out, &core.report());
+    write_all(writer, out.as_bytes())
+}
+
+/// Writes the lines of the entries' verdicts, and of the report after them, by way of an empty buffer.
+fn print_all<H: PageHash, W: Sink, A: Allocator>(
+    core: &mut Core<H, A>,
+    entries: &[Entry],
+    writer: &mut W,
+    out: &mut String<A>,
+) -> Result<(), TextFault>
+    requires guests { AreBelow (length (state_of core.old).guests) entries.now }
+    requires few { core.old.entries + length entries.now ≤ 16777216 }
+    requires fine { W.has_failed writer.old ≡ false }
+    requires empty { string_bytes out.old ≡ [] }
+    requires room { LINE_BYTES ≤ string_capacity out.old }
+    ensures ok { OnOk result (Appends (W.contents writer.old) (W.contents writer.new) (printed_from H.hash_of (state_of core.old) entries.now)) }
+    ensures err { OnErr result (AppendsFront (W.contents writer.old) (W.contents writer.new) (printed_from H.hash_of (state_of core.old) entries.now)) }
+    ensures fine { OnOk result (W.has_failed writer.new ≡ false) }
+    ensures failed { OnErr result (W.has_failed writer.new ≡ true) }
+    ensures fault { IfErr result (λ e. e ≡ TextFault.Write) }
+{
+    print_run(core, entries, writer, out)?;
+    print_report(core, writer, out)
+}
+
+/// Writes the lines of the verdicts of a new machine's first entries, and of the report after them. All memory is
+/// taken before the first write.
+fn print_entries<H: PageHash + Drop, W: Sink, A: Allocator + Clone>(
+    alloc: A,
+    shape: &MachineShape<'_>,
+    entries: &[Entry],
+    writer: &mut W,
+    hash: H,
+) -> Result<(), TextFault>
+    requires guests { AreBelow (length shape.now.pages) entries.now }
+    requires few { length entries.now ≤ 16777216 }
+    requires fine { W.has_failed writer.old ≡ false }
+    ensures ok { OnOk result (Appends (W.contents writer.old) (W.contents writer.new) (printed_from H.hash_of (empty_state shape.now.frames (shapes shape.now.salts shape.now.pages)) entries.now)) }
+    ensures err { IfErr result (λ e. NotPrinted (W.contents writer.old) (W.contents writer.new) (printed_from H.hash_of (empty_state shape.now.frames (shapes shape.now.salts shape.now.pages)) entries.now) e) }
+    ensures reader { tells_read result ≡ false }
+    ensures writer { W.has_failed writer.new ≡ tells_write result }
+{
+    let mut out = buffer(alloc.clone()?)?;
+    let mut core = core_of(alloc, shape, hash)?;
+    print_all(&mut core, entries, writer, &mut out)
+}
+
+/// Writes what a journal prints.
+fn print_journal<H: PageHash + Drop, W: Sink, A: Allocator + Clone>(
+    alloc: A,
+    journal: &Journal<A>,
+    writer: &mut W,
+    hash: H,
+) -> Result<(), TextFault>
+    requires fine { W.has_failed writer.old ≡ false }
+    ensures ok { OnOk result (Appends (W.contents writer.old) (W.contents writer.new) (printed H.hash_of (journal_seen journal.now))) }
+    ensures err { IfErr result (λ e. NotPrinted (W.contents writer.old) (W.contents writer.new) (printed H.hash_of (journal_seen journal.now)) e) }
+    ensures reader { tells_read result ≡ false }
+    ensures writer { W.has_failed writer.new ≡ tells_write result }
+{
+    let shape = journal.shape();
+    print_entries(alloc, &shape, &journal.entries, writer, hash)
+}
+
+/// Writes the line that tells of a fault of the text, and answers the fault.
+fn refuse<W: Sink, A: Allocator>(
+    alloc: A,
+    writer: &mut W,
+    fault: TextFault,
+) -> Result<(), TextFault>
+    requires fine { W.has_failed writer.old ≡ false }
+    requires read { is_read_fault fault ≡ false }
+    requires written { is_write_fault fault ≡ false }
+    ensures err { IsErr result }
+    ensures told { IfErr result (λ e. Refuses fault (W.contents writer.old) (W.contents writer.new) e) }
+    ensures reader { tells_read result ≡ false }
+    ensures writer { W.has_failed writer.new ≡ tells_write result }
+{
+    let mut line = fault_line(alloc, &fault)?;
+    line.push_str("\n")?;
+    write_all(writer, line.as_bytes())?;
+    Err(fault)
+}
+
+/// Answers a fault that kept a text from being read or served. One of the text's lines, or of its run, is told by the
+/// fault's line; of the others nothing is written.
+pub fn tell_fault<W: Sink, A: Allocator>(
+    alloc: A,
+    writer: &mut W,
+    fault: TextFault,
+) -> Result<(), TextFault>
+    requires fine { W.has_failed writer.old ≡ false }
+    requires read { is_read_fault fault ≡ false }
+    requires written { is_write_fault fault ≡ false }
+    ensures told { Refused fault (W.contents writer.old) (W.contents writer.new) result }
+    ensures reader { tells_read result ≡ false }
+    ensures writer { W.has_failed writer.new ≡ tells_write result }
+{
+    match fault {
+        TextFault::Line(n, cause) => refuse(alloc, writer, TextFault::Line(n, cause)),
+        TextFault::Truncated(n) => refuse(alloc, writer, TextFault::Truncated(n)),
+        TextFault::Count => refuse(alloc, writer, TextFault::Count),
+        TextFault::Run(fault) => refuse(alloc, writer, TextFault::Run(fault)),
+        TextFault::OutOfMemory => Err(TextFault::OutOfMemory),
+        TextFault::Read => Err(TextFault::Read),
+        TextFault::Write => Err(TextFault::Write),
+        TextFault::Long => Err(TextFault::Long),
+    }
+}
+
+/// Reads a journal, and writes a verdict line for each entry and then the report line.
+///
+/// Where the text is at fault, the fault's line is written and nothing else, and the fault is answered. On
+/// `OutOfMemory`, `Read` and `Long` nothing was written, and on `Write` a front of the output went out. `Read`
+/// is answered exactly where the reader failed, and `Write` exactly where the writer did.
+pub fn replay<R: Source, W: Sink, H: PageHash + Drop, A: Allocator + Clone>(
+    alloc: A,
+    reader: &mut R,
+    writer: &mut W,
+    hash: H,
+) -> Result<(), TextFault>
+    requires reader { R.has_failed reader.old ≡ false }
+    requires writer { W.has_failed writer.old ≡ false }
+    ensures bytes { Replays H.hash_of (R.remaining reader.old) (W.contents writer.old) (W.contents writer.new) result }
+    ensures reader { R.has_failed reader.new ≡ tells_read result }
+    ensures writer { W.has_failed writer.new ≡ tells_write result }
+{
+    let text = match read_all(alloc.clone()?, reader) {
+        Ok(text) => text,
+        Err(fault) => return Err(fault),
+    };
+    match read_journal(alloc.clone()?, &text) {
+        Ok(journal) => print_journal(alloc, &journal, writer, hash),
+        Err(fault) => tell_fault(alloc, writer, fault),
+    }
+}

@@ -1,0 +1,319 @@
+//! Worked scripts with what their serving prints, and two journals.
+
+/// A script's text, and what `serial` prints of it.
+#[derive(Clone, Copy)]
+pub struct Row {
+    pub name: &'static str,
+    pub script: &'static str,
+    pub output: &'static str,
+}
+
+/// One guest, whose journal has just room for its store, two proposals, its release and its close.
+pub fn scan() -> Row {
+    Row {
+        name: "scan",
+        script: "\
+            pageshare script 1\n\
+            frames 2\n\
+            pages 1\n\
+            ring 1\n\
+            journal 5\n\
+            0 store 0 0 41\n\
+            0 scan random 7 2\n\
+            0 release 0\n\
+            end 3\n",
+        output: "\
+            0 mapped\n\
+            0 hinted\n\
+            0 kept\n\
+            0 released freed\n\
+            0 closed\n\
+            report entries 5 mapped 0 shared 0 frames 0 reclaimed 0 hints 0\n",
+    }
+}
+
+/// The journal of each run of `scan`.
+pub const SCAN_JOURNAL: &str = "\
+    pageshare journal 1\n\
+    frames 2\n\
+    pages 1\n\
+    0 store 0 0 41\n\
+    0 propose 0\n\
+    0 propose 0\n\
+    0 release 0\n\
+    0 close\n\
+    end 5\n";
+
+/// The same, for a guest with the salt 5.
+pub fn salted_scan() -> Row {
+    Row {
+        name: "scan, salt 5",
+        script: "\
+            pageshare script 2\n\
+            frames 2\n\
+            pages 1\n\
+            salts 5\n\
+            ring 1\n\
+            journal 5\n\
+            0 store 0 0 41\n\
+            0 scan random 7 2\n\
+            0 release 0\n\
+            end 3\n",
+        output: scan().output,
+    }
+}
+
+/// Guest 0 has a turn less than guest 1, whose lines stand around its own.
+pub fn two_guests() -> Row {
+    Row {
+        name: "two guests",
+        script: "\
+            pageshare script 1\n\
+            frames 2\n\
+            pages 1 1\n\
+            ring 1\n\
+            journal 5\n\
+            1 store 0 0 41\n\
+            0 store 0 0 41\n\
+            1 propose 0\n\
+            end 3\n",
+        output: "\
+            0 mapped\n\
+            1 mapped\n\
+            0 closed\n\
+            1 hinted\n\
+            1 closed\n\
+            report entries 5 mapped 2 shared 0 frames 2 reclaimed 0 hints 1\n",
+    }
+}
+
+/// What each run of `two_guests` writes by threads. Guest 1 alone proposes, so each order of their requests gives the same
+/// verdicts.
+pub const VERDICTS_OF_TWO: &str = "\
+    0 mapped\n\
+    0 closed\n\
+    1 mapped\n\
+    1 hinted\n\
+    1 closed\n\
+    report entries 5 mapped 2 shared 0 frames 2 reclaimed 0 hints 1\n";
+
+/// Three guests, of whom guest 2 asks nothing and guest 1 the most.
+pub fn three_guests() -> Row {
+    Row {
+        name: "three guests",
+        script: "\
+            pageshare script 1\n\
+            frames 3\n\
+            pages 1 2 1\n\
+            ring 8\n\
+            journal 9\n\
+            1 count\n\
+            1 load 1 0 2\n\
+            1 store 2 0 41\n\
+            0 release 0\n\
+            end 4\n",
+        output: "\
+            0 unmapped\n\
+            1 totals entries 2 mapped 0 shared 0 frames 0 reclaimed 0 hints 0\n\
+            2 closed\n\
+            0 closed\n\
+            1 bytes 0000\n\
+            1 no-page\n\
+            1 closed\n\
+            report entries 7 mapped 0 shared 0 frames 0 reclaimed 0 hints 0\n",
+    }
+}
+
+/// Two guests that ask nothing but their closes.
+pub fn nothing() -> Row {
+    Row {
+        name: "nothing",
+        script: "pageshare script 1\nframes 1\npages 1 1\nring 1\njournal 2\nend 0\n",
+        output: "\
+            0 closed\n\
+            1 closed\n\
+            report entries 2 mapped 0 shared 0 frames 0 reclaimed 0 hints 0\n",
+    }
+}
+
+/// Three equal pages of two guests. Every hash gives the same, for nothing else is stored.
+pub fn three_share() -> Row {
+    Row {
+        name: "three share",
+        script: "\
+            pageshare script 1\n\
+            frames 3\n\
+            pages 2 1\n\
+            ring 4\n\
+            journal 8\n\
+            0 store 0 0 41\n\
+            0 store 1 0 41\n\
+            1 store 0 0 41\n\
+            0 scan sequential 2\n\
+            1 propose 0\n\
+            end 5\n",
+        output: "\
+            0 mapped\n\
+            1 mapped\n\
+            0 mapped\n\
+            1 hinted\n\
+            0 paired\n\
+            1 closed\n\
+            0 joined 3\n\
+            0 closed\n\
+            report entries 8 mapped 3 shared 3 frames 1 reclaimed 2 hints 0\n",
+    }
+}
+
+const STALE_HINT: &str = "\
+    pageshare script 1\n\
+    frames 2\n\
+    pages 2\n\
+    ring 1\n\
+    journal 7\n\
+    0 store 0 0 41\n\
+    0 propose 0\n\
+    0 store 0 0 42\n\
+    0 store 1 0 41\n\
+    0 propose 1\n\
+    0 propose 0\n\
+    end 6\n";
+
+/// A hint page is stored to, and another page takes its place.
+pub fn stale_hint() -> Row {
+    Row {
+        name: "stale hint",
+        script: STALE_HINT,
+        output: "\
+            0 mapped\n\
+            0 hinted\n\
+            0 stored\n\
+            0 mapped\n\
+            0 replaced\n\
+            0 hinted\n\
+            0 closed\n\
+            report entries 7 mapped 2 shared 0 frames 2 reclaimed 0 hints 2\n",
+    }
+}
+
+/// The same by a hash that is 0 for every page: the hint page is found under its old key, and isn't equal.
+pub fn weak_hash() -> Row {
+    Row {
+        name: "weak hash",
+        script: STALE_HINT,
+        output: "\
+            0 mapped\n\
+            0 hinted\n\
+            0 stored\n\
+            0 mapped\n\
+            0 ineligible\n\
+            0 kept\n\
+            0 closed\n\
+            report entries 7 mapped 2 shared 0 frames 2 reclaimed 0 hints 1\n",
+    }
+}
+
+/// By `FirstByteHash`: two pages of two contents have one hash.
+pub fn false_match() -> Row {
+    Row {
+        name: "false match",
+        script: "\
+            pageshare script 1\n\
+            frames 3\n\
+            pages 1 1 1\n\
+            ring 1\n\
+            journal 9\n\
+            0 store 0 0 4101\n\
+            1 store 0 0 4102\n\
+            2 store 0 0 4101\n\
+            0 propose 0\n\
+            1 propose 0\n\
+            2 propose 0\n\
+            end 6\n",
+        output: "\
+            0 mapped\n\
+            1 mapped\n\
+            2 mapped\n\
+            0 hinted\n\
+            1 ineligible\n\
+            2 paired\n\
+            0 closed\n\
+            1 closed\n\
+            2 closed\n\
+            report entries 9 mapped 3 shared 2 frames 2 reclaimed 1 hints 0\n",
+    }
+}
+
+/// The same for one guest, whose proposals are a scan.
+pub fn false_match_of_one() -> Row {
+    Row {
+        name: "false match of one guest",
+        script: "\
+            pageshare script 1\n\
+            frames 3\n\
+            pages 3\n\
+            ring 2\n\
+            journal 7\n\
+            0 store 0 0 4101\n\
+            0 store 1 0 4102\n\
+            0 store 2 0 4101\n\
+            0 scan sequential 3\n\
+            end 4\n",
+        output: "\
+            0 mapped\n\
+            0 mapped\n\
+            0 mapped\n\
+            0 hinted\n\
+            0 ineligible\n\
+            0 paired\n\
+            0 closed\n\
+            report entries 7 mapped 3 shared 2 frames 2 reclaimed 1 hints 0\n",
+    }
+}
+
+/// Equal pages of guests with the salts 1, 2 and 1.
+pub fn salts_1_2_1() -> Row {
+    Row {
+        name: "salts 1 2 1",
+        script: "\
+            pageshare script 2\n\
+            frames 3\n\
+            pages 1 1 1\n\
+            salts 1 2 1\n\
+            ring 1\n\
+            journal 9\n\
+            0 store 0 0 41\n\
+            1 store 0 0 41\n\
+            2 store 0 0 41\n\
+            0 propose 0\n\
+            1 propose 0\n\
+            2 propose 0\n\
+            end 6\n",
+        output: "\
+            0 mapped\n\
+            1 mapped\n\
+            2 mapped\n\
+            0 hinted\n\
+            1 hinted\n\
+            2 paired\n\
+            0 closed\n\
+            1 closed\n\
+            2 closed\n\
+            report entries 9 mapped 3 shared 2 frames 2 reclaimed 1 hints 1\n",
+    }
+}
+
+/// A journal of a close alone.
+pub const CLOSE_ALONE: &str = "pageshare journal 1\nframes 1\npages 1\n0 close\nend 1\n";
+
+/// A journal of loads, most of them of zeros.
+pub const ZEROS: &str = "\
+    pageshare journal 1\n\
+    frames 4\n\
+    pages 2\n\
+    0 store 0 0 6869\n\
+    0 load 0 0 2\n\
+    0 load 0 100 2\n\
+    0 load 1 0 1\n\
+    0 close\n\
+    end 5\n";
