@@ -1,3 +1,4 @@
+pub mod Hashes
 pub mod Marks
 pub mod Parts
 pub mod Contents

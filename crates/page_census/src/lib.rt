@@ -7,6 +7,7 @@
 mod classes;
 mod count;
 mod fault;
+mod fold_hash;
 mod mark;
 mod marks;
 mod numbers;
@@ -18,6 +19,7 @@ mod tally;
 
 pub use count::{CensusNumbers, census};
 pub use fault::CensusFault;
+pub use fold_hash::FoldHash;
 pub use numbers::{GuestNumbers, TotalNumbers};
 pub use source::{Guest, PageSource, Progress};
 pub use table::CopiesClass;

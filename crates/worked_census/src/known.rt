@@ -2,7 +2,7 @@
 ghost use Rattle.std.specs.Prelude.{◌≤◌};
 
 use crate::pages::{Memory, Quiet, ZeroHash, guest_of};
-use page_census::{CensusFault, CopiesClass, Guest, GuestNumbers, TotalNumbers, census};
+use page_census::{CensusFault, CopiesClass, FoldHash, Guest, GuestNumbers, TotalNumbers, census};
 use page_digest::{FirstByteHash, PageHash, Sha256Hash};
 use refusing::Refusing;
 use std::alloc::Global;
@@ -97,6 +97,11 @@ fn counts<R: Threads + Abort + Sync, H: PageHash>(
 #[test]
 fn by_sha256(rt: HostRuntime) -> Result<(), Fail> {
     counts(&rt, rt.alloc(), &Sha256Hash, 4)
+}
+
+#[test]
+fn by_folding(rt: HostRuntime) -> Result<(), Fail> {
+    counts(&rt, rt.alloc(), &FoldHash, 3)
 }
 
 #[test]
