@@ -36,10 +36,11 @@ fn class_of_next<S: PageSource, A: Allocator>(
 {
     let number = known.classes.len() as u32;
     let bucket = marks[number as usize] % known.heads.len() as u64;
+    let mut is_read = false;
     let mut code = known.heads[bucket as usize];
     while code != 0 {
         let first = code - 1;
-        if is_same_content(guests, marks, own, other, number, first)? {
+        if is_same_content(guests, marks, &mut is_read, own, other, number, first)? {
             return Ok(first);
         }
         code = known.links[first as usize];
