@@ -81,6 +81,16 @@ module _ (bytes : List ℕ) (segments : List Segment) (i : ℕ) (d : Segment) (l
       ∙ taken_apart (segment_pages bytes (get_or segments i d)) (pages_of (drop (i + 1) segments) bytes) skip m run (omega (arith, size, h)) (omega (arith, size, r))
       ∙ ap (λ (xs : List (List ℕ)). take m (drop skip xs)) (sym next)
 
+-- two parts of a run that were read one after the other
+pub both_read : {X : Type 0} (into got rest pages : List X) (n done first left : ℕ) → done ≤ n → length into ≡ n → length got ≡ done → left ≡ n - done
+    → got ≡ take done (drop first pages) → rest ≡ take left (drop (first + done) pages)
+    → take done (got ++ drop done into) ++ (rest ++ drop (length (got ++ drop done into) - done) (drop done (got ++ drop done into))) ≡ take n (drop first pages)
+both_read into got rest pages n done first left h len here e eg er =
+    let size : length (got ++ drop done into) ≡ n = omega (arith, length-append got (drop done into), length-drop done into, h, len, here) in
+    let past : drop (length (got ++ drop done into) - done) (drop done (got ++ drop done into)) ≡ [] = drop_all _ (drop done (got ++ drop done into)) (omega (arith, length-drop done (got ++ drop done into))) in
+    let all : n ≡ done + left = omega (arith, h, e) in
+    rw (past, append-nil rest, take_at got (drop done into) done here, eg, er) (sym (ap (λ (k : ℕ). take k (drop first pages)) all ∙ take-add done left (drop first pages) ∙ ap (λ xs. take done (drop first pages) ++ take left xs) (drop-drop done first pages)))
+
 -- what was read stands behind what was read before
 pub read_on : {X : Type 0} (into new got post later all : List X) (done run : ℕ) → done ≤ length into → length got ≡ run → new ≡ take done into ++ (got ++ post)
     → take done into ++ (got ++ later) ≡ all → take (done + run) new ++ later ≡ all

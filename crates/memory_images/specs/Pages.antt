@@ -12,6 +12,10 @@ filled bytes = bytes ++ replicate (4096 - length bytes) 0
 unfoldable pub page_of : List ℕ → ℕ → List ℕ
 page_of bytes n = filled (take 4096 (drop (4096 * n) bytes))
 
+-- so many pages that are whole, the first from byte `at` on
+abbrev pub pages_at : List ℕ → ℕ → ℕ → List (List ℕ)
+pages_at bytes at count = map (λ n. part bytes (at + 4096 * n) 4096) (range_with_len 0 count)
+
 -- how many pages so many bytes are
 unfoldable pub page_count : ℕ → ℕ
 page_count len = (len + 4095) / 4096
