@@ -3,6 +3,7 @@ ghost use Rattle.std.specs.Prelude.{◌≡◌, ◌<◌, ◌≤◌, ◌^◌, IfOk
 ghost use Rattle.memory_images.specs.Images as said;
 ghost use Rattle.memory_images.specs.Pages.{AreWithin, count_of};
 ghost use Rattle.memory_images.specs.Told.{Tells, HasNoForm};
+ghost use Rattle.memory_images.specs.Views.{reader_of, segments_of};
 
 use crate::elf::{core_segments, read_part};
 use crate::pages::page_count;
@@ -15,8 +16,8 @@ const MAGIC: [u8; 4] = [0x7f, 0x45, 0x4c, 0x46];
 impl<R: ReadAt + Drop, A: Allocator> Image<R, A> {
     /// The image of a raw file, whatever it begins with: page n is its bytes 4096n to 4096n + 4095.
     pub fn raw(alloc: A, reader: R) -> Result<Image<R, A>, ImageFault<R::Fault>>
-        ensures told { Tells (λ image. image.segments.items) result (said.raw_of (R.bytes reader)) }
-        ensures reader { IfOk result (λ image. image.reader ≡ reader) }
+        ensures told { Tells segments_of result (said.raw_of (R.bytes reader)) }
+        ensures reader { IfOk result (λ image. reader_of image ≡ reader) }
     {
         let segments = whole_file(alloc, reader.len())?;
         image_with(reader, segments)
@@ -24,8 +25,8 @@ impl<R: ReadAt + Drop, A: Allocator> Image<R, A> {
 
     /// The image of a file: an ELF core where it begins as an ELF file, and else a raw file.
     pub fn open(alloc: A, reader: R) -> Result<Image<R, A>, ImageFault<R::Fault>>
-        ensures told { R.is_steady reader → Tells (λ image. image.segments.items) result (said.image_of (R.bytes reader)) }
-        ensures reader { IfOk result (λ image. image.reader ≡ reader) }
+        ensures told { R.is_steady reader → Tells segments_of result (said.image_of (R.bytes reader)) }
+        ensures reader { IfOk result (λ image. reader_of image ≡ reader) }
     {
         let segments = file_segments(alloc, &reader)?;
         image_with(reader, segments)
@@ -78,8 +79,8 @@ fn image_with<R: ReadAt + Drop, A: Allocator>(
 ) -> Result<Image<R, A>, ImageFault<R::Fault>>
     requires within { AreWithin (length (R.bytes reader)) segments.items }
     requires fits { length (R.bytes reader) < 2 ^ 64 }
-    ensures told { Tells (λ image. image.segments.items) result (said.few segments.items) }
-    ensures reader { IfOk result (λ image. image.reader ≡ reader) }
+    ensures told { Tells segments_of result (said.few segments.items) }
+    ensures reader { IfOk result (λ image. reader_of image ≡ reader) }
 {
     match count_pages(&segments) {
         Some(count) => Ok(Image {

@@ -1,6 +1,7 @@
 //! An image as a source of pages.
 ghost use Rattle.std.specs.Prelude.{◌≡◌, ◌+◌, ◌≤◌, ◌<◌, ◌^◌, OnOk, length, take, drop};
 ghost use Rattle.memory_images.specs.Pages.{AreWithin, count_of, pages_of};
+ghost use Rattle.memory_images.specs.Views.{reader_of, segments_of};
 
 use crate::pages::{page_count, read_run};
 use crate::{Image, ReadAt, Segment};
@@ -14,9 +15,9 @@ where
 {
     type Fault = R::Fault;
 
-    ghost pages = { λ image. pages_of image.segments.items (R.bytes image.reader) };
+    ghost pages = { λ image. pages_of (segments_of image) (R.bytes (reader_of image)) };
 
-    ghost is_steady = { λ image. R.is_steady image.reader };
+    ghost is_steady = { λ image. R.is_steady (reader_of image) };
 
     fn count(&self) -> u32 {
         self.count
