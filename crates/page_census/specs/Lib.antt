@@ -1,3 +1,4 @@
+pub mod Faults
 pub mod Hashes
 pub mod Marks
 pub mod Parts

@@ -3,9 +3,10 @@ ghost use Rattle.std.specs.Prelude.{◌≡◌, ◌+◌, ◌≤◌, ◌<◌, ◌^
 ghost use Rattle.page_census.specs.Contents.{AreSteady, contents, content_at};
 ghost use Rattle.page_census.specs.Classes.{Classed, TellApart, class_of, headed};
 
+use crate::fault::LookFault;
 use crate::part::new_pages;
 use crate::place::is_same_content;
-use crate::{CensusFault, Guest, PageSource};
+use crate::{Guest, PageSource};
 use page_model::Page;
 use std::alloc::{AllocError, Allocator};
 
@@ -27,7 +28,7 @@ fn class_of_next<S: PageSource, A: Allocator>(
     own: &mut [Page],
     other: &mut [Page],
     known: &Classes<A>,
-) -> Result<u32, CensusFault<S::Fault>>
+) -> Result<u32, LookFault<S::Fault>>
     requires buffers { (length own.old ≡ 1) × (length other.old ≡ 1) }
     requires classed { Classed (AreSteady S.is_steady guests.now) (contents S.pages guests.now) marks.now known.now.classes.items known.now.links.items known.now.heads.items }
     requires more { vec_len known.now.classes < length (contents S.pages guests.now) }
@@ -89,7 +90,7 @@ pub(crate) fn classes_of<S: PageSource, A: Allocator + Clone>(
     alloc: &A,
     guests: &[Guest<S>],
     marks: &[u64],
-) -> Result<Vec<u32, A>, CensusFault<S::Fault>>
+) -> Result<Vec<u32, A>, LookFault<S::Fault>>
     requires count { length marks.now ≡ length (contents S.pages guests.now) }
     requires few { length marks.now < 2 ^ 32 }
     requires apart { AreSteady S.is_steady guests.now → TellApart (contents S.pages guests.now) marks.now }

@@ -4,8 +4,9 @@ ghost use Rattle.page_census.specs.Contents.{contents, content_at, is_same, AreS
 ghost use Rattle.page_census.specs.Classes.{TellApart};
 ghost use Rattle.page_census.specs.Places.{Holds, StandsAt};
 
+use crate::fault::LookFault;
 use crate::part::read_run;
-use crate::{CensusFault, Guest, PageSource};
+use crate::{Guest, PageSource};
 use page_model::Page;
 
 /// A page by its guest's number and its own.
@@ -38,7 +39,7 @@ fn read_once<S: PageSource>(
     place: Place,
     is_read: &mut bool,
     into: &mut [Page],
-) -> Result<(), CensusFault<S::Fault>>
+) -> Result<(), LookFault<S::Fault>>
     requires one { length into.old ≡ 1 }
     requires stands { StandsAt S.pages guests.now number place }
     requires held { Holds (AreSteady S.is_steady guests.now) (contents S.pages guests.now) number is_read.old into.old }
@@ -61,7 +62,7 @@ pub(crate) fn is_same_content<S: PageSource>(
     other: &mut [Page],
     a: u32,
     b: u32,
-) -> Result<bool, CensusFault<S::Fault>>
+) -> Result<bool, LookFault<S::Fault>>
     requires buffers { (length own.old ≡ 1) × (length other.old ≡ 1) }
     requires a_within { a < length (contents S.pages guests.now) }
     requires b_within { b < length (contents S.pages guests.now) }
