@@ -7,3 +7,4 @@ pub mod Classes
 pub mod Places
 pub mod Numbers
 pub mod Counted
+pub mod Keys

@@ -4,7 +4,7 @@ ghost use Rattle.page_census.specs.Contents.{AreSteady, contents};
 ghost use Rattle.page_census.specs.Numbers.{copies_table, numbers_of, sum_alone, total_numbers};
 ghost use Rattle.page_census.specs.declared.fault.CensusFault.{CensusFault};
 
-use crate::classes::classes_of;
+use crate::confirm::find_classes;
 use crate::fault::LookFault;
 use crate::marks::{count_pages, marks_of_all};
 use crate::numbers::{numbers_of, total_of};
@@ -86,7 +86,7 @@ fn count_contents<
     ensures between { IfOk result (λ census. AreSteady S.is_steady guests.now → census.total.reclaimed ≡ census.total.between + sum_alone census.guests.items) }
 {
     let marks = marks_of_all(rt, &alloc, workers, hash, guests, progress, count)?;
-    let classes = classes_of(&alloc, guests, &marks)?;
+    let classes = find_classes(rt, &alloc, workers, guests, &marks)?;
     let tally = count_copies(alloc.clone()?, classes.len(), &classes)?;
     let numbers = numbers_of(&alloc, guests, &tally.copies, &marks, &classes)?;
     let total = total_of(&tally.copies, tally.distinct, &marks, &classes, &numbers);

@@ -5,6 +5,8 @@
 #![tactic(auto)]
 
 mod classes;
+mod compare;
+mod confirm;
 mod count;
 mod fault;
 mod fold_hash;

@@ -2,8 +2,10 @@
 ghost use Rattle.std.specs.Prelude.{◌≡◌, ◌<◌, ◌≤◌, ◌^◌, true, length, slice_index_or, slice_index, IfOk, OnOk};
 ghost use Rattle.page_census.specs.Contents.{contents, content_at, is_same, AreSteady};
 ghost use Rattle.page_census.specs.Classes.{TellApart};
+ghost use Rattle.page_census.specs.Keys.{Sure, keys, seen};
 ghost use Rattle.page_census.specs.Places.{Holds, StandsAt};
 
+use crate::compare::Compare;
 use crate::fault::LookFault;
 use crate::part::read_run;
 use crate::{Guest, PageSource};
@@ -86,4 +88,45 @@ pub(crate) fn is_same_content<S: PageSource>(
     read_once(guests, a, x, is_read, own)?;
     read_run(y.guest, &guests[y.guest], y.page, other)?;
     Ok(own[0] == other[0])
+}
+
+/// Whether two pages, by their numbers among all, have one mark and their guests one salt.
+fn has_same_key<S: PageSource>(guests: &[Guest<S>], marks: &[u64], a: u32, b: u32) -> bool
+    requires a_within { a < length (contents S.pages guests.now) }
+    requires b_within { b < length (contents S.pages guests.now) }
+    requires marked { length marks.now ≡ length (contents S.pages guests.now) }
+    ensures { result ≡ is_same (content_at (keys (contents S.pages guests.now) marks.now) a) (content_at (keys (contents S.pages guests.now) marks.now) b) }
+{
+    if marks[a as usize] != marks[b as usize] {
+        return false;
+    }
+    let x = place_of(guests, a);
+    let y = place_of(guests, b);
+    guests[x.guest].salt == guests[y.guest].salt
+}
+
+/// Whether two pages, by their numbers among all, are the same by what they are to be compared by.
+pub(crate) fn is_same<S: PageSource>(
+    guests: &[Guest<S>],
+    marks: &[u64],
+    by: Compare,
+    is_read: &mut bool,
+    own: &mut [Page],
+    other: &mut [Page],
+    a: u32,
+    b: u32,
+) -> Result<bool, LookFault<S::Fault>>
+    requires buffers { (length own.old ≡ 1) × (length other.old ≡ 1) }
+    requires a_within { a < length (contents S.pages guests.now) }
+    requires b_within { b < length (contents S.pages guests.now) }
+    requires marked { length marks.now ≡ length (contents S.pages guests.now) }
+    requires apart { AreSteady S.is_steady guests.now → TellApart (contents S.pages guests.now) marks.now }
+    requires held { Holds (AreSteady S.is_steady guests.now) (contents S.pages guests.now) a is_read.old own.old }
+    ensures told { IfOk result (λ same. Sure by (AreSteady S.is_steady guests.now) → same ≡ is_same (content_at (seen by (contents S.pages guests.now) marks.now) a) (content_at (seen by (contents S.pages guests.now) marks.now) b)) }
+    ensures held { OnOk result (Holds (AreSteady S.is_steady guests.now) (contents S.pages guests.now) a is_read.new own.new) }
+{
+    match by {
+        Compare::Marks => Ok(has_same_key(guests, marks, a, b)),
+        Compare::Bytes => is_same_content(guests, marks, is_read, own, other, a, b),
+    }
 }

@@ -14,8 +14,8 @@ use Rattle.page_census.proofs.Totals.{table_is, total_is}
 use Rattle.page_census.proofs.Transfer.{all_in, counted_are, tells}
 use Rattle.page_census.proofs.count.count_contents.Goals as goal
 
-pub classes_of-requires-clause-apart : goal.classes_of-requires-clause-apart
-classes_of-requires-clause-apart g c κs within =
+pub find_classes-requires-clause-apart : goal.find_classes-requires-clause-apart
+find_classes-requires-clause-apart g c κs within =
     λ steady. tells g.H.HashFunction.hash_of (contents g.S.PageSource.pages c.args.guests.now) c.deref.result.now (c.deref.ensures.value ∙ c.in_ok-marks.ensures.told steady)
 
 pub returns-clause-guests : goal.returns-clause-guests
