@@ -1,5 +1,5 @@
 -- The pages that segments hold.
-use Rattle.std.specs.Prelude.{ℕ, ◌+◌, ◌-◌, ◌*◌, ◌/◌, ◌≤◌, List, ◌++◌, length, take, drop, map, replicate, flat_map, sum_by, All}
+use Rattle.std.specs.Prelude.{◌≡◌, ℕ, ◌+◌, ◌-◌, ◌*◌, ◌/◌, ◌<◌, ◌≤◌, List, ◌++◌, length, take, drop, map, replicate, flat_map, slice_index, sum_by, All}
 use Rattle.std.specs.List.{range_with_len}
 use Rattle.memory_images.specs.Words.{part}
 use Rattle.memory_images.specs.declared.segment.Segment.{Segment}
@@ -38,3 +38,8 @@ count_of segments = sum_by (λ segment. page_count segment.len) segments
 -- segments are whole within so many bytes
 abbrev pub AreWithin : ℕ → List Segment → Type 0
 AreWithin size segments = All (λ segment. segment.offset + segment.len ≤ size) segments
+
+-- how many pages come before each segment
+pub record AreStarts (segments : List Segment) (starts : List ℕ) : Type 0 where
+  pub len : length starts ≡ length segments
+  pub told : (i : ℕ) → i < length segments → slice_index starts i ≡ count_of (take i segments)

@@ -1,4 +1,4 @@
-use Rattle.std.proofs.Common.{◌≡◌, ◌+◌, length, arith, ◌∙◌}
+use Rattle.std.proofs.Common.{◌+◌, length, arith, ◌∙◌}
 use Rattle.std.proofs.lemmas.List.{length-set}
 use Rattle.memory_images.specs.Words.{part}
 use Rattle.memory_images.specs.Pages.{page_of}

@@ -1,4 +1,4 @@
-use Rattle.std.proofs.Common.{◌≡◌, ◌∙◌, length, arith, rules}
+use Rattle.std.proofs.Common.{◌∙◌, length, arith, rules}
 use Rattle.memory_images.proofs.Cut.{whole_read}
 use Rattle.memory_images.proofs.pages.read_whole.Goals as goal
 
