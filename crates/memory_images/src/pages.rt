@@ -1,5 +1,5 @@
 //! The pages of a segment.
-ghost use Rattle.std.specs.Prelude.{◌≡◌, ◌+◌, ◌*◌, ◌<◌, ◌≤◌, ◌^◌, OnOk, length, take, drop};
+ghost use Rattle.std.specs.Prelude.{◌≡◌, ◌+◌, ◌-◌, ◌*◌, ◌/◌, min, ◌<◌, ◌≤◌, ◌^◌, OnOk, length, take, drop};
 ghost use Rattle.memory_images.specs.Pages.{page_count, page_of, segment_pages};
 ghost use Rattle.memory_images.specs.Words.{part};
 
@@ -63,9 +63,8 @@ pub(crate) fn read_run<R: ReadAt>(
 
 /// How many of so many pages of a segment, from page `first` on, are whole.
 fn whole_pages(segment: Segment, first: u32, count: usize) -> usize
-    requires { first + count < 4294967296 }
-    ensures few { result ≤ count }
-    ensures whole { 0 < result → 4096 * (first + result) ≤ segment.len }
+    requires { count < 4294967296 }
+    ensures { result ≡ min (segment.len / 4096 - first) count }
 {
     let pages = segment.len / PAGE_BYTES as u64;
     pages.saturating_sub(u64::from(first)).min(count as u64) as usize

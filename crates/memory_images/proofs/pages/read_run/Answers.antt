@@ -8,7 +8,7 @@ pub returns : goal.returns
 returns g c = λ steady.
     let into = c.args.into.now in
     let whole : ℕ = c.whole_pages-whole.result in
-    let few : whole ≤ length into = c.whole_pages-whole.ensures.few in
+    let few : whole ≤ length into = omega (arith, c.whole_pages-whole.ensures) in
     let pages : List (List ℕ) = segment_pages (g.R.ReadAt.bytes c.args.reader.now) c.args.segment in
     let cut : length (take whole into) ≡ whole = omega (arith, length-take whole into, few) in
     let here : length c.read_whole.new.into ≡ whole = omega (arith, c.read_whole.auto.into, cut) in
