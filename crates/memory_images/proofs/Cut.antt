@@ -1,11 +1,11 @@
 -- Pages that are cut out of bytes.
-use Rattle.std.proofs.Common.{◌≡◌, ℕ, ◌+◌, ◌-◌, ◌*◌, ◌/◌, min, ◌<◌, ◌≤◌, ◌⊎◌, inl, inr, List, [], ◌∷◌, ◌++◌, length, take, drop, map, set, get_or, replicate, refl, ap, sym, ◌∙◌, arith, length-append, append-nil, rules}
+use Rattle.std.proofs.Common.{◌≡◌, ℕ, ◌+◌, ◌-◌, ◌*◌, min, ◌<◌, ◌≤◌, ◌⊎◌, inl, inr, List, [], ◌++◌, length, take, drop, map, set, get_or, replicate, refl, ap, sym, ◌∙◌, arith, append-nil}
 use Rattle.std.specs.List.{range_with_len}
 use Rattle.std.proofs.lemmas.Bool.{cases_eq}
 use Rattle.std.proofs.lemmas.List.{length-take, length-drop, length-take-le, take-take, take_all, drop-take, drop-drop, drop_all, drop-replicate, get_or-take, get_or-drop, get_or-set_same, get_or-set_other, ext_get_or}
 use Rattle.std.proofs.lemmas.List.FromFn.{length-map-range_with_len, get_or-map-range_with_len}
 use Rattle.memory_images.specs.Words.{part}
-use Rattle.memory_images.specs.Pages.{filled, page_of, page_count, segment_pages, pages_in}
+use Rattle.memory_images.specs.Pages.{filled, page_of, page_count, segment_pages, pages_at}
 use Rattle.memory_images.specs.declared.segment.Segment.{Segment}
 
 pub length-part : (bytes : List ℕ) (at len : ℕ) → at + len ≤ length bytes → length (part bytes at len) ≡ len
@@ -15,6 +15,14 @@ length-part bytes at len h = length-take-le len (drop at bytes) (omega (arith, l
 pub begins_before : (len n : ℕ) → n < page_count len → 4096 * n < len
 unfolding page_count
 begins_before len n h = omega arith
+
+counted_in : (len n : ℕ) → 4096 * (n + 1) ≤ len → n < page_count len
+unfolding page_count
+counted_in len n h = omega (arith, h)
+
+counted_all : (len n : ℕ) → 4096 * n ≤ len → n ≤ page_count len
+unfolding page_count
+counted_all len n h = omega (arith, h)
 
 -- the bytes of a page of a segment, in the file
 cut_len : (bytes : List ℕ) (start m l : ℕ) → l ≡ min m 4096 → take 4096 (take m (drop start bytes)) ≡ take l (drop start bytes)
@@ -53,10 +61,10 @@ page_read bytes old here at len n l m p w there e lo z em ep is =
     ap (λ (xs : List ℕ). xs ++ drop l old) same ∙ ap (λ (xs : List ℕ). cut ++ xs) (zeros_left old l (omega (arith, e)) lo z ∙ ap (λ (k : ℕ). replicate (4096 - k) 0) (sym long)) ∙ ap filled (sym (cut_out bytes at len n l before e))
 
 -- a run of pages that was read one by one
-pub one_more : (f : ℕ → List ℕ) (first i : ℕ) (into : List (List ℕ)) (x : List ℕ) → i < length into → x ≡ f (first + i)
-    → ((k : ℕ) → k < i → get_or into k [] ≡ f (first + k)) → (k : ℕ) → k < i + 1 → get_or (set into i x) k [] ≡ f (first + k)
-one_more f first i into x l e h k kl = more_cases (cases_eq k i) where
-  more_cases : (k ≡ i) ⊎ (k ≡ i → ⊥) → get_or (set into i x) k [] ≡ f (first + k)
+pub one_more : (f : ℕ → List ℕ) (i : ℕ) (into : List (List ℕ)) (x : List ℕ) → i < length into → x ≡ f i
+    → ((k : ℕ) → k < i → get_or into k [] ≡ f k) → (k : ℕ) → k < i + 1 → get_or (set into i x) k [] ≡ f k
+one_more f i into x l e h k kl = more_cases (cases_eq k i) where
+  more_cases : (k ≡ i) ⊎ (k ≡ i → ⊥) → get_or (set into i x) k [] ≡ f k
   more_cases (inl is) = rw is (get_or-set_same into i x [] l ∙ e)
   more_cases (inr other) = get_or-set_other into i k x [] other ∙ h k (omega (arith, kl, other))
 
@@ -77,6 +85,22 @@ unfolding segment_pages
 run_read bytes segment first n into w p len h =
     let long : length (part bytes segment.offset segment.len) ≡ segment.len = length-part bytes segment.offset segment.len w in
     run_is (page_of (part bytes segment.offset segment.len)) (page_count (length (part bytes segment.offset segment.len))) first n into (rw long p) len h
+
+-- a run of whole pages that was read at once
+whole_page : (bytes : List ℕ) (at len n p : ℕ) → at + len ≤ length bytes → 4096 * (n + 1) ≤ len → p ≡ at + 4096 * n → part bytes p 4096 ≡ page_of (part bytes at len) n
+whole_page bytes at len n p w h e =
+    let here : List ℕ = part bytes p 4096 in
+    let there : n < page_count len = counted_in len n h in
+    let size : length here ≡ 4096 = length-part bytes p 4096 (omega (arith, w, h, e)) in
+    sym (append-nil here) ∙ ap (λ (xs : List ℕ). here ++ xs) (sym (drop_all 4096 here (omega (arith, size))))
+    ∙ page_read bytes here here at len n 4096 4096 p w there (omega (arith, h)) size (λ l. absurd (omega (arith, l))) refl e refl
+
+pub whole_read : (bytes : List ℕ) (segment : Segment) (first n at : ℕ) → segment.offset + segment.len ≤ length bytes → 4096 * (first + n) ≤ segment.len → at ≡ segment.offset + 4096 * first
+    → pages_at bytes at n ≡ take n (drop first (segment_pages bytes segment))
+whole_read bytes segment first n at w h e =
+    let f : ℕ → List ℕ = λ k. part bytes (at + 4096 * k) 4096 in
+    run_read bytes segment first n (map f (range_with_len 0 n)) w (counted_all segment.len (first + n) h) (length-map-range_with_len f 0 n) (λ k l.
+    get_or-map-range_with_len f 0 n k k [] l (omega arith) ∙ whole_page bytes segment.offset segment.len (first + k) (at + 4096 * k) w (omega (arith, h, l)) (omega (arith, e)))
 
 pub length-segment_pages : (bytes : List ℕ) (segment : Segment) → segment.offset + segment.len ≤ length bytes → length (segment_pages bytes segment) ≡ page_count segment.len
 unfolding segment_pages

@@ -1,10 +1,10 @@
 -- Pages of one segment after the other.
-use Rattle.std.proofs.Common.{◌≡◌, ℕ, ◌+◌, ◌-◌, min, ◌<◌, ◌≤◌, ◌⊎◌, inl, inr, List, [], ◌∷◌, ◌++◌, length, take, drop, get_or, refl, ap, sym, ◌∙◌, arith, append_assoc, length-append, append-nil, rules}
-use Rattle.std.specs.Prelude.{All, flat_map, sum_by}
+use Rattle.std.proofs.Common.{◌≡◌, ℕ, ◌+◌, ◌-◌, ◌^◌, min, ◌<◌, ◌≤◌, ◌⊎◌, inl, inr, List, [], ◌∷◌, ◌++◌, length, take, drop, get_or, refl, ap, sym, ◌∙◌, arith, append_assoc, length-append, append-nil, rules}
 use Rattle.std.proofs.lemmas.Bool.{cases_eq}
-use Rattle.std.proofs.lemmas.List.{length-take, length-drop, take_all, drop_all, take-append-le, drop-append-le, drop-drop, drop_at, take_at, at_drop_more}
-use Rattle.std.proofs.lemmas.List.Elements.{All-head, All-tail}
-use Rattle.std.proofs.lemmas.List.Sums.{sum_by-cons}
+use Rattle.std.proofs.lemmas.List.{length-take, length-drop, take_all, drop_all, take-append-le, drop-append-le, drop-drop, drop_at, take_at, at_drop_more, take-append-drop}
+use Rattle.std.proofs.lemmas.List.Concat.{flat_map-append}
+use Rattle.std.proofs.lemmas.List.Elements.{All-head, All-tail, All-take}
+use Rattle.std.proofs.lemmas.List.Sums.{sum_by-cons, sum_by-take-drop}
 use Rattle.std.proofs.Math.Seq.{take-add}
 use Rattle.memory_images.specs.Pages.{page_count, segment_pages, pages_of, count_of, AreWithin}
 use Rattle.memory_images.specs.declared.segment.Segment.{Segment}
@@ -81,6 +81,16 @@ module _ (bytes : List ℕ) (segments : List Segment) (i : ℕ) (d : Segment) (l
       ∙ taken_apart (segment_pages bytes (get_or segments i d)) (pages_of (drop (i + 1) segments) bytes) skip m run (omega (arith, size, h)) (omega (arith, size, r))
       ∙ ap (λ (xs : List (List ℕ)). take m (drop skip xs)) (sym next)
 
+-- two parts of a run that were read one after the other
+pub both_read : {X : Type 0} (into got rest pages : List X) (n done first left : ℕ) → done ≤ n → length into ≡ n → length got ≡ done → left ≡ n - done
+    → got ≡ take done (drop first pages) → rest ≡ take left (drop (first + done) pages)
+    → take done (got ++ drop done into) ++ (rest ++ drop (length (got ++ drop done into) - done) (drop done (got ++ drop done into))) ≡ take n (drop first pages)
+both_read into got rest pages n done first left h len here e eg er =
+    let size : length (got ++ drop done into) ≡ n = omega (arith, length-append got (drop done into), length-drop done into, h, len, here) in
+    let past : drop (length (got ++ drop done into) - done) (drop done (got ++ drop done into)) ≡ [] = drop_all _ (drop done (got ++ drop done into)) (omega (arith, length-drop done (got ++ drop done into))) in
+    let all : n ≡ done + left = omega (arith, h, e) in
+    rw (past, append-nil rest, take_at got (drop done into) done here, eg, er) (sym (ap (λ (k : ℕ). take k (drop first pages)) all ∙ take-add done left (drop first pages) ∙ ap (λ xs. take done (drop first pages) ++ take left xs) (drop-drop done first pages)))
+
 -- what was read stands behind what was read before
 pub read_on : {X : Type 0} (into new got post later all : List X) (done run : ℕ) → done ≤ length into → length got ≡ run → new ≡ take done into ++ (got ++ post)
     → take done into ++ (got ++ later) ≡ all → take (done + run) new ++ later ≡ all
@@ -90,3 +100,22 @@ read_on into new got post later all done run h len is told =
     let placed : take (done + run) new ≡ take done into ++ got =
     ap (take (done + run)) is ∙ take_past (take done into) (got ++ post) (done + run) (omega (arith, before)) ∙ ap (λ (k : ℕ). take done into ++ take k (got ++ post)) rest ∙ ap (λ xs. take done into ++ xs) (take_at got post run len) in
     ap (λ xs. xs ++ later) placed ∙ append_assoc (take done into) got later ∙ told
+
+module _ (bytes : List ℕ) (segments : List Segment) (k start : ℕ) (W : AreWithin (length bytes) segments) (is : start ≡ count_of (take k segments)) where
+  parted : pages_of segments bytes ≡ pages_of (take k segments) bytes ++ pages_of (drop k segments) bytes
+  parted = ap (λ (ss : List Segment). pages_of ss bytes) (sym (take-append-drop k segments)) ∙ flat_map-append (segment_pages bytes) (take k segments) (drop k segments)
+
+  before : length (pages_of (take k segments) bytes) ≡ start
+  before = length-pages_of bytes (take k segments) (All-take (λ (segment : Segment). segment.offset + segment.len ≤ length bytes) k segments W) ∙ sym is
+
+  -- pages from the segment on, whose number and whose place are those among all
+  pub later_left : length (pages_of segments bytes) ≡ start + length (pages_of (drop k segments) bytes)
+  later_left = ap length parted ∙ length-append (pages_of (take k segments) bytes) (pages_of (drop k segments) bytes) ∙ ap (λ (n : ℕ). n + length (pages_of (drop k segments) bytes)) before
+
+  pub later_told : (first n : ℕ) → start ≤ first → take n (drop (first - start) (pages_of (drop k segments) bytes)) ≡ take n (drop first (pages_of segments bytes))
+  later_told first n h =
+      ap (take n) (ap (λ (m : ℕ). drop (first - m) (pages_of (drop k segments) bytes)) (sym before)
+      ∙ sym (drop_past (pages_of (take k segments) bytes) (pages_of (drop k segments) bytes) first (omega (arith, before, h))) ∙ ap (drop first) (sym parted))
+
+  pub later_few : count_of segments < 2 ^ 32 → count_of (drop k segments) < 2 ^ 32
+  later_few h = omega (arith, h, sum_by-take-drop (λ (segment : Segment). page_count segment.len) segments k)

@@ -3,3 +3,4 @@ pub mod Pages
 pub mod Headers
 pub mod Images
 pub mod Told
+pub mod Views

@@ -1,5 +1,5 @@
 -- The pages that segments hold.
-use Rattle.std.specs.Prelude.{ℕ, ◌+◌, ◌-◌, ◌*◌, ◌/◌, ◌≤◌, List, ◌++◌, length, take, drop, map, replicate, flat_map, sum_by, All}
+use Rattle.std.specs.Prelude.{◌≡◌, ℕ, ◌+◌, ◌-◌, ◌*◌, ◌/◌, ◌<◌, ◌≤◌, List, ◌++◌, length, take, drop, map, replicate, flat_map, slice_index, sum_by, All}
 use Rattle.std.specs.List.{range_with_len}
 use Rattle.memory_images.specs.Words.{part}
 use Rattle.memory_images.specs.declared.segment.Segment.{Segment}
@@ -11,6 +11,10 @@ filled bytes = bytes ++ replicate (4096 - length bytes) 0
 -- page n is bytes 4096n to 4096n + 4095
 unfoldable pub page_of : List ℕ → ℕ → List ℕ
 page_of bytes n = filled (take 4096 (drop (4096 * n) bytes))
+
+-- so many pages that are whole, the first from byte `at` on
+abbrev pub pages_at : List ℕ → ℕ → ℕ → List (List ℕ)
+pages_at bytes at count = map (λ n. part bytes (at + 4096 * n) 4096) (range_with_len 0 count)
 
 -- how many pages so many bytes are
 unfoldable pub page_count : ℕ → ℕ
@@ -34,3 +38,8 @@ count_of segments = sum_by (λ segment. page_count segment.len) segments
 -- segments are whole within so many bytes
 abbrev pub AreWithin : ℕ → List Segment → Type 0
 AreWithin size segments = All (λ segment. segment.offset + segment.len ≤ size) segments
+
+-- how many pages come before each segment
+pub record AreStarts (segments : List Segment) (starts : List ℕ) : Type 0 where
+  pub len : length starts ≡ length segments
+  pub told : (i : ℕ) → i < length segments → slice_index starts i ≡ count_of (take i segments)

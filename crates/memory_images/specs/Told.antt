@@ -1,10 +1,8 @@
 -- How what the code answers is compared with what the definitions say.
-use Rattle.std.specs.Prelude.{◌≡◌, List, Result, Ok, Err}
+use Rattle.std.specs.Prelude.{◌≡◌, Result, Ok, Err}
 use Rattle.memory_images.specs.declared.fault.FormFault.{FormFault}
 use Rattle.memory_images.specs.declared.fault.ImageFault.{ImageFault}
 use Rattle.memory_images.specs.declared.fault.ImageFault.TheVariants as faults
-use Rattle.memory_images.specs.declared.image.Image.{Image}
-use Rattle.memory_images.specs.declared.segment.Segment.{Segment}
 
 -- a call fails for want of memory or by a failed read, or with the fault that the form has
 abbrev pub Fails : {Y F : Type 0} → ImageFault F → Result Y FormFault → Type 0

@@ -2,6 +2,7 @@
 ghost use Rattle.std.specs.Prelude.{replicate};
 
 use crate::ReadAt;
+use page_model::Page;
 use std::fs::File;
 use std::io;
 use std::os::unix::fs::FileExt;
@@ -36,5 +37,9 @@ impl ReadAt for FileBytes {
 
     fn read_at(&self, at: u64, into: &mut [u8]) -> io::Result<()> {
         self.file.read_exact_at(into, at)
+    }
+
+    fn read_pages_at(&self, at: u64, into: &mut [Page]) -> io::Result<()> {
+        self.file.read_exact_at(into.as_flattened_mut(), at)
     }
 }

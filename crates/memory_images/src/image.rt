@@ -1,5 +1,5 @@
 ghost use Rattle.std.specs.Prelude.{◌≡◌, ◌<◌, ◌^◌, length};
-ghost use Rattle.memory_images.specs.Pages.{AreWithin, count_of};
+ghost use Rattle.memory_images.specs.Pages.{AreStarts, AreWithin, count_of};
 
 use crate::{ReadAt, Segment};
 use std::alloc::{Allocator, Global};
@@ -9,9 +9,12 @@ use std::alloc::{Allocator, Global};
 pub struct Image<R: ReadAt, A: Allocator = Global> {
     pub(crate) reader: R,
     pub(crate) segments: Vec<Segment, A>,
+    /// How many pages come before each segment.
+    pub(crate) starts: Vec<u32, A>,
     pub(crate) count: u32,
     ghost within: { AreWithin (length (R.bytes reader)) segments.items },
     ghost fits: { length (R.bytes reader) < 2 ^ 64 },
     ghost few: { count_of segments.items < 2 ^ 32 },
+    ghost begun: { AreStarts segments.items starts.items },
     ghost counted: { count ≡ count_of segments.items },
 }

@@ -1,8 +1,9 @@
 //! Images of files.
 ghost use Rattle.std.specs.Prelude.{◌≡◌, ◌<◌, ◌≤◌, ◌^◌, IfOk, IfErr, OnOk, Some, None, length};
 ghost use Rattle.memory_images.specs.Images as said;
-ghost use Rattle.memory_images.specs.Pages.{AreWithin, count_of};
+ghost use Rattle.memory_images.specs.Pages.{AreStarts, AreWithin, count_of};
 ghost use Rattle.memory_images.specs.Told.{Tells, HasNoForm};
+ghost use Rattle.memory_images.specs.Views.{reader_of, segments_of};
 
 use crate::elf::{core_segments, read_part};
 use crate::pages::page_count;
@@ -12,23 +13,23 @@ use std::alloc::{AllocError, Allocator};
 /// What an ELF file begins with.
 const MAGIC: [u8; 4] = [0x7f, 0x45, 0x4c, 0x46];
 
-impl<R: ReadAt + Drop, A: Allocator> Image<R, A> {
+impl<R: ReadAt + Drop, A: Allocator + Clone> Image<R, A> {
     /// The image of a raw file, whatever it begins with: page n is its bytes 4096n to 4096n + 4095.
     pub fn raw(alloc: A, reader: R) -> Result<Image<R, A>, ImageFault<R::Fault>>
-        ensures told { Tells (λ image. image.segments.items) result (said.raw_of (R.bytes reader)) }
-        ensures reader { IfOk result (λ image. image.reader ≡ reader) }
+        ensures told { Tells segments_of result (said.raw_of (R.bytes reader)) }
+        ensures reader { IfOk result (λ image. reader_of image ≡ reader) }
     {
-        let segments = whole_file(alloc, reader.len())?;
-        image_with(reader, segments)
+        let segments = whole_file(alloc.clone()?, reader.len())?;
+        image_with(alloc, reader, segments)
     }
 
     /// The image of a file: an ELF core where it begins as an ELF file, and else a raw file.
     pub fn open(alloc: A, reader: R) -> Result<Image<R, A>, ImageFault<R::Fault>>
-        ensures told { R.is_steady reader → Tells (λ image. image.segments.items) result (said.image_of (R.bytes reader)) }
-        ensures reader { IfOk result (λ image. image.reader ≡ reader) }
+        ensures told { R.is_steady reader → Tells segments_of result (said.image_of (R.bytes reader)) }
+        ensures reader { IfOk result (λ image. reader_of image ≡ reader) }
     {
-        let segments = file_segments(alloc, &reader)?;
-        image_with(reader, segments)
+        let segments = file_segments(alloc.clone()?, &reader)?;
+        image_with(alloc, reader, segments)
     }
 }
 
@@ -73,22 +74,25 @@ fn whole_file<A: Allocator>(alloc: A, len: u64) -> Result<Vec<Segment, A>, Alloc
 
 /// The image of these segments, where they aren't too many pages.
 fn image_with<R: ReadAt + Drop, A: Allocator>(
+    alloc: A,
     reader: R,
     segments: Vec<Segment, A>,
 ) -> Result<Image<R, A>, ImageFault<R::Fault>>
     requires within { AreWithin (length (R.bytes reader)) segments.items }
     requires fits { length (R.bytes reader) < 2 ^ 64 }
-    ensures told { Tells (λ image. image.segments.items) result (said.few segments.items) }
-    ensures reader { IfOk result (λ image. image.reader ≡ reader) }
+    ensures told { Tells segments_of result (said.few segments.items) }
+    ensures reader { IfOk result (λ image. reader_of image ≡ reader) }
 {
-    match count_pages(&segments) {
-        Some(count) => Ok(Image {
-            reader,
-            segments,
-            count,
-        }),
-        None => Err(ImageFault::Form(FormFault::TooManyPages)),
-    }
+    let Some(count) = count_pages(&segments) else {
+        return Err(ImageFault::Form(FormFault::TooManyPages));
+    };
+    let starts = starts_of(alloc, &segments)?;
+    Ok(Image {
+        reader,
+        segments,
+        starts,
+        count,
+    })
 }
 
 /// How many pages segments hold; `None` where more than 4,294,967,295.
@@ -103,4 +107,18 @@ fn count_pages(segments: &[Segment]) -> Option<u32>
         }
     }
     Some(count as u32)
+}
+
+/// How many pages come before each segment.
+fn starts_of<A: Allocator>(alloc: A, segments: &[Segment]) -> Result<Vec<u32, A>, AllocError>
+    requires few { count_of segments.now < 2 ^ 32 }
+    ensures { IfOk result (λ starts. AreStarts segments.now starts.items) }
+{
+    let mut starts = Vec::with_capacity(alloc, segments.len())?;
+    let mut count = 0;
+    for segment in segments {
+        starts.push_reserved(count);
+        count += page_count(segment.len) as u32;
+    }
+    Ok(starts)
 }

@@ -1,5 +1,5 @@
 //! The pages of a segment.
-ghost use Rattle.std.specs.Prelude.{◌≡◌, ◌+◌, ◌<◌, ◌≤◌, ◌^◌, OnOk, length, take, drop};
+ghost use Rattle.std.specs.Prelude.{◌≡◌, ◌+◌, ◌-◌, ◌*◌, ◌/◌, min, ◌<◌, ◌≤◌, ◌^◌, OnOk, length, take, drop};
 ghost use Rattle.memory_images.specs.Pages.{page_count, page_of, segment_pages};
 ghost use Rattle.memory_images.specs.Words.{part};
 
@@ -42,8 +42,56 @@ pub(crate) fn read_page<R: ReadAt>(
     Ok(())
 }
 
-/// Reads as many pages of a segment as the list has, from page `first` on.
+/// Reads as many pages of a segment as the list has, from page `first` on: those that are whole at once.
 pub(crate) fn read_run<R: ReadAt>(
+    reader: &R,
+    segment: Segment,
+    first: u32,
+    into: &mut [Page],
+) -> Result<(), R::Fault>
+    requires within { segment.offset + segment.len ≤ length (R.bytes reader.now) }
+    requires size { length (R.bytes reader.now) < 2 ^ 64 }
+    requires pages { first + length into.old ≤ page_count segment.len }
+    requires fits { first + length into.old < 4294967296 }
+    ensures { OnOk result (R.is_steady reader.now → into.new ≡ take (length into.old) (drop first (segment_pages (R.bytes reader.now) segment))) }
+{
+    let whole = whole_pages(segment, first, into.len());
+    read_whole(reader, segment, first, &mut into[..whole])?;
+    read_each(reader, segment, first + whole as u32, &mut into[whole..])?;
+    Ok(())
+}
+
+/// How many of so many pages of a segment, from page `first` on, are whole.
+fn whole_pages(segment: Segment, first: u32, count: usize) -> usize
+    requires { count < 4294967296 }
+    ensures { result ≡ min (segment.len / 4096 - first) count }
+{
+    let pages = segment.len / PAGE_BYTES as u64;
+    pages.saturating_sub(u64::from(first)).min(count as u64) as usize
+}
+
+/// Reads as many pages of a segment as the list has, from page `first` on, all of which are whole.
+fn read_whole<R: ReadAt>(
+    reader: &R,
+    segment: Segment,
+    first: u32,
+    into: &mut [Page],
+) -> Result<(), R::Fault>
+    requires within { segment.offset + segment.len ≤ length (R.bytes reader.now) }
+    requires size { length (R.bytes reader.now) < 2 ^ 64 }
+    requires whole { 0 < length into.old → 4096 * (first + length into.old) ≤ segment.len }
+    ensures { OnOk result (R.is_steady reader.now → into.new ≡ take (length into.old) (drop first (segment_pages (R.bytes reader.now) segment))) }
+{
+    if into.is_empty() {
+        return Ok(());
+    }
+    let start = u64::from(first) * PAGE_BYTES as u64;
+    reader.read_pages_at(segment.offset + start, into)?;
+    Ok(())
+}
+
+/// The same one by one, a last part filled up.
+fn read_each<R: ReadAt>(
     reader: &R,
     segment: Segment,
     first: u32,

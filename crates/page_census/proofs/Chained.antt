@@ -90,7 +90,7 @@ module _ (steady : Type 0) (all : List Content) (marks classes links heads : Lis
         is = is;
         passed = λ s j low high own same.
             skipped marks classes (length heads) bucket number j (omega (arith, is)) high own
-            (ap (λ (m : ℕ). m % length heads) ((known.apart s).equal j number (omega arith) more same));
+            (ap (λ (m : ℕ). m % length heads) (known.alike s j number (omega arith) more same));
       }
 
   module _ (code : ℕ) (walk : Walks steady all marks classes (length heads) number code) where
@@ -111,7 +111,7 @@ module _ (steady : Type 0) (all : List Content) (marks classes links heads : Lis
           passed = λ s j low high own same. ⊎_elim
               (λ here. both_ways _ (other s) (let at : content_at all number ≡ content_at all first = sym same ∙ ap (content_at all) here in rw at (is_itself (content_at all first))))
               (λ o. ⊎_elim
-              (λ lt. skipped marks classes (length heads) bucket first j (omega (arith, is)) lt own (ap (λ (m : ℕ). m % length heads) ((known.apart s).equal j number (omega arith) more same)))
+              (λ lt. skipped marks classes (length heads) bucket first j (omega (arith, is)) lt own (ap (λ (m : ℕ). m % length heads) (known.alike s j number (omega arith) more same)))
               (λ gt. walk.passed s j (omega arith) high own same) o)
               (cases_order j first);
         }

@@ -1,6 +1,7 @@
 pub mod Blank
 pub mod Marked
 pub mod Chained
+pub mod Keyed
 pub mod Noted
 pub mod Tallied
 pub mod Gathered

@@ -2,6 +2,7 @@
 use Rattle.std.proofs.Common.{◌≡◌, ℕ, ◌+◌, ◌*◌, ◌/◌, ◌%◌, min, ◌<◌, ◌≤◌, List, [], ◌∷◌, ◌++◌, length, take, drop, get_or, refl, ap, sym, ◌∙◌, arith, append_assoc, length-append}
 use Rattle.std.proofs.lemmas.List.{drop-drop, map-append, get_or_at, length_push}
 use Rattle.std.proofs.Math.Seq.{take-add}
+use Rattle.std.proofs.Math.Nat.{mul-le-mul_left}
 use Rattle.std.proofs.lemmas.Grind.{div_ceil_times}
 use Rattle.page_census.specs.Marks.{mark, marks_of}
 use Rattle.page_census.specs.Parts.{part_of}
@@ -43,3 +44,10 @@ module _ {X : Type 0} (size : ℕ) (pages : List (List ℕ)) (done : List X) (on
 -- so many parts of this size cover all
 pub parts_cover : (count size parts : ℕ) → 0 < size → parts ≡ count / size + min 1 (count % size) → count ≤ size * parts
 parts_cover count size parts some e = let whole = (div_ceil_times count size some).0 in rw e (omega (arith, whole))
+
+-- and each of them begins within
+pub part_begins : (count size parts i : ℕ) → 0 < size → parts ≡ count / size + min 1 (count % size) → i < parts → size * i < count
+part_begins count size parts i some e lt =
+    let most : (count / size + min 1 (count % size)) * size < count + size = (div_ceil_times count size some).1 in
+    let more : size * (i + 1) ≤ size * (count / size + min 1 (count % size)) = mul-le-mul_left {m = i + 1} {n = count / size + min 1 (count % size)} size (omega (arith, e, lt)) in
+    omega (arith, most, more)

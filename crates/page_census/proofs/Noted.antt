@@ -1,9 +1,25 @@
 -- The classes after the next page came.
-use Rattle.std.proofs.Common.{◌≡◌, ℕ, zero, suc, ◌+◌, ◌%◌, ◌<◌, ◌≤◌, Bool, true, false, ◌&&◌, cond, List, [], ◌∷◌, ◌++◌, length, take, get_or, set, eqb, map, refl, sym, ap, subst, ◌∙◌, ⊎_elim, arith, add-one}
+use Rattle.std.proofs.Common.{◌≡◌, ℕ, zero, suc, ◌+◌, ◌%◌, ◌^◌, ◌<◌, ◌≤◌, Bool, true, false, ◌&&◌, cond, List, [], ◌∷◌, ◌++◌, length, take, get_or, set, eqb, map, replicate, refl, sym, ap, subst, ◌∙◌, ⊎_elim, arith, add-one}
 use Rattle.std.proofs.lemmas.Bool.{eqb-true, eqb-false, cases_lt}
-use Rattle.std.proofs.lemmas.List.{get_or_append_left, get_or_push, get_or-set_same, get_or-set_other, length-set, length_push, map_more}
+use Rattle.std.proofs.lemmas.List.{get_or_append_left, get_or_push, get_or-replicate, get_or-set_same, get_or-set_other, length-replicate, length-set, length_push, map_more}
 use Rattle.page_census.specs.Contents.{Content, content_at}
-use Rattle.page_census.specs.Classes.{Classed, class_of, headed, last_in}
+use Rattle.page_census.specs.Classes.{AreAlike, Classed, class_of, headed, last_in}
+
+-- before the first page came
+pub none_known : (steady : Type 0) (all : List Content) (marks heads : List ℕ) (n : ℕ) → length marks ≡ length all → length all < 2 ^ 32 → (steady → AreAlike all marks) → heads ≡ replicate (n + 1) 0
+    → Classed steady all marks [] [] heads
+none_known steady all marks heads n count few alike e = record {
+  count = count;
+  few = few;
+  done = omega arith;
+  linked = refl;
+  buckets = let size : length heads ≡ n + 1 = ap length e ∙ length-replicate (n + 1) 0 in omega (arith, size);
+  heads_are = λ bucket lt. ap (λ (hs : List ℕ). get_or hs bucket 0) e ∙ get_or-replicate (n + 1) bucket 0 0 (let size : length heads ≡ n + 1 = ap length e ∙ length-replicate (n + 1) 0 in omega (arith, size, lt));
+  links_are = λ k lt. absurd (omega (arith, lt));
+  below = λ k lt. absurd (omega (arith, lt));
+  alike = alike;
+  told = λ s. refl;
+}
 
 -- one class more changes no earlier first page
 stays : (marks classes : List ℕ) (class buckets bucket n : ℕ) → n ≤ length classes → last_in marks (classes ++ class ∷ []) buckets bucket n ≡ last_in marks classes buckets bucket n
@@ -62,7 +78,7 @@ module _ (steady : Type 0) (all : List Content) (marks classes links heads : Lis
             (λ early. rw (get_or_append_left classes (class ∷ []) 0 n early) (known.below n early))
             (λ late. let here : n ≡ number = omega (arith, grown) in let P : ℕ → Type 0 = λ n. get_or (classes ++ class ∷ []) n 0 ≤ n in subst P (sym here) (rw (get_or_push classes class 0 number refl) low))
             (cases_lt n number);
-        apart = known.apart;
+        alike = known.alike;
         told = λ s.
             let before = known.told s in
             let one : map (class_of all) (take (number + 1) all) ≡ map (class_of all) (take number all) ++ class_of all (content_at all number) ∷ [] = map_more (class_of all) all number (0, []) more in

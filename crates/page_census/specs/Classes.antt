@@ -8,9 +8,13 @@ use Rattle.page_census.specs.Contents.{Content, is_same, content_at}
 abbrev pub class_of : List Content → Content → ℕ
 class_of all content = position_or_len (is_same content) all
 
+-- equal contents have equal marks
+abbrev pub AreAlike : List Content → List ℕ → Type 0
+AreAlike all marks = (i j : ℕ) → i < length all → j < length all → content_at all i ≡ content_at all j → slice_index marks i ≡ slice_index marks j
+
 -- equal contents have equal marks, and what has the mark 0 is zeros
 pub record TellApart (all : List Content) (marks : List ℕ) : Type 0 where
-  pub equal : (i j : ℕ) → i < length all → j < length all → content_at all i ≡ content_at all j → slice_index marks i ≡ slice_index marks j
+  pub equal : AreAlike all marks
   pub zeros : (i : ℕ) → i < length all → slice_index marks i ≡ 0 → (content_at all i).1 ≡ blank
 
 -- One more than the number of the last page before n that is the first of its class and whose mark falls into this
@@ -31,7 +35,7 @@ pub record Classed (steady : Type 0) (all : List Content) (marks classes links h
   pub heads_are : (bucket : ℕ) → bucket < length heads → slice_index heads bucket ≡ last_in marks classes (length heads) bucket (length classes)
   pub links_are : (n : ℕ) → n < length classes → slice_index links n ≡ last_in marks classes (length heads) (slice_index marks n % length heads) n
   pub below : (n : ℕ) → n < length classes → slice_index classes n ≤ n
-  pub apart : steady → TellApart all marks
+  pub alike : steady → AreAlike all marks
   pub told : steady → classes ≡ map (class_of all) (take (length classes) all)
 
 -- the heads after a page of this class came, whose mark falls into this bucket

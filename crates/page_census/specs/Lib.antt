@@ -1,3 +1,5 @@
+pub mod Faults
+pub mod Hashes
 pub mod Marks
 pub mod Parts
 pub mod Contents
@@ -5,3 +7,4 @@ pub mod Classes
 pub mod Places
 pub mod Numbers
 pub mod Counted
+pub mod Keys

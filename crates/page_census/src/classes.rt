@@ -2,10 +2,13 @@
 ghost use Rattle.std.specs.Prelude.{◌≡◌, ◌+◌, ◌≤◌, ◌<◌, ◌^◌, ◌%◌, ◌++◌, ◌/◌, [], ◌∷◌, All, IfOk, length, map, replicate, vec_capacity, vec_len, slice_index};
 ghost use Rattle.page_census.specs.Contents.{AreSteady, contents, content_at};
 ghost use Rattle.page_census.specs.Classes.{Classed, TellApart, class_of, headed};
+ghost use Rattle.page_census.specs.Keys.{Sure, seen};
 
+use crate::compare::Compare;
+use crate::fault::LookFault;
 use crate::part::new_pages;
-use crate::place::is_same_content;
-use crate::{CensusFault, Guest, PageSource};
+use crate::place::is_same;
+use crate::{Guest, PageSource};
 use page_model::Page;
 use std::alloc::{AllocError, Allocator};
 
@@ -24,22 +27,26 @@ pub(crate) struct Classes<A: Allocator> {
 fn class_of_next<S: PageSource, A: Allocator>(
     guests: &[Guest<S>],
     marks: &[u64],
+    by: Compare,
     own: &mut [Page],
     other: &mut [Page],
     known: &Classes<A>,
-) -> Result<u32, CensusFault<S::Fault>>
+) -> Result<u32, LookFault<S::Fault>>
     requires buffers { (length own.old ≡ 1) × (length other.old ≡ 1) }
-    requires classed { Classed (AreSteady S.is_steady guests.now) (contents S.pages guests.now) marks.now known.now.classes.items known.now.links.items known.now.heads.items }
+    requires classed { Classed (Sure by (AreSteady S.is_steady guests.now)) (seen by (contents S.pages guests.now) marks.now) marks.now known.now.classes.items known.now.links.items known.now.heads.items }
+    requires marked { length marks.now ≡ length (contents S.pages guests.now) }
+    requires apart { AreSteady S.is_steady guests.now → TellApart (contents S.pages guests.now) marks.now }
     requires more { vec_len known.now.classes < length (contents S.pages guests.now) }
     ensures below { IfOk result (λ class. class ≤ vec_len known.now.classes) }
-    ensures told { IfOk result (λ class. AreSteady S.is_steady guests.now → class ≡ class_of (contents S.pages guests.now) (content_at (contents S.pages guests.now) (vec_len known.now.classes))) }
+    ensures told { IfOk result (λ class. Sure by (AreSteady S.is_steady guests.now) → class ≡ class_of (seen by (contents S.pages guests.now) marks.now) (content_at (seen by (contents S.pages guests.now) marks.now) (vec_len known.now.classes))) }
 {
     let number = known.classes.len() as u32;
     let bucket = marks[number as usize] % known.heads.len() as u64;
+    let mut is_read = false;
     let mut code = known.heads[bucket as usize];
     while code != 0 {
         let first = code - 1;
-        if is_same_content(guests, marks, own, other, number, first)? {
+        if is_same(guests, marks, by, &mut is_read, own, other, number, first)? {
             return Ok(first);
         }
         code = known.links[first as usize];
@@ -83,24 +90,25 @@ fn new_classes<A: Allocator + Clone>(alloc: &A, count: usize) -> Result<Classes<
     })
 }
 
-/// The class of each page.
+/// The class of each page, by what pages are to be compared by.
 pub(crate) fn classes_of<S: PageSource, A: Allocator + Clone>(
     alloc: &A,
     guests: &[Guest<S>],
     marks: &[u64],
-) -> Result<Vec<u32, A>, CensusFault<S::Fault>>
+    by: Compare,
+) -> Result<Vec<u32, A>, LookFault<S::Fault>>
     requires count { length marks.now ≡ length (contents S.pages guests.now) }
     requires few { length marks.now < 2 ^ 32 }
     requires apart { AreSteady S.is_steady guests.now → TellApart (contents S.pages guests.now) marks.now }
     ensures len { IfOk result (λ classes. vec_len classes ≡ length marks.now) }
     ensures below { IfOk result (λ classes. All (λ class. class < length marks.now) classes.items) }
-    ensures told { IfOk result (λ classes. AreSteady S.is_steady guests.now → classes.items ≡ map (class_of (contents S.pages guests.now)) (contents S.pages guests.now)) }
+    ensures told { IfOk result (λ classes. Sure by (AreSteady S.is_steady guests.now) → classes.items ≡ map (class_of (seen by (contents S.pages guests.now) marks.now)) (seen by (contents S.pages guests.now) marks.now)) }
 {
     let mut own = new_pages(alloc.clone()?, 1)?;
     let mut other = new_pages(alloc.clone()?, 1)?;
     let mut known = new_classes(alloc, marks.len())?;
     for number in 0..marks.len() {
-        let class = class_of_next(guests, marks, &mut own, &mut other, &known)?;
+        let class = class_of_next(guests, marks, by, &mut own, &mut other, &known)?;
         note(&mut known, marks[number], class);
     }
     Ok(known.classes)

@@ -1,10 +1,11 @@
 //! The census.
-ghost use Rattle.std.specs.Prelude.{◌≡◌, ◌+◌, ◌≤◌, ◌<◌, ◌^◌, Err, IfOk, length};
+ghost use Rattle.std.specs.Prelude.{◌≡◌, ◌↔◌, ◌+◌, ◌≤◌, ◌<◌, ◌^◌, Err, IfOk, length};
 ghost use Rattle.page_census.specs.Contents.{AreSteady, contents};
 ghost use Rattle.page_census.specs.Numbers.{copies_table, numbers_of, sum_alone, total_numbers};
 ghost use Rattle.page_census.specs.declared.fault.CensusFault.{CensusFault};
 
-use crate::classes::classes_of;
+use crate::confirm::find_classes;
+use crate::fault::LookFault;
 use crate::marks::{count_pages, marks_of_all};
 use crate::numbers::{numbers_of, total_of};
 use crate::table::copies_table;
@@ -45,7 +46,7 @@ pub fn census<
     progress: &P,
 ) -> Result<CensusNumbers<A>, CensusFault<S::Fault>>
     requires { 1 ≤ workers }
-    ensures too_many { 2 ^ 32 ≤ length (contents S.pages guests.now) → result ≡ Err CensusFault.TooManyPages }
+    ensures too_many { (result ≡ Err CensusFault.TooManyPages) ↔ (2 ^ 32 ≤ length (contents S.pages guests.now)) }
     ensures few { IfOk result (λ _. length (contents S.pages guests.now) < 2 ^ 32) }
     ensures guests { IfOk result (λ census. AreSteady S.is_steady guests.now → census.guests.items ≡ numbers_of S.pages guests.now) }
     ensures total { IfOk result (λ census. AreSteady S.is_steady guests.now → census.total ≡ total_numbers S.pages guests.now) }
@@ -55,8 +56,37 @@ pub fn census<
     let Some(count) = count_pages(guests) else {
         return Err(CensusFault::TooManyPages);
     };
+    match count_contents(rt, alloc, workers, hash, guests, progress, count) {
+        Ok(census) => Ok(census),
+        Err(fault) => Err(CensusFault::from(fault)),
+    }
+}
+
+/// Counts the pages of the guests, which are so many.
+fn count_contents<
+    R: Threads + Sync,
+    H: PageHash,
+    S: PageSource,
+    P: Progress,
+    A: Allocator + Clone + Send + Sync,
+>(
+    rt: &R,
+    alloc: A,
+    workers: u32,
+    hash: &H,
+    guests: &[Guest<S>],
+    progress: &P,
+    count: u32,
+) -> Result<CensusNumbers<A>, LookFault<S::Fault>>
+    requires workers { 1 ≤ workers }
+    requires count { count ≡ length (contents S.pages guests.now) }
+    ensures guests { IfOk result (λ census. AreSteady S.is_steady guests.now → census.guests.items ≡ numbers_of S.pages guests.now) }
+    ensures total { IfOk result (λ census. AreSteady S.is_steady guests.now → census.total ≡ total_numbers S.pages guests.now) }
+    ensures copies { IfOk result (λ census. AreSteady S.is_steady guests.now → census.copies.items ≡ copies_table (contents S.pages guests.now)) }
+    ensures between { IfOk result (λ census. AreSteady S.is_steady guests.now → census.total.reclaimed ≡ census.total.between + sum_alone census.guests.items) }
+{
     let marks = marks_of_all(rt, &alloc, workers, hash, guests, progress, count)?;
-    let classes = classes_of(&alloc, guests, &marks)?;
+    let classes = find_classes(rt, &alloc, workers, guests, &marks)?;
     let tally = count_copies(alloc.clone()?, classes.len(), &classes)?;
     let numbers = numbers_of(&alloc, guests, &tally.copies, &marks, &classes)?;
     let total = total_of(&tally.copies, tally.distinct, &marks, &classes, &numbers);

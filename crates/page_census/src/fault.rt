@@ -28,3 +28,37 @@ impl<F> From<AllocError> for CensusFault<F> {
         CensusFault::OutOfMemory
     }
 }
+
+/// Why pages whose number is known can't be counted.
+#[derive(Drop)]
+pub(crate) enum LookFault<F> {
+    /// Memory was refused.
+    OutOfMemory,
+    /// A page of the guest with this number can't be read, for this cause.
+    Read(usize, F),
+}
+
+impl<F> From<AllocError> for LookFault<F> {
+    ghost use Rattle.std.specs.Prelude.{◌≡◌};
+    ghost use Rattle.page_census.specs.declared.fault.LookFault.{LookFault};
+
+    ghost from_gives = { λ _ fault. fault ≡ LookFault.OutOfMemory };
+
+    fn from(_refused: AllocError) -> LookFault<F> {
+        LookFault::OutOfMemory
+    }
+}
+
+impl<F> From<LookFault<F>> for CensusFault<F> {
+    ghost use Rattle.std.specs.Prelude.{◌≡◌};
+    ghost use Rattle.page_census.specs.Faults.{told_as};
+
+    ghost from_gives = { λ inner fault. fault ≡ told_as inner };
+
+    fn from(inner: LookFault<F>) -> CensusFault<F> {
+        match inner {
+            LookFault::OutOfMemory => CensusFault::OutOfMemory,
+            LookFault::Read(guest, fault) => CensusFault::Read(guest, fault),
+        }
+    }
+}

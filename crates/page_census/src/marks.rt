@@ -4,8 +4,9 @@ ghost use Rattle.page_census.specs.Contents.{AreSteady, contents};
 ghost use Rattle.page_census.specs.Marks.{mark_at, marks_of};
 ghost use Rattle.page_census.specs.Parts.{IsPart};
 
+use crate::fault::LookFault;
 use crate::part::{RUN, read_marks};
-use crate::{CensusFault, Guest, PageSource, Progress};
+use crate::{Guest, PageSource, Progress};
 use page_digest::PageHash;
 use std::alloc::Allocator;
 use std::thread;
@@ -28,7 +29,7 @@ pub(crate) fn push_guest<
     guest: &Guest<S>,
     progress: &P,
     marks: &mut Vec<u64, A>,
-) -> Result<(), CensusFault<S::Fault>>
+) -> Result<(), LookFault<S::Fault>>
     requires workers { 1 ≤ workers }
     requires room { vec_len marks.old + length (S.pages guest.now.source) ≤ vec_capacity marks.old }
     ensures len { OnOk result (vec_len marks.new ≡ vec_len marks.old + length (S.pages guest.now.source)) }
@@ -37,7 +38,7 @@ pub(crate) fn push_guest<
 {
     let count = guest.source.count();
     let size = count.div_ceil(workers).max(RUN);
-    let part = move |n: usize| -> Result<Vec<u64, A>, CensusFault<S::Fault>>
+    let part = move |n: usize| -> Result<Vec<u64, A>, LookFault<S::Fault>>
         requires { (1 ≤ size) × (size * n < length (S.pages guest.now.source)) }
         ensures { IfOk result (λ marks. IsPart S.is_steady S.pages H.hash_of guest.entry.now size n marks) }
     { read_part(alloc, hash, number, guest, progress, size, n) };
@@ -58,7 +59,7 @@ fn read_part<H: PageHash, S: PageSource, P: Progress, A: Allocator + Clone>(
     progress: &P,
     size: u32,
     part: usize,
-) -> Result<Vec<u64, A>, CensusFault<S::Fault>>
+) -> Result<Vec<u64, A>, LookFault<S::Fault>>
     requires { size * part < length (S.pages guest.now.source) }
     ensures { IfOk result (λ marks. IsPart S.is_steady S.pages H.hash_of guest.now size part marks) }
 {
@@ -114,7 +115,7 @@ pub(crate) fn marks_of_all<
     guests: &[Guest<S>],
     progress: &P,
     count: u32,
-) -> Result<Vec<u64, A>, CensusFault<S::Fault>>
+) -> Result<Vec<u64, A>, LookFault<S::Fault>>
     requires workers { 1 ≤ workers }
     requires count { count ≡ length (contents S.pages guests.now) }
     ensures len { IfOk result (λ marks. vec_len marks ≡ count) }

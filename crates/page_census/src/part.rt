@@ -2,8 +2,9 @@
 ghost use Rattle.std.specs.Prelude.{◌≡◌, ◌+◌, ◌^◌, ◌<◌, ◌≤◌, IfOk, OnOk, length, vec_len, take, drop};
 ghost use Rattle.page_census.specs.Marks.{marks_of};
 
+use crate::fault::LookFault;
 use crate::mark::push_marks;
-use crate::{CensusFault, Guest, PageSource, Progress};
+use crate::{Guest, PageSource, Progress};
 use page_digest::PageHash;
 use page_model::{PAGE_BYTES, Page};
 use std::alloc::{AllocError, Allocator};
@@ -24,13 +25,13 @@ pub(crate) fn read_run<S: PageSource>(
     guest: &Guest<S>,
     first: u32,
     into: &mut [Page],
-) -> Result<(), CensusFault<S::Fault>>
+) -> Result<(), LookFault<S::Fault>>
     requires { first + length into.old ≤ length (S.pages guest.now.source) }
     ensures { OnOk result (S.is_steady guest.now.source → into.new ≡ take (length into.old) (drop first (S.pages guest.now.source))) }
 {
     match guest.source.read(first, into) {
         Ok(()) => Ok(()),
-        Err(fault) => Err(CensusFault::Read(number, fault)),
+        Err(fault) => Err(LookFault::Read(number, fault)),
     }
 }
 
@@ -43,7 +44,7 @@ pub(crate) fn read_marks<H: PageHash, S: PageSource, P: Progress, A: Allocator +
     progress: &P,
     from: u32,
     count: u32,
-) -> Result<Vec<u64, A>, CensusFault<S::Fault>>
+) -> Result<Vec<u64, A>, LookFault<S::Fault>>
     requires within { from + count ≤ length (S.pages guest.now.source) }
     requires fits { from + count < 2 ^ 32 }
     ensures len { IfOk result (λ marks. vec_len marks ≡ count) }

@@ -1,11 +1,14 @@
 //! Where the pages stand that are numbered through all guests.
-ghost use Rattle.std.specs.Prelude.{◌≡◌, ◌<◌, ◌≤◌, ◌^◌, length, slice_index_or, slice_index, IfOk};
+ghost use Rattle.std.specs.Prelude.{◌≡◌, ◌<◌, ◌≤◌, ◌^◌, true, length, slice_index_or, slice_index, IfOk, OnOk};
 ghost use Rattle.page_census.specs.Contents.{contents, content_at, is_same, AreSteady};
 ghost use Rattle.page_census.specs.Classes.{TellApart};
-ghost use Rattle.page_census.specs.Places.{StandsAt};
+ghost use Rattle.page_census.specs.Keys.{Sure, keys, seen};
+ghost use Rattle.page_census.specs.Places.{Holds, StandsAt};
 
+use crate::compare::Compare;
+use crate::fault::LookFault;
 use crate::part::read_run;
-use crate::{CensusFault, Guest, PageSource};
+use crate::{Guest, PageSource};
 use page_model::Page;
 
 /// A page by its guest's number and its own.
@@ -31,22 +34,45 @@ pub(crate) fn place_of<S: PageSource>(guests: &[Guest<S>], number: u32) -> Place
     unreachable!()
 }
 
+/// Reads the page with this number among all, which stands at this place, where it wasn't read yet.
+fn read_once<S: PageSource>(
+    guests: &[Guest<S>],
+    number: u32,
+    place: Place,
+    is_read: &mut bool,
+    into: &mut [Page],
+) -> Result<(), LookFault<S::Fault>>
+    requires one { length into.old ≡ 1 }
+    requires stands { StandsAt S.pages guests.now number place }
+    requires held { Holds (AreSteady S.is_steady guests.now) (contents S.pages guests.now) number is_read.old into.old }
+    ensures { OnOk result ((is_read.new ≡ true) × Holds (AreSteady S.is_steady guests.now) (contents S.pages guests.now) number is_read.new into.new) }
+{
+    if !*is_read {
+        read_run(place.guest, &guests[place.guest], place.page, into)?;
+        *is_read = true;
+    }
+    Ok(())
+}
+
 /// Whether two pages, by their numbers among all, have one content. Their bytes are read where their marks are equal
-/// and not 0.
+/// and not 0; the first page's only where they weren't read yet.
 pub(crate) fn is_same_content<S: PageSource>(
     guests: &[Guest<S>],
     marks: &[u64],
+    is_read: &mut bool,
     own: &mut [Page],
     other: &mut [Page],
     a: u32,
     b: u32,
-) -> Result<bool, CensusFault<S::Fault>>
+) -> Result<bool, LookFault<S::Fault>>
     requires buffers { (length own.old ≡ 1) × (length other.old ≡ 1) }
     requires a_within { a < length (contents S.pages guests.now) }
     requires b_within { b < length (contents S.pages guests.now) }
     requires marked { length marks.now ≡ length (contents S.pages guests.now) }
     requires apart { AreSteady S.is_steady guests.now → TellApart (contents S.pages guests.now) marks.now }
-    ensures { IfOk result (λ same. AreSteady S.is_steady guests.now → same ≡ is_same (content_at (contents S.pages guests.now) a) (content_at (contents S.pages guests.now) b)) }
+    requires held { Holds (AreSteady S.is_steady guests.now) (contents S.pages guests.now) a is_read.old own.old }
+    ensures told { IfOk result (λ same. AreSteady S.is_steady guests.now → same ≡ is_same (content_at (contents S.pages guests.now) a) (content_at (contents S.pages guests.now) b)) }
+    ensures held { OnOk result (Holds (AreSteady S.is_steady guests.now) (contents S.pages guests.now) a is_read.new own.new) }
 {
     if marks[a as usize] != marks[b as usize] {
         return Ok(false);
@@ -59,7 +85,48 @@ pub(crate) fn is_same_content<S: PageSource>(
     if marks[a as usize] == 0 {
         return Ok(true);
     }
-    read_run(x.guest, &guests[x.guest], x.page, own)?;
+    read_once(guests, a, x, is_read, own)?;
     read_run(y.guest, &guests[y.guest], y.page, other)?;
     Ok(own[0] == other[0])
+}
+
+/// Whether two pages, by their numbers among all, have one mark and their guests one salt.
+fn has_same_key<S: PageSource>(guests: &[Guest<S>], marks: &[u64], a: u32, b: u32) -> bool
+    requires a_within { a < length (contents S.pages guests.now) }
+    requires b_within { b < length (contents S.pages guests.now) }
+    requires marked { length marks.now ≡ length (contents S.pages guests.now) }
+    ensures { result ≡ is_same (content_at (keys (contents S.pages guests.now) marks.now) a) (content_at (keys (contents S.pages guests.now) marks.now) b) }
+{
+    if marks[a as usize] != marks[b as usize] {
+        return false;
+    }
+    let x = place_of(guests, a);
+    let y = place_of(guests, b);
+    guests[x.guest].salt == guests[y.guest].salt
+}
+
+/// Whether two pages, by their numbers among all, are the same by what they are to be compared by.
+pub(crate) fn is_same<S: PageSource>(
+    guests: &[Guest<S>],
+    marks: &[u64],
+    by: Compare,
+    is_read: &mut bool,
+    own: &mut [Page],
+    other: &mut [Page],
+    a: u32,
+    b: u32,
+) -> Result<bool, LookFault<S::Fault>>
+    requires buffers { (length own.old ≡ 1) × (length other.old ≡ 1) }
+    requires a_within { a < length (contents S.pages guests.now) }
+    requires b_within { b < length (contents S.pages guests.now) }
+    requires marked { length marks.now ≡ length (contents S.pages guests.now) }
+    requires apart { AreSteady S.is_steady guests.now → TellApart (contents S.pages guests.now) marks.now }
+    requires held { Holds (AreSteady S.is_steady guests.now) (contents S.pages guests.now) a is_read.old own.old }
+    ensures told { IfOk result (λ same. Sure by (AreSteady S.is_steady guests.now) → same ≡ is_same (content_at (seen by (contents S.pages guests.now) marks.now) a) (content_at (seen by (contents S.pages guests.now) marks.now) b)) }
+    ensures held { OnOk result (Holds (AreSteady S.is_steady guests.now) (contents S.pages guests.now) a is_read.new own.new) }
+{
+    match by {
+        Compare::Marks => Ok(has_same_key(guests, marks, a, b)),
+        Compare::Bytes => is_same_content(guests, marks, is_read, own, other, a, b),
+    }
 }

@@ -2,7 +2,7 @@
 ghost use Rattle.std.specs.Prelude.{◌≤◌};
 
 use crate::pages::{Memory, Quiet, ZeroHash, guest_of};
-use page_census::{CensusFault, CopiesClass, Guest, GuestNumbers, TotalNumbers, census};
+use page_census::{CensusFault, CopiesClass, FoldHash, Guest, GuestNumbers, TotalNumbers, census};
 use page_digest::{FirstByteHash, PageHash, Sha256Hash};
 use refusing::Refusing;
 use std::alloc::Global;
@@ -100,6 +100,11 @@ fn by_sha256(rt: HostRuntime) -> Result<(), Fail> {
 }
 
 #[test]
+fn by_folding(rt: HostRuntime) -> Result<(), Fail> {
+    counts(&rt, rt.alloc(), &FoldHash, 3)
+}
+
+#[test]
 fn by_one_byte(rt: HostRuntime) -> Result<(), Fail> {
     counts(&rt, rt.alloc(), &FirstByteHash, 1)
 }
@@ -118,13 +123,16 @@ fn unreadable(rt: HostRuntime) -> Result<(), Fail> {
 }
 
 // Request number n is refused, n counting up until a census has no refusal.
-#[test]
-fn refused_in_turn(rt: HostRuntime) -> Result<(), Fail> {
-    let guests = three_guests(rt.alloc(), 4)?;
+fn refuses_in_turn<R: Threads + Abort + Sync, H: PageHash>(
+    rt: &R,
+    alloc: Global,
+    hash: &H,
+) -> Result<(), Fail> {
+    let guests = three_guests(alloc, 4)?;
     let mut is_whole = false;
     for n in 0..MOST_REQUESTS {
-        let heap = Refusing::new(rt.alloc(), n, 0);
-        match census(&rt, &heap, 4, &Sha256Hash, &guests, &Quiet) {
+        let heap = Refusing::new(alloc, n, 0);
+        match census(rt, &heap, 4, hash, &guests, &Quiet) {
             Ok(told) => {
                 assert!(rt; !heap.has_refused(), "at {n}");
                 assert_eq!(rt; told.total, TOTAL);
@@ -140,4 +148,15 @@ fn refused_in_turn(rt: HostRuntime) -> Result<(), Fail> {
     }
     assert!(rt; is_whole);
     Ok(())
+}
+
+#[test]
+fn refused_in_turn(rt: HostRuntime) -> Result<(), Fail> {
+    refuses_in_turn(&rt, rt.alloc(), &Sha256Hash)
+}
+
+// Classes are found twice where different pages have one mark.
+#[test]
+fn refused_in_turn_by_no_hash(rt: HostRuntime) -> Result<(), Fail> {
+    refuses_in_turn(&rt, rt.alloc(), &ZeroHash)
 }

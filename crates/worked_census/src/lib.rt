@@ -6,6 +6,8 @@
 #[cfg(test)]
 mod copied;
 #[cfg(test)]
+mod folded;
+#[cfg(test)]
 mod known;
 #[cfg(test)]
 mod many;

@@ -1,4 +1,3 @@
-use Rattle.std.proofs.Common.{◌≡◌, refl, ◌∙◌}
 use Rattle.memory_images.specs.Images.{loads}
 use Rattle.memory_images.proofs.Loaded.{more_loads}
 use Rattle.memory_images.proofs.elf.loads.Goals as goal

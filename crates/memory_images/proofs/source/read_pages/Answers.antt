@@ -1,6 +1,5 @@
-use Rattle.std.proofs.Common.{◌≡◌, ◌∙◌, ◌++◌, ◌-◌, ◌+◌, ◌≤◌, ℕ, min, length, take, drop, arith, ap}
+use Rattle.std.proofs.Common.{◌≡◌, ◌∙◌, ◌++◌, ◌-◌, ◌+◌, ℕ, min, length, take, drop, arith, ap}
 use Rattle.std.proofs.lemmas.List.{length-take, length-drop}
-use Rattle.memory_images.specs.Pages.{pages_of}
 use Rattle.memory_images.proofs.Walked.{passed_left, passed_told, read_left, read_told, read_on}
 use Rattle.memory_images.proofs.source.read_pages.Goals as goal
 use Rattle.memory_images.proofs.source.read_pages.Goals.{then-skipped-pages, else-skipped-pages+in_ok-read_run}

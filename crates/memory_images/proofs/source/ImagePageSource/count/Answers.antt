@@ -1,4 +1,4 @@
-use Rattle.std.proofs.Common.{◌≡◌, sym, ◌∙◌}
+use Rattle.std.proofs.Common.{sym, ◌∙◌}
 use Rattle.memory_images.proofs.Walked.{length-pages_of}
 use Rattle.memory_images.proofs.source.ImagePageSource.count.Goals as goal
 

@@ -12,10 +12,10 @@ use Rattle.page_census.proofs.Between.{alone_within}
 use Rattle.page_census.proofs.Summed.{sum_copies}
 use Rattle.page_census.proofs.Totals.{table_is, total_is}
 use Rattle.page_census.proofs.Transfer.{all_in, counted_are, tells}
-use Rattle.page_census.proofs.count.census.Goals as goal
+use Rattle.page_census.proofs.count.count_contents.Goals as goal
 
-pub classes_of-requires-clause-apart : goal.classes_of-requires-clause-apart
-classes_of-requires-clause-apart g c κs within =
+pub find_classes-requires-clause-apart : goal.find_classes-requires-clause-apart
+find_classes-requires-clause-apart g c κs within =
     λ steady. tells g.H.HashFunction.hash_of (contents g.S.PageSource.pages c.args.guests.now) c.deref.result.now (c.deref.ensures.value ∙ c.in_ok-marks.ensures.told steady)
 
 pub returns-clause-guests : goal.returns-clause-guests
@@ -25,7 +25,7 @@ returns-clause-guests g c =
     let guests = c.args.guests.now in
     let all : List Content = contents pages guests in
     let counts : List ℕ = c.in_ok-tally.tally.copies.items in
-    let size = c.in-Some.ensures in
+    let size = c.requires.count in
     λ steady.
     let marks : c.in_ok-marks.marks.items ≡ map (mark_at hash) all = c.in_ok-marks.ensures.told steady in
     let classes : c.in_ok-classes.classes.items ≡ map (class_of all) all = c.in_ok-classes.ensures.told steady in
@@ -47,7 +47,7 @@ copies_table-requires-clause-all g c =
     let within : All (λ k. k < length counts) c.deref-2.result.now = All-same (λ (k : ℕ). k < length counts) c.deref-2.result.now c.in_ok-classes.classes.items c.deref-2.ensures.value low in
     let told : (k : ℕ) → k < length counts → get_or counts k 0 ≡ copies eqb k c.deref-2.result.now = λ k lt. c.in_ok-tally.ensures.copies k (omega (arith, lt, c.len.ensures, c.in_ok-tally.ensures.len, c.in_ok-tally.tally.copies.ok.0)) in
     let all : sum_by (λ (n : ℕ). n) counts ≡ length c.deref-2.result.now = sum_copies c.deref-2.result.now counts within told in
-    rw (c.deref-10.ensures.value, all) (omega (arith, c.deref-2.ensures.len, c.in_ok-classes.ensures.len, c.deref.ensures.len, c.in_ok-marks.ensures.len, c.in-Some.ensures))
+    rw (c.deref-10.ensures.value, all) (omega (arith, c.deref-2.ensures.len, c.in_ok-classes.ensures.len, c.deref.ensures.len, c.in_ok-marks.ensures.len, c.requires.count))
 
 pub returns-clause-total : goal.returns-clause-total
 returns-clause-total g c =
@@ -57,7 +57,7 @@ returns-clause-total g c =
     let all : List Content = contents pages guests in
     let counts : List ℕ = c.in_ok-tally.tally.copies.items in
     let frames = c.in_ok-tally.tally.distinct in
-    let size = c.in-Some.ensures in
+    let size = c.requires.count in
     λ steady.
     let marks : c.in_ok-marks.marks.items ≡ map (mark_at hash) all = c.in_ok-marks.ensures.told steady in
     let classes : c.in_ok-classes.classes.items ≡ map (class_of all) all = c.in_ok-classes.ensures.told steady in
@@ -78,7 +78,7 @@ returns-clause-copies g c =
     let guests = c.args.guests.now in
     let all : List Content = contents pages guests in
     let counts : List ℕ = c.in_ok-tally.tally.copies.items in
-    let size = c.in-Some.ensures in
+    let size = c.requires.count in
     λ steady.
     let classes : c.in_ok-classes.classes.items ≡ map (class_of all) all = c.in_ok-classes.ensures.told steady in
     let told : (k : ℕ) → k < length all → get_or counts k 0 ≡ copies eqb k (map (class_of all) all) =

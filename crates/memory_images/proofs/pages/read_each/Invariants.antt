@@ -1,7 +1,7 @@
 use Rattle.std.proofs.Common.{◌≡◌, ◌+◌, ◌<◌, ℕ, [], length, get_or}
 use Rattle.memory_images.specs.Words.{part}
 use Rattle.memory_images.specs.Pages.{page_of}
-use Rattle.memory_images.proofs.pages.read_run.Given as goal
+use Rattle.memory_images.proofs.pages.read_each.Given as goal
 
 abbrev pub invariant-loop-i : goal.invariant-loop-i
 invariant-loop-i g l = record {

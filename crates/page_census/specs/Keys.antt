@@ -1,0 +1,36 @@
+-- The keys of pages, which stand for their contents until the bytes are compared.
+use Rattle.std.specs.Prelude.{◌≡◌, ℕ, ◌^◌, ◌<◌, ◌≤◌, List, [], ◌∷◌, All, length, map, slice_index}
+use Rattle.std.specs.List.{range_with_len}
+use Rattle.page_census.specs.Classes.{TellApart}
+use Rattle.page_census.specs.Contents.{Content, content_at}
+use Rattle.page_census.specs.declared.compare.Compare.{Compare}
+use Rattle.page_census.specs.declared.compare.Compare.TheVariants.{Marks, Bytes}
+
+-- the key of the page with this number: its guest's salt, and its mark in place of its bytes
+abbrev pub key_at : List Content → List ℕ → ℕ → Content
+key_at all marks n = ((content_at all n).0, slice_index marks n ∷ [])
+
+abbrev pub keys : List Content → List ℕ → List Content
+keys all marks = map (key_at all marks) (range_with_len 0 (length all))
+
+-- what pages are compared by
+abbrev pub seen : Compare → List Content → List ℕ → List Content
+seen Marks all marks = keys all marks
+seen Bytes all marks = all
+
+-- the premise under which a comparison is right: marks are at hand, and bytes are read from sources
+abbrev pub Sure : Compare → Type 0 → Type 0
+Sure Marks steady = Unit {0}
+Sure Bytes steady = steady
+
+-- the pages from one number up to another have the content of the first page of their class
+pub record AreConfirmed (steady : Type 0) (all : List Content) (classes : List ℕ) (from to : ℕ) : Type 0 where
+  pub told : steady → (n : ℕ) → from ≤ n → n < to → n < length all → content_at all n ≡ content_at all (slice_index classes n)
+
+-- each page has a mark and a class
+pub record AreClassed (steady : Type 0) (all : List Content) (marks classes : List ℕ) : Type 0 where
+  pub marked : length marks ≡ length all
+  pub classed : length classes ≡ length all
+  pub few : length all < 2 ^ 32
+  pub below : All (λ class. class < length all) classes
+  pub apart : steady → TellApart all marks

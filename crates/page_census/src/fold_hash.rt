@@ -1,0 +1,25 @@
+//! A fast hash.
+use page_digest::PageHash;
+use page_model::{HashFunction, Page};
+use std::hash::{FoldHasher, Hasher};
+
+/// What std's `FoldHasher` gives of the salt and the page. It takes about half a microsecond a page.
+///
+/// It isn't cryptographic, and its seed is fixed: who writes a page can choose its hash.
+#[derive(Clone, Copy, Debug, PartialEq, Eq)]
+pub struct FoldHash;
+
+impl HashFunction for FoldHash {
+    ghost use Rattle.page_census.specs.Hashes.{fold_hash};
+
+    ghost hash_of = { fold_hash };
+}
+
+impl PageHash for FoldHash {
+    fn hash(&self, salt: u32, page: &Page) -> u64 {
+        let mut hasher = FoldHasher::default();
+        hasher.write_u32(salt);
+        hasher.write(page);
+        hasher.finish()
+    }
+}
