@@ -11,7 +11,7 @@ const MOST: u64 = 100;
 const BEFORE: u64 = 2;
 
 // The nth request for memory is refused, n counting up until a run has no refusal: first those of the new machine, then
-// those of a publish. No other call asks for any.
+// those of a publish. No other call of these asks for any.
 #[test]
 fn each_growth_refused_in_turn(rt: HostRuntime) -> Result<(), Fail> {
     let mut publish_refused = false;

@@ -97,7 +97,7 @@ fn settle_one<R: Abort + Wait, A: Allocator>(
     (settled, watch)
 }
 
-// A settled machine goes on with the list. But for publishing, no call asks for memory.
+// A settled machine goes on with the list. None of these calls but to publish asks for memory.
 #[test]
 fn settled_with_its_reports(rt: HostRuntime) -> Result<(), Fail> {
     let heap = Refusing::new(rt.alloc(), u64::MAX, 0);
