@@ -28,7 +28,8 @@ pub struct CensusNumbers<A: Allocator> {
 }
 
 /// Counts the pages of the guests, guest 0 first. Each source is read once in order, by so many workers, and pages that
-/// may be equal are read once more to be compared.
+/// may be equal are read once more to be compared; and once again, on one thread, where different pages of guests with
+/// one salt have one hash.
 ///
 /// What is told holds where each source is steady: where each of its reads tells the same bytes.
 pub fn census<
