@@ -1,0 +1,27 @@
+//! Amounts of memory for people.
+ghost use Rattle.std.specs.Prelude.{◌≡◌};
+ghost use Rattle.census_text.specs.Amounts.{mebibyte_tenths, mebibytes, per_mille};
+
+/// So many pages in MiB, to the nearest; a half is rounded up.
+pub fn mebibytes(pages: u32) -> u32
+    ensures { result ≡ mebibytes pages }
+{
+    ((u64::from(pages) + 128) / 256) as u32
+}
+
+/// So many pages in tenths of a MiB, to the nearest; a half is rounded up.
+pub fn mebibyte_tenths(pages: u32) -> u32
+    ensures { result ≡ mebibyte_tenths pages }
+{
+    ((10 * u64::from(pages) + 128) / 256) as u32
+}
+
+/// How many thousandths of the whole the part is, to the nearest; a half is rounded up. Of 0 it is 0.
+pub fn per_mille(part: u32, whole: u32) -> u64
+    ensures { result ≡ per_mille part whole }
+{
+    if whole == 0 {
+        return 0;
+    }
+    (1000 * u64::from(part) + u64::from(whole) / 2) / u64::from(whole)
+}
