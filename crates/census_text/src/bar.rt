@@ -1,5 +1,5 @@
 //! What a guest's bar is made of.
-ghost use Rattle.std.specs.Prelude.{◌≡◌, ◌+◌, ◌<◌, ◌^◌, length};
+ghost use Rattle.std.specs.Prelude.{◌≡◌, ◌+◌, ◌<◌, ◌^◌, nat_lt};
 ghost use Rattle.census_text.specs.Parts.{parts_of, peers, salt_zeros, zero_under};
 
 use crate::GuestLine;
@@ -21,12 +21,12 @@ pub struct Parts {
 
 /// The parts of a guest's pages. Numbers that no census tells are cut, so that the parts are never more than the pages.
 #[tactic(auto, unfolding(crate::specs::Parts::parts_of))]
-fn split_pages(guests: usize, zeros: u64, numbers: &GuestNumbers) -> Parts
-    ensures value { result ≡ parts_of guests zeros numbers.now }
+fn split_pages(guests: usize, has_zeros: bool, numbers: &GuestNumbers) -> Parts
+    ensures value { result ≡ parts_of guests has_zeros numbers.now }
     ensures sum { result.zero + result.within + result.between + result.unshared ≡ numbers.now.pages }
 {
     let zero = numbers.zero.min(numbers.pages);
-    let shared_zero = if zeros > 1 { numbers.zero } else { 0 };
+    let shared_zero = if has_zeros { numbers.zero } else { 0 };
     let others = numbers.pages - zero;
     let shared = numbers.shared.saturating_sub(shared_zero).min(others);
     let within = if guests > 1 {
@@ -63,28 +63,25 @@ fn zero_under(salt: u32, guest: &GuestLine<'_>) -> u64
     }
 }
 
-/// The pages of zeros of the guests of this salt.
-fn salt_zeros(salt: u32, guests: &[GuestLine<'_>]) -> u64
-    requires { length guests.now < 2 ^ 32 }
-    ensures { result ≡ salt_zeros salt guests.now }
+/// Whether the guests of this salt have two pages of zeros or more.
+fn has_zeros(salt: u32, guests: &[GuestLine<'_>]) -> bool
+    ensures { result ≡ nat_lt 1 (salt_zeros salt guests.now) }
 {
     let mut zeros: u64 = 0;
     for guest in guests {
         zeros += zero_under(salt, guest);
+        if zeros > 1 {
+            return true;
+        }
     }
-    zeros
+    false
 }
 
 /// The parts of a guest's pages, where these are all guests.
 pub fn parts_of(guest: &GuestLine<'_>, guests: &[GuestLine<'_>]) -> Parts
-    requires few { length guests.now < 2 ^ 32 }
-    ensures value { result ≡ parts_of (peers guest.now.salt guests.now) (salt_zeros guest.now.salt guests.now) guest.now.numbers }
+    ensures value { result ≡ parts_of (peers guest.now.salt guests.now) (nat_lt 1 (salt_zeros guest.now.salt guests.now)) guest.now.numbers }
     ensures sum { result.zero + result.within + result.between + result.unshared ≡ guest.now.numbers.pages }
 {
     let salt = guest.salt;
-    split_pages(
-        peers(salt, guests),
-        salt_zeros(salt, guests),
-        &guest.numbers,
-    )
+    split_pages(peers(salt, guests), has_zeros(salt, guests), &guest.numbers)
 }

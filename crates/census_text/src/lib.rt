@@ -6,13 +6,19 @@
 mod amounts;
 mod bar;
 mod estimate;
+mod guest_bars;
+mod histogram;
 mod json;
+mod legend;
 mod names;
+mod picture;
+mod scale;
 mod table;
 
 pub use amounts::{mebibyte_tenths, mebibytes, per_mille};
 pub use bar::{Parts, parts_of};
 pub use estimate::{Estimate, GuestLine, guest_lines};
 pub use json::json_text;
-pub use names::{PlainName, XmlName};
+pub use names::{PlainName, ShortName, XmlName};
+pub use picture::picture_text;
 pub use table::table_text;

@@ -12,6 +12,13 @@ pub struct PlainName<'a>(pub &'a str);
 #[derive(Clone, Copy)]
 pub struct XmlName<'a>(pub &'a str);
 
+/// A name within XML that takes at most 22 columns: of a longer one the end, behind an ellipsis.
+#[derive(Clone, Copy)]
+pub struct ShortName<'a>(pub &'a str);
+
+/// The columns of a short name.
+const COLUMNS: usize = 22;
+
 impl Display for PlainName<'_> {
     fn fmt<W: fmt::Write>(&self, f: &mut Formatter<W>) -> fmt::Result {
         for c in self.0.chars() {
@@ -28,6 +35,40 @@ impl Display for XmlName<'_> {
         }
         Ok(())
     }
+}
+
+impl Display for ShortName<'_> {
+    fn fmt<W: fmt::Write>(&self, f: &mut Formatter<W>) -> fmt::Result {
+        let all = columns_of(self.0);
+        // An ellipsis stands for what is left out, and takes a column itself.
+        let mut left = if all > COLUMNS {
+            f.write_str("\u{2026}")?;
+            all.saturating_sub(COLUMNS).saturating_add(1)
+        } else {
+            0
+        };
+        for c in self.0.chars() {
+            if left == 0 {
+                write_xml(f, shown(c))?;
+            }
+            left = left.saturating_sub(columns(c));
+        }
+        Ok(())
+    }
+}
+
+/// How many columns a text takes.
+fn columns_of(text: &str) -> usize {
+    let mut sum: usize = 0;
+    for c in text.chars() {
+        sum = sum.saturating_add(columns(c));
+    }
+    sum
+}
+
+/// The columns of a character: those of East Asian scripts, and what stands behind them, may take two.
+fn columns(c: char) -> usize {
+    if c < '\u{1100}' { 1 } else { 2 }
 }
 
 /// Another character for one that breaks the line, steers a terminal, or that XML can't hold.

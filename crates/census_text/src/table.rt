@@ -38,7 +38,9 @@ pub fn table_text<A: Allocator>(
     push_guests(&mut text, widths, estimate.guests)?;
     push_total(&mut text, widths, estimate.total)?;
     push_copies(&mut text, widths, estimate.copies)?;
+    text.push_str("\n")?;
     push_sentence(&mut text, estimate.total)?;
+    text.push_str("\n")?;
     Ok(text)
 }
 
@@ -180,8 +182,8 @@ fn push_class<A: Allocator>(
     text.push_str("\n")
 }
 
-/// Appends the sentence that one wants to read, in whole MiB.
-fn push_sentence<A: Allocator>(
+/// Appends the sentence that one wants to read, in whole MiB, without a line feed.
+pub(crate) fn push_sentence<A: Allocator>(
     text: &mut String<A>,
     total: TotalNumbers,
 ) -> Result<(), AllocError> {
@@ -191,9 +193,9 @@ fn push_sentence<A: Allocator>(
     let (zeros, between) = (mebibytes(total.zero_reclaimed), mebibytes(total.between));
     write!(
         text,
-        "\n{reclaimed} MiB of {pages} MiB could be reclaimed ({whole}.{tenth} %): "
+        "{reclaimed} MiB of {pages} MiB could be reclaimed ({whole}.{tenth} %): "
     )?;
-    writeln!(
+    write!(
         text,
         "{zeros} MiB are zeros, {between} MiB are between guests"
     )

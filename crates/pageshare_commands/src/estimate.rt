@@ -6,11 +6,11 @@ use crate::estimate_words::{Drawn, EstimateWords, MOST_WORKERS};
 use crate::images::{Images, check_unchanged, open_images};
 use crate::progress::DrawnLine;
 use crate::reading::Reading;
-use census_text::{Estimate, guest_lines, json_text, table_text};
+use census_text::{Estimate, guest_lines, json_text, picture_text, table_text};
 use page_census::{CensusFault, CensusNumbers, census};
 use page_digest::Sha256Hash;
 use std::alloc::{AllocError, Global};
-use std::fs::{File, Files};
+use std::fs::{self, File, Files};
 use std::io::{self, Eprint, Write};
 use std::process::ExitCode;
 use std::thread::{self, Threads};
@@ -49,11 +49,17 @@ fn estimate<'a, R: Threads + Sync + Files<File = File> + Eprint + Clock, W: Writ
     let images = open_images(rt, alloc, words)?;
     let numbers = count(rt, alloc, words, &images, is_terminal)?;
     check_unchanged(rt, words, &images)?;
-    let text = text_of(alloc, words, &numbers).map_err(|_refused| EstimateFault::of_all(
+    let texts = texts_of(alloc, words, &numbers).map_err(|_refused| EstimateFault::of_all(
         &words.images,
         Cause::OutOfMemory,
     ))?;
-    write_output(&mut output, &text).map_err(|cause| EstimateFault::of("standard output", cause))
+    if let (Some(path), Some(picture)) = (words.svg, &texts.picture) {
+        write_file(rt, path, picture).map_err(|cause| EstimateFault::of(path, cause))?;
+    }
+    write_all(&mut output, &texts.output).map_err(|cause| EstimateFault::of(
+        "standard output",
+        cause,
+    ))
 }
 
 /// Counts the pages, and draws how much was read where that is asked for.
@@ -119,12 +125,18 @@ fn processors(rt: &impl Threads) -> u32 {
     }
 }
 
-/// What goes to the output.
-fn text_of(
+/// What is written, all of it made before any is written.
+#[derive(Drop)]
+struct Texts {
+    output: String,
+    picture: Option<String>,
+}
+
+fn texts_of(
     alloc: Global,
     words: &EstimateWords<'_>,
     numbers: &CensusNumbers<Global>,
-) -> Result<String, AllocError> {
+) -> Result<Texts, AllocError> {
     let salts = guest_salts(alloc, words)?;
     let guests = guest_lines(alloc, &words.images, &salts, &numbers.guests)?;
     let estimate = Estimate {
@@ -132,13 +144,14 @@ fn text_of(
         total: numbers.total,
         copies: &numbers.copies,
     };
-    if words.json {
-        let mut text = json_text(alloc, &estimate)?;
-        text.push_str("\n")?;
-        Ok(text)
-    } else {
-        table_text(alloc, &estimate)
-    }
+    let picture = match words.svg {
+        Some(_path) => Some(picture_text(alloc, &estimate)?),
+        None => None,
+    };
+    Ok(Texts {
+        output: output_text(alloc, words.json, &estimate)?,
+        picture,
+    })
 }
 
 /// The salt of each guest.
@@ -148,8 +161,26 @@ fn guest_salts(alloc: Global, words: &EstimateWords<'_>) -> Result<Vec<u32>, All
         .collect(alloc)
 }
 
-/// Writes the whole text.
-fn write_output(output: &mut impl Write, text: &str) -> Result<(), Cause> {
+fn output_text(
+    alloc: Global,
+    is_json: bool,
+    estimate: &Estimate<'_>,
+) -> Result<String, AllocError> {
+    if is_json {
+        let mut text = json_text(alloc, estimate)?;
+        text.push_str("\n")?;
+        Ok(text)
+    } else {
+        table_text(alloc, estimate)
+    }
+}
+
+fn write_file<R: Files>(rt: &R, path: &str, text: &str) -> Result<(), Cause> {
+    let mut file = fs::create(rt, path)?;
+    write_all(&mut file, text)
+}
+
+fn write_all(output: &mut impl Write, text: &str) -> Result<(), Cause> {
     output.write_all(text.as_bytes())?;
     output.flush()?;
     Ok(())

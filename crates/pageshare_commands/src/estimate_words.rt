@@ -158,7 +158,9 @@ fn progress_of(matches: &ArgMatches<'_>) -> Drawn {
 }
 
 fn wrong_salts(alloc: Global, salts: usize, images: usize) -> Result<Error, AllocError> {
-    let message = format!(in alloc; "--salts needs a number for each image (numbers: {salts}, images: {images})")?;
+    let message = format!(in alloc;
+        "--salts needs a number for each image (numbers: {salts}, images: {images})"
+    )?;
     estimate_command(alloc)?
         .bin_name("pageshare estimate")?
         .error(ErrorKind::WrongNumberOfValues, &message)
