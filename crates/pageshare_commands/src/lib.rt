@@ -1,33 +1,40 @@
-//! The commands of the program `pageshare`: it replays journals of page requests, and runs scripts of them.
+//! The commands of the program `pageshare`: it replays journals of page requests, runs scripts of them, and tells what sharing
+//! would reclaim of memory images.
 //!
 //! A command reads a file or standard input, and writes standard output. Its status is 0 where the work was done, 1
 //! where input, output, memory or a thread was at fault, and 2 for a bad command line.
 #![tactic(auto)]
 
+mod estimate;
+mod estimate_faults;
+mod estimate_words;
 mod faults;
+mod images;
+mod progress;
+mod reading;
 mod script_forms;
+mod texts;
 mod words;
 
 use clap::Error;
 use clap::error::ErrorKind;
-use faults::{Ending, tell};
-use merge_run::OpenGate;
-use page_digest::Sha256Hash;
-use share_text::{Noted, TextFault, replay, serial, threaded};
+use estimate::do_estimate;
 use std::alloc::Global;
-use std::fs::{self, Files};
+use std::fs::{File, Files};
 use std::io::{self, Eprint, Print, Read, Write};
 use std::process::ExitCode;
 use std::sync::Wait;
 use std::thread::Threads;
-use words::{Work, task_of};
+use std::time::Clock;
+use texts::{do_text, tell_memory};
+use words::{Asked, asked_of};
 
 /// Does what the words of a command line ask for, and gives the program's status. The first word is the program's name.
 ///
 /// `input` and `output` are standard input and standard output; `is_terminal` says that somebody sees standard error,
 /// who is told there what was expected where a text was at fault.
 pub fn do_command<
-    T: Threads + Wait + Sync + Files + Print + Eprint,
+    T: Threads + Wait + Sync + Files<File = File> + Print + Eprint + Clock,
     R: Read + Drop,
     W: Write + Drop,
 >(
@@ -38,62 +45,11 @@ pub fn do_command<
     output: W,
     is_terminal: bool,
 ) -> io::Result<ExitCode> {
-    let ending = match task_of(alloc, words) {
-        Ok(task) => match task.file {
-            None => done_of(rt, alloc, task.work, "standard input", input, output),
-            Some(path) => match fs::open(rt, path) {
-                Ok(file) => done_of(rt, alloc, task.work, path, file, output),
-                // A file that can't be opened is an input that can't be read.
-                Err(error) => Ending {
-                    is_of_script: task.work.is_of_script(),
-                    done: Err(TextFault::Read),
-                    failure: Some((path, error)),
-                },
-            },
-        },
-        Err(error) if error.kind() == ErrorKind::OutOfMemory => Ending {
-            is_of_script: false,
-            done: Err(TextFault::OutOfMemory),
-            failure: None,
-        },
-        Err(error) => return explain(rt, &error),
-    };
-    tell(rt, is_terminal, &ending)
-}
-
-/// Does the work on a reader's text; `name` tells the reader where it fails.
-fn done_of<'a, T: Threads + Wait + Sync, R: Read + Drop, W: Write + Drop>(
-    rt: &T,
-    alloc: Global,
-    work: Work,
-    name: &'a str,
-    reader: R,
-    writer: W,
-) -> Ending<'a> {
-    let mut input = Noted::new(reader);
-    let mut output = Noted::new(writer);
-    let done = match work {
-        Work::Replay => replay(alloc, &mut input, &mut output, Sha256Hash),
-        Work::Serial => serial(alloc, &mut input, &mut output, Sha256Hash),
-        Work::Run(form) => threaded(
-            rt,
-            alloc,
-            &mut input,
-            &mut output,
-            Sha256Hash,
-            &OpenGate,
-            form,
-        ),
-    };
-    let failure = match (input.error(), output.error()) {
-        (Some(error), _) => Some((name, error)),
-        (None, Some(error)) => Some(("standard output", error)),
-        (None, None) => None,
-    };
-    Ending {
-        is_of_script: work.is_of_script(),
-        done,
-        failure,
+    match asked_of(alloc, words) {
+        Ok(Asked::Text(task)) => do_text(rt, alloc, &task, input, output, is_terminal),
+        Ok(Asked::Estimate(words)) => do_estimate(rt, alloc, &words, output, is_terminal),
+        Err(error) if error.kind() == ErrorKind::OutOfMemory => tell_memory(rt, is_terminal),
+        Err(error) => explain(rt, &error),
     }
 }
 

@@ -1,5 +1,6 @@
 //! The command line.
-use clap::{Arg, ArgAction, Command, Error};
+use crate::estimate_words::{EstimateWords, estimate_command, estimate_words};
+use clap::{Arg, ArgAction, ArgMatches, Command, Error};
 use share_text::Output;
 use std::alloc::Global;
 
@@ -79,6 +80,15 @@ pub struct Task<'a> {
     pub file: Option<&'a str>,
 }
 
+/// What the words ask for.
+#[derive(Debug, Drop, PartialEq, Eq)]
+pub enum Asked<'a> {
+    /// To do something with a text.
+    Text(Task<'a>),
+    /// To tell what sharing would reclaim.
+    Estimate(EstimateWords<'a>),
+}
+
 fn replay_command<'a>(alloc: Global) -> Result<Command<'a>, Error> {
     let file = Arg::new(alloc, "FILE").help("The journal; without it, standard input is read");
     let replay = Command::new(alloc, "replay")
@@ -119,50 +129,59 @@ fn command<'a>(alloc: Global) -> Result<Command<'a>, Error> {
     let pageshare = Command::new(alloc, "pageshare")
         .version(VERSION)
         .about(
-            "Content-based page sharing: journals of page requests, their verdicts and the memory reclaimed",
+            "Content-based page sharing: journals of page requests, their verdicts and the memory reclaimed; and what sharing would reclaim of real guests' memory",
         )
         .after_help(FORMAT)
         .subcommand_required(true)
         .subcommand(replay_command(alloc)?)?
         .subcommand(serial_command(alloc)?)?
-        .subcommand(run_command(alloc)?)?;
+        .subcommand(run_command(alloc)?)?
+        .subcommand(estimate_command(alloc)?)?;
     Ok(pageshare)
 }
 
 /// What these words ask for; the first is the program's own name.
-pub fn task_of<'a>(alloc: Global, words: &'a [String]) -> Result<Task<'a>, Error> {
+pub fn asked_of<'a>(alloc: Global, words: &'a [String]) -> Result<Asked<'a>, Error> {
     let matches = command(alloc)?.try_get_matches_from(words)?;
+    match matches.subcommand_matches("estimate") {
+        Some(estimate) => Ok(Asked::Estimate(estimate_words(alloc, estimate)?)),
+        None => Ok(Asked::Text(task_of(&matches))),
+    }
+}
+
+/// What is to be done with a text.
+fn task_of<'a>(matches: &ArgMatches<'a>) -> Task<'a> {
     if let Some(run) = matches.subcommand_matches("run") {
         let form = if run.get_flag("journal") {
             Output::JournalText
         } else {
             Output::Verdicts
         };
-        return Ok(Task {
+        return Task {
             work: Work::Run(form),
             file: run.get_str("FILE"),
-        });
+        };
     }
     if let Some(serial) = matches.subcommand_matches("serial") {
-        return Ok(Task {
+        return Task {
             work: Work::Serial,
             file: serial.get_str("FILE"),
-        });
+        };
     }
     // A subcommand is required, so what is left is `replay`.
     let file = match matches.subcommand_matches("replay") {
         Some(replay) => replay.get_str("FILE"),
         None => None,
     };
-    Ok(Task {
+    Task {
         work: Work::Replay,
         file,
-    })
+    }
 }
 
 #[cfg(test)]
 mod tests {
-    use super::{Task, Work, task_of};
+    use super::{Asked, Task, Work, asked_of};
     use clap::error::ErrorKind;
     use share_text::Output;
     use std::alloc::{AllocError, Global};
@@ -200,7 +219,8 @@ mod tests {
         ];
         for (texts, work, file) in asked {
             let given = words(alloc, texts)?;
-            assert_eq!(rt; task_of(alloc, &given).ok(), Some(Task { work, file }));
+            let due = Asked::Text(Task { work, file });
+            assert_eq!(rt; asked_of(alloc, &given).ok(), Some(due));
         }
         let mistakes: [(&[&str], ErrorKind); 11] = [
             (&[], ErrorKind::MissingSubcommand),
@@ -220,7 +240,7 @@ mod tests {
         ];
         for (texts, kind) in mistakes {
             let given = words(alloc, texts)?;
-            let error = task_of(alloc, &given).err().ok_or("no error")?;
+            let error = asked_of(alloc, &given).err().ok_or("no error")?;
             assert_eq!(rt; error.kind(), kind);
         }
         Ok(())

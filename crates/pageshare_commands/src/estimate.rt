@@ -1,0 +1,187 @@
+//! The command `estimate`.
+ghost use Rattle.std.specs.Prelude.{◌≤◌};
+
+use crate::estimate_faults::{Cause, EstimateFault};
+use crate::estimate_words::{Drawn, EstimateWords, MOST_WORKERS};
+use crate::images::{Images, check_unchanged, open_images};
+use crate::progress::DrawnLine;
+use crate::reading::Reading;
+use census_text::{Estimate, guest_lines, json_text, picture_text, table_text};
+use page_census::{CensusFault, CensusNumbers, census};
+use page_digest::Sha256Hash;
+use std::alloc::{AllocError, Global};
+use std::fs::{self, File, Files};
+use std::io::{self, Eprint, Write};
+use std::process::ExitCode;
+use std::thread::{self, Threads};
+use std::time::Clock;
+
+/// The hash by which equal pages are found.
+type CensusHash = Sha256Hash;
+
+const HASH: CensusHash = Sha256Hash;
+
+/// Counts the pages of the images, writes the picture, and then the table or the JSON object. Gives the status: a fault is
+/// told in a line on standard error, and then nothing was written to the output unless that is what failed.
+pub fn do_estimate<R: Threads + Sync + Files<File = File> + Eprint + Clock, W: Write + Drop>(
+    rt: &R,
+    alloc: Global,
+    words: &EstimateWords<'_>,
+    output: W,
+    is_terminal: bool,
+) -> io::Result<ExitCode> {
+    match estimate(rt, alloc, words, output, is_terminal) {
+        Ok(()) => Ok(ExitCode::SUCCESS),
+        Err(fault) => {
+            eprintln!(rt; "{fault}")?;
+            Ok(ExitCode::FAILURE)
+        }
+    }
+}
+
+fn estimate<'a, R: Threads + Sync + Files<File = File> + Eprint + Clock, W: Write + Drop>(
+    rt: &R,
+    alloc: Global,
+    words: &EstimateWords<'a>,
+    mut output: W,
+    is_terminal: bool,
+) -> Result<(), EstimateFault<'a>> {
+    let images = open_images(rt, alloc, words)?;
+    let numbers = count(rt, alloc, words, &images, is_terminal)?;
+    check_unchanged(rt, words, &images)?;
+    let texts = texts_of(alloc, words, &numbers).map_err(|_refused| EstimateFault::of_all(
+        &words.images,
+        Cause::OutOfMemory,
+    ))?;
+    if let (Some(path), Some(picture)) = (words.svg, &texts.picture) {
+        write_file(rt, path, picture).map_err(|cause| EstimateFault::of(path, cause))?;
+    }
+    write_all(&mut output, &texts.output).map_err(|cause| EstimateFault::of(
+        "standard output",
+        cause,
+    ))
+}
+
+/// Counts the pages, and draws how much was read where that is asked for.
+fn count<'a, R: Threads + Sync + Eprint + Clock>(
+    rt: &R,
+    alloc: Global,
+    words: &EstimateWords<'a>,
+    images: &Images,
+    is_terminal: bool,
+) -> Result<CensusNumbers<Global>, EstimateFault<'a>> {
+    let reading = Reading::new(line_of(rt, words.progress, is_terminal), images.pages);
+    let workers = workers_of(rt, words.workers);
+    let told = census(rt, alloc, workers, &HASH, &images.guests, &reading);
+    reading.end();
+    match told {
+        Ok(numbers) => Ok(numbers),
+        Err(CensusFault::OutOfMemory) => {
+            Err(EstimateFault::of_all(&words.images, Cause::OutOfMemory))
+        }
+        Err(CensusFault::TooManyPages) => {
+            Err(EstimateFault::of_all(&words.images, Cause::TooManyPages))
+        }
+        Err(CensusFault::Read(guest, error)) => Err(EstimateFault::of(
+            words.images.get(guest).copied().unwrap_or("estimate"),
+            Cause::from(error),
+        )),
+    }
+}
+
+/// The line that tells how much was read, where it is to be drawn. Without a clock there is none.
+fn line_of<R: Eprint + Clock>(
+    rt: &R,
+    progress: Drawn,
+    is_terminal: bool,
+) -> Option<DrawnLine<'_, R>> {
+    let is_drawn = match progress {
+        Drawn::Auto => is_terminal,
+        Drawn::Always => true,
+        Drawn::Never => false,
+    };
+    if is_drawn {
+        DrawnLine::new(rt).ok()
+    } else {
+        None
+    }
+}
+
+/// How many threads read: as many as are asked for, or else as there are processors; one where the system doesn't tell.
+fn workers_of(rt: &impl Threads, asked: Option<u32>) -> u32
+    ensures { 1 ≤ result }
+{
+    let workers = match asked {
+        Some(workers) => workers,
+        None => processors(rt),
+    };
+    workers.clamp(1, MOST_WORKERS)
+}
+
+fn processors(rt: &impl Threads) -> u32 {
+    match thread::available_parallelism(rt) {
+        Ok(count) => u32::try_from(count.get()).unwrap_or(MOST_WORKERS),
+        Err(_) => 1,
+    }
+}
+
+/// What is written, all of it made before any is written.
+#[derive(Drop)]
+struct Texts {
+    output: String,
+    picture: Option<String>,
+}
+
+fn texts_of(
+    alloc: Global,
+    words: &EstimateWords<'_>,
+    numbers: &CensusNumbers<Global>,
+) -> Result<Texts, AllocError> {
+    let salts = guest_salts(alloc, words)?;
+    let guests = guest_lines(alloc, &words.images, &salts, &numbers.guests)?;
+    let estimate = Estimate {
+        guests: &guests,
+        total: numbers.total,
+        copies: &numbers.copies,
+    };
+    let picture = match words.svg {
+        Some(_path) => Some(picture_text(alloc, &estimate)?),
+        None => None,
+    };
+    Ok(Texts {
+        output: output_text(alloc, words.json, &estimate)?,
+        picture,
+    })
+}
+
+/// The salt of each guest.
+fn guest_salts(alloc: Global, words: &EstimateWords<'_>) -> Result<Vec<u32>, AllocError> {
+    (0..words.images.len())
+        .map(|n| words.salts.get(n).copied().unwrap_or(0))
+        .collect(alloc)
+}
+
+fn output_text(
+    alloc: Global,
+    is_json: bool,
+    estimate: &Estimate<'_>,
+) -> Result<String, AllocError> {
+    if is_json {
+        let mut text = json_text(alloc, estimate)?;
+        text.push_str("\n")?;
+        Ok(text)
+    } else {
+        table_text(alloc, estimate)
+    }
+}
+
+fn write_file<R: Files>(rt: &R, path: &str, text: &str) -> Result<(), Cause> {
+    let mut file = fs::create(rt, path)?;
+    write_all(&mut file, text)
+}
+
+fn write_all(output: &mut impl Write, text: &str) -> Result<(), Cause> {
+    output.write_all(text.as_bytes())?;
+    output.flush()?;
+    Ok(())
+}

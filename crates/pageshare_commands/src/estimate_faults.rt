@@ -1,0 +1,114 @@
+//! Why there is no estimate.
+use census_text::PlainName;
+use memory_images::{FormFault, ImageFault};
+use std::alloc::{AllocError, AllocFailed};
+use std::fmt::{self, Display, Formatter};
+use std::io;
+
+/// What is at fault.
+#[derive(Debug, Drop)]
+pub enum Cause {
+    /// The system refused, for this cause.
+    System(io::Error),
+    /// The file isn't of a form that is read.
+    Form(FormFault),
+    /// It is no file with a length, as a device.
+    NoFile,
+    /// The file was changed while it was read.
+    Changed,
+    /// With this image there are more than 4,294,967,295 pages.
+    TooManyPages,
+    /// Memory was refused.
+    OutOfMemory,
+}
+
+/// A fault of a file, or of the files from this one on.
+#[derive(Debug, Drop)]
+pub struct EstimateFault<'a> {
+    pub name: &'a str,
+    /// How many files are meant beside it.
+    pub others: usize,
+    pub cause: Cause,
+}
+
+impl<'a> EstimateFault<'a> {
+    /// A fault of one file.
+    pub fn of(name: &'a str, cause: Cause) -> EstimateFault<'a> {
+        EstimateFault {
+            name,
+            others: 0,
+            cause,
+        }
+    }
+
+    /// A fault of all of these together.
+    pub fn of_all(names: &[&'a str], cause: Cause) -> EstimateFault<'a> {
+        let (name, others) = match names.split_first() {
+            Some((first, others)) => (*first, others.len()),
+            None => ("estimate", 0),
+        };
+        EstimateFault {
+            name,
+            others,
+            cause,
+        }
+    }
+}
+
+impl Display for Cause {
+    fn fmt<W: fmt::Write>(&self, f: &mut Formatter<W>) -> fmt::Result {
+        match self {
+            Cause::System(error) => write!(f, "{error}"),
+            Cause::Form(form) => write!(f, "{form}"),
+            Cause::NoFile => f.write_str("not a regular file"),
+            Cause::Changed => f.write_str("changed while it was read"),
+            Cause::TooManyPages => f.write_str("more than 4,294,967,295 pages in all"),
+            Cause::OutOfMemory => f.write_str("out of memory"),
+        }
+    }
+}
+
+impl Display for EstimateFault<'_> {
+    fn fmt<W: fmt::Write>(&self, f: &mut Formatter<W>) -> fmt::Result {
+        let name = PlainName(self.name);
+        write!(f, "{name}")?;
+        if self.others > 0 {
+            let others = self.others;
+            write!(f, " and {others} more")?;
+        }
+        let cause = &self.cause;
+        write!(f, ": {cause}")
+    }
+}
+
+impl From<io::Error> for Cause {
+    fn from(error: io::Error) -> Cause {
+        if error.kind() == io::ErrorKind::OutOfMemory {
+            Cause::OutOfMemory
+        } else {
+            Cause::System(error)
+        }
+    }
+}
+
+impl From<AllocError> for Cause {
+    fn from(_refused: AllocError) -> Cause {
+        Cause::OutOfMemory
+    }
+}
+
+impl<T: Drop> From<AllocFailed<T>> for Cause {
+    fn from(_refused: AllocFailed<T>) -> Cause {
+        Cause::OutOfMemory
+    }
+}
+
+impl From<ImageFault<io::Error>> for Cause {
+    fn from(fault: ImageFault<io::Error>) -> Cause {
+        match fault {
+            ImageFault::OutOfMemory => Cause::OutOfMemory,
+            ImageFault::Read(error) => Cause::from(error),
+            ImageFault::Form(form) => Cause::Form(form),
+        }
+    }
+}

@@ -1,0 +1,167 @@
+//! The words of the command `estimate`.
+use clap::error::ErrorKind;
+use clap::{Arg, ArgAction, ArgMatches, Command, Error, value_parser};
+use std::alloc::{AllocError, Global};
+
+/// What stands below the help of `estimate`.
+const EXAMPLE: &str = "\
+An image is a raw file of memory, as QEMU's `pmemsave` and the memory files of Firecracker and Cloud Hypervisor snapshots, or an ELF core of 64 bits, as from `virsh dump --memory-only`. The first image is guest 0's. Pages are shared only between guests of equal salt; without --salts all are equal.
+
+    pageshare estimate --svg shares.svg web.core database.core
+
+prints a line for each guest, the total and how often contents occur, and last a sentence such as
+
+    425 MiB of 512 MiB could be reclaimed (83.0 %): 355 MiB are zeros, 23 MiB are between guests
+
+docs/IMAGES.md has the forms of images, and what each number means. The status is 0 where the work was done, 1 where an image, the picture, the output or memory was at fault, and 2 for a bad command line.";
+
+/// When the progress is drawn.
+const WHEN: [&str; 3] = ["auto", "always", "never"];
+
+/// The most threads that read.
+pub const MOST_WORKERS: u32 = 64;
+
+/// When a line on standard error tells how much was read.
+#[derive(Clone, Copy, Debug, PartialEq, Eq)]
+pub enum Drawn {
+    /// Where standard error is a terminal.
+    Auto,
+    Always,
+    Never,
+}
+
+/// What an estimate is to be made of, and how.
+#[derive(Debug, Drop, PartialEq, Eq)]
+pub struct EstimateWords<'a> {
+    /// The paths of the images, guest 0's first.
+    pub images: Vec<&'a str>,
+    /// A salt for each of them; none where all are 0.
+    pub salts: Vec<u32>,
+    /// How many threads read, where that is told.
+    pub workers: Option<u32>,
+    /// Whether each image is raw, whatever it begins with.
+    pub raw: bool,
+    pub json: bool,
+    /// Where the picture goes.
+    pub svg: Option<&'a str>,
+    pub progress: Drawn,
+}
+
+/// The command, as part of the program's.
+pub fn estimate_command<'a>(alloc: Global) -> Result<Command<'a>, AllocError> {
+    let raw = Arg::new(alloc, "raw")
+        .long("raw")
+        .help("Take each image as raw, whatever it begins with")
+        .action(ArgAction::SetTrue);
+    let json = Arg::new(alloc, "json")
+        .long("json")
+        .help("Print a JSON object in place of the table")
+        .action(ArgAction::SetTrue);
+    let svg = Arg::new(alloc, "svg")
+        .long("svg")
+        .value_name("FILE")
+        .help("Write a picture to this file");
+    let images = Arg::new(alloc, "IMAGE")
+        .help("An image of memory for each guest, guest 0's first")
+        .num_args(1..)
+        .required(true);
+    Command::new(alloc, "estimate")
+        .about(
+            "Tell how much memory sharing equal pages would reclaim, from images of guests' memory",
+        )
+        .after_help(EXAMPLE)
+        .arg(salts_option(alloc))?
+        .arg(workers_option(alloc))?
+        .arg(raw)?
+        .arg(json)?
+        .arg(svg)?
+        .arg(progress_option(alloc))?
+        .arg(images)
+}
+
+fn salts_option<'a>(alloc: Global) -> Arg<'a> {
+    Arg::new(alloc, "salts")
+        .long("salts")
+        .value_name("N,N,..")
+        .help(
+            "A number for each image: pages are shared only where these are equal [default: 0 for each]",
+        )
+        .value_parser(value_parser!(u32))
+        .value_delimiter(',')
+}
+
+fn workers_option<'a>(alloc: Global) -> Arg<'a> {
+    Arg::new(alloc, "workers")
+        .long("workers")
+        .value_name("N")
+        .help("How many threads read, 1 to 64 [default: the number of processors]")
+        .value_parser(value_parser!(u32).range(1..=64))
+}
+
+fn progress_option<'a>(alloc: Global) -> Arg<'a> {
+    Arg::new(alloc, "progress")
+        .long("progress")
+        .value_name("WHEN")
+        .help("Tell on standard error how much was read; on auto where that is a terminal")
+        .value_parser(WHEN.as_slice())
+        .default_value("auto")
+}
+
+/// What the words behind `estimate` ask for. Another number of salts than of images is an error.
+pub fn estimate_words<'a>(
+    alloc: Global,
+    matches: &ArgMatches<'a>,
+) -> Result<EstimateWords<'a>, Error> {
+    let words = EstimateWords {
+        images: images_of(alloc, matches)?,
+        salts: salts_of(alloc, matches)?,
+        workers: matches.get_one::<u32>("workers"),
+        raw: matches.get_flag("raw"),
+        json: matches.get_flag("json"),
+        svg: matches.get_str("svg"),
+        progress: progress_of(matches),
+    };
+    let (salts, images) = (words.salts.len(), words.images.len());
+    if matches.contains_id("salts") && salts != images {
+        return Err(wrong_salts(alloc, salts, images)?);
+    }
+    Ok(words)
+}
+
+fn images_of<'a>(alloc: Global, matches: &ArgMatches<'a>) -> Result<Vec<&'a str>, AllocError> {
+    let mut images = Vec::new(alloc);
+    if let Some(paths) = matches.get_strs("IMAGE") {
+        for path in paths {
+            images.push(*path)?;
+        }
+    }
+    Ok(images)
+}
+
+fn salts_of(alloc: Global, matches: &ArgMatches<'_>) -> Result<Vec<u32>, AllocError> {
+    let mut salts = Vec::new(alloc);
+    if let Some(numbers) = matches.get_strs("salts") {
+        for number in numbers {
+            // Each is the text of a number: the parser has looked.
+            salts.push(number.parse::<u32>().unwrap_or(0))?;
+        }
+    }
+    Ok(salts)
+}
+
+fn progress_of(matches: &ArgMatches<'_>) -> Drawn {
+    match matches.get_str("progress") {
+        Some("always") => Drawn::Always,
+        Some("never") => Drawn::Never,
+        _ => Drawn::Auto,
+    }
+}
+
+fn wrong_salts(alloc: Global, salts: usize, images: usize) -> Result<Error, AllocError> {
+    let message = format!(in alloc;
+        "--salts needs a number for each image (numbers: {salts}, images: {images})"
+    )?;
+    estimate_command(alloc)?
+        .bin_name("pageshare estimate")?
+        .error(ErrorKind::WrongNumberOfValues, &message)
+}

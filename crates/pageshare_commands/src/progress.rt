@@ -1,0 +1,74 @@
+//! A line on standard error that is drawn anew.
+use std::fmt::Display;
+use std::io;
+use std::sync::atomic::{AtomicBool, AtomicU64, Ordering};
+use std::time::Instant;
+
+/// How many milliseconds lie between two drawings at least.
+const PAUSE: u64 = 100;
+
+/// A line of standard error that several threads may draw anew, each over what stood there. It is drawn at most ten times
+/// a second, by whichever thread comes first.
+#[derive(Drop)]
+pub struct DrawnLine<'a, R> {
+    rt: &'a R,
+    start: Instant,
+    /// The milliseconds from the start to the last drawing.
+    last: AtomicU64,
+    /// Whether a thread is drawing.
+    is_taken: AtomicBool,
+}
+
+impl<'a, R: Eprint + std::time::Clock> DrawnLine<'a, R> {
+    /// A line that isn't drawn yet. An error is that of the clock.
+    pub fn new(rt: &'a R) -> io::Result<DrawnLine<'a, R>> {
+        Ok(DrawnLine {
+            rt,
+            start: Instant::now(rt)?,
+            last: AtomicU64::new(0),
+            is_taken: AtomicBool::new(false),
+        })
+    }
+
+    /// The milliseconds since the start.
+    pub fn elapsed(&self) -> u64 {
+        match self.start.elapsed(self.rt) {
+            Ok(since) => u64::try_from(since.as_millis()).unwrap_or(u64::MAX),
+            Err(_) => 0,
+        }
+    }
+
+    /// Draws the line if its time has come and no other thread draws it: what `text` shows of the milliseconds since the
+    /// start.
+    pub fn draw_if_due<T: Told>(&self, text: &T) {
+        let now = self.elapsed();
+        if now < self.last.load(Ordering::SeqCst).saturating_add(PAUSE) {
+            return;
+        }
+        if !self.is_taken.swap(true, Ordering::SeqCst) {
+            self.last.store(now, Ordering::SeqCst);
+            self.draw(text, now);
+            self.is_taken.store(false, Ordering::SeqCst);
+        }
+    }
+
+    /// Draws the line for the last time, and ends it.
+    pub fn end<T: Told>(&self, text: &T) {
+        self.draw(text, self.elapsed());
+        let _ = eprintln!(self.rt);
+    }
+
+    /// What can't be written is left out: the work goes on without it.
+    fn draw<T: Told>(&self, text: &T, elapsed: u64) {
+        let shown = text.told(elapsed);
+        let _ = eprint!(self.rt; "\r{shown}\x1b[K");
+    }
+}
+
+/// What a line tells.
+pub trait Told {
+    type Shown: Display + Drop;
+
+    /// What it tells when so many milliseconds have passed.
+    fn told(&self, elapsed: u64) -> Self::Shown;
+}

@@ -1,0 +1,83 @@
+//! The commands on a journal or a script.
+use crate::faults::{Ending, tell};
+use crate::words::{Task, Work};
+use merge_run::OpenGate;
+use page_digest::Sha256Hash;
+use share_text::{Noted, TextFault, replay, serial, threaded};
+use std::alloc::Global;
+use std::fs::{self, Files};
+use std::io::{self, Eprint, Read, Write};
+use std::process::ExitCode;
+use std::sync::Wait;
+use std::thread::Threads;
+
+/// Does the work on the text in the file, or else on that of the input, and gives the status.
+pub fn do_text<T: Threads + Wait + Sync + Files + Eprint, R: Read + Drop, W: Write + Drop>(
+    rt: &T,
+    alloc: Global,
+    task: &Task<'_>,
+    input: R,
+    output: W,
+    is_terminal: bool,
+) -> io::Result<ExitCode> {
+    let work = task.work;
+    let ending = match task.file {
+        None => done_of(rt, alloc, work, "standard input", input, output),
+        Some(path) => match fs::open(rt, path) {
+            Ok(file) => done_of(rt, alloc, work, path, file, output),
+            // A file that can't be opened is an input that can't be read.
+            Err(error) => Ending {
+                is_of_script: work.is_of_script(),
+                done: Err(TextFault::Read),
+                failure: Some((path, error)),
+            },
+        },
+    };
+    tell(rt, is_terminal, &ending)
+}
+
+/// The status where memory was refused before any work.
+pub fn tell_memory(rt: &impl Eprint, is_terminal: bool) -> io::Result<ExitCode> {
+    let ending = Ending {
+        is_of_script: false,
+        done: Err(TextFault::OutOfMemory),
+        failure: None,
+    };
+    tell(rt, is_terminal, &ending)
+}
+
+/// Does the work on a reader's text; `name` tells the reader where it fails.
+fn done_of<'a, T: Threads + Wait + Sync, R: Read + Drop, W: Write + Drop>(
+    rt: &T,
+    alloc: Global,
+    work: Work,
+    name: &'a str,
+    reader: R,
+    writer: W,
+) -> Ending<'a> {
+    let mut input = Noted::new(reader);
+    let mut output = Noted::new(writer);
+    let done = match work {
+        Work::Replay => replay(alloc, &mut input, &mut output, Sha256Hash),
+        Work::Serial => serial(alloc, &mut input, &mut output, Sha256Hash),
+        Work::Run(form) => threaded(
+            rt,
+            alloc,
+            &mut input,
+            &mut output,
+            Sha256Hash,
+            &OpenGate,
+            form,
+        ),
+    };
+    let failure = match (input.error(), output.error()) {
+        (Some(error), _) => Some((name, error)),
+        (None, Some(error)) => Some(("standard output", error)),
+        (None, None) => None,
+    };
+    Ending {
+        is_of_script: work.is_of_script(),
+        done,
+        failure,
+    }
+}
