@@ -2,24 +2,18 @@
 ghost use Rattle.std.specs.Prelude.{◌≤◌};
 
 use crate::estimate_faults::{Cause, EstimateFault};
-use crate::estimate_words::{Drawn, EstimateWords, MOST_WORKERS};
+use crate::estimate_words::{EstimateWords, MOST_WORKERS};
 use crate::images::{Images, check_unchanged, open_images};
-use crate::progress::DrawnLine;
+use crate::progress::line_where;
 use crate::reading::Reading;
 use census_text::{Estimate, guest_lines, json_text, picture_text, table_text};
-use page_census::{CensusFault, CensusNumbers, census};
-use page_digest::Sha256Hash;
+use page_census::{CensusFault, CensusNumbers, FoldHash, census};
 use std::alloc::{AllocError, Global};
 use std::fs::{self, File, Files};
 use std::io::{self, Eprint, Write};
 use std::process::ExitCode;
 use std::thread::{self, Threads};
 use std::time::Clock;
-
-/// The hash by which equal pages are found.
-type CensusHash = Sha256Hash;
-
-const HASH: CensusHash = Sha256Hash;
 
 /// Counts the pages of the images, writes the picture, and then the table or the JSON object. Gives the status: a fault is
 /// told in a line on standard error, and then nothing was written to the output unless that is what failed.
@@ -70,9 +64,10 @@ fn count<'a, R: Threads + Sync + Eprint + Clock>(
     images: &Images,
     is_terminal: bool,
 ) -> Result<CensusNumbers<Global>, EstimateFault<'a>> {
-    let reading = Reading::new(line_of(rt, words.progress, is_terminal), images.pages);
+    let is_drawn = words.progress.is_on(is_terminal);
+    let reading = Reading::new(line_where(rt, is_drawn), images.pages);
     let workers = workers_of(rt, words.workers);
-    let told = census(rt, alloc, workers, &HASH, &images.guests, &reading);
+    let told = census(rt, alloc, workers, &FoldHash, &images.guests, &reading);
     reading.end();
     match told {
         Ok(numbers) => Ok(numbers),
@@ -86,24 +81,6 @@ fn count<'a, R: Threads + Sync + Eprint + Clock>(
             words.images.get(guest).copied().unwrap_or("estimate"),
             Cause::from(error),
         )),
-    }
-}
-
-/// The line that tells how much was read, where it is to be drawn. Without a clock there is none.
-fn line_of<R: Eprint + Clock>(
-    rt: &R,
-    progress: Drawn,
-    is_terminal: bool,
-) -> Option<DrawnLine<'_, R>> {
-    let is_drawn = match progress {
-        Drawn::Auto => is_terminal,
-        Drawn::Always => true,
-        Drawn::Never => false,
-    };
-    if is_drawn {
-        DrawnLine::new(rt).ok()
-    } else {
-        None
     }
 }
 

@@ -1,4 +1,5 @@
 //! The words of the command `estimate`.
+use crate::progress_words::{Drawn, progress_of, progress_option};
 use clap::error::ErrorKind;
 use clap::{Arg, ArgAction, ArgMatches, Command, Error, value_parser};
 use std::alloc::{AllocError, Global};
@@ -15,20 +16,10 @@ prints a line for each guest, the total and how often contents occur, and last a
 
 docs/IMAGES.md has the forms of images, and what each number means. The status is 0 where the work was done, 1 where an image, the picture, the output or memory was at fault, and 2 for a bad command line.";
 
-/// When the progress is drawn.
-const WHEN: [&str; 3] = ["auto", "always", "never"];
+const READING: &str = "Tell on standard error how much was read; on auto where that is a terminal";
 
 /// The most threads that read.
 pub const MOST_WORKERS: u32 = 64;
-
-/// When a line on standard error tells how much was read.
-#[derive(Clone, Copy, Debug, PartialEq, Eq)]
-pub enum Drawn {
-    /// Where standard error is a terminal.
-    Auto,
-    Always,
-    Never,
-}
 
 /// What an estimate is to be made of, and how.
 #[derive(Debug, Drop, PartialEq, Eq)]
@@ -75,7 +66,7 @@ pub fn estimate_command<'a>(alloc: Global) -> Result<Command<'a>, AllocError> {
         .arg(raw)?
         .arg(json)?
         .arg(svg)?
-        .arg(progress_option(alloc))?
+        .arg(progress_option(alloc, READING))?
         .arg(images)
 }
 
@@ -96,15 +87,6 @@ fn workers_option<'a>(alloc: Global) -> Arg<'a> {
         .value_name("N")
         .help("How many threads read, 1 to 64 [default: the number of processors]")
         .value_parser(value_parser!(u32).range(1..=64))
-}
-
-fn progress_option<'a>(alloc: Global) -> Arg<'a> {
-    Arg::new(alloc, "progress")
-        .long("progress")
-        .value_name("WHEN")
-        .help("Tell on standard error how much was read; on auto where that is a terminal")
-        .value_parser(WHEN.as_slice())
-        .default_value("auto")
 }
 
 /// What the words behind `estimate` ask for. Another number of salts than of images is an error.
@@ -147,14 +129,6 @@ fn salts_of(alloc: Global, matches: &ArgMatches<'_>) -> Result<Vec<u32>, AllocEr
         }
     }
     Ok(salts)
-}
-
-fn progress_of(matches: &ArgMatches<'_>) -> Drawn {
-    match matches.get_str("progress") {
-        Some("always") => Drawn::Always,
-        Some("never") => Drawn::Never,
-        _ => Drawn::Auto,
-    }
 }
 
 fn wrong_salts(alloc: Global, salts: usize, images: usize) -> Result<Error, AllocError> {

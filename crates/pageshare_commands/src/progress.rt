@@ -2,7 +2,7 @@
 use std::fmt::Display;
 use std::io;
 use std::sync::atomic::{AtomicBool, AtomicU64, Ordering};
-use std::time::Instant;
+use std::time::{Clock, Instant};
 
 /// How many milliseconds lie between two drawings at least.
 const PAUSE: u64 = 100;
@@ -19,7 +19,7 @@ pub struct DrawnLine<'a, R> {
     is_taken: AtomicBool,
 }
 
-impl<'a, R: Eprint + std::time::Clock> DrawnLine<'a, R> {
+impl<'a, R: Eprint + Clock> DrawnLine<'a, R> {
     /// A line that isn't drawn yet. An error is that of the clock.
     pub fn new(rt: &'a R) -> io::Result<DrawnLine<'a, R>> {
         Ok(DrawnLine {
@@ -62,6 +62,15 @@ impl<'a, R: Eprint + std::time::Clock> DrawnLine<'a, R> {
     fn draw<T: Told>(&self, text: &T, elapsed: u64) {
         let shown = text.told(elapsed);
         let _ = eprint!(self.rt; "\r{shown}\x1b[K");
+    }
+}
+
+/// A line, where one is to be drawn. Without a clock there is none.
+pub fn line_where<R: Eprint + Clock>(rt: &R, is_drawn: bool) -> Option<DrawnLine<'_, R>> {
+    if is_drawn {
+        DrawnLine::new(rt).ok()
+    } else {
+        None
     }
 }
 

@@ -1,7 +1,8 @@
 //! The commands on a journal or a script.
 use crate::faults::{Ending, tell};
+use crate::progress::line_where;
+use crate::running::Running;
 use crate::words::{Task, Work};
-use merge_run::OpenGate;
 use page_digest::Sha256Hash;
 use share_text::{Noted, TextFault, replay, serial, threaded};
 use std::alloc::Global;
@@ -10,9 +11,10 @@ use std::io::{self, Eprint, Read, Write};
 use std::process::ExitCode;
 use std::sync::Wait;
 use std::thread::Threads;
+use std::time::Clock;
 
 /// Does the work on the text in the file, or else on that of the input, and gives the status.
-pub fn do_text<T: Threads + Wait + Sync + Files + Eprint, R: Read + Drop, W: Write + Drop>(
+pub fn do_text<T: Threads + Wait + Sync + Files + Eprint + Clock, R: Read + Drop, W: Write + Drop>(
     rt: &T,
     alloc: Global,
     task: &Task<'_>,
@@ -22,9 +24,17 @@ pub fn do_text<T: Threads + Wait + Sync + Files + Eprint, R: Read + Drop, W: Wri
 ) -> io::Result<ExitCode> {
     let work = task.work;
     let ending = match task.file {
-        None => done_of(rt, alloc, work, "standard input", input, output),
+        None => done_of(
+            rt,
+            alloc,
+            work,
+            "standard input",
+            input,
+            output,
+            is_terminal,
+        ),
         Some(path) => match fs::open(rt, path) {
-            Ok(file) => done_of(rt, alloc, work, path, file, output),
+            Ok(file) => done_of(rt, alloc, work, path, file, output, is_terminal),
             // A file that can't be opened is an input that can't be read.
             Err(error) => Ending {
                 is_of_script: work.is_of_script(),
@@ -47,28 +57,34 @@ pub fn tell_memory(rt: &impl Eprint, is_terminal: bool) -> io::Result<ExitCode> 
 }
 
 /// Does the work on a reader's text; `name` tells the reader where it fails.
-fn done_of<'a, T: Threads + Wait + Sync, R: Read + Drop, W: Write + Drop>(
+fn done_of<'a, T: Threads + Wait + Sync + Eprint + Clock, R: Read + Drop, W: Write + Drop>(
     rt: &T,
     alloc: Global,
     work: Work,
     name: &'a str,
     reader: R,
     writer: W,
+    is_terminal: bool,
 ) -> Ending<'a> {
     let mut input = Noted::new(reader);
     let mut output = Noted::new(writer);
     let done = match work {
         Work::Replay => replay(alloc, &mut input, &mut output, Sha256Hash),
         Work::Serial => serial(alloc, &mut input, &mut output, Sha256Hash),
-        Work::Run(form) => threaded(
-            rt,
-            alloc,
-            &mut input,
-            &mut output,
-            Sha256Hash,
-            &OpenGate,
-            form,
-        ),
+        Work::Run(form, progress) => {
+            let running = Running::new(line_where(rt, progress.is_on(is_terminal)));
+            let done = threaded(
+                rt,
+                alloc,
+                &mut input,
+                &mut output,
+                Sha256Hash,
+                &running,
+                form,
+            );
+            running.end();
+            done
+        }
     };
     let failure = match (input.error(), output.error()) {
         (Some(error), _) => Some((name, error)),

@@ -1,5 +1,6 @@
 //! The command line.
 use crate::estimate_words::{EstimateWords, estimate_command, estimate_words};
+use crate::progress_words::{Drawn, progress_of, progress_option};
 use clap::{Arg, ArgAction, ArgMatches, Command, Error};
 use share_text::Output;
 use std::alloc::Global;
@@ -51,6 +52,8 @@ Machine memory has 2 frames, and guest 0 has 1 page; its rings hold 1 request an
 
 docs/FORMATS.md has each line, verdict and fault. The status is 0 where the work was done, 1 where input, output, memory or a thread was at fault, and 2 for a bad command line.";
 
+const RUNNING: &str = "Tell on standard error how far the run is; on auto where that is a terminal";
+
 /// What is to be done with a text.
 #[derive(Clone, Copy, Debug, PartialEq, Eq)]
 pub enum Work {
@@ -58,8 +61,8 @@ pub enum Work {
     Replay,
     /// Serve the script on one thread.
     Serial,
-    /// Run the script, and write this of it.
-    Run(Output),
+    /// Run the script, tell then how far it is, and write this of it.
+    Run(Output, Drawn),
 }
 
 impl Work {
@@ -68,7 +71,7 @@ impl Work {
         match self {
             Work::Replay => false,
             Work::Serial => true,
-            Work::Run(_) => true,
+            Work::Run(_, _) => true,
         }
     }
 }
@@ -121,6 +124,7 @@ fn run_command<'a>(alloc: Global) -> Result<Command<'a>, Error> {
         )
         .after_help(SCRIPT)
         .arg(journal)?
+        .arg(progress_option(alloc, RUNNING))?
         .arg(file)?;
     Ok(run)
 }
@@ -158,7 +162,7 @@ fn task_of<'a>(matches: &ArgMatches<'a>) -> Task<'a> {
             Output::Verdicts
         };
         return Task {
-            work: Work::Run(form),
+            work: Work::Run(form, progress_of(run)),
             file: run.get_str("FILE"),
         };
     }
@@ -182,6 +186,7 @@ fn task_of<'a>(matches: &ArgMatches<'a>) -> Task<'a> {
 #[cfg(test)]
 mod tests {
     use super::{Asked, Task, Work, asked_of};
+    use crate::progress_words::Drawn;
     use clap::error::ErrorKind;
     use share_text::Output;
     use std::alloc::{AllocError, Global};
@@ -199,21 +204,30 @@ mod tests {
     #[test]
     fn reads_the_words(rt: HostRuntime) -> Result<(), Fail> {
         let alloc = rt.alloc();
-        let asked: [(&[&str], Work, Option<&str>); 8] = [
+        let asked: [(&[&str], Work, Option<&str>); 9] = [
             (&["replay"], Work::Replay, None),
             (&["replay", "a.journal"], Work::Replay, Some("a.journal")),
             (&["serial"], Work::Serial, None),
             (&["serial", "a.script"], Work::Serial, Some("a.script")),
-            (&["run"], Work::Run(Output::Verdicts), None),
+            (&["run"], Work::Run(Output::Verdicts, Drawn::Auto), None),
             (
                 &["run", "a.script"],
-                Work::Run(Output::Verdicts),
+                Work::Run(Output::Verdicts, Drawn::Auto),
                 Some("a.script"),
             ),
-            (&["run", "--journal"], Work::Run(Output::JournalText), None),
             (
-                &["run", "--journal", "a.script"],
-                Work::Run(Output::JournalText),
+                &["run", "--journal"],
+                Work::Run(Output::JournalText, Drawn::Auto),
+                None,
+            ),
+            (
+                &["run", "--progress", "always", "a.script"],
+                Work::Run(Output::Verdicts, Drawn::Always),
+                Some("a.script"),
+            ),
+            (
+                &["run", "--journal", "--progress=never", "a.script"],
+                Work::Run(Output::JournalText, Drawn::Never),
                 Some("a.script"),
             ),
         ];
@@ -222,7 +236,7 @@ mod tests {
             let due = Asked::Text(Task { work, file });
             assert_eq!(rt; asked_of(alloc, &given).ok(), Some(due));
         }
-        let mistakes: [(&[&str], ErrorKind); 11] = [
+        let mistakes: [(&[&str], ErrorKind); 13] = [
             (&[], ErrorKind::MissingSubcommand),
             (&["journal"], ErrorKind::InvalidSubcommand),
             (
@@ -232,6 +246,11 @@ mod tests {
             (&["replay", "--journal"], ErrorKind::UnknownArgument),
             (&["serial", "--journal"], ErrorKind::UnknownArgument),
             (&["run", "a.script", "b.script"], ErrorKind::UnknownArgument),
+            (&["run", "--progress", "often"], ErrorKind::InvalidValue),
+            (
+                &["serial", "--progress", "auto"],
+                ErrorKind::UnknownArgument,
+            ),
             (&["--help"], ErrorKind::DisplayHelp),
             (&["replay", "--help"], ErrorKind::DisplayHelp),
             (&["run", "--help"], ErrorKind::DisplayHelp),

@@ -1,0 +1,158 @@
+//! How far a run is.
+use crate::progress::{DrawnLine, Told};
+use merge_run::Gate;
+use page_model::Report;
+use std::fmt::{self, Display, Formatter};
+use std::sync::atomic::{AtomicBool, AtomicU32, AtomicU64, Ordering};
+use std::time::Clock;
+
+/// How far a run is, and the line that tells it, if any is drawn.
+///
+/// As a gate it holds nobody up: it hears of the run on the merger's thread.
+#[derive(Drop)]
+pub struct Running<'a, R> {
+    line: Option<DrawnLine<'a, R>>,
+    /// How many requests the scripts have, their closes among them; 0 before the run.
+    requests: AtomicU64,
+    /// The milliseconds from the line's making to the run.
+    start: AtomicU64,
+    entries: AtomicU32,
+    mapped: AtomicU32,
+    shared: AtomicU32,
+    reclaimed: AtomicU32,
+    has_ended: AtomicBool,
+}
+
+impl<'a, R: Eprint + Clock> Running<'a, R> {
+    /// Nothing runs yet.
+    pub fn new(line: Option<DrawnLine<'a, R>>) -> Running<'a, R> {
+        Running {
+            line,
+            requests: AtomicU64::new(0),
+            start: AtomicU64::new(0),
+            entries: AtomicU32::new(0),
+            mapped: AtomicU32::new(0),
+            shared: AtomicU32::new(0),
+            reclaimed: AtomicU32::new(0),
+            has_ended: AtomicBool::new(false),
+        }
+    }
+
+    /// Draws the line for the last time, and ends it, unless that was done or nothing was run.
+    pub fn end(&self) {
+        let Some(line) = &self.line else {
+            return;
+        };
+        let has_run = self.requests.load(Ordering::SeqCst) > 0;
+        if has_run && !self.has_ended.swap(true, Ordering::SeqCst) {
+            line.end(self);
+        }
+    }
+
+    fn note(&self, report: &Report) {
+        self.entries.store(report.entries(), Ordering::SeqCst);
+        self.mapped.store(report.mapped(), Ordering::SeqCst);
+        self.shared.store(report.shared(), Ordering::SeqCst);
+        self.reclaimed.store(report.reclaimed(), Ordering::SeqCst);
+    }
+}
+
+impl<R> Told for Running<'_, R> {
+    type Shown = RunSoFar;
+
+    fn told(&self, elapsed: u64) -> RunSoFar {
+        RunSoFar {
+            requests: self.requests.load(Ordering::SeqCst),
+            entries: self.entries.load(Ordering::SeqCst),
+            mapped: self.mapped.load(Ordering::SeqCst),
+            shared: self.shared.load(Ordering::SeqCst),
+            reclaimed: self.reclaimed.load(Ordering::SeqCst),
+            elapsed: elapsed.saturating_sub(self.start.load(Ordering::SeqCst)),
+        }
+    }
+}
+
+impl<R: Eprint + Clock + Sync> Gate for Running<'_, R> {
+    fn starting(&self, requests: u64) {
+        if let Some(line) = &self.line {
+            self.requests.store(requests, Ordering::SeqCst);
+            self.start.store(line.elapsed(), Ordering::SeqCst);
+        }
+    }
+
+    // The line ends with the last request, before the run's output is written.
+    fn served(&self, report: &Report) {
+        if let Some(line) = &self.line {
+            self.note(report);
+            if u64::from(report.entries()) == self.requests.load(Ordering::SeqCst) {
+                self.end();
+            } else {
+                line.draw_if_due(self);
+            }
+        }
+    }
+
+    fn before(&self, _guest: u8, _nth: u32) {}
+
+    fn after(&self, _guest: u8, _nth: u32) {}
+}
+
+/// What a run has come to in so many milliseconds.
+#[derive(Clone, Copy, Debug, PartialEq, Eq, Drop)]
+pub struct RunSoFar {
+    pub requests: u64,
+    pub entries: u32,
+    pub mapped: u32,
+    pub shared: u32,
+    pub reclaimed: u32,
+    pub elapsed: u64,
+}
+
+impl RunSoFar {
+    /// The hundredths of the requests that were served.
+    fn per_cent(&self) -> u64 {
+        let part = u64::from(self.entries).saturating_mul(100);
+        part.checked_div(self.requests).unwrap_or(100)
+    }
+
+    /// The requests served in a second.
+    fn rate(&self) -> u64 {
+        let thousandfold = u64::from(self.entries).saturating_mul(1000);
+        thousandfold.checked_div(self.elapsed).unwrap_or(0)
+    }
+}
+
+impl Display for RunSoFar {
+    fn fmt<W: fmt::Write>(&self, f: &mut Formatter<W>) -> fmt::Result {
+        let (part, rate) = (self.per_cent(), self.rate());
+        let (done, all) = (self.entries, self.requests);
+        write!(f, "{part:>3} %  {done} of {all} requests  {rate} a second")?;
+        let (mapped, shared, reclaimed) = (self.mapped, self.shared, self.reclaimed);
+        write!(
+            f,
+            "  {mapped} pages mapped, {shared} shared, {reclaimed} reclaimed"
+        )
+    }
+}
+
+#[cfg(test)]
+mod tests {
+    use super::RunSoFar;
+    use std::test::Fail;
+
+    #[test]
+    fn tells_how_far_a_run_is(rt: HostRuntime) -> Result<(), Fail> {
+        let so_far = RunSoFar {
+            requests: 3_000,
+            entries: 1_000,
+            mapped: 12,
+            shared: 8,
+            reclaimed: 5,
+            elapsed: 250,
+        };
+        let shown =
+            " 33 %  1000 of 3000 requests  4000 a second  12 pages mapped, 8 shared, 5 reclaimed";
+        assert_eq!(rt; format!(in rt.alloc(); "{so_far}")?.as_str(), shown);
+        Ok(())
+    }
+}
