@@ -1,10 +1,12 @@
 //! The commands on a journal or a script.
+ghost use Rattle.std.specs.Prelude.{◌≡◌, false};
+
 use crate::faults::{Ending, tell};
-use crate::progress::line_where;
+use crate::progress::{DrawnLine, line_where};
 use crate::running::Running;
 use crate::words::{Task, Work};
 use page_digest::Sha256Hash;
-use share_text::{Noted, TextFault, replay, serial, threaded};
+use share_text::{Noted, Output, Sink, Source, TextFault, replay, serial, threaded};
 use std::alloc::Global;
 use std::fs::{self, Files};
 use std::io::{self, Eprint, Read, Write};
@@ -72,18 +74,8 @@ fn done_of<'a, T: Threads + Wait + Sync + Eprint + Clock, R: Read + Drop, W: Wri
         Work::Replay => replay(alloc, &mut input, &mut output, Sha256Hash),
         Work::Serial => serial(alloc, &mut input, &mut output, Sha256Hash),
         Work::Run(form, progress) => {
-            let running = Running::new(line_where(rt, progress.is_on(is_terminal)));
-            let done = threaded(
-                rt,
-                alloc,
-                &mut input,
-                &mut output,
-                Sha256Hash,
-                &running,
-                form,
-            );
-            running.end();
-            done
+            let line = line_where(rt, progress.is_on(is_terminal));
+            run(rt, alloc, &mut input, &mut output, form, line)
         }
     };
     let failure = match (input.error(), output.error()) {
@@ -96,4 +88,22 @@ fn done_of<'a, T: Threads + Wait + Sync + Eprint + Clock, R: Read + Drop, W: Wri
         done,
         failure,
     }
+}
+
+/// Runs a script, and draws the line meanwhile, if there is one.
+fn run<T: Threads + Wait + Sync + Eprint + Clock, R: Source, W: Sink>(
+    rt: &T,
+    alloc: Global,
+    reader: &mut R,
+    writer: &mut W,
+    form: Output,
+    line: Option<DrawnLine<'_, T>>,
+) -> Result<(), TextFault>
+    requires reader { R.has_failed reader.old ≡ false }
+    requires writer { W.has_failed writer.old ≡ false }
+{
+    let running = Running::new(line);
+    let done = threaded(rt, alloc, reader, writer, Sha256Hash, &running, form);
+    running.end();
+    done
 }
