@@ -11,3 +11,5 @@ mod files;
 mod raw;
 #[cfg(test)]
 mod refused;
+#[cfg(test)]
+mod system;
