@@ -1,4 +1,4 @@
-.PHONY: test build demo commands no-thread embed fuzz soak hints bench
+.PHONY: test build demo commands estimate no-thread embed fuzz soak hints bench
 
 # The gate: every proof from nothing, the edits that must be refused, the tests and the programs.
 test:
@@ -14,14 +14,20 @@ out/pageshare: $(SOURCES)
 	mkdir -p out
 	cp crates/pageshare/out/pageshare $@
 
-# A first look, in about 40 seconds: two guests' scans meet, a thread for each.
+# A first look, in about a minute: two guests' scans meet, a thread for each; and what sharing would reclaim of two images.
 demo:
 	@echo 'This build is for a first look and is not the proved one: make build makes that.'
 	@cd crates/pageshare && rt try -- run < ../../examples/scans-meet.script
+	@examples/make_images.py out/demo
+	@cd crates/pageshare && rt try -- estimate ../../out/demo/web.raw ../../out/demo/database.core
 
 # Outside the gate: status, standard output and standard error of each command, on texts, ends and words of each kind.
 commands: out/pageshare
 	checks/commands.py
+
+# Outside the gate: what `estimate` tells of 1,000 random images, beside a count by hashes in Python (COUNT and SEED may be given).
+estimate: out/pageshare
+	checks/estimate.py $(or $(COUNT),1000) $(SEED)
 
 # Outside the gate: where the system refuses to start a thread, a run, a script and a hashing of many pages answer so and end.
 no-thread: out/run_bench out/hash_bench out/pageshare

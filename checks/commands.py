@@ -8,12 +8,15 @@ cases went right (status 0 where all did, else 1).
 
 The cases: each command on good texts, from a file and from standard input; each cause for which a text is at fault; texts that
 are too long; inputs that can't be opened or read, outputs that take nothing, too little memory, no room for a thread's stack;
-words that are no command line, help and the version; and what a terminal is told.
+words that are no command line, help and the version; estimates of small images, and each cause for which there is none; and what
+a terminal is told.
 """
+import json
 import os
 import pathlib
 import pty
 import resource
+import struct
 import subprocess
 import sys
 import tempfile
@@ -176,6 +179,89 @@ def told(words, text):
     return done.returncode, given.replace("\r\n", "\n")
 
 
+def core(change=(), segment=(0, 4096), size=8192):
+    """An ELF core of so many bytes with one segment to load, of which some bytes are others: places and what stands there."""
+    head = b"\x7fELF" + bytes([2, 1, 1]) + bytes(9)
+    head += struct.pack("<HHIQQQIHHHHHH", 4, 62, 1, 0, 64, 0, 0, 64, 56, 1, 64, 0, 0)
+    data = bytearray((head + struct.pack("<IIQQQQQQ", 1, 4, segment[0], 0, 0, segment[1], 0, 1)).ljust(size, b"\0"))
+    for at, new in change:
+        data[at : at + len(new)] = new
+    return bytes(data)
+
+
+# An image, and what is said of it.
+IMAGE_FAULTS = [
+    (core()[:63], "the ELF header isn't whole within the file"),
+    (b"\x7fELF", "the ELF header isn't whole within the file"),
+    (core([(4, b"\1")]), "the ELF file isn't of 64 bits"),
+    (core([(5, b"\2")]), "the ELF file isn't little-endian"),
+    (core([(16, b"\2\0")]), "the ELF file is no core"),
+    (core([(54, b"\x20\0")]), "the ELF file's program headers aren't of 56 bytes"),
+    (core([(56, b"\xff\xff")]), "section header 0 isn't whole within the file"),
+    (core()[:119], "a program header isn't whole within the file"),
+    (core([(56, b"\xff\0")]), "a program header isn't whole within the file"),
+    (core(segment=(4097, 4096)), "a segment isn't whole within the file"),
+]
+
+
+def estimates(folder):
+    whole = {"pages": 0, "zero": 0, "shared": 0, "frames": 0, "reclaimed": 0, "zero_reclaimed": 0, "between": 0}
+    raw, empty, elf = folder / "a.raw", folder / "empty", folder / "elf.core"
+    raw.write_bytes(bytes(8192) + b"a" * 4096 + b"b")
+    empty.write_bytes(b"")
+    elf.write_bytes(core(segment=(4000, 4192)))
+    lines = "Each number in pages of 4,096 bytes, and behind that in MiB.\n"
+    for words, pages in [([raw], 4), ([empty], 0), ([elf], 2), (["--raw", elf], 2), ([raw, "--workers", 64, raw], 8)]:
+        texts = list(map(str, words))
+        done = ran(["estimate", "--json", *texts])
+        told_of = json.loads(done.stdout or b"{}")
+        expect(f"estimate {texts}", ["estimate", *texts], "", 0, True, "")
+        if told_of.get("total", whole)["pages"] != pages or not ran(["estimate", *texts]).stdout.decode().startswith(lines):
+            wrong.append(f"estimate {texts}: {done.stdout}, and {pages} pages were due")
+    for n, (data, cause) in enumerate(IMAGE_FAULTS):
+        path = folder / f"{n}.core"
+        path.write_bytes(data)
+        expect(f"estimate, {cause}", ["estimate", str(raw), str(path)], "", 1, "", f"{path}: {cause}\n")
+
+
+def estimate_ends(folder):
+    raw, none, svg = str(folder / "a.raw"), str(folder / "none"), folder / "a.svg"
+    missing = "No such file or directory (os error 2)"
+    expect("estimate, no such file", ["estimate", raw, none], "", 1, "", f"{none}: {missing}\n")
+    expect("estimate, a folder", ["estimate", str(folder)], "", 1, "", f"{folder}: Is a directory (os error 21)\n")
+    expect("estimate, a device", ["estimate", "/dev/zero"], "", 1, "", "/dev/zero: not a regular file\n")
+    expect("estimate, a control character", ["estimate", "a\nb"], "", 1, "", f"a\ufffdb: {missing}\n")
+    nowhere = str(folder / "none" / "a.svg")
+    expect("estimate, no place for the picture", ["estimate", "--svg", nowhere, raw], "", 1, "", f"{nowhere}: {missing}\n")
+    with open("/dev/full", "wb") as full:
+        fault = "No space left on device (os error 28)\n"
+        expect("estimate, a full device", ["estimate", raw], "", 1, None, f"standard output: {fault}", output=full)
+        expect("estimate, a picture to a full device", ["estimate", "--svg", "/dev/full", raw], "", 1, "", f"/dev/full: {fault}")
+    expect("estimate, a picture", ["estimate", "--svg", str(svg), raw], "", 0, True, "")
+    if not svg.read_text().endswith("</svg>\n"):
+        wrong.append("estimate, a picture: it isn't whole")
+    large = [str(folder / "large-1"), str(folder / "large-2")]
+    for path in large:
+        with open(path, "wb") as file:
+            file.truncate(4096 << 31)
+    expect("estimate, too many pages", ["estimate", *large], "", 1, "", f"{large[1]}: more than 4,294,967,295 pages in all\n")
+    little = [(resource.RLIMIT_AS, 48 << 20)]
+    expect("estimate, little memory", ["estimate", large[0]], "", 1, "", f"{large[0]}: out of memory\n", limits=little)
+    expect("estimate, little memory", ["estimate", large[0], raw], "", 1, "", f"{large[0]} and 1 more: out of memory\n", limits=little)
+    for words in [[], ["--salts", "1", raw, raw], ["--salts", "1,x", raw, raw], ["--salts", "4294967296", raw], ["--workers", "0", raw]]:
+        expect(f"estimate {words}", ["estimate", *words], "", 2, "", True)
+    for words in [["--workers", "65", raw], ["--progress", "often", raw], ["--svg"], ["--table", raw]]:
+        expect(f"estimate {words}", ["estimate", *words], "", 2, "", True)
+    expect("estimate --help", ["estimate", "--help"], "", 0, True, "")
+    shown = ran(["estimate", "--progress", "always", raw]).stderr.decode()
+    if not (shown.startswith("\r100 %  0 of 0 MiB") and shown.endswith("s left\x1b[K\n")):
+        wrong.append(f"estimate, progress: {shown!r}")
+    for how, due in [("never", False), ("auto", True)]:
+        status, given = told(["estimate", "--progress", how, raw], "")
+        if status != 0 or bool(given) != due:
+            wrong.append(f"estimate, progress {how} on a terminal: {status}, {given!r}")
+
+
 def terminals(folder):
     global tried
     none = str(folder / "none")
@@ -201,6 +287,8 @@ def main():
         ends_and_limits(folder)
         command_lines()
         terminals(folder)
+        estimates(folder)
+        estimate_ends(folder)
     for line in wrong:
         print(line)
     print(f"{tried} cases, {len(wrong)} answers that are wrong")

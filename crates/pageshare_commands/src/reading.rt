@@ -99,3 +99,43 @@ impl Display for ReadSoFar {
         }
     }
 }
+
+#[cfg(test)]
+mod tests {
+    use super::ReadSoFar;
+    use std::test::Fail;
+
+    #[test]
+    fn shown(rt: HostRuntime) -> Result<(), Fail> {
+        for (done, total, elapsed, text) in [
+            (0, 0, 0, "100 %  0 of 0 MiB  0 MiB/s"),
+            (0, 1024, 100, "  0 %  0 of 4 MiB  0 MiB/s"),
+            (
+                55_050,
+                131_072,
+                163,
+                " 41 %  215 of 512 MiB  1319 MiB/s  1 s left",
+            ),
+            (
+                64,
+                131_072,
+                1000,
+                "  0 %  0 of 512 MiB  0 MiB/s  2047 s left",
+            ),
+            (
+                131_072,
+                131_072,
+                400,
+                "100 %  512 of 512 MiB  1280 MiB/s  0 s left",
+            ),
+        ] {
+            let so_far = ReadSoFar {
+                done,
+                total,
+                elapsed,
+            };
+            assert_eq!(rt; format!(in rt.alloc(); "{so_far}")?.as_str(), text);
+        }
+        Ok(())
+    }
+}

@@ -186,6 +186,7 @@ fn task_of<'a>(matches: &ArgMatches<'a>) -> Task<'a> {
 #[cfg(test)]
 mod tests {
     use super::{Asked, Task, Work, asked_of};
+    use crate::estimate_words::EstimateWords;
     use crate::progress_words::Drawn;
     use clap::error::ErrorKind;
     use share_text::Output;
@@ -236,7 +237,7 @@ mod tests {
             let due = Asked::Text(Task { work, file });
             assert_eq!(rt; asked_of(alloc, &given).ok(), Some(due));
         }
-        let mistakes: [(&[&str], ErrorKind); 13] = [
+        let mistakes: [(&[&str], ErrorKind); 21] = [
             (&[], ErrorKind::MissingSubcommand),
             (&["journal"], ErrorKind::InvalidSubcommand),
             (
@@ -256,12 +257,77 @@ mod tests {
             (&["run", "--help"], ErrorKind::DisplayHelp),
             (&["serial", "--help"], ErrorKind::DisplayHelp),
             (&["--version"], ErrorKind::DisplayVersion),
+            (&["estimate", "--help"], ErrorKind::DisplayHelp),
+            (&["estimate"], ErrorKind::MissingRequiredArgument),
+            (
+                &["estimate", "--salts", "1", "a", "b"],
+                ErrorKind::WrongNumberOfValues,
+            ),
+            (
+                &["estimate", "--salts", "1,x", "a", "b"],
+                ErrorKind::ValueValidation,
+            ),
+            (
+                &["estimate", "--workers", "0", "a"],
+                ErrorKind::ValueValidation,
+            ),
+            (
+                &["estimate", "--workers", "65", "a"],
+                ErrorKind::ValueValidation,
+            ),
+            (
+                &["estimate", "--progress", "often", "a"],
+                ErrorKind::InvalidValue,
+            ),
+            (&["estimate", "--table", "a"], ErrorKind::UnknownArgument),
         ];
         for (texts, kind) in mistakes {
             let given = words(alloc, texts)?;
             let error = asked_of(alloc, &given).err().ok_or("no error")?;
             assert_eq!(rt; error.kind(), kind);
         }
+        Ok(())
+    }
+
+    #[test]
+    fn reads_the_words_of_an_estimate(rt: HostRuntime) -> Result<(), Fail> {
+        let alloc = rt.alloc();
+        let given = words(alloc, &["estimate", "a.raw", "b.core"])?;
+        let plain = EstimateWords {
+            images: vec![in alloc; "a.raw", "b.core"]?,
+            salts: vec![in alloc]?,
+            workers: None,
+            raw: false,
+            json: false,
+            svg: None,
+            progress: Drawn::Auto,
+        };
+        assert_eq!(rt; asked_of(alloc, &given).ok(), Some(Asked::Estimate(plain)));
+        let options = [
+            "estimate",
+            "--salts=0,4294967295",
+            "--workers",
+            "64",
+            "--raw",
+            "--json",
+            "--svg",
+            "a.svg",
+            "--progress",
+            "never",
+            "a.raw",
+            "a.raw",
+        ];
+        let given = words(alloc, &options)?;
+        let every = EstimateWords {
+            images: vec![in alloc; "a.raw", "a.raw"]?,
+            salts: vec![in alloc; 0, u32::MAX]?,
+            workers: Some(64),
+            raw: true,
+            json: true,
+            svg: Some("a.svg"),
+            progress: Drawn::Never,
+        };
+        assert_eq!(rt; asked_of(alloc, &given).ok(), Some(Asked::Estimate(every)));
         Ok(())
     }
 }
