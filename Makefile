@@ -14,12 +14,12 @@ out/pageshare: $(SOURCES)
 	mkdir -p out
 	cp crates/pageshare/out/pageshare $@
 
-# A first look, in about a minute: two guests' scans meet, a thread for each; and what sharing would reclaim of two images.
+# A first look, in about 90 seconds: two guests' scans meet, a thread for each; and what sharing would reclaim of two images.
 demo:
 	@echo 'This build is for a first look and is not the proved one: make build makes that.'
 	@cd crates/pageshare && rt try -- run < ../../examples/scans-meet.script
 	@examples/make_images.py out/demo
-	@cd crates/pageshare && rt try -- estimate ../../out/demo/web.raw ../../out/demo/database.core
+	@cd crates/pageshare && rt try -- estimate $(CURDIR)/out/demo/web.raw $(CURDIR)/out/demo/database.core
 
 # Outside the gate: status, standard output and standard error of each command, on texts, ends and words of each kind.
 commands: out/pageshare

@@ -1,5 +1,5 @@
 -- What a guest's bar is made of.
-use Rattle.std.specs.Prelude.{ℕ, ◌+◌, ◌-◌, ◌==◌, min, nat_lt, Bool, if◌then◌else◌, List, count_by, sum_by}
+use Rattle.std.specs.Prelude.{ℕ, ◌-◌, ◌==◌, min, nat_lt, Bool, if◌then◌else◌, List, count_by, sum_by}
 use Rattle.page_census.specs.declared.numbers.GuestNumbers.{GuestNumbers}
 use Rattle.census_text.specs.declared.estimate.GuestLine.{GuestLine}
 use Rattle.census_text.specs.declared.bar.Parts.{Parts}

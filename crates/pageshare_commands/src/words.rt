@@ -289,20 +289,30 @@ mod tests {
         Ok(())
     }
 
+    fn estimate_of<'a>(alloc: Global, words: &'a [String]) -> Result<EstimateWords<'a>, Fail> {
+        match asked_of(alloc, words).map_err(|_| "an error")? {
+            Asked::Estimate(asked) => Ok(asked),
+            Asked::Text(_) => Err("a text")?,
+        }
+    }
+
     #[test]
     fn reads_the_words_of_an_estimate(rt: HostRuntime) -> Result<(), Fail> {
-        let alloc = rt.alloc();
-        let given = words(alloc, &["estimate", "a.raw", "b.core"])?;
-        let plain = EstimateWords {
-            images: vec![in alloc; "a.raw", "b.core"]?,
-            salts: vec![in alloc]?,
-            workers: None,
-            raw: false,
-            json: false,
-            svg: None,
-            progress: Drawn::Auto,
-        };
-        assert_eq!(rt; asked_of(alloc, &given).ok(), Some(Asked::Estimate(plain)));
+        let given = words(rt.alloc(), &["estimate", "a.raw", "b.core"])?;
+        let asked = estimate_of(rt.alloc(), &given)?;
+        assert_eq!(rt; asked.images.len(), 2);
+        assert_eq!(rt; asked.images.first().copied(), Some("a.raw"));
+        assert_eq!(rt; asked.images.last().copied(), Some("b.core"));
+        assert!(rt; asked.salts.is_empty());
+        assert_eq!(rt; asked.workers, None);
+        assert!(rt; !asked.raw && !asked.json);
+        assert_eq!(rt; asked.svg, None);
+        assert_eq!(rt; asked.progress, Drawn::Auto);
+        Ok(())
+    }
+
+    #[test]
+    fn reads_the_options_of_an_estimate(rt: HostRuntime) -> Result<(), Fail> {
         let options = [
             "estimate",
             "--salts=0,4294967295",
@@ -317,17 +327,15 @@ mod tests {
             "a.raw",
             "a.raw",
         ];
-        let given = words(alloc, &options)?;
-        let every = EstimateWords {
-            images: vec![in alloc; "a.raw", "a.raw"]?,
-            salts: vec![in alloc; 0, u32::MAX]?,
-            workers: Some(64),
-            raw: true,
-            json: true,
-            svg: Some("a.svg"),
-            progress: Drawn::Never,
-        };
-        assert_eq!(rt; asked_of(alloc, &given).ok(), Some(Asked::Estimate(every)));
+        let given = words(rt.alloc(), &options)?;
+        let asked = estimate_of(rt.alloc(), &given)?;
+        assert_eq!(rt; asked.images.len(), 2);
+        assert_eq!(rt; asked.images.last().copied(), Some("a.raw"));
+        assert_eq!(rt; asked.salts.as_slice(), [0, u32::MAX].as_slice());
+        assert_eq!(rt; asked.workers, Some(64));
+        assert!(rt; asked.raw && asked.json);
+        assert_eq!(rt; asked.svg, Some("a.svg"));
+        assert_eq!(rt; asked.progress, Drawn::Never);
         Ok(())
     }
 }
