@@ -200,12 +200,6 @@ def image(name, seed, pages):
     return path
 
 
-def kilobytes(command):
-    """The most memory that a program held."""
-    _, status, used = os.wait4(subprocess.Popen(command, stdout=subprocess.DEVNULL).pid, 0)
-    return used.ru_maxrss if status == 0 else 0
-
-
 def estimates(table, theirs, quick):
     pageshare = os.path.join(TOP, "out", "pageshare")
     pages = 4096 if quick else 65_536
@@ -220,8 +214,6 @@ def estimates(table, theirs, quick):
                 rows = table.in_turns(lambda: run_time(ours), lambda: run_time(other + images[:count]))
                 label = f"estimate: {count} images, {workers} worker{'s' if workers > 1 else ''}, by {name}"
                 table.add(label, "ms", goals[workers] if count == 2 else None, *rows)
-        held = kilobytes([pageshare, "estimate", *images[:count]])
-        print(f"estimate: {count} images of {pages // 256} MiB: {held / 1024:.0f} MiB of memory at most")
 
 
 def run_time(command):

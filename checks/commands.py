@@ -279,6 +279,24 @@ def terminals(folder):
             wrong.append(f"{' '.join(words)}, a terminal: {given}, and {due} was due")
 
 
+def progress_of_runs():
+    """The line that tells how far a run is: drawn always, never, and on auto where standard error is a terminal."""
+    global tried
+    script = SCRIPT.encode() if isinstance(SCRIPT, str) else SCRIPT
+    plain = ran(["run"], script)
+    drawn = ran(["run", "--progress", "always"], script)
+    shown = drawn.stderr.decode()
+    tried += 3
+    if (drawn.returncode, drawn.stdout) != (0, plain.stdout) or plain.stderr:
+        wrong.append(f"run --progress always: {drawn}, and without it {plain}")
+    if not (shown.startswith("\r") and "100 %  " in shown and shown.endswith(" reclaimed\x1b[K\n")):
+        wrong.append(f"run, progress: {shown!r}")
+    for how, due in [("never", False), ("auto", True)]:
+        status, given = told(["run", "--progress", how], SCRIPT)
+        if status != 0 or bool(given) != due:
+            wrong.append(f"run, progress {how} on a terminal: {status}, {given!r}")
+
+
 def main():
     with tempfile.TemporaryDirectory() as name:
         folder = pathlib.Path(name)
@@ -289,6 +307,7 @@ def main():
         terminals(folder)
         estimates(folder)
         estimate_ends(folder)
+        progress_of_runs()
     for line in wrong:
         print(line)
     print(f"{tried} cases, {len(wrong)} answers that are wrong")
