@@ -9,12 +9,12 @@ const OF_ZERO: (&str, &str) = ("zeros", "");
 
 const OF_WITHIN: (&str, &str) = (
     "shared within the guest",
-    ": what sharing within it alone would reclaim beside zeros (all that is shared, where no other guest has its salt)",
+    ": pages whose content another page of the guest has",
 );
 
 const OF_BETWEEN: (&str, &str) = (
     "shared between guests",
-    ": the other shared pages, one for each content of the guest that occurs again",
+    ": pages whose content a page of another guest has, and no other one of the guest itself",
 );
 
 const OF_UNSHARED: (&str, &str) = ("unshared", ": pages whose content occurs once");

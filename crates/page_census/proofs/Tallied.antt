@@ -1,11 +1,12 @@
 -- One class more is counted.
-use Rattle.std.proofs.Common.{◌≡◌, ℕ, ◌+◌, ◌-◌, ◌<◌, ◌≤◌, Bool, true, false, ◌||◌, cond, List, [], ◌∷◌, length, drop, get_or, set, eqb, refl, sym, ap, subst, ◌∙◌, ⊎_elim, arith}
-use Rattle.std.specs.Prelude.{count_by}
+use Rattle.std.proofs.Common.{◌≡◌, ℕ, ◌+◌, ◌-◌, ◌<◌, ◌≤◌, Bool, true, false, ◌||◌, cond, List, [], ◌∷◌, length, drop, get_or, set, eqb, ltb, refl, sym, ap, subst, ◌∙◌, ⊎_elim, arith}
+use Rattle.std.specs.Prelude.{count_by, All}
 use Rattle.std.specs.List.{list_any}
 use Rattle.std.proofs.lemmas.Bool.{eq-eqb, ne_eqb, cases_eq}
 use Rattle.std.proofs.lemmas.List.{drop_more, get_or-set_same, get_or-set_other}
+use Rattle.std.proofs.lemmas.List.Elements.{All-head, All-tail}
 use Rattle.std.proofs.lemmas.List.Sums.{count_by-le-length, sum_by-cons}
-use Rattle.page_census.specs.Numbers.{copies, distinct}
+use Rattle.page_census.specs.Numbers.{copies, distinct, shared}
 
 module _ {X : Type 0} (p : X → Bool) where
   none_step : (x : X) (xs : List X) (t : Bool) → cond t 1 0 + count_by p xs ≡ 0 → (count_by p xs ≡ 0 → list_any p xs ≡ false) → (t || list_any p xs) ≡ false
@@ -24,6 +25,14 @@ module _ {X : Type 0} (p : X → Bool) where
   pub any_some : (xs : List X) → 0 < count_by p xs → list_any p xs ≡ true
   any_some [] lt = absurd (omega arith)
   any_some (x ∷ xs) lt = let e = sum_by-cons (λ (y : X). cond (p y) 1 0) x xs in some_step x xs (p x) (omega (arith, e)) (any_some xs)
+
+-- how many have a second copy is told by the counts of all classes
+pub shared_told : (bound : ℕ) (counts classes : List ℕ) → ((k : ℕ) → k < bound → get_or counts k 0 ≡ copies eqb k classes) → (xs : List ℕ) → All (λ k. k < bound) xs
+    → count_by (λ class. ltb 1 (get_or counts class 0)) xs ≡ shared eqb classes xs
+shared_told bound counts classes told [] below = refl
+shared_told bound counts classes told (x ∷ xs) below =
+    sum_by-cons (λ (k : ℕ). cond (ltb 1 (get_or counts k 0)) 1 0) x xs
+    ∙ rw (told x (All-head (λ k. k < bound) x xs below), shared_told bound counts classes told xs (All-tail (λ k. k < bound) x xs below)) (sym (sum_by-cons (λ (k : ℕ). cond (ltb 1 (copies eqb k classes)) 1 0) x xs))
 
 -- what is counted of the classes from a place on
 pub record Counts (bound : ℕ) (classes counts : List ℕ) (left different : ℕ) : Type 0 where

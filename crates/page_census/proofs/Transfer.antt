@@ -75,6 +75,14 @@ module _ (all : List Content) where
       sum_by-cons (λ (y : Content). cond (ltb 1 (copies is_same y all)) 1 0) x xs
       ∙ rw (counted, shared_same counts told xs (All-tail IsIn x xs within)) (sym (sum_by-cons (λ (k : ℕ). cond (ltb 1 (get_or counts k 0)) 1 0) (class_of all x) (map (class_of all) xs)))
 
+  -- how many of xs have a second copy among own is told by classes
+  pub within_same : (own xs : List Content) → All IsIn xs → shared is_same own xs ≡ shared eqb (map (class_of all) own) (map (class_of all) xs)
+  within_same own [] within = refl
+  within_same own (x ∷ xs) within =
+      let here = All-head IsIn x xs within in
+      sum_by-cons (λ (y : Content). cond (ltb 1 (copies is_same y own)) 1 0) x xs
+      ∙ rw (copies_same x here own, within_same own xs (All-tail IsIn x xs within)) (sym (sum_by-cons (λ (k : ℕ). cond (ltb 1 (copies eqb k (map (class_of all) own))) 1 0) (class_of all x) (map (class_of all) xs)))
+
 blank_of : (hash : ℕ → List ℕ → ℕ) (c : Content) → mark_at hash c ≡ 0 → c.1 ≡ blank
 blank_of hash c e = (bytes_eq-Decides c.1 blank).0 (sym (mark_zero (bytes_eq c.1 blank) (hash c.0 c.1)) ∙ eq-eqb (mark_at hash c) 0 e)
 
@@ -91,7 +99,7 @@ tells hash all marks e = record {
 module _ {S : Type 0} (pages : S → List (List ℕ)) (hash : ℕ → List ℕ → ℕ) (all : List Content) (counts : List ℕ) (told : (k : ℕ) → k < length all → get_or counts k 0 ≡ copies eqb k (map (class_of all) all)) where
   one_guest : (own : List Content) → All (IsIn all) own → counted_numbers counts (map (mark_at hash) own) (map (class_of all) own) ≡ guest_numbers all own
   one_guest own within =
-      rw (length-map own (class_of all), zero_marked hash own, ← (distinct_same all own within), ← (shared_same all counts told own within)) refl
+      rw (length-map own (class_of all), zero_marked hash own, ← (distinct_same all own within), ← (shared_same all counts told own within), ← (within_same all own own within)) refl
 
   -- the numbers of all guests are those that their contents give
   pub counted_are : (guests : List (Guest S)) → All (IsIn all) (contents pages guests)

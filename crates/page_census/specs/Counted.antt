@@ -1,6 +1,6 @@
 -- The same numbers, by marks and classes in place of contents.
 use Rattle.std.specs.Prelude.{ℕ, zero, suc, ◌+◌, ◌-◌, ◌==◌, ◌&&◌, nat_eq, nat_lt, Bool, if◌then◌else◌, List, [], ◌∷◌, length, map, take, drop, count_by, filter, slice_index, sum_by}
-use Rattle.page_census.specs.Numbers.{class_numbers, distinct, fewest, has_contents, is_between, most, sum_alone}
+use Rattle.page_census.specs.Numbers.{class_numbers, distinct, fewest, has_contents, is_between, most, shared, sum_alone}
 use Rattle.page_census.specs.declared.numbers.GuestNumbers.{GuestNumbers}
 use Rattle.page_census.specs.declared.numbers.TotalNumbers.{TotalNumbers}
 use Rattle.page_census.specs.declared.table.CopiesClass.{CopiesClass}
@@ -13,6 +13,7 @@ counted_numbers copies marks classes = record {
   zero = count_by (λ mark. mark == 0) marks;
   distinct = distinct nat_eq classes;
   shared = count_by (λ class. nat_lt 1 (slice_index copies class)) classes;
+  within = shared nat_eq classes classes;
   alone = length classes - distinct nat_eq classes;
 }
 

@@ -34,6 +34,7 @@ guest_numbers all own = record {
   zero = count_by is_zero own;
   distinct = distinct is_same own;
   shared = shared is_same all own;
+  within = shared is_same own own;
   alone = length own - distinct is_same own;
 }
 

@@ -19,6 +19,8 @@ pub struct GuestNumbers {
     pub distinct: u32,
     /// The pages whose content some other page has, too, of whichever guest.
     pub shared: u32,
+    /// The pages whose content some other page of the guest has, too.
+    pub within: u32,
     /// The pages that sharing within the guest alone would reclaim: pages less different contents.
     pub alone: u32,
 }
@@ -61,6 +63,7 @@ pub(crate) fn guest_numbers<A: Allocator>(
         zero: count_zero(marks),
         distinct: own.distinct,
         shared: count_shared(copies, classes),
+        within: count_shared(&own.copies, classes),
         alone: pages - own.distinct,
     })
 }

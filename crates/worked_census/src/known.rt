@@ -16,6 +16,7 @@ const GUESTS: [GuestNumbers; 3] = [
         zero: 1,
         distinct: 3,
         shared: 3,
+        within: 2,
         alone: 1,
     },
     GuestNumbers {
@@ -23,6 +24,7 @@ const GUESTS: [GuestNumbers; 3] = [
         zero: 1,
         distinct: 3,
         shared: 4,
+        within: 2,
         alone: 1,
     },
     GuestNumbers {
@@ -30,6 +32,7 @@ const GUESTS: [GuestNumbers; 3] = [
         zero: 2,
         distinct: 3,
         shared: 2,
+        within: 2,
         alone: 1,
     },
 ];

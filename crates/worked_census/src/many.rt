@@ -10,6 +10,7 @@ const EACH: GuestNumbers = GuestNumbers {
     zero: 0,
     distinct: 50,
     shared: 200,
+    within: 200,
     alone: 150,
 };
 

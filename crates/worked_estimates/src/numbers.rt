@@ -8,6 +8,7 @@ pub const GUESTS: [GuestNumbers; 2] = [
         zero: 45_407,
         distinct: 14_337,
         shared: 53_001,
+        within: 51_450,
         alone: 51_199,
     },
     GuestNumbers {
@@ -15,6 +16,7 @@ pub const GUESTS: [GuestNumbers; 2] = [
         zero: 45_407,
         distinct: 13_972,
         shared: 52_980,
+        within: 51_800,
         alone: 51_564,
     },
 ];

@@ -3,8 +3,8 @@ use census_text::{GuestLine, Parts, parts_of};
 use page_census::GuestNumbers;
 use std::process::Abort;
 
-fn line(salt: u32, numbers: [u32; 5]) -> GuestLine<'static> {
-    let [pages, zero, distinct, shared, alone] = numbers;
+fn line(salt: u32, numbers: [u32; 6]) -> GuestLine<'static> {
+    let [pages, zero, distinct, shared, within, alone] = numbers;
     GuestLine {
         image: "",
         salt,
@@ -13,6 +13,7 @@ fn line(salt: u32, numbers: [u32; 5]) -> GuestLine<'static> {
             zero,
             distinct,
             shared,
+            within,
             alone,
         },
     }
@@ -39,13 +40,13 @@ fn have_parts<R: Abort>(rt: &R, guests: &[GuestLine<'_>], due: &[Parts]) {
 fn parts_of_bars(rt: HostRuntime) {
     // Under salt 0: two zeros, a a b c, and one zero, a d. Under salt 1: one zero alone, e e e f. Under salt 2: no page.
     let guests = [
-        line(0, [6, 2, 4, 4, 2]),
-        line(0, [3, 1, 3, 2, 0]),
-        line(1, [5, 1, 3, 3, 2]),
-        line(2, [0, 0, 0, 0, 0]),
+        line(0, [6, 2, 4, 4, 4, 2]),
+        line(0, [3, 1, 3, 2, 0, 0]),
+        line(1, [5, 1, 3, 3, 3, 2]),
+        line(2, [0, 0, 0, 0, 0, 0]),
     ];
     let due = [
-        parts([2, 1, 1, 2]),
+        parts([2, 2, 0, 2]),
         parts([1, 0, 1, 1]),
         parts([1, 3, 0, 1]),
         parts([0, 0, 0, 0]),

@@ -68,6 +68,7 @@ fn no_page(rt: HostRuntime) -> Result<(), Fail> {
             zero: 0,
             distinct: 0,
             shared: 0,
+            within: 0,
             alone: 0,
         },
     };
