@@ -32,7 +32,10 @@ pub fn note_hashes<H: PageHash, A: Allocator>(held: &mut Held<H, A>, pages: &[(u
             waiting = with_page(held, waiting, private);
         }
     }
-    note_each(held, waiting.as_slice());
+    match waiting.into_inner() {
+        Ok(four) => note_four(held, four),
+        Err(fewer) => note_each(held, fewer.as_slice()),
+    }
 }
 
 /// The pages that wait to be hashed, with one more: where four do, they are hashed before.

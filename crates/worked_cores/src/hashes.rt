@@ -93,3 +93,57 @@ fn noted_ahead(rt: HostRuntime) -> Result<(), Fail> {
     assert_eq!(rt; calls.load(Ordering::SeqCst), 6);
     Ok(())
 }
+
+/// The same hash, which counts the pages that it hashes alone and those of four that it hashes at once.
+#[derive(Drop)]
+struct Fours<'a> {
+    alone: &'a AtomicU32,
+    at_once: &'a AtomicU32,
+}
+
+impl HashFunction for Fours<'_> {
+    ghost hash_of = { λ _ bytes. slice_index bytes 0 };
+}
+
+impl PageHash for Fours<'_> {
+    fn hash(&self, _salt: u32, page: &Page) -> u64 {
+        self.alone.fetch_add(1, Ordering::SeqCst);
+        u64::from(page[0])
+    }
+
+    fn hash_four(&self, _salts: [u32; 4], a: &Page, b: &Page, c: &Page, d: &Page) -> [u64; 4] {
+        self.at_once.fetch_add(4, Ordering::SeqCst);
+        [
+            u64::from(a[0]),
+            u64::from(b[0]),
+            u64::from(c[0]),
+            u64::from(d[0]),
+        ]
+    }
+}
+
+// Of the pages that are noted ahead, each four are hashed at once, the last four too; those that are left, alone.
+#[test]
+fn noted_four_at_once(rt: HostRuntime) -> Result<(), Fail> {
+    for (pages, at_once) in [(3, 0), (4, 4), (7, 4), (8, 8), (9, 8)] {
+        let (alone, together) = (AtomicU32::new(0), AtomicU32::new(0));
+        let hash = Fours {
+            alone: &alone,
+            at_once: &together,
+        };
+        let mut core = core_of(&rt, rt.alloc(), 9, &[9], hash)?;
+        let mut list = Vec::new(rt.alloc());
+        for ppn in 0..pages {
+            serve(
+                &rt,
+                &mut core,
+                &[(0, Ask::Store(ppn, b"A"), Verdict::Mapped)],
+            );
+            list.push((0, ppn))?;
+        }
+        core.note_hashes(&list);
+        assert_eq!(rt; together.load(Ordering::SeqCst), at_once, "{pages}");
+        assert_eq!(rt; alone.load(Ordering::SeqCst), pages - at_once, "{pages}");
+    }
+    Ok(())
+}
