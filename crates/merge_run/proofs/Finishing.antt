@@ -16,11 +16,16 @@ use Rattle.share_rings.specs.Ends.{port_capacity, closed_sent, closed_got, close
 use Rattle.merge_machine.specs.Fresh.{IsFreshPort}
 use Rattle.merge_machine.specs.Kept.{closed_views, port_capacities}
 use Rattle.merge_machine.specs.Limits.{IsMachine}
-use Rattle.merge_run.specs.Runs.{NotRunFor, entries_of}
+use Rattle.merge_core.specs.Shown.{state_of}
+use Rattle.merge_machine.specs.Machines.{opening}
+use Rattle.merge_settle.specs.Settling.{Settles}
+use Rattle.page_model.specs.Limits.{shapes}
+use Rattle.page_model.specs.Replay.{empty_state}
+use Rattle.merge_run.specs.Runs.{IsWholeRun, NotRunFor, entries_of}
 use Rattle.merge_settle.specs.Settling.{is_running, is_undrained}
 use Rattle.merge_run.specs.Tasks.{AreDone, with_close, all_sent}
 use Rattle.merge_run.specs.Turns.{HaveEnded}
-use Rattle.merge_settle.specs.View.{settled_ports}
+use Rattle.merge_settle.specs.View.{settled_ports, settled_journal, settled_core}
 use Rattle.merge_machine.specs.declared.config.Config.{Config}
 use Rattle.merge_run.specs.declared.finished.Finished.{Finished}
 use Rattle.merge_run.specs.declared.run_fault.RunFault.{RunFault}
@@ -55,10 +60,6 @@ of_memory : {X : Type 0} (result : Result X RunFault) → IsErrAnd result (λ fa
 of_memory (Ok x) is = absurd is
 of_memory (Err fault) is = inl is
 
-if_ok : {X E : Type 0} (P Q R : X → Type 0) (result : Result X E) → IfOk result P → IfOk result Q → ((x : X) → P x → Q x → R x) → IfOk result R
-if_ok P Q R (Ok x) p q both = both x p q
-if_ok P Q R (Err fault) p q both = p
-
 module _ {A : Type 0} where
   pub whole_done : (tasks : List (Task A)) (done : List (DoneTask A)) → AreDone (take (length done) tasks) done → length done ≡ length tasks → AreDone tasks done
   whole_done tasks done are whole =
@@ -90,18 +91,29 @@ module _ {A : Type 0} where
   wanting_memory config scripts result machine room is = wanting config scripts result machine room (of_memory result is)
 
   -- all ports are of rings of that capacity
-  pub of_ring : {H : Type 0} {ghosts : Ghosts H} (ring : ℕ) (ports : List (Port A)) (result : Result (Finished H A ghosts) RunFault) → All (IsFreshPort ring) ports → IfOk result (λ f. map closed_capacity (settled_ports f.settled) ≡ port_capacities ports) → IfOk result (λ f. All (λ p. closed_capacity p ≡ ring) (settled_ports f.settled))
-  of_ring ring ports (Err fault) fresh same = same
-  of_ring ring ports (Ok f) fresh same = λ i p low.
-      let each = maps_length closed_capacity port_capacity (settled_ports f.settled) ports same in
-      let q = some_of ports (omega (arith, low, each)) in
-      maps_at closed_capacity port_capacity (settled_ports f.settled) ports i p q same low ∙ (fresh i q (omega (arith, low, each))).capacity_is
+  of_ring : (ring : ℕ) (fresh : List (Port A)) (ports : List (ClosedPort A)) → All (IsFreshPort ring) fresh → map closed_capacity ports ≡ port_capacities fresh → All (λ p. closed_capacity p ≡ ring) ports
+  of_ring ring fresh ports are same = λ i p low.
+      let each = maps_length closed_capacity port_capacity ports fresh same in
+      let q = some_of fresh (omega (arith, low, each)) in
+      maps_at closed_capacity port_capacity ports fresh i p q same low ∙ (are i q (omega (arith, low, each))).capacity_is
 
-  -- as many ports and lists of verdicts as scripts
-  pub as_many : {H : Type 0} {ghosts : Ghosts H} (n : ℕ) (scripts : List (Vec Request A)) (result : Result (Finished H A ghosts) RunFault) → length scripts ≡ n → IfOk result (λ f. map closed_sent (settled_ports f.settled) ≡ all_sent scripts) → IfOk result (λ f. map (λ list. list.items) f.verdicts.items ≡ map closed_got (settled_ports f.settled)) → IfOk result (λ f. (length (settled_ports f.settled) ≡ n) × (length f.verdicts.items ≡ n))
-  as_many n scripts result each sent got =
-      if_ok (λ f. map closed_sent (settled_ports f.settled) ≡ all_sent scripts) (λ f. map (λ list. list.items) f.verdicts.items ≡ map closed_got (settled_ports f.settled))
-      (λ f. (length (settled_ports f.settled) ≡ n) × (length f.verdicts.items ≡ n)) result sent got
-      (λ f s v.
-      let ports = maps_length closed_sent (λ (x : Vec Request A). with_close x.items) (settled_ports f.settled) scripts s ∙ each in
-      (ports, maps_length (λ (x : Vec Verdict A). x.items) closed_got f.verdicts.items (settled_ports f.settled) v ∙ ports))
+  -- what is known of a run, taken together: as many ports and lists of verdicts as scripts
+  pub whole_run : {H O : Type 0} {ghosts : Ghosts H} (hash : ℕ → List ℕ → ℕ) (c : Config A) (scripts : List (Vec Request A)) (fresh : List (Port A)) (result : Result (Finished H A ghosts × O) RunFault)
+      → length scripts ≡ length c.pages.items → All (IsFreshPort c.ring) fresh
+      → IfOk result (λ r. Settles hash (settled_ports r.0.settled) (settled_journal r.0.settled) (settled_core r.0.settled))
+      → IfOk result (λ r. opening (state_of (settled_core r.0.settled)) ≡ empty_state c.frames (shapes c.salts.items c.pages.items))
+      → IfOk result (λ r. map closed_capacity (settled_ports r.0.settled) ≡ port_capacities fresh)
+      → IfOk result (λ r. map closed_sent (settled_ports r.0.settled) ≡ all_sent scripts)
+      → IfOk result (λ r. map (λ list. list.items) r.0.verdicts.items ≡ map closed_got (settled_ports r.0.settled))
+      → IfOk result (λ r. IsWholeRun hash c scripts (settled_ports r.0.settled) (settled_journal r.0.settled) (settled_core r.0.settled) r.0.verdicts.items)
+  whole_run hash c scripts fresh (Err fault) each are settles machine rings sent got = sent
+  whole_run hash c scripts fresh (Ok (f, o)) each are settles machine rings sent got =
+      let ports = maps_length closed_sent (λ (x : Vec Request A). with_close x.items) (settled_ports f.settled) scripts sent ∙ each in
+      record {
+        settles = settles;
+        machine = machine;
+        guests = (ports, maps_length (λ (x : Vec Verdict A). x.items) closed_got f.verdicts.items (settled_ports f.settled) got ∙ ports);
+        rings = of_ring c.ring fresh (settled_ports f.settled) are rings;
+        sent = sent;
+        got = got;
+      }

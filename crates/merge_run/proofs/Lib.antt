@@ -1,2 +1,4 @@
 pub mod Doing
 pub mod Finishing
+pub mod Fronts
+pub mod Observing

@@ -1,4 +1,6 @@
 pub mod View
 pub mod Tasks
 pub mod Turns
+pub mod Fronts
+pub mod Observed
 pub mod Runs

@@ -1,13 +1,23 @@
--- Why a machine is not run to its end.
-use Rattle.std.specs.Prelude.{ℕ, ◌+◌, ◌<◌, ◌≤◌, List, length, sum_by}
+-- What a whole run is, and why a machine is not run to its end.
+use Rattle.std.specs.Prelude.{◌≡◌, ℕ, ◌+◌, ◌<◌, ◌≤◌, All, List, length, map, sum_by}
 use Rattle.std.specs.declared.vec.Vec.{Vec}
+use Rattle.page_model.specs.Limits.{shapes}
+use Rattle.page_model.specs.Replay.{empty_state}
+use Rattle.page_model.specs.declared.request.Entry.{Entry}
 use Rattle.page_model.specs.declared.request.Request.{Request}
+use Rattle.page_model.specs.declared.verdict.Verdict.{Verdict}
+use Rattle.share_rings.specs.Ends.{closed_sent, closed_got, closed_capacity}
+use Rattle.share_rings.specs.declared.closed_port.ClosedPort.{ClosedPort}
+use Rattle.merge_core.specs.Shown.{Shown, state_of}
 use Rattle.merge_machine.specs.declared.config.Config.{Config}
 use Rattle.merge_machine.specs.declared.config.Fault.{Fault}
 use Rattle.merge_machine.specs.declared.config.Fault.TheVariants as machine
 use Rattle.merge_run.specs.declared.run_fault.RunFault.{RunFault}
 use Rattle.merge_run.specs.declared.run_fault.RunFault.TheVariants.{Frames, Guests, Pages, Ring, Journal, Stopped, OutOfMemory, NoThread}
 use Rattle.merge_machine.specs.Limits.{IsMachine, NoMachineFor}
+use Rattle.merge_machine.specs.Machines.{opening}
+use Rattle.merge_settle.specs.Settling.{Settles}
+use Rattle.merge_run.specs.Tasks.{all_sent}
 
 -- why there is no machine, as a fault of the run
 abbrev pub run_fault_of : Fault → RunFault
@@ -34,3 +44,14 @@ module _ {A : Type 0} where
   NotRunFor c scripts (Stopped full) = IsMachine c × (c.journal < entries_of scripts)
   NotRunFor c scripts OutOfMemory = IsMachine c × (entries_of scripts ≤ c.journal)
   NotRunFor c scripts NoThread = IsMachine c × (entries_of scripts ≤ c.journal)
+
+  -- The run of these scripts on the machine of this configuration: it is settled, with these ports, this journal and a core
+  -- that shows this. Each guest sent its script and a close over rings of the configuration's capacity, and these are the
+  -- verdicts that it got.
+  pub record IsWholeRun (hash : ℕ → List ℕ → ℕ) (c : Config A) (scripts : List (Vec Request A)) (ports : List (ClosedPort A)) (journal : List Entry) (core : Shown) (verdicts : List (Vec Verdict A)) : Type 0 where
+    pub settles : Settles hash ports journal core
+    pub machine : opening (state_of core) ≡ empty_state c.frames (shapes c.salts.items c.pages.items)
+    pub guests : (length ports ≡ length c.pages.items) × (length verdicts ≡ length c.pages.items)
+    pub rings : All (λ port. closed_capacity port ≡ c.ring) ports
+    pub sent : map closed_sent ports ≡ all_sent scripts
+    pub got : map (λ list. list.items) verdicts ≡ map closed_got ports

@@ -1,17 +1,12 @@
-//! What a guest's thread calls around its sends and verdicts, and the merger as it goes on.
-use page_model::Report;
+//! What a guest's thread calls around its sends and verdicts.
 
 /// Called in the threads of [`run`](crate::run), which share it. It answers nothing and takes no memory.
 ///
-/// A gate may hold a thread up, so that a test can have the guests meet, or tell a person how the run goes on. No contract
+/// A gate may hold a thread up, so that a test can have the guests meet, or know how much is to come. No contract
 /// says what one does.
 pub trait Gate {
     /// Before the first thread is started, on the calling thread: so many requests will be served, the closes among them.
     fn starting(&self, _requests: u64) {}
-
-    /// After the merger served some requests, on the calling thread: what the machine counts now. The last call has the
-    /// report of the whole run.
-    fn served(&self, _report: &Report) {}
 
     /// Before the guest's send number `nth`, counted from 0, its close among them. It is called once for each send,
     /// however often that is tried.

@@ -17,15 +17,30 @@ use std::sync::Wait;
 /// How long a guest sleeps where it waited in vain, in microseconds: about as long as the merger takes for a round.
 const NAP: u64 = 100;
 
-/// Sends the script and then a close, and takes the verdicts up to `Closed`.
+/// So many guests have a processor each, or nearly so. They look on for longer than a round of hashes takes, since one that
+/// sleeps then leaves the merger without work; more guests would take the merger's processor.
+const FEW: usize = 4;
+
+/// How many looks in vain a verdict makes up for, and how many there may be before a guest sleeps, one after the other.
+fn looks(guests: usize) -> (u32, u32) {
+    if guests <= FEW {
+        (96, 8_000)
+    } else {
+        (32, 2_000)
+    }
+}
+
+/// Sends the script and then a close, and takes the verdicts up to `Closed`, as one of so many guests.
 pub(crate) fn do_task<R: Wait, A: Allocator, G: Gate>(
     rt: &R,
     gate: &G,
     task: Task<A>,
+    guests: usize,
 ) -> DoneTask<A>
     requires { IsReady task }
     ensures { IsDone task result }
 {
+    let (looks, most_looks) = looks(guests);
     let Task {
         guest,
         mut port,
@@ -37,7 +52,8 @@ pub(crate) fn do_task<R: Wait, A: Allocator, G: Gate>(
         guest,
         most: script.len() + 1,
         verdicts,
-        patience: Patience::new(NAP),
+        patience: Patience::new(most_looks, NAP),
+        looks,
     };
     let mut nth = 0;
     for request in script {

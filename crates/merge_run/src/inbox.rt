@@ -6,9 +6,6 @@ use crate::patience::Patience;
 use page_model::Verdict;
 use std::alloc::Allocator;
 
-/// How many looks in vain a verdict makes up for.
-const LOOKS_A_VERDICT: u32 = 32;
-
 /// Where a guest's verdicts go as they come.
 ///
 /// A port alone knows nothing of how many come, so no more are taken than there is room for: one for each request.
@@ -19,6 +16,8 @@ pub(crate) struct Inbox<'g, A: Allocator, G: Gate> {
     pub(crate) most: usize,
     pub(crate) verdicts: Vec<Verdict, A>,
     pub(crate) patience: Patience,
+    /// How many looks in vain a verdict makes up for.
+    pub(crate) looks: u32,
     ghost room: { most ≤ vec_capacity verdicts },
     // As many as a journal holds at most, so that they can be numbered.
     ghost few: { most ≤ 16777216 },
@@ -41,7 +40,7 @@ impl<'g, A: Allocator, G: Gate> Inbox<'g, A, G> {
     {
         let nth = self.verdicts.len() as u32;
         self.verdicts.push_reserved(verdict);
-        self.patience.regain(LOOKS_A_VERDICT);
+        self.patience.regain(self.looks);
         self.gate.after(self.guest, nth);
     }
 }

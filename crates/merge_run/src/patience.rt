@@ -4,9 +4,6 @@ use std::sync::Wait;
 use std::sync::atomic::AtomicU64;
 use std::time::Duration;
 
-/// How often a thread may look in vain, one look after the other, before it sleeps: some 100 microseconds.
-const MOST_LOOKS: u32 = 2_000;
-
 /// How often a thread looks once more where it looked in vain, and how long it sleeps after that.
 ///
 /// It doesn't yield: where other work wants the processors, a thread that yields may wait for a whole slice of their time,
@@ -15,6 +12,7 @@ const MOST_LOOKS: u32 = 2_000;
 #[derive(Drop)]
 pub(crate) struct Patience {
     looks: u32,
+    most: u32,
     // In microseconds.
     nap: u64,
     // What the thread sleeps on. Nobody wakes it.
@@ -22,10 +20,12 @@ pub(crate) struct Patience {
 }
 
 impl Patience {
-    /// The patience of a thread that sleeps so many microseconds at a time.
-    pub(crate) fn new(nap: u64) -> Patience {
+    /// The patience of a thread that looks at most so often in vain, one look after the other, before it sleeps so many
+    /// microseconds at a time.
+    pub(crate) fn new(most: u32, nap: u64) -> Patience {
         Patience {
-            looks: MOST_LOOKS,
+            looks: most,
+            most,
             nap,
             word: AtomicU64::new(0),
         }
@@ -44,6 +44,6 @@ impl Patience {
 
     /// So many more looks are worth while, since one wasn't in vain.
     pub(crate) fn regain(&mut self, looks: u32) {
-        self.looks = self.looks.saturating_add(looks).min(MOST_LOOKS);
+        self.looks = self.looks.saturating_add(looks).min(self.most);
     }
 }

@@ -1,10 +1,13 @@
 //! The merger's rounds over all guests, on the calling thread.
-ghost use Rattle.std.specs.Prelude.{◌≡◌, ◌≤◌, true, length};
+ghost use Rattle.std.specs.Prelude.{◌≡◌, ◌≤◌, ◌++◌, true, List, length};
+ghost use Rattle.page_model.specs.declared.request.Entry.{Entry};
 ghost use Rattle.merge_machine.specs.Same.{SameMachine};
-ghost use Rattle.merge_machine.specs.View.{ends_of, guest_count};
+ghost use Rattle.merge_machine.specs.View.{ends_of, journal_of, machine_of, guest_count};
+ghost use Rattle.merge_run.specs.Fronts.{AreOfFronts};
+ghost use Rattle.merge_run.specs.Observed.{Observes};
 ghost use Rattle.merge_run.specs.Turns.{HaveEnded};
 
-use crate::gate::Gate;
+use crate::observer::Observer;
 use crate::patience::Patience;
 use merge_machine::{JournalFull, Merger};
 use page_digest::PageHash;
@@ -19,34 +22,40 @@ const WORKERS: u32 = 2;
 /// How many requests a round serves at most.
 const LIMIT: u32 = 64;
 
+/// How often the merger looks in vain before it sleeps: some 100 microseconds.
+const MOST_LOOKS: u32 = 2_000;
+
 /// How many looks in vain a round makes up for that served something.
 const LOOKS_A_ROUND: u32 = 1_000;
 
 /// How long the merger sleeps where it waited in vain, in microseconds.
 const NAP: u64 = 20;
 
-/// Serves by rounds until each of the first so many guests has ended, and waits after a round that served nothing. The gate
-/// is told of each other.
+/// Serves by rounds until each of the first so many guests has ended, and waits after a round that served nothing. The
+/// observer is shown the report after each round.
 ///
 /// The other guests, whose threads were not started, send nothing: what they are asked for decides nothing.
-pub(crate) fn serve_all<R: Threads + Wait + Sync, H: PageHash, A: Allocator + Send + Sync, G: Gate>(
-    rt: &R,
-    alloc: &A,
-    gate: &G,
-    merger: &mut Merger<H, A>,
-    guests: u8,
-)
-    requires { guests ≤ guest_count merger.old }
+pub(crate) fn serve_all<
+    R: Threads + Wait + Sync,
+    H: PageHash,
+    A: Allocator + Send + Sync,
+    O: Observer,
+>(rt: &R, alloc: &A, merger: &mut Merger<H, A>, guests: u8, observer: O) -> O
+    requires guests { guests ≤ guest_count merger.old }
+    requires fronts { AreOfFronts H.hash_of (machine_of merger.old) (journal_of merger.old) (O.kept observer) }
     ensures same { SameMachine merger.old merger.new }
     ensures ended { HaveEnded guests (ends_of merger.new) }
+    ensures observer { Observes O.name O.kept H.hash_of observer result (machine_of merger.new) (journal_of merger.new) }
 {
-    let mut patience = Patience::new(NAP);
+    let mut observer = observer;
+    let mut patience = Patience::new(MOST_LOOKS, NAP);
     for _ in rt.forever() {
-        if serve_round(rt, alloc, merger) > 0 {
-            gate.served(&merger.report());
+        let served = serve_round(rt, alloc, merger);
+        observer = observer.observe(rt, merger.report(), served);
+        if served > 0 {
             patience.regain(LOOKS_A_ROUND);
         } else if have_ended(merger.ends(), guests as usize) {
-            return;
+            return observer;
         } else {
             patience.wait(rt);
         }
@@ -60,7 +69,8 @@ fn serve_round<R: Threads + Wait + Sync, H: PageHash, A: Allocator + Send + Sync
     alloc: &A,
     merger: &mut Merger<H, A>,
 ) -> u32
-    ensures { SameMachine merger.old merger.new }
+    ensures same { SameMachine merger.old merger.new }
+    ensures journal { (more : List Entry) × (journal_of merger.new ≡ journal_of merger.old ++ more) }
 {
     match merger.round(rt, alloc, WORKERS, LIMIT) {
         Ok(served) => served,

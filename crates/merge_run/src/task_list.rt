@@ -11,7 +11,7 @@ use share_rings::{ClosedPort, Port};
 use std::alloc::{AllocError, Allocator};
 
 /// Whether a journal holds that many entries: each request of these scripts, and a close for each.
-pub(crate) fn has_room<A: Allocator>(journal: u32, scripts: &[Vec<Request, A>]) -> bool
+pub fn has_room<A: Allocator>(journal: u32, scripts: &[Vec<Request, A>]) -> bool
     ensures { IsTrue result ↔ (entries_of scripts.now ≤ journal) }
 {
     // What is left of the journal. To count down can't overflow, however long the scripts are.
@@ -23,6 +23,15 @@ pub(crate) fn has_room<A: Allocator>(journal: u32, scripts: &[Vec<Request, A>]) 
         left -= script.len() + 1;
     }
     true
+}
+
+/// How many requests the guests of these scripts will send, their closes among them: at most so many that a `u64` holds them.
+pub(crate) fn count_requests<A: Allocator>(scripts: &[Vec<Request, A>]) -> u64 {
+    let mut count: u64 = 0;
+    for script in scripts {
+        count = count.saturating_add(script.len() as u64).saturating_add(1);
+    }
+    count
 }
 
 /// What each guest's thread is given, guest 0's first.
@@ -55,17 +64,6 @@ pub(crate) fn new_tasks<A: Allocator + Copy>(
         });
     }
     Ok(tasks)
-}
-
-/// How many requests the guests will send, their closes among them.
-pub(crate) fn count_requests<A: Allocator>(tasks: &[Task<A>]) -> u64 {
-    let mut count: u64 = 0;
-    for task in tasks {
-        count = count
-            .saturating_add(task.script.len() as u64)
-            .saturating_add(1);
-    }
-    count
 }
 
 /// The ports and the lists of verdicts, each in a list of its own.

@@ -23,8 +23,9 @@ pub(crate) fn start_all<'s, E, R: Threads + Wait + Sync, A: Allocator + Send + '
     ensures started { tasks_of handles.new.items ≡ take (length handles.new.items) tasks.items }
     ensures most { length handles.new.items ≤ length tasks.items }
 {
+    let guests = tasks.len();
     for task in tasks {
-        let Some(handle) = start(scope, rt, gate, task) else {
+        let Some(handle) = start(scope, rt, gate, task, guests) else {
             return;
         };
         handles.push_reserved(handle);
@@ -37,6 +38,7 @@ fn start<'s, E, R: Threads + Wait + Sync, A: Allocator + Send + 's, G: Gate + Sy
     rt: &'s R,
     gate: &'s G,
     task: Task<A>,
+    guests: usize,
 ) -> Option<PromisedHandle<DoneTask<A>, DoesTask<A>>>
     requires { IsReady task }
     ensures { IfSome result (λ handle. handle.promise.0.value ≡ task) }
@@ -45,7 +47,7 @@ fn start<'s, E, R: Threads + Wait + Sync, A: Allocator + Send + 's, G: Gate + Sy
     let work = move || -> DoneTask<A>
         requires { IsReady task }
         ensures { IsDone task result }
-    { do_task(rt, gate, task) };
+    { do_task(rt, gate, task, guests) };
     scope.spawn_with(promise, work).ok()
 }
 

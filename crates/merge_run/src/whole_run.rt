@@ -9,16 +9,19 @@ ghost use Rattle.merge_core.specs.Shown.{state_of};
 ghost use Rattle.merge_machine.specs.Kept.{end_names, closed_names, closed_views};
 ghost use Rattle.merge_machine.specs.Limits.{IsMachine};
 ghost use Rattle.merge_machine.specs.Machines.{opening};
-ghost use Rattle.merge_machine.specs.View.{ends_of, core_of, machine_of};
+ghost use Rattle.merge_machine.specs.View.{ends_of, core_of, journal_of, machine_of};
 ghost use Rattle.merge_settle.specs.Settling.{Settles, is_running, is_undrained};
 ghost use Rattle.merge_settle.specs.View.{settled_journal, settled_ports, settled_core};
-ghost use Rattle.merge_run.specs.Runs.{NotRunFor, entries_of};
+ghost use Rattle.merge_run.specs.Fronts.{AreOfFronts};
+ghost use Rattle.merge_run.specs.Observed.{Observes};
+ghost use Rattle.merge_run.specs.Runs.{IsWholeRun, NotRunFor, entries_of};
 ghost use Rattle.merge_run.specs.Tasks.{IsReady, task_names, task_capacities, task_requests, ports_of, lists_of, all_sent};
 ghost use Rattle.merge_run.specs.Turns.{CanRun, HasRun};
 ghost use Rattle.merge_run.specs.declared.run_fault.RunFault.TheVariants.{OutOfMemory, NoThread};
 
 use crate::finished::Finished;
 use crate::gate::Gate;
+use crate::observer::{NoObserver, Observer};
 use crate::rounds::serve_all;
 use crate::run_fault::RunFault;
 use crate::task::{DoneTask, Handles, Task};
@@ -38,7 +41,7 @@ use std::thread::{Scope, Threads};
 /// the merger serves them on the calling thread.
 ///
 /// There is one script for each guest, guest 0's first, and no script holds a close. `gate` is called in the guests'
-/// threads, around each send and verdict, and on the calling thread as the run goes on.
+/// threads, around each send and verdict, and on the calling thread before the first thread is started.
 ///
 /// At `Ok` the machine is settled. Each guest sent its script and a close, and got exactly one verdict for each request,
 /// in order, and they are those of one thread that replays the journal on plain page contents.
@@ -72,14 +75,47 @@ pub fn run<
     ensures got { IfOk result (λ f. map (λ list. list.items) f.verdicts.items ≡ map closed_got (settled_ports f.settled)) }
     ensures fault { MatchResult result (λ _. IsMachine config.now × (entries_of scripts.items ≤ config.now.journal)) (λ fault. NotRunFor config.now scripts.items fault) }
 {
+    let (finished, _) = run_observed(rt, alloc, config, hash, scripts, gate, NoObserver)?;
+    Ok(finished)
+}
+
+/// The same, while an observer is shown the machine's report after each round. It comes back, and each report that it kept
+/// is the report of the replay of a front of the journal.
+///
+/// # Errors
+///
+/// Those of [`run`]. The observer is dropped then.
+pub fn run_observed<
+    R: Threads + Wait + Sync,
+    H: PageHash + Drop,
+    A: Allocator + Copy + Send + Sync,
+    G: Gate + Sync,
+    O: Observer,
+>(
+    rt: &R,
+    alloc: A,
+    config: &Config<A>,
+    hash: H,
+    scripts: Vec<Vec<Request, A>, A>,
+    gate: &G,
+    observer: O,
+) -> Result<(Finished<H, A>, O), RunFault>
+    requires scripts { IsMachine config.now → length scripts.items ≡ length config.now.pages.items }
+    requires plain { All (λ script. has_close script.items ≡ false) scripts.items }
+    requires fresh { O.kept observer ≡ [] }
+    ensures run { IfOk result (λ (f, o). IsWholeRun H.hash_of config.now scripts.items (settled_ports f.settled) (settled_journal f.settled) (settled_core f.settled) f.verdicts.items) }
+    ensures observer { IfOk result (λ (f, o). Observes O.name O.kept H.hash_of observer o (opening (state_of (settled_core f.settled))) (settled_journal f.settled)) }
+    ensures fault { MatchResult result (λ _. IsMachine config.now × (entries_of scripts.items ≤ config.now.journal)) (λ fault. NotRunFor config.now scripts.items fault) }
+{
     let checked = config.check()?;
     if !has_room(config.journal, &scripts) {
         return Err(RunFault::Stopped(JournalFull));
     }
     let (merger, ports) = Machine::open(alloc, &checked, hash)?;
+    let requests = count_requests(&scripts);
     let tasks = new_tasks(alloc, ports, scripts)?;
-    gate.starting(count_requests(&tasks));
-    run_tasks(rt, alloc, gate, merger, tasks)
+    gate.starting(requests);
+    run_tasks(rt, alloc, gate, merger, tasks, observer)
 }
 
 /// Runs the guests' tasks beside their merger, and settles the machine.
@@ -88,20 +124,24 @@ fn run_tasks<
     H: PageHash + Drop,
     A: Allocator + Copy + Send + Sync,
     G: Gate + Sync,
+    O: Observer,
 >(
     rt: &R,
     alloc: A,
     gate: &G,
     merger: Merger<H, A>,
     tasks: Vec<Task<A>, A>,
-) -> Result<Finished<H, A>, RunFault>
+    observer: O,
+) -> Result<(Finished<H, A>, O), RunFault>
     requires ready { All IsReady tasks.items }
     requires pairs { task_names tasks.items ≡ end_names (ends_of merger) }
-    ensures settles { IfOk result (λ f. Settles H.hash_of (settled_ports f.settled) (settled_journal f.settled) (settled_core f.settled)) }
-    ensures machine { IfOk result (λ f. opening (state_of (settled_core f.settled)) ≡ machine_of merger) }
-    ensures capacities { IfOk result (λ f. map closed_capacity (settled_ports f.settled) ≡ task_capacities tasks.items) }
-    ensures sent { IfOk result (λ f. map closed_sent (settled_ports f.settled) ≡ task_requests tasks.items) }
-    ensures got { IfOk result (λ f. map (λ list. list.items) f.verdicts.items ≡ map closed_got (settled_ports f.settled)) }
+    requires fronts { AreOfFronts H.hash_of (machine_of merger) (journal_of merger) (O.kept observer) }
+    ensures settles { IfOk result (λ (f, o). Settles H.hash_of (settled_ports f.settled) (settled_journal f.settled) (settled_core f.settled)) }
+    ensures machine { IfOk result (λ (f, o). opening (state_of (settled_core f.settled)) ≡ machine_of merger) }
+    ensures capacities { IfOk result (λ (f, o). map closed_capacity (settled_ports f.settled) ≡ task_capacities tasks.items) }
+    ensures sent { IfOk result (λ (f, o). map closed_sent (settled_ports f.settled) ≡ task_requests tasks.items) }
+    ensures got { IfOk result (λ (f, o). map (λ list. list.items) f.verdicts.items ≡ map closed_got (settled_ports f.settled)) }
+    ensures observer { IfOk result (λ (f, o). Observes O.name O.kept H.hash_of observer o (opening (state_of (settled_core f.settled))) (settled_journal f.settled)) }
     ensures fault { IfErr result (λ fault. (fault ≡ OutOfMemory) ⊎ (fault ≡ NoThread)) }
 {
     let guests = tasks.len();
@@ -109,11 +149,13 @@ fn run_tasks<
     let done = Vec::with_capacity(alloc, guests)?;
     let ports = Vec::with_capacity(alloc, guests)?;
     let verdicts = Vec::with_capacity(alloc, guests)?;
-    let (merger, done) = run_threads(rt, &alloc, gate, merger, tasks, handles, done);
+    let (merger, done, observer) = run_threads(
+        rt, &alloc, gate, merger, tasks, handles, done, observer,
+    );
     if done.len() < guests {
         return Err(RunFault::NoThread);
     }
-    Ok(finish(merger, done, ports, verdicts))
+    Ok((finish(merger, done, ports, verdicts), observer))
 }
 
 /// Settles a machine whose guests have all ended. The two lists are empty, with room for each guest's part.
@@ -130,6 +172,7 @@ fn finish<H: PageHash, A: Allocator>(
     requires drained { position is_undrained (ports_of done.items) ≡ None }
     ensures settles { Settles H.hash_of (settled_ports result.settled) (settled_journal result.settled) (settled_core result.settled) }
     ensures core { settled_core result.settled ≡ core_of merger }
+    ensures journal { settled_journal result.settled ≡ journal_of merger }
     ensures ports { closed_views (settled_ports result.settled) ≡ closed_views (ports_of done.items) }
     ensures verdicts { result.verdicts.items ≡ lists_of done.items }
 {
@@ -146,6 +189,7 @@ fn run_threads<
     H: PageHash + Drop,
     A: Allocator + Send + Sync,
     G: Gate + Sync,
+    O: Observer,
 >(
     rt: &R,
     alloc: &A,
@@ -154,17 +198,26 @@ fn run_threads<
     tasks: Vec<Task<A>, A>,
     handles: Handles<A>,
     done: Vec<DoneTask<A>, A>,
-) -> (Merger<H, A>, Vec<DoneTask<A>, A>)
-    requires { CanRun tasks.items merger handles done }
-    ensures { HasRun tasks.items merger result.0 result.1.items }
+    observer: O,
+) -> (Merger<H, A>, Vec<DoneTask<A>, A>, O)
+    requires ready { CanRun tasks.items merger handles done }
+    requires fronts { AreOfFronts H.hash_of (machine_of merger) (journal_of merger) (O.kept observer) }
+    ensures run { HasRun tasks.items merger result.0 result.1.items }
+    ensures observer { Observes O.name O.kept H.hash_of observer result.2 (machine_of result.0) (journal_of result.0) }
 {
     thread::scope(
         thread::scope_env(),
         rt,
-        |scope| -> (Merger<H, A>, Vec<DoneTask<A>, A>)
-            requires { CanRun tasks.items merger handles done }
-            ensures { HasRun tasks.items merger result.0 result.1.items }
-        { run_in(scope, rt, alloc, gate, merger, tasks, handles, done) },
+        |scope| -> (Merger<H, A>, Vec<DoneTask<A>, A>, O)
+            requires ready { CanRun tasks.items merger handles done }
+            requires fronts { AreOfFronts H.hash_of (machine_of merger) (journal_of merger) (O.kept observer) }
+            ensures run { HasRun tasks.items merger result.0 result.1.items }
+            ensures observer { Observes O.name O.kept H.hash_of observer result.2 (machine_of result.0) (journal_of result.0) }
+        {
+            run_in(
+                scope, rt, alloc, gate, merger, tasks, handles, done, observer,
+            )
+        },
     )
 }
 
@@ -176,6 +229,7 @@ fn run_in<
     H: PageHash + Drop,
     A: Allocator + Send + Sync + 's,
     G: Gate + Sync,
+    O: Observer,
 >(
     scope: &Scope<'s, E>,
     rt: &'s R,
@@ -185,12 +239,15 @@ fn run_in<
     tasks: Vec<Task<A>, A>,
     mut handles: Handles<A>,
     mut done: Vec<DoneTask<A>, A>,
-) -> (Merger<H, A>, Vec<DoneTask<A>, A>)
-    requires { CanRun tasks.items merger handles done }
-    ensures { HasRun tasks.items merger result.0 result.1.items }
+    observer: O,
+) -> (Merger<H, A>, Vec<DoneTask<A>, A>, O)
+    requires ready { CanRun tasks.items merger handles done }
+    requires fronts { AreOfFronts H.hash_of (machine_of merger) (journal_of merger) (O.kept observer) }
+    ensures run { HasRun tasks.items merger result.0 result.1.items }
+    ensures observer { Observes O.name O.kept H.hash_of observer result.2 (machine_of result.0) (journal_of result.0) }
 {
     start_all(scope, rt, gate, tasks, &mut handles);
-    serve_all(rt, alloc, gate, &mut merger, handles.len() as u8);
+    let observer = serve_all(rt, alloc, &mut merger, handles.len() as u8, observer);
     join_all(rt, handles, &mut done);
-    (merger, done)
+    (merger, done, observer)
 }

@@ -2,16 +2,17 @@
 use crate::progress::{DrawnLine, Told};
 use merge_run::Gate;
 use page_model::Report;
+use share_text::Viewer;
 use std::fmt::{self, Display, Formatter};
 use std::sync::atomic::{AtomicBool, AtomicU32, AtomicU64, Ordering};
 use std::time::Clock;
 
-/// How far a run is, and the line that tells it, if any is drawn.
+/// How far a run is, and the line that tells it.
 ///
-/// As a gate it holds nobody up: it hears of the run on the merger's thread.
+/// As a gate it holds nobody up: it hears how much is to come. As a viewer it draws the line, in a thread of its own.
 #[derive(Drop)]
 pub struct Running<'a, R> {
-    line: Option<DrawnLine<'a, R>>,
+    line: DrawnLine<'a, R>,
     /// How many requests the scripts have, their closes among them; 0 before the run.
     requests: AtomicU64,
     /// The milliseconds from the line's making to the run.
@@ -25,7 +26,7 @@ pub struct Running<'a, R> {
 
 impl<'a, R: Eprint + Clock> Running<'a, R> {
     /// Nothing runs yet.
-    pub fn new(line: Option<DrawnLine<'a, R>>) -> Running<'a, R> {
+    pub fn new(line: DrawnLine<'a, R>) -> Running<'a, R> {
         Running {
             line,
             requests: AtomicU64::new(0),
@@ -40,12 +41,9 @@ impl<'a, R: Eprint + Clock> Running<'a, R> {
 
     /// Draws the line for the last time, and ends it, unless that was done or nothing was run.
     pub fn end(&self) {
-        let Some(line) = &self.line else {
-            return;
-        };
         let has_run = self.requests.load(Ordering::SeqCst) > 0;
         if has_run && !self.has_ended.swap(true, Ordering::SeqCst) {
-            line.end(self);
+            self.line.end(self);
         }
     }
 
@@ -74,27 +72,25 @@ impl<R> Told for Running<'_, R> {
 
 impl<R: Eprint + Clock + Sync> Gate for Running<'_, R> {
     fn starting(&self, requests: u64) {
-        if let Some(line) = &self.line {
-            self.requests.store(requests, Ordering::SeqCst);
-            self.start.store(line.elapsed(), Ordering::SeqCst);
-        }
-    }
-
-    // The line ends with the last request, before the run's output is written.
-    fn served(&self, report: &Report) {
-        if let Some(line) = &self.line {
-            self.note(report);
-            if u64::from(report.entries()) == self.requests.load(Ordering::SeqCst) {
-                self.end();
-            } else {
-                line.draw_if_due(self);
-            }
-        }
+        self.requests.store(requests, Ordering::SeqCst);
+        self.start.store(self.line.elapsed(), Ordering::SeqCst);
     }
 
     fn before(&self, _guest: u8, _nth: u32) {}
 
     fn after(&self, _guest: u8, _nth: u32) {}
+}
+
+impl<R: Eprint + Clock + Sync> Viewer for Running<'_, R> {
+    // The line ends with the last request, before the run's output is written.
+    fn show(&self, report: &Report) {
+        self.note(report);
+        if u64::from(report.entries()) == self.requests.load(Ordering::SeqCst) {
+            self.end();
+        } else {
+            self.line.draw_if_due(self);
+        }
+    }
 }
 
 /// What a run has come to in so many milliseconds.

@@ -5,8 +5,9 @@ use crate::faults::{Ending, tell};
 use crate::progress::{DrawnLine, line_where};
 use crate::running::Running;
 use crate::words::{Task, Work};
+use merge_run::OpenGate;
 use page_digest::Sha256Hash;
-use share_text::{Noted, Output, Sink, Source, TextFault, replay, serial, threaded};
+use share_text::{Noted, Output, Sink, Source, TextFault, replay, serial, threaded, threaded_viewed};
 use std::alloc::Global;
 use std::fs::{self, Files};
 use std::io::{self, Eprint, Read, Write};
@@ -102,8 +103,13 @@ fn run<T: Threads + Wait + Sync + Eprint + Clock, R: Source, W: Sink>(
     requires reader { R.has_failed reader.old ≡ false }
     requires writer { W.has_failed writer.old ≡ false }
 {
+    let Some(line) = line else {
+        return threaded(rt, alloc, reader, writer, Sha256Hash, &OpenGate, form);
+    };
     let running = Running::new(line);
-    let done = threaded(rt, alloc, reader, writer, Sha256Hash, &running, form);
+    let done = threaded_viewed(
+        rt, alloc, reader, writer, Sha256Hash, &running, &running, form,
+    );
     running.end();
     done
 }

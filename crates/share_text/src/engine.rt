@@ -1,5 +1,9 @@
 //! The engine that runs a script, with a thread for each guest.
-ghost use Rattle.std.specs.Prelude.{◌≡◌, false};
+ghost use Rattle.std.specs.Prelude.{◌≡◌, ◌≤◌, false, All, IfOk, MatchResult, length};
+ghost use Rattle.share_rings.specs.Closing.{has_close};
+ghost use Rattle.merge_machine.specs.Limits.{IsMachine};
+ghost use Rattle.merge_run.specs.Runs.{IsWholeRun, NotRunFor, entries_of};
+ghost use Rattle.merge_run.specs.View.{settled_ports, settled_journal, settled_core};
 ghost use Rattle.journal_replay.specs.Ends.{is_read_fault, is_write_fault, tells_read, tells_write};
 ghost use Rattle.script_text.specs.Views.{script_seen};
 ghost use Rattle.share_text.specs.Threads.{Threads, Serves, as_text_fault};
@@ -10,12 +14,15 @@ use journal_replay::ends::read_all;
 use journal_replay::engine::tell_fault;
 use journal_replay::{Sink, Source};
 use journal_text::TextFault;
-use merge_run::{Gate, RunFault, run};
+use merge_machine::Config;
+use merge_run::{Finished, Gate, RunFault, run};
 use page_digest::PageHash;
+use page_model::{Report, Request};
 use script_text::{Script, read_script};
 use std::alloc::Allocator;
 use std::sync::Wait;
 use std::thread::Threads;
+use watched_machine::Viewer;
 
 /// A run's fault as one of its text: want of memory is the text's own.
 fn text_fault(fault: RunFault) -> TextFault
@@ -35,6 +42,43 @@ fn text_fault(fault: RunFault) -> TextFault
     }
 }
 
+/// A viewer that there never is.
+struct Nobody;
+
+impl Viewer for Nobody {
+    fn show(&self, _report: &Report) {}
+}
+
+/// Runs a machine to its end. Where there is a viewer, it is shown the reports as they are published.
+fn run_machine<
+    T: Threads + Wait + Sync,
+    H: PageHash + Drop,
+    A: Allocator + Copy + Send + Sync,
+    G: Gate + Sync,
+    V: Viewer + Sync,
+>(
+    rt: &T,
+    alloc: A,
+    config: &Config<A>,
+    hash: H,
+    scripts: Vec<Vec<Request, A>, A>,
+    gate: &G,
+    viewer: Option<&V>,
+) -> Result<Finished<H, A>, RunFault>
+    requires scripts { IsMachine config.now → length scripts.items ≡ length config.now.pages.items }
+    requires plain { All (λ script. has_close script.items ≡ false) scripts.items }
+    ensures run { IfOk result (λ f. IsWholeRun H.hash_of config.now scripts.items (settled_ports f.settled) (settled_journal f.settled) (settled_core f.settled) f.verdicts.items) }
+    ensures fault { MatchResult result (λ _. IsMachine config.now × (entries_of scripts.items ≤ config.now.journal)) (λ fault. NotRunFor config.now scripts.items fault) }
+{
+    let Some(viewer) = viewer else {
+        return run(rt, alloc, config, hash, scripts, gate);
+    };
+    match watched_machine::run(rt, alloc, config, hash, scripts, gate, viewer) {
+        Ok(finished) => Ok(finished.unwatched(rt)),
+        Err(fault) => Err(fault),
+    }
+}
+
 /// Runs a script, and writes what is to be written of the run, or the line of its fault. The machine is dropped here.
 fn run_script<
     T: Threads + Wait + Sync,
@@ -42,6 +86,7 @@ fn run_script<
     H: PageHash + Drop,
     A: Allocator + Copy + Send + Sync,
     G: Gate + Sync,
+    V: Viewer + Sync,
 >(
     rt: &T,
     alloc: A,
@@ -49,6 +94,7 @@ fn run_script<
     writer: &mut W,
     hash: H,
     gate: &G,
+    viewer: Option<&V>,
     form: Output,
 ) -> Result<(), TextFault>
     requires fine { W.has_failed writer.old ≡ false }
@@ -57,9 +103,44 @@ fn run_script<
     ensures writer { W.has_failed writer.new ≡ tells_write result }
 {
     let Script { config, scripts } = script;
-    match run(rt, alloc, &config, hash, scripts, gate) {
+    match run_machine(rt, alloc, &config, hash, scripts, gate, viewer) {
         Ok(finished) => print_run(alloc, form, &config, &finished, writer),
         Err(fault) => tell_fault(alloc, writer, text_fault(fault)),
+    }
+}
+
+/// Reads a script and runs it.
+fn read_and_run<
+    T: Threads + Wait + Sync,
+    R: Source,
+    W: Sink,
+    H: PageHash + Drop,
+    A: Allocator + Copy + Send + Sync,
+    G: Gate + Sync,
+    V: Viewer + Sync,
+>(
+    rt: &T,
+    alloc: A,
+    reader: &mut R,
+    writer: &mut W,
+    hash: H,
+    gate: &G,
+    viewer: Option<&V>,
+    form: Output,
+) -> Result<(), TextFault>
+    requires reader { R.has_failed reader.old ≡ false }
+    requires writer { W.has_failed writer.old ≡ false }
+    ensures bytes { Threads H.hash_of form (R.remaining reader.old) (W.contents writer.old) (W.contents writer.new) result }
+    ensures reader { R.has_failed reader.new ≡ tells_read result }
+    ensures writer { W.has_failed writer.new ≡ tells_write result }
+{
+    let text = match read_all(alloc, reader) {
+        Ok(text) => text,
+        Err(fault) => return Err(fault),
+    };
+    match read_script(alloc, &text) {
+        Ok(script) => run_script(rt, alloc, script, writer, hash, gate, viewer, form),
+        Err(fault) => tell_fault(alloc, writer, fault),
     }
 }
 
@@ -97,12 +178,34 @@ pub fn threaded<
     ensures reader { R.has_failed reader.new ≡ tells_read result }
     ensures writer { W.has_failed writer.new ≡ tells_write result }
 {
-    let text = match read_all(alloc, reader) {
-        Ok(text) => text,
-        Err(fault) => return Err(fault),
-    };
-    match read_script(alloc, &text) {
-        Ok(script) => run_script(rt, alloc, script, writer, hash, gate, form),
-        Err(fault) => tell_fault(alloc, writer, fault),
-    }
+    let viewer: Option<&Nobody> = None;
+    read_and_run(rt, alloc, reader, writer, hash, gate, viewer, form)
+}
+
+/// The same, while a viewer is shown how the run goes on, in a thread of its own. Nothing that is written depends on it.
+pub fn threaded_viewed<
+    T: Threads + Wait + Sync,
+    R: Source,
+    W: Sink,
+    H: PageHash + Drop,
+    A: Allocator + Copy + Send + Sync,
+    G: Gate + Sync,
+    V: Viewer + Sync,
+>(
+    rt: &T,
+    alloc: A,
+    reader: &mut R,
+    writer: &mut W,
+    hash: H,
+    gate: &G,
+    viewer: &V,
+    form: Output,
+) -> Result<(), TextFault>
+    requires reader { R.has_failed reader.old ≡ false }
+    requires writer { W.has_failed writer.old ≡ false }
+    ensures bytes { Threads H.hash_of form (R.remaining reader.old) (W.contents writer.old) (W.contents writer.new) result }
+    ensures reader { R.has_failed reader.new ≡ tells_read result }
+    ensures writer { W.has_failed writer.new ≡ tells_write result }
+{
+    read_and_run(rt, alloc, reader, writer, hash, gate, Some(viewer), form)
 }

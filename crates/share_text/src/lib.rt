@@ -9,7 +9,7 @@ mod engine;
 mod form;
 mod printing;
 
-pub use engine::threaded;
+pub use engine::{threaded, threaded_viewed};
 pub use form::Output;
 pub use journal_replay::{Noted, Sink, Source, replay};
 pub use journal_text::{
@@ -17,3 +17,4 @@ pub use journal_text::{
     verdict_line, write_journal,
 };
 pub use script_text::{Script, read_script, serial};
+pub use watched_machine::Viewer;

@@ -1,4 +1,3 @@
-pub mod Fronts
 pub mod View
 pub mod Publishing
 pub mod Opened

@@ -11,7 +11,7 @@ use Rattle.merge_reports.specs.Lists.{list_told}
 use Rattle.merge_reports.specs.Publishing.{Publishes, TellsAll}
 use Rattle.merge_reports.specs.declared.publisher.Publisher.{Publisher}
 use Rattle.merge_reports.specs.declared.told.Told.{Told}
-use Rattle.watched_machine.specs.Fronts.{AreOfFronts, report_after}
+use Rattle.merge_run.specs.Fronts.{AreOfFronts, report_after}
 use Rattle.watched_machine.specs.View.{plain_of, publisher_of, plain_settled, settled_publisher}
 use Rattle.watched_machine.specs.declared.merger.Merger.{Merger}
 use Rattle.watched_machine.specs.declared.settled.Settled.{Settled}

@@ -1,8 +1,11 @@
 //! What a run gives back.
+ghost use Rattle.std.specs.Prelude.{◌≡◌};
+
 use crate::settled::Settled;
 use page_digest::PageHash;
 use page_model::Verdict;
 use std::alloc::{Allocator, Global};
+use std::sync::Wait;
 
 /// A run whose guests have all ended. Its machine can't be dropped, and so neither can it.
 pub struct Finished<H: PageHash, A: Allocator = Global> {
@@ -10,4 +13,22 @@ pub struct Finished<H: PageHash, A: Allocator = Global> {
     pub settled: Settled<H, A>,
     /// Each guest's verdicts in the order in which they came, guest 0's list first.
     pub verdicts: Vec<Vec<Verdict, A>, A>,
+}
+
+impl<H: PageHash, A: Allocator> Finished<H, A> {
+    ghost use Rattle.watched_machine.specs.View.{plain_settled};
+
+    /// The run without its reports. Waits for the watches that read just now; a watch reads no more from then on.
+    pub fn unwatched<R: Wait>(self, rt: &R) -> merge_run::Finished<H, A>
+        ensures settled { result.settled ≡ plain_settled self.settled }
+        ensures verdicts { result.verdicts ≡ self.verdicts }
+    {
+        let Finished { settled, verdicts } = self;
+        let Settled { plain, publisher } = settled;
+        publisher.end(rt);
+        merge_run::Finished {
+            settled: plain,
+            verdicts,
+        }
+    }
 }

@@ -10,11 +10,14 @@
 
 mod causes;
 mod finished;
+mod lent_publisher;
 mod machine;
 mod merger;
 mod settle_machine;
 mod settled;
 mod unsettled;
+mod view;
+mod viewer;
 mod whole_run;
 
 pub use finished::Finished;
@@ -25,4 +28,5 @@ pub use merger::Merger;
 pub use settle_machine::settle;
 pub use settled::Settled;
 pub use unsettled::Unsettled;
+pub use viewer::Viewer;
 pub use whole_run::run;

@@ -1,7 +1,7 @@
 //! The merger of a machine that is watched.
 ghost use Rattle.merge_machine.specs.View.{journal_of, machine_of};
 ghost use Rattle.merge_reports.specs.Lists.{published};
-ghost use Rattle.watched_machine.specs.Fronts.{AreOfFronts};
+ghost use Rattle.merge_run.specs.Fronts.{AreOfFronts};
 
 use merge_core::Core;
 use merge_machine::{JournalFull, Step};

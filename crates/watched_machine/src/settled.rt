@@ -3,7 +3,7 @@ ghost use Rattle.merge_core.specs.Shown.{state_of};
 ghost use Rattle.merge_machine.specs.Machines.{opening, IsReplayOf};
 ghost use Rattle.merge_reports.specs.Lists.{published};
 ghost use Rattle.merge_settle.specs.View.{settled_journal, settled_core};
-ghost use Rattle.watched_machine.specs.Fronts.{AreOfFronts};
+ghost use Rattle.merge_run.specs.Fronts.{AreOfFronts};
 
 use merge_core::Core;
 use merge_reports::{NoWatch, OutOfMemory, Publisher, Told, Watch};

@@ -1,46 +1,52 @@
-//! A whole run of a machine that can be watched in the end.
-ghost use Rattle.std.specs.Prelude.{◌≡◌, ◌≤◌, false, [], All, IfOk, MatchResult, length, map};
-ghost use Rattle.page_model.specs.Limits.{shapes};
-ghost use Rattle.page_model.specs.Replay.{empty_state};
+//! A whole run of a machine whose reports are shown to a viewer.
+ghost use Rattle.std.specs.Prelude.{◌≡◌, ◌≤◌, false, [], All, IfOk, MatchResult, length};
 ghost use Rattle.share_rings.specs.Closing.{has_close};
-ghost use Rattle.share_rings.specs.Ends.{closed_got, closed_sent, closed_capacity};
 ghost use Rattle.merge_core.specs.Shown.{state_of};
 ghost use Rattle.merge_machine.specs.Limits.{IsMachine};
 ghost use Rattle.merge_machine.specs.Machines.{opening};
-ghost use Rattle.merge_settle.specs.Settling.{Settles};
 ghost use Rattle.merge_settle.specs.View.{settled_journal, settled_ports, settled_core};
-ghost use Rattle.merge_run.specs.Runs.{NotRunFor, entries_of};
-ghost use Rattle.merge_run.specs.Tasks.{all_sent};
-ghost use Rattle.watched_machine.specs.View.{plain_settled, settled_reports};
+ghost use Rattle.merge_reports.specs.Lists.{published};
+ghost use Rattle.merge_run.specs.Fronts.{AreOfFronts};
+ghost use Rattle.merge_run.specs.Observed.{Observes};
+ghost use Rattle.merge_run.specs.Runs.{IsWholeRun, NotRunFor, entries_of};
+ghost use Rattle.watched_machine.specs.View.{plain_settled};
 
 use crate::causes::find_cause;
 use crate::finished::Finished;
+use crate::lent_publisher::LentPublisher;
 use crate::settled::Settled;
+use crate::view::{end_view, view};
+use crate::viewer::Viewer;
 use merge_machine::Config;
-use merge_reports::Publisher;
-use merge_run::{Gate, RunFault};
+use merge_reports::{Publisher, Watch};
+use merge_run::{Gate, Observer, RunFault, run_observed};
 use page_digest::PageHash;
 use page_model::Request;
 use std::alloc::Allocator;
 use std::sync::Wait;
+use std::sync::atomic::AtomicU64;
+use std::thread;
 use std::thread::Threads;
 
 /// Runs a machine to its end, as [`merge_run::run`]: a thread for each guest sends its script and then a close, and takes
 /// its verdicts, while the merger serves them on the calling thread. `gate` is called as there.
 ///
-/// There is one script for each guest, guest 0's first, and no script holds a close.
+/// The merger publishes its report after every 4,096 requests, and where it has nothing to serve. A thread of its own has a
+/// watch, and shows the viewer what it reads, ten times a second; where no such thread can be had, the viewer is shown the
+/// whole run alone.
 ///
-/// At `Ok` the machine is settled, and nothing was published of it yet: [`Settled::publish`] publishes its last report.
+/// There is one script for each guest, guest 0's first, and no script holds a close.
 ///
 /// # Errors
 ///
-/// The first cause that holds, in the order of [`RunFault`]. All memory but that of a publish is taken before the first
-/// thread is started, that of the publisher at first.
+/// The first cause that holds, in the order of [`RunFault`]. All memory but that of a publish and of the viewer's thread is
+/// taken before the first thread is started, that of the publisher at first.
 pub fn run<
     R: Threads + Wait + Sync,
     H: PageHash + Drop,
     A: Allocator + Copy + Send + Sync,
     G: Gate + Sync,
+    V: Viewer + Sync,
 >(
     rt: &R,
     alloc: A,
@@ -48,28 +54,34 @@ pub fn run<
     hash: H,
     scripts: Vec<Vec<Request, A>, A>,
     gate: &G,
+    viewer: &V,
 ) -> Result<Finished<H, A>, RunFault>
     requires scripts { IsMachine config.now → length scripts.items ≡ length config.now.pages.items }
     requires plain { All (λ script. has_close script.items ≡ false) scripts.items }
-    ensures settles { IfOk result (λ f. Settles H.hash_of (settled_ports (plain_settled f.settled)) (settled_journal (plain_settled f.settled)) (settled_core (plain_settled f.settled))) }
-    ensures machine { IfOk result (λ f. opening (state_of (settled_core (plain_settled f.settled))) ≡ empty_state config.now.frames (shapes config.now.salts.items config.now.pages.items)) }
-    ensures guests { IfOk result (λ f. (length (settled_ports (plain_settled f.settled)) ≡ length config.now.pages.items) × (length f.verdicts.items ≡ length config.now.pages.items)) }
-    ensures rings { IfOk result (λ f. All (λ port. closed_capacity port ≡ config.now.ring) (settled_ports (plain_settled f.settled))) }
-    ensures sent { IfOk result (λ f. map closed_sent (settled_ports (plain_settled f.settled)) ≡ all_sent scripts.items) }
-    ensures got { IfOk result (λ f. map (λ list. list.items) f.verdicts.items ≡ map closed_got (settled_ports (plain_settled f.settled))) }
-    ensures reports { IfOk result (λ f. settled_reports f.settled ≡ []) }
+    ensures run { IfOk result (λ f. IsWholeRun H.hash_of config.now scripts.items (settled_ports (plain_settled f.settled)) (settled_journal (plain_settled f.settled)) (settled_core (plain_settled f.settled)) f.verdicts.items) }
     ensures fault { MatchResult result (λ _. IsMachine config.now × (entries_of scripts.items ≤ config.now.journal)) (λ fault. NotRunFor config.now scripts.items fault) }
 {
-    let Ok(publisher) = Publisher::new(alloc, rt) else {
+    let Ok(mut publisher) = Publisher::new(alloc, rt) else {
         return Err(find_cause(config, &scripts));
     };
-    match merge_run::run(rt, alloc, config, hash, scripts, gate) {
+    let ran = run_published(
+        rt,
+        alloc,
+        config,
+        hash,
+        scripts,
+        gate,
+        viewer,
+        &mut publisher,
+    );
+    match ran {
         Ok(finished) => {
             let merge_run::Finished {
                 settled: plain,
                 verdicts,
             } = finished;
             let settled = Settled { plain, publisher };
+            viewer.show(&settled.report());
             Ok(Finished { settled, verdicts })
         }
         Err(fault) => {
@@ -78,3 +90,91 @@ pub fn run<
         }
     }
 }
+
+/// Runs a machine that publishes its reports here.
+fn run_published<
+    R: Threads + Wait + Sync,
+    H: PageHash + Drop,
+    A: Allocator + Copy + Send + Sync,
+    G: Gate + Sync,
+    V: Viewer + Sync,
+>(
+    rt: &R,
+    alloc: A,
+    config: &Config<A>,
+    hash: H,
+    scripts: Vec<Vec<Request, A>, A>,
+    gate: &G,
+    viewer: &V,
+    publisher: &mut Publisher<A>,
+) -> Result<merge_run::Finished<H, A>, RunFault>
+    requires scripts { IsMachine config.now → length scripts.items ≡ length config.now.pages.items }
+    requires plain { All (λ script. has_close script.items ≡ false) scripts.items }
+    requires fresh { published publisher.old ≡ [] }
+    ensures run { IfOk result (λ f. IsWholeRun H.hash_of config.now scripts.items (settled_ports f.settled) (settled_journal f.settled) (settled_core f.settled) f.verdicts.items) }
+    ensures fronts { IfOk result (λ f. AreOfFronts H.hash_of (opening (state_of (settled_core f.settled))) (settled_journal f.settled) (published publisher.new)) }
+    ensures fault { MatchResult result (λ _. IsMachine config.now × (entries_of scripts.items ≤ config.now.journal)) (λ fault. NotRunFor config.now scripts.items fault) }
+{
+    let watch = publisher.watch().ok();
+    let lent = LentPublisher {
+        publisher,
+        unpublished: 0,
+    };
+    let (finished, lent) = run_viewed(rt, alloc, config, hash, scripts, gate, viewer, watch, lent)?;
+    let LentPublisher {
+        publisher,
+        unpublished: _,
+    } = lent;
+    take_back(publisher);
+    Ok(finished)
+}
+
+/// Runs a machine with this observer, while a thread of its own shows the viewer what the watch reads.
+fn run_viewed<
+    R: Threads + Wait + Sync,
+    H: PageHash + Drop,
+    A: Allocator + Copy + Send + Sync,
+    G: Gate + Sync,
+    V: Viewer + Sync,
+    O: Observer,
+>(
+    rt: &R,
+    alloc: A,
+    config: &Config<A>,
+    hash: H,
+    scripts: Vec<Vec<Request, A>, A>,
+    gate: &G,
+    viewer: &V,
+    watch: Option<Watch<A>>,
+    observer: O,
+) -> Result<(merge_run::Finished<H, A>, O), RunFault>
+    requires scripts { IsMachine config.now → length scripts.items ≡ length config.now.pages.items }
+    requires plain { All (λ script. has_close script.items ≡ false) scripts.items }
+    requires fresh { O.kept observer ≡ [] }
+    ensures run { IfOk result (λ (f, o). IsWholeRun H.hash_of config.now scripts.items (settled_ports f.settled) (settled_journal f.settled) (settled_core f.settled) f.verdicts.items) }
+    ensures observer { IfOk result (λ (f, o). Observes O.name O.kept H.hash_of observer o (opening (state_of (settled_core f.settled))) (settled_journal f.settled)) }
+    ensures fault { MatchResult result (λ _. IsMachine config.now × (entries_of scripts.items ≤ config.now.journal)) (λ fault. NotRunFor config.now scripts.items fault) }
+{
+    let over = AtomicU64::new(0);
+    let over = &over;
+    let shows = move || view(rt, viewer, watch, over);
+    let runs = move || -> Result<(merge_run::Finished<H, A>, O), RunFault>
+        requires scripts { IsMachine config.now → length scripts.items ≡ length config.now.pages.items }
+        requires plain { All (λ script. has_close script.items ≡ false) scripts.items }
+        requires fresh { O.kept observer ≡ [] }
+        ensures run { IfOk result (λ (f, o). IsWholeRun H.hash_of config.entry.now scripts.items (settled_ports f.settled) (settled_journal f.settled) (settled_core f.settled) f.verdicts.items) }
+        ensures observer { IfOk result (λ (f, o). Observes O.name O.kept H.hash_of observer o (opening (state_of (settled_core f.settled))) (settled_journal f.settled)) }
+        ensures fault { MatchResult result (λ _. IsMachine config.entry.now × (entries_of scripts.items ≤ config.entry.now.journal)) (λ fault. NotRunFor config.entry.now scripts.items fault) }
+    {
+        let answer = run_observed(rt, alloc, config, hash, scripts, gate, observer);
+        end_view(over);
+        answer
+    };
+    let (_, answer) = thread::join(rt, shows, runs);
+    answer
+}
+
+/// The loan ends: nothing changes.
+fn take_back<T>(lent: &mut T)
+    ensures { lent.new ≡ lent.old }
+{}

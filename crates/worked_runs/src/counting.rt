@@ -3,7 +3,6 @@ use crate::makes::{Ask, config_of, scripts_of};
 use crate::replays::check_replay;
 use merge_run::{Gate, run};
 use page_digest::Sha256Hash;
-use page_model::Report;
 use std::sync::atomic::{AtomicBool, AtomicU32, AtomicU64, Ordering};
 use std::test::Fail;
 
@@ -33,13 +32,12 @@ impl Calls {
     }
 }
 
-/// It counts the calls of each guest, and notes one whose number isn't the next, or a verdict before its send. It keeps what
-/// it is told of the whole run, and notes where that falls, or comes before the start.
+/// It counts the calls of each guest, and notes one whose number isn't the next, or a verdict before its send. It keeps
+/// how much is to come, and notes where that is told twice, or after a send.
 #[derive(Drop)]
 struct Counting {
     guests: [Calls; GUESTS],
     requests: AtomicU64,
-    entries: AtomicU32,
     failed: AtomicBool,
 }
 
@@ -48,7 +46,6 @@ impl Counting {
         Counting {
             guests: [Calls::new(), Calls::new(), Calls::new()],
             requests: AtomicU64::new(0),
-            entries: AtomicU32::new(0),
             failed: AtomicBool::new(false),
         }
     }
@@ -70,13 +67,8 @@ impl Gate for Counting {
         self.fail_unless(before == 0);
     }
 
-    fn served(&self, report: &Report) {
-        self.fail_unless(self.requests.load(Ordering::SeqCst) > 0);
-        let before = self.entries.swap(report.entries(), Ordering::SeqCst);
-        self.fail_unless(before < report.entries());
-    }
-
     fn before(&self, guest: u8, nth: u32) {
+        self.fail_unless(self.requests.load(Ordering::SeqCst) > 0);
         match self.guests.get(guest as usize) {
             Some(calls) => self.fail_unless(calls.before.fetch_add(1, Ordering::SeqCst) == nth),
             None => self.fail_unless(false),
@@ -107,6 +99,5 @@ fn gate_is_called_once_for_each_number(rt: HostRuntime) -> Result<(), Fail> {
         assert_eq!(rt; calls.numbers(), (sends, sends));
     }
     assert_eq!(rt; gate.requests.load(Ordering::SeqCst), 24);
-    assert_eq!(rt; gate.entries.load(Ordering::SeqCst), 24);
     check_replay(&rt, rt.alloc(), &config, &finished)
 }

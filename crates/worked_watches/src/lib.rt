@@ -18,4 +18,6 @@ mod runs;
 #[cfg(test)]
 mod settling;
 #[cfg(test)]
+mod viewing;
+#[cfg(test)]
 mod watching;

@@ -8,8 +8,8 @@ use Rattle.merge_machine.proofs.Lists.{maps_length}
 use Rattle.merge_run.proofs.Finishing.{whole_done, none_running, none_undrained, same_capacities, same_sent, same_got}
 use Rattle.merge_run.proofs.whole_run.run_tasks.Goals as goal
 
-pub run_threads-merger-requires-after_bounds : goal.run_threads-merger-requires-after_bounds
-run_threads-merger-requires-after_bounds g c κs within =
+pub run_threads-merger-requires-clause-ready : goal.run_threads-merger-requires-clause-ready
+run_threads-merger-requires-clause-ready g c κs within =
     let tasks = c.args.tasks in
     record {
       ready = c.requires.ready;
@@ -22,7 +22,7 @@ run_threads-merger-requires-after_bounds g c κs within =
 
 pub finish-requires-clause-pairs : goal.finish-requires-clause-pairs
 finish-requires-clause-pairs g c κs within =
-    let run = c.run_threads-merger.ensures in
+    let run = c.run_threads-merger.ensures.run in
     let done = c.run_threads-merger.result.1 in
     let tasks = c.args.tasks in
     let whole : length done.items ≡ length tasks.items = omega (arith, run.most, c.if-len-guests.false, c.len.ensures, c.len-guests.ensures, done.ok.0, tasks.ok.0) in
@@ -30,7 +30,7 @@ finish-requires-clause-pairs g c κs within =
 
 pub finish-requires-clause-ended : goal.finish-requires-clause-ended
 finish-requires-clause-ended g c κs within =
-    let run = c.run_threads-merger.ensures in
+    let run = c.run_threads-merger.ensures.run in
     let done = c.run_threads-merger.result.1 in
     let tasks = c.args.tasks in
     let merger = c.run_threads-merger.result.0 in
@@ -40,11 +40,11 @@ finish-requires-clause-ended g c κs within =
 
 pub finish-requires-clause-drained : goal.finish-requires-clause-drained
 finish-requires-clause-drained g c κs within =
-    none_undrained (ports_of c.run_threads-merger.result.1.items) c.run_threads-merger.ensures.tasks_done.drained
+    none_undrained (ports_of c.run_threads-merger.result.1.items) c.run_threads-merger.ensures.run.tasks_done.drained
 
 pub returns-clause-capacities : goal.returns-clause-capacities
 returns-clause-capacities g c =
-    let run = c.run_threads-merger.ensures in
+    let run = c.run_threads-merger.ensures.run in
     let done = c.run_threads-merger.result.1 in
     let tasks = c.args.tasks in
     let whole : length done.items ≡ length tasks.items = omega (arith, run.most, c.if-len-guests.false, c.len.ensures, c.len-guests.ensures, done.ok.0, tasks.ok.0) in
@@ -52,7 +52,7 @@ returns-clause-capacities g c =
 
 pub returns-clause-sent : goal.returns-clause-sent
 returns-clause-sent g c =
-    let run = c.run_threads-merger.ensures in
+    let run = c.run_threads-merger.ensures.run in
     let done = c.run_threads-merger.result.1 in
     let tasks = c.args.tasks in
     let whole : length done.items ≡ length tasks.items = omega (arith, run.most, c.if-len-guests.false, c.len.ensures, c.len-guests.ensures, done.ok.0, tasks.ok.0) in
@@ -62,4 +62,4 @@ pub returns-clause-got : goal.returns-clause-got
 returns-clause-got g c =
     let done = c.run_threads-merger.result.1 in
     rw c.finish.ensures.verdicts
-    (c.run_threads-merger.ensures.tasks_done.verdicts ∙ sym (same_got (settled_ports c.finish.result.settled) (ports_of done.items) c.finish.ensures.ports))
+    (c.run_threads-merger.ensures.run.tasks_done.verdicts ∙ sym (same_got (settled_ports c.finish.result.settled) (ports_of done.items) c.finish.ensures.ports))

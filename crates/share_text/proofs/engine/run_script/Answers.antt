@@ -7,7 +7,7 @@ use Rattle.share_text.proofs.engine.run_script.Goals as goal
 pub returns-in-Ok-clause-serves : goal.returns-in-Ok-clause-serves
 returns-in-Ok-clause-serves g c =
     let hash = g.H.HashFunction.hash_of in
-    let ran = c.in-Ok.ensures in
+    let ran = c.in-Ok.ensures.run in
     let f = c.in-Ok.finished in
     let s = c.args.script in
     let text = text_of_run hash c.args.form s f ran.settles ran.machine ran.guests.0 ran.got in

@@ -3,7 +3,7 @@ use Rattle.page_model.specs.Parts.{Totals}
 use Rattle.merge_core.specs.Shown.{state_of}
 use Rattle.merge_settle.specs.View.{settled_journal, settled_core}
 use Rattle.merge_reports.specs.Lists.{published}
-use Rattle.watched_machine.proofs.Fronts.{not_older}
+use Rattle.watched_machine.proofs.Publishing.{not_older}
 use Rattle.watched_machine.proofs.Publishing.{fronts_after}
 use Rattle.watched_machine.proofs.settled.Settled.publish.Goals as goal
 

@@ -3,7 +3,7 @@ use Rattle.journal_text.specs.Views.{Fails}
 use Rattle.script_text.specs.Texts.{script_of}
 use Rattle.script_text.specs.Views.{script_seen}
 use Rattle.share_text.proofs.Serving.{threads_unread, threads_refused, threads_served}
-use Rattle.share_text.proofs.engine.threaded.Goals as goal
+use Rattle.share_text.proofs.engine.read_and_run.Goals as goal
 
 pub returns-in-Err-clause-bytes : goal.returns-in-Err-clause-bytes
 returns-in-Err-clause-bytes g c = threads_unread g.H.HashFunction.hash_of c.args.form (g.R.Source.remaining c.args.reader.now) _ c.in-Err.fault c.in-Err.ensures.err

@@ -1,5 +1,5 @@
 -- Reports of the fronts of a journal: what stays true of them as the journal grows, and as one more is published.
-use Rattle.std.proofs.Common.{◌≡◌, ◌≤◌, ℕ, List, [], ◌∷◌, ◌++◌, length, take, ap, sym, ◌∙◌, arith}
+use Rattle.std.proofs.Common.{◌≡◌, ℕ, List, [], ◌∷◌, ◌++◌, length, take, ap, sym, ◌∙◌, arith}
 use Rattle.std.proofs.lemmas.List.{take-append-le, length-append}
 use Rattle.std.proofs.lemmas.List.Elements.{All-nil, All-cons, All-head, All-tail, All-append}
 use Rattle.std.proofs.Math.Seq.{take-length}
@@ -8,8 +8,7 @@ use Rattle.page_model.specs.Parts.{Totals}
 use Rattle.page_model.specs.declared.request.Entry.{Entry}
 use Rattle.page_model.proofs.Entries.{entries_counted}
 use Rattle.merge_machine.specs.Machines.{opening, IsReplayOf}
-use Rattle.merge_reports.specs.Reports.{last_of}
-use Rattle.watched_machine.specs.Fronts.{report_after, IsOfFront, AreOfFronts}
+use Rattle.merge_run.specs.Fronts.{report_after, IsOfFront, AreOfFronts}
 
 -- a front of a journal is a front of a longer one
 of_longer : (hash : ℕ → List ℕ → ℕ) (machine : State) (journal more : List Entry) (r : Totals) → IsOfFront hash machine journal r → IsOfFront hash machine (journal ++ more) r
@@ -21,12 +20,6 @@ are_of_longer hash machine journal more [] h = All-nil (IsOfFront hash machine (
 are_of_longer hash machine journal more (r ∷ reports) h =
     let P = IsOfFront hash machine journal in let Q = IsOfFront hash machine (journal ++ more) in
     All-cons Q r reports (of_longer hash machine journal more r (All-head P r reports h)) (are_of_longer hash machine journal more reports (All-tail P r reports h))
-
--- no report of a front counts more entries than the journal has
-pub last_no_later : (hash : ℕ → List ℕ → ℕ) (machine : State) (journal : List Entry) (reports : List Totals) → AreOfFronts hash machine journal reports → (last_of reports).entries ≤ length journal
-last_no_later hash machine journal [] h = omega arith
-last_no_later hash machine journal (r ∷ []) h = (All-head (IsOfFront hash machine journal) r [] h).0
-last_no_later hash machine journal (r ∷ s ∷ reports) h = last_no_later hash machine journal (s ∷ reports) (All-tail (IsOfFront hash machine journal) r (s ∷ reports) h)
 
 -- the state of a replay counts the whole journal, and its report is that of the replay
 pub counts_all : (hash : ℕ → List ℕ → ℕ) (s : State) (journal : List Entry) → IsReplayOf hash s journal → s.entries ≡ length journal
@@ -47,6 +40,3 @@ pub with_whole : (hash : ℕ → List ℕ → ℕ) (s : State) (journal : List E
 with_whole hash s journal reports replayed h =
     let P = IsOfFront hash (opening s) journal in
     All-append P reports (totals s.entries s.guests ∷ []) h (All-cons P (totals s.entries s.guests) [] (of_whole hash s journal replayed) (All-nil P))
-
-pub not_older : (hash : ℕ → List ℕ → ℕ) (s : State) (journal : List Entry) (reports : List Totals) → IsReplayOf hash s journal → AreOfFronts hash (opening s) journal reports → (last_of reports).entries ≤ s.entries
-not_older hash s journal reports replayed h = omega (arith, last_no_later hash (opening s) journal reports h, counts_all hash s journal replayed)

@@ -1,4 +1,4 @@
-use Rattle.std.proofs.Common.{◌≡◌, ◌≤◌, ◌∙◌, All, length, map, refl, ap, subst, arith}
+use Rattle.std.proofs.Common.{◌≡◌, ◌≤◌, ◌∙◌, All, map, refl, ap, subst, arith}
 use Rattle.std.specs.Prelude.{IfOk}
 use Rattle.share_rings.specs.Ends.{closed_sent, closed_capacity}
 use Rattle.merge_run.specs.Runs.{entries_of}
@@ -9,8 +9,10 @@ use Rattle.merge_machine.specs.Fresh.{IsFreshPort}
 use Rattle.merge_machine.specs.Limits.{Numbers}
 use Rattle.merge_machine.specs.Machines.{opening}
 use Rattle.merge_settle.specs.View.{settled_ports, settled_core}
-use Rattle.merge_run.proofs.Finishing.{wanting, wanting_memory, of_ring, as_many}
-use Rattle.merge_run.proofs.whole_run.run.Goals as goal
+use Rattle.merge_machine.specs.View.{journal_of, machine_of}
+use Rattle.merge_run.proofs.Finishing.{wanting, wanting_memory, whole_run}
+use Rattle.merge_run.proofs.Observing.{fronts_fresh}
+use Rattle.merge_run.proofs.whole_run.run_observed.Goals as goal
 
 pub new_tasks-requires-clause-fresh : goal.new_tasks-requires-clause-fresh
 new_tasks-requires-clause-fresh g c = λ k d low. let fresh = c.in_ok-merger.ensures.unused_ports k d low in record { sent = fresh.sent; got = fresh.got }
@@ -21,26 +23,25 @@ returns-in_err-tasks-clause-fault g c =
     let room : entries_of scripts ≤ c.args.config.now.journal = omega (arith, c.if-not-has_room.ensures.0 refl, ap entries_of c.deref.ensures.value) in
     wanting_memory c.args.config.now scripts c.from_residual-in_err-tasks.result c.in_ok-checked.ensures.fault room c.from_residual-in_err-tasks.ensures.1
 
-pub returns-clause-machine : goal.returns-clause-machine
-returns-clause-machine g c =
-    let made = c.in_ok-merger.ensures.machine ∙ ap (λ (n : Numbers). empty_state n.frames (shapes n.salts n.pages)) c.in_ok-checked.ensures.checked in
-    subst (λ s. IfOk c.run_tasks.result (λ f. opening (state_of (settled_core f.settled)) ≡ s)) made c.run_tasks.ensures.machine
+pub run_tasks-requires-clause-fronts : goal.run_tasks-requires-clause-fronts
+run_tasks-requires-clause-fronts g c κs within =
+    let merger = c.in_ok-merger.merger in
+    fronts_fresh g.H.HashFunction.hash_of (machine_of merger) (journal_of merger) (g.O.Observer.kept c.args.observer) c.requires.fresh
 
-pub returns-clause-guests : goal.returns-clause-guests
-returns-clause-guests g c =
+pub returns-clause-run : goal.returns-clause-run
+returns-clause-run g c =
     let scripts = c.args.scripts.items in
-    let sent = subst (λ rs. IfOk c.run_tasks.result (λ f. map closed_sent (settled_ports f.settled) ≡ rs)) c.in_ok-tasks.ensures.scripts c.run_tasks.ensures.sent in
-    as_many (length c.args.config.now.pages.items) scripts c.run_tasks.result (c.requires.scripts c.in_ok-checked.ensures.fault) sent c.run_tasks.ensures.got
-
-pub returns-clause-rings : goal.returns-clause-rings
-returns-clause-rings g c =
-    let same = subst (λ ns. IfOk c.run_tasks.result (λ f. map closed_capacity (settled_ports f.settled) ≡ ns)) c.in_ok-tasks.ensures.capacities c.run_tasks.ensures.capacities in
+    let config = c.args.config.now in
+    let tasks = c.in_ok-tasks.ensures in
+    let ran = c.run_tasks.ensures in
     let fresh = subst (λ (n : Numbers). All (IsFreshPort n.ring) c.in_ok-merger.ports.items) c.in_ok-checked.ensures.checked c.in_ok-merger.ensures.unused_ports in
-    of_ring c.args.config.now.ring c.in_ok-merger.ports.items c.run_tasks.result fresh same
-
-pub returns-clause-sent : goal.returns-clause-sent
-returns-clause-sent g c =
-    subst (λ rs. IfOk c.run_tasks.result (λ f. map closed_sent (settled_ports f.settled) ≡ rs)) c.in_ok-tasks.ensures.scripts c.run_tasks.ensures.sent
+    let made = c.in_ok-merger.ensures.machine ∙ ap (λ (n : Numbers). empty_state n.frames (shapes n.salts n.pages)) c.in_ok-checked.ensures.checked in
+    whole_run g.H.HashFunction.hash_of config scripts c.in_ok-merger.ports.items c.run_tasks.result (c.requires.scripts c.in_ok-checked.ensures.fault) fresh
+    ran.settles
+    (subst (λ s. IfOk c.run_tasks.result (λ r. opening (state_of (settled_core r.0.settled)) ≡ s)) made ran.machine)
+    (subst (λ ns. IfOk c.run_tasks.result (λ r. map closed_capacity (settled_ports r.0.settled) ≡ ns)) tasks.capacities ran.capacities)
+    (subst (λ rs. IfOk c.run_tasks.result (λ r. map closed_sent (settled_ports r.0.settled) ≡ rs)) tasks.scripts ran.sent)
+    ran.got
 
 pub returns-clause-fault : goal.returns-clause-fault
 returns-clause-fault g c =

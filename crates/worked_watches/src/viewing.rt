@@ -1,0 +1,92 @@
+//! A viewer who is shown a run as it goes on.
+ghost use Rattle.std.specs.Prelude.{◌≡◌, false, All, length, IfOk};
+ghost use Rattle.share_rings.specs.Closing.{has_close};
+
+use crate::makes::config_of;
+use page_digest::Sha256Hash;
+use page_model::{Report, Request};
+use std::alloc::{AllocError, Allocator};
+use std::sync::atomic::{AtomicBool, AtomicU32, Ordering};
+use std::test::Fail;
+use std::thread;
+use watched_machine::{Gate, Viewer, run};
+
+// Some seconds.
+const TRIES: u64 = 1 << 24;
+
+/// It notes what it is shown, and where that falls. The guest sends its close only after it was shown all that came before.
+#[derive(Drop)]
+struct Showing {
+    awaited: u32,
+    entries: AtomicU32,
+    failed: AtomicBool,
+}
+
+impl Viewer for Showing {
+    fn show(&self, report: &Report) {
+        let before = self.entries.swap(report.entries(), Ordering::SeqCst);
+        if before > report.entries() {
+            self.failed.store(true, Ordering::SeqCst);
+        }
+    }
+}
+
+impl Gate for Showing {
+    fn before(&self, _guest: u8, nth: u32) {
+        if nth < self.awaited {
+            return;
+        }
+        for _ in 0..TRIES {
+            if self.entries.load(Ordering::SeqCst) == self.awaited {
+                return;
+            }
+            thread::yield_now();
+        }
+        self.failed.store(true, Ordering::SeqCst);
+    }
+
+    fn after(&self, _guest: u8, _nth: u32) {}
+}
+
+/// The script of one guest, who asks so often for the counts.
+fn counts<A: Allocator + Copy>(
+    alloc: A,
+    requests: u32,
+) -> Result<Vec<Vec<Request, A>, A>, AllocError>
+    ensures each { IfOk result (λ scripts. length scripts.items ≡ 1) }
+    ensures plain { IfOk result (λ scripts. All (λ script. has_close script.items ≡ false) scripts.items) }
+{
+    let mut scripts = Vec::with_capacity(alloc, 1)?;
+    scripts.push_reserved(vec![in alloc; Request::Count; requests as usize]?);
+    Ok(scripts)
+}
+
+// The guest waits with its close until the viewer was shown the requests before it, so that the run ends only where its
+// reports are published while it works, and another thread reads them. Its ring holds all verdicts, which it takes no more then.
+// The last report is the whole run's.
+#[test]
+fn viewer_is_shown_a_run_that_goes_on(rt: HostRuntime) -> Result<(), Fail> {
+    for requests in [1, 3, 200] {
+        let config = config_of(rt.alloc(), 1, &[1], requests, requests + 1)?;
+        let scripts = counts(rt.alloc(), requests)?;
+        let showing = Showing {
+            awaited: requests,
+            entries: AtomicU32::new(0),
+            failed: AtomicBool::new(false),
+        };
+        let finished = run(
+            &rt,
+            rt.alloc(),
+            &config,
+            Sha256Hash,
+            scripts,
+            &showing,
+            &showing,
+        )?;
+        assert!(rt; !showing.failed.load(Ordering::SeqCst));
+        assert_eq!(rt; showing.entries.load(Ordering::SeqCst), requests + 1);
+        let plain = finished.unwatched(&rt);
+        assert_eq!(rt; plain.settled.report().entries(), requests + 1);
+    }
+    Ok(())
+}
