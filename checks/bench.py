@@ -147,7 +147,7 @@ class Table:
     @staticmethod
     def line(row):
         name, unit, goal, ours, theirs = row
-        text = f"{name:<44} {min(ours):>10.1f} {statistics.median(ours):>10.1f}"
+        text = f"{name:<50} {min(ours):>10.1f} {statistics.median(ours):>10.1f}"
         if theirs:
             text += f" {min(theirs):>10.1f} {statistics.median(theirs):>10.1f} {min(ours) / min(theirs):>6.2f}"
             text += f" {goal:>5.2f}" if goal else "     -"
@@ -222,8 +222,8 @@ def run_time(command):
     return 1e3 * (time.perf_counter() - start)
 
 
-def counted(table, theirs, name, opponent, words, goals):
-    """The figures that one benchmark and its opponent print."""
+def counted(table, theirs, name, opponent, words, goals, own=()):
+    """The figures that one benchmark and its opponent print, and of its own those that stand beside one another."""
     ours = os.path.join(TOP, "out", name)
     other = os.path.join(theirs, opponent) if theirs and opponent else None
     mine, others = table.in_turns(lambda: told(ours, words), (lambda: told(other, words)) if other else None)
@@ -231,6 +231,17 @@ def counted(table, theirs, name, opponent, words, goals):
         same = "one by one" if figure in ("four at once", "one worker") else figure
         rest = [turn[same] for turn in others] if others and same in others[0] else []
         table.add(f"{name[:-6]}: {figure}", "ns", goals.get(figure, goals.get("")), [turn[figure] for turn in mine], rest)
+    for figure, beside, shown, goal in own:
+        both = [[turn[one] for turn in mine] for one in (figure, beside)]
+        table.add(f"{name[:-6]}: {figure}, beside {shown}", "ns", goal, *both)
+
+
+# What a run in threads has to beat: the same requests through a core on one thread.
+MIX = "guests, a proposal in 16"
+THREADS = [(f"{n} {MIX}", f"{n} {MIX}, one thread", "one thread", 1.0) for n in GUESTS]
+
+# Four workers are to have 3.3 times the rate of one.
+WORKERS = [("four workers", "one worker", "one worker", 0.30)]
 
 
 def main():
@@ -246,7 +257,7 @@ def main():
     theirs, why = build_opponents(asked.crates, asked.instructions)
     if why:
         print(f"No opponents: {why}. Our side alone follows.")
-    print(f"{'':<44} {'ours least':>10} {'middle':>10} {'Rust least':>10} {'middle':>10} {'ratio':>6} {'goal':>5}")
+    print(f"{'':<50} {'ours least':>10} {'middle':>10} {'Rust least':>10} {'middle':>10} {'ratio':>6} {'goal':>5}")
     table = Table(2 if asked.quick else asked.turns)
     size = str(20_000 if asked.quick else 200_000)
     parts = {
@@ -254,9 +265,9 @@ def main():
         "frames": lambda: counted(table, theirs, "frames_bench", "frames", [size], {"": 1.2, "give_back": None}),
         "table": lambda: counted(table, theirs, "table_bench", "table", [size], {"": 1.2}),
         "rings": lambda: counted(table, theirs, "rings_bench", "rings", [size], {"": 1.2, "between two": None}),
-        "hash": lambda: counted(table, theirs, "hash_bench", "hashing", ["2000"], {"": 1.0}),
+        "hash": lambda: counted(table, theirs, "hash_bench", "hashing", ["2000"], {"": 1.0}, WORKERS),
         "estimate": lambda: estimates(table, theirs, asked.quick),
-        "run": lambda: counted(table, theirs, "run_bench", "runs", [str(2_000 if asked.quick else 20_000)], {"": 1.0}),
+        "run": lambda: counted(table, theirs, "run_bench", "runs", [str(2_000 if asked.quick else 20_000)], {"": 1.0}, THREADS),
     }
     for name, part in parts.items():
         if asked.only in name:
