@@ -7,7 +7,9 @@ use crate::running::Running;
 use crate::words::{Task, Work};
 use merge_run::OpenGate;
 use page_digest::Sha256Hash;
-use share_text::{Noted, Output, Sink, Source, TextFault, replay, serial, threaded, threaded_viewed};
+use share_text::{
+    Noted, Output, Sink, Source, TextFault, replay, serial, threaded, threaded_viewed,
+};
 use std::alloc::Global;
 use std::fs::{self, Files};
 use std::io::{self, Eprint, Read, Write};
