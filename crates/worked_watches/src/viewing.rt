@@ -66,8 +66,8 @@ fn counts<A: Allocator + Copy>(
 // The last report is the whole run's.
 #[test]
 fn viewer_is_shown_a_run_that_goes_on(rt: HostRuntime) -> Result<(), Fail> {
-    for requests in [1, 3, 200] {
-        let config = config_of(rt.alloc(), 1, &[1], requests, requests + 1)?;
+    for (requests, entries) in [(1, 2), (3, 4), (200, 201)] {
+        let config = config_of(rt.alloc(), 1, &[1], requests, entries)?;
         let scripts = counts(rt.alloc(), requests)?;
         let showing = Showing {
             awaited: requests,
@@ -84,9 +84,9 @@ fn viewer_is_shown_a_run_that_goes_on(rt: HostRuntime) -> Result<(), Fail> {
             &showing,
         )?;
         assert!(rt; !showing.failed.load(Ordering::SeqCst));
-        assert_eq!(rt; showing.entries.load(Ordering::SeqCst), requests + 1);
+        assert_eq!(rt; showing.entries.load(Ordering::SeqCst), entries);
         let plain = finished.unwatched(&rt);
-        assert_eq!(rt; plain.settled.report().entries(), requests + 1);
+        assert_eq!(rt; plain.settled.report().entries(), entries);
     }
     Ok(())
 }
