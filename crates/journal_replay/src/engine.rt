@@ -12,7 +12,6 @@ ghost use Rattle.journal_text.specs.Views.{journal_seen};
 ghost use Rattle.journal_replay.specs.Ends.{AppendsFront, Sends, is_read_fault, is_write_fault, tells_read, tells_write};
 ghost use Rattle.journal_replay.specs.Replayed.{lines_from, report_text, printed_from, printed, Replays, Refuses, Refused, NotPrinted};
 
-use crate::ahead::look_ahead;
 use crate::ends::{Sink, Source, read_all, write_all};
 use crate::output::{LINE_BYTES, buffer, make_room, put_report, put_verdict};
 use journal_text::{Journal, TextFault, fault_line, read_journal};
@@ -35,10 +34,12 @@ pub fn core_of<H: PageHash + Drop, A: Allocator + Clone>(
     Ok(core)
 }
 
-/// Serves an entry, and puts its verdict's line behind what the buffer holds.
+/// Serves an entry, and puts its verdict's line behind what the buffer holds. Those that come next are looked at for pages to
+/// hash with the one that the entry proposes.
 fn print_entry<H: PageHash, W: Sink, A: Allocator>(
     core: &mut Core<H, A>,
     entry: &Entry,
+    next: &[Entry],
     writer: &mut W,
     out: &mut String<A>,
 ) -> Result<(), TextFault>
@@ -57,7 +58,7 @@ fn print_entry<H: PageHash, W: Sink, A: Allocator>(
     ensures fault { IfErr result (λ e. e ≡ TextFault.Write) }
 {
     make_room(writer, out)?;
-    let verdict = core.apply(entry.guest, &entry.request);
+    let verdict = core.apply_ahead(entry.guest, &entry.request, next);
     put_verdict(out, entry.guest, &verdict);
     Ok(())
 }
@@ -84,8 +85,7 @@ pub fn print_run<H: PageHash, W: Sink, A: Allocator>(
     ensures fault { IfErr result (λ e. e ≡ TextFault.Write) }
 {
     for at in 0..entries.len() {
-        look_ahead(core, entries, at);
-        print_entry(core, &entries[at], writer, out)?;
+        print_entry(core, &entries[at], &entries[at + 1..], writer, out)?;
     }
     Ok(())
 }

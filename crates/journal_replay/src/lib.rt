@@ -4,7 +4,6 @@
 //! The readers, the writers and the buffer serve the engines of scripts too.
 #![tactic(auto)]
 
-pub mod ahead;
 pub mod ends;
 pub mod engine;
 pub mod output;

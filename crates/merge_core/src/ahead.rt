@@ -65,7 +65,7 @@ fn with_page<H: PageHash, A: Allocator>(
 }
 
 /// The page, where it is private and its hash isn't known.
-fn unhashed<H: PageHash, A: Allocator>(
+pub fn unhashed<H: PageHash, A: Allocator>(
     held: &Held<H, A>,
     guest: usize,
     ppn: usize,
@@ -104,7 +104,7 @@ pub fn is_noted<H: PageHash, A: Allocator>(held: &Held<H, A>, mpn: u32) -> bool
 }
 
 /// Computes the hashes of four pages at once, and notes them.
-fn note_four<H: PageHash, A: Allocator>(held: &mut Held<H, A>, pages: [PrivatePage; 4])
+pub fn note_four<H: PageHash, A: Allocator>(held: &mut Held<H, A>, pages: [PrivatePage; 4])
     requires whole { Whole H.hash_of held.old }
     requires private { All (IsPrivate (names_of held.old)) pages }
     ensures whole { Whole H.hash_of held.new }
@@ -145,7 +145,7 @@ fn hash_four<H: PageHash, A: Allocator>(
 }
 
 /// Notes the hash of a page.
-fn note<H: PageHash, A: Allocator>(held: &mut Held<H, A>, private: PrivatePage, code: u64)
+pub fn note<H: PageHash, A: Allocator>(held: &mut Held<H, A>, private: PrivatePage, code: u64)
     requires whole { Whole H.hash_of held.old }
     requires private { IsPrivate (names_of held.old) private }
     requires code { code ≡ hash_in H.hash_of held.old.frames private }

@@ -94,7 +94,7 @@ fn unknown_frame<H: PageHash, A: Allocator>(
 }
 
 /// The salt and frame of a page, where it is mapped.
-fn frame_of<H: PageHash, A: Allocator>(
+pub fn frame_of<H: PageHash, A: Allocator>(
     held: &Held<H, A>,
     guest: usize,
     ppn: usize,

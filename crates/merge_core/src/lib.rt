@@ -7,6 +7,7 @@
 mod ahead;
 mod by_workers;
 mod fault;
+mod forecast;
 mod held;
 mod machine;
 mod make;
@@ -17,4 +18,4 @@ mod serve;
 mod tally;
 
 pub use fault::CoreFault;
-pub use machine::Core;
+pub use machine::{Core, PAGES_A_WORKER};

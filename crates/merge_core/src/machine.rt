@@ -16,6 +16,7 @@ ghost use Rattle.merge_core.specs.Stays.{frame_at, FramesStay};
 use crate::ahead::note_hashes;
 use crate::by_workers::{note_by_workers, note_page, push_hashes};
 use crate::fault::CoreFault;
+use crate::forecast::foresee;
 use crate::held::{Held, PageEntry};
 use crate::make::new_held;
 use crate::moves::find;
@@ -24,21 +25,23 @@ use crate::serve::{bytes_at, load, release, store};
 use crate::tally::report;
 use machine_frames::Frames;
 use page_digest::{HashFault, PageHash};
-use page_model::{MachineShape, Report, Request, Verdict};
+use page_forecasts::Forecasts;
+use page_model::{Entry, MachineShape, Report, Request, Verdict};
 use share_table::Table;
 use std::alloc::{AllocError, Allocator, Global};
 use std::marker::Model;
 use std::sync::Wait;
 use std::thread::Threads;
 
-// A worker has at least so many pages to hash: to start its thread costs as much as to hash a few.
-const PAGES_A_WORKER: usize = 16;
+/// A worker has at least so many pages to hash: to start its thread costs as much as to hash a few.
+pub const PAGES_A_WORKER: usize = 16;
 
 /// A machine: its guests' pages in frames, and the number of requests so far.
 #[derive(Drop)]
 pub struct Core<H: PageHash, A: Allocator = Global> {
     entries: u32,
     held: Held<H, A>,
+    forecasts: Forecasts<H>,
 }
 
 impl<H: PageHash, A: Allocator> Model for Core<H, A> {
@@ -84,7 +87,11 @@ impl<H: PageHash + Drop, A: Allocator + Clone> Core<H, A> {
         ensures table { IfOk result (λ core. core.table ≡ empty_table shape.now.frames) }
     {
         let held = new_held(alloc, shape, hash)?;
-        Ok(Core { entries: 0, held })
+        Ok(Core {
+            entries: 0,
+            held,
+            forecasts: Forecasts::new(),
+        })
     }
 }
 
@@ -111,6 +118,39 @@ impl<H: PageHash, A: Allocator> Core<H, A> {
             Request::Release(ppn) => release(&mut self.held, guest, *ppn),
             Request::Count => Verdict::Totals(report(&self.held, self.entries)),
             Request::Close => Verdict::Closed,
+        }
+    }
+
+    /// Serves one request of a guest as [`apply`](Core::apply) does, where the caller knows which requests come `next`.
+    ///
+    /// Where the request proposes a page whose hash isn't known, that is computed together with those of up to three pages that
+    /// the next 64 requests propose, as they will be after the stores and releases before their proposals: four at once. Where
+    /// other requests come, the answers are the same.
+    pub fn apply_ahead(&mut self, guest: u8, request: &Request, next: &[Entry]) -> Verdict
+        requires guest { guest < length (state_of self.old).guests }
+        requires room { self.old.entries < 4294967295 }
+        ensures step { record { state = state_of self.new; verdict = result } ≡ step H.hash_of (state_of self.old) guest request.now }
+        ensures stay { FramesStay guest request.now result self.old self.new }
+        ensures entries { self.new.entries ≡ self.old.entries + 1 }
+        ensures guests { length (state_of self.new).guests ≡ length (state_of self.old).guests }
+    {
+        self.foresee(guest, request, next);
+        self.apply(guest, request)
+    }
+
+    /// Notes the hash of the page that a request proposes, where it pays to compute it with those that come next.
+    fn foresee(&mut self, guest: u8, request: &Request, next: &[Entry])
+        ensures { self.new ≡ self.old }
+    {
+        match request {
+            Request::Propose(ppn) => {
+                foresee(&mut self.held, &mut self.forecasts, guest, *ppn, next);
+            }
+            Request::Store(_) => {}
+            Request::Load(_) => {}
+            Request::Release(_) => {}
+            Request::Count => {}
+            Request::Close => {}
         }
     }
 

@@ -32,16 +32,18 @@ pub(crate) fn serve_one<H: PageHash, A: Allocator>(
     ensures entries { core.new.entries ≡ core.old.entries + 1 }
     ensures guests { length (state_of core.new).guests ≡ length (state_of core.old).guests }
 {
-    answer_one(end, core, guest, &request);
+    answer_one(end, core, guest, &request, &[]);
     journal.push_reserved(Entry { guest, request });
 }
 
-/// Applies a request that was taken from this end, and answers it.
+/// Applies a request that was taken from this end, and answers it. Those that come next are looked at for pages to hash with
+/// the one that it proposes.
 pub(crate) fn answer_one<H: PageHash, A: Allocator>(
     end: &mut MergerEnd<A>,
     core: &mut Core<H, A>,
     guest: u8,
     request: &Request,
+    next: &[Entry],
 )
     requires slot { 0 < end_free end.old }
     requires unanswered { IsUnanswered end.old (is_close request.now) }
@@ -52,5 +54,5 @@ pub(crate) fn answer_one<H: PageHash, A: Allocator>(
     ensures entries { core.new.entries ≡ core.old.entries + 1 }
     ensures guests { length (state_of core.new).guests ≡ length (state_of core.old).guests }
 {
-    end.give(core.apply(guest, request));
+    end.give(core.apply_ahead(guest, request, next));
 }

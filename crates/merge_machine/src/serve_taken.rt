@@ -15,7 +15,7 @@ use std::alloc::Allocator;
 use std::sync::Wait;
 use std::thread::Threads;
 
-/// Serves requests that were taken, in the order in which they were taken. Hashes for proposals are noted ahead.
+/// Serves requests that were taken, in the order in which they were taken. Pages are hashed ahead of their proposals.
 pub(crate) fn serve_taken<
     R: Threads + Wait + Sync,
     H: PageHash,
@@ -37,11 +37,15 @@ pub(crate) fn serve_taken<
     ensures counted { core.new.entries ≡ core.old.entries + length entries.now }
     ensures guests { length (state_of core.new).guests ≡ length (state_of core.old).guests }
 {
-    // How many of the next proposals' hashes were noted.
-    let mut noted = 0usize;
     for n in 0..entries.len() {
-        noted = note_ahead(workers, core, &entries[n..], noted);
+        note_ahead(workers, core, entries, n);
         let Entry { guest, request } = &entries[n];
-        answer_one(&mut ends[*guest as usize], core, *guest, request);
+        answer_one(
+            &mut ends[*guest as usize],
+            core,
+            *guest,
+            request,
+            &entries[n + 1..],
+        );
     }
 }

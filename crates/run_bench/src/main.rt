@@ -2,7 +2,7 @@
 //!
 //! With a number of requests for each guest as its argument it prints how many requests a second were served, for 1, 2, 4,
 //! 8 and 64 guests over rings of 64 items: of a mix with a proposal in 16, and of stores and loads alone. With none it runs a
-//! few, and prints how many verdicts came.
+//! few, and prints how many verdicts came. Before that it makes the largest machine, and prints how many nanoseconds that took.
 //!
 //! Scripts are made before the clock is started. Both times hold the making of the machine.
 #![tactic(auto)]
@@ -14,7 +14,7 @@ ghost use Rattle.merge_core.specs.Shown.{state_of};
 use merge_core::{Core, CoreFault};
 use merge_run::{Config, OpenGate, RunFault, run};
 use page_digest::Sha256Hash;
-use page_model::Request;
+use page_model::{MAX_FRAMES, MAX_PAGES, Request};
 use std::alloc::{AllocError, Global};
 use std::rt::Clock;
 use std::sync::Wait;
@@ -249,11 +249,37 @@ fn print_mix<R: Clock + Threads + Wait + Print + Sync>(
     Ok(true)
 }
 
+// How many nanoseconds it takes to make the largest machine, or why there is none.
+fn time_of_the_largest<R: Clock>(rt: &R, alloc: Global) -> io::Result<Result<u128, CoreFault>> {
+    let start = Instant::now(rt)?;
+    let made = Core::new(alloc, MAX_FRAMES, &[MAX_PAGES], &[0], Sha256Hash);
+    let nanoseconds = start.elapsed(rt)?.as_nanos();
+    match made {
+        Ok(_core) => Ok(Ok(nanoseconds)),
+        Err(fault) => Ok(Err(fault)),
+    }
+}
+
+// Prints how long it takes to make the largest machine, or that it is made where no number was asked for.
+fn print_largest<R: Clock + Print>(rt: &R, alloc: Global, asked: Option<u32>) -> io::Result<()> {
+    match time_of_the_largest(rt, alloc)? {
+        Err(fault) => println!(rt; "the largest machine: {fault}"),
+        Ok(nanoseconds) => {
+            if asked.is_some() {
+                println!(rt; "the largest machine: {nanoseconds}")
+            } else {
+                println!(rt; "the largest machine is made")
+            }
+        }
+    }
+}
+
 fn main(rt: HostRuntime) -> io::Result<()> {
     let asked = match env::args(&rt)?.nth(1) {
         Some(text) => text.parse::<u32>().ok(),
         None => None,
     };
+    print_largest(&rt, rt.alloc(), asked)?;
     for guests in [1u8, 2, 4, 8, 64] {
         for mix in [Mix::Proposals, Mix::Plain] {
             if !print_mix(&rt, rt.alloc(), mix, guests, asked)? {

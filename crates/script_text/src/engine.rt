@@ -12,7 +12,6 @@ ghost use Rattle.script_text.specs.Views.{lists_of, script_seen};
 use crate::order::{push_turn, turns_of};
 use crate::reader::read_script;
 use crate::script::Script;
-use journal_replay::ahead::WINDOW;
 use journal_replay::ends::read_all;
 use journal_replay::engine::{core_of, print_report, print_run, tell_fault};
 use journal_replay::output::{LINE_BYTES, buffer};
@@ -22,6 +21,9 @@ use merge_core::Core;
 use page_digest::PageHash;
 use page_model::{Entry, MAX_GUESTS, Request};
 use std::alloc::Allocator;
+
+/// So many entries are served together, or more: an entry of them sees those after it, whose pages may be hashed with its own.
+const WINDOW: usize = 256;
 
 /// Room for the entries that are served together: turns are taken into it until it has `WINDOW` entries or more, and a turn
 /// has at most an entry of each guest.

@@ -18,7 +18,7 @@ pub enum Ask {
 /// The guest, what it asks, and the verdict that is wanted.
 pub type Line = (u8, Ask, Verdict);
 
-fn request_of(rt: &impl Abort, ask: Ask) -> Request {
+pub fn request_of(rt: &impl Abort, ask: Ask) -> Request {
     match ask {
         Ask::Store(ppn, bytes) => Request::store(ppn, 0, bytes).ok().expect(rt, "a store"),
         Ask::Propose(ppn) => Request::Propose(ppn),

@@ -96,9 +96,9 @@ fn noted_ahead(rt: HostRuntime) -> Result<(), Fail> {
 
 /// The same hash, which counts the pages that it hashes alone and those of four that it hashes at once.
 #[derive(Drop)]
-struct Fours<'a> {
-    alone: &'a AtomicU32,
-    at_once: &'a AtomicU32,
+pub struct Fours<'a> {
+    pub alone: &'a AtomicU32,
+    pub at_once: &'a AtomicU32,
 }
 
 impl HashFunction for Fours<'_> {

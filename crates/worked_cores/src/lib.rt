@@ -9,6 +9,8 @@ mod by_workers;
 #[cfg(test)]
 mod counts;
 #[cfg(test)]
+mod foreseen;
+#[cfg(test)]
 mod frames;
 #[cfg(test)]
 mod hashes;

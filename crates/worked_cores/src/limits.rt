@@ -28,8 +28,8 @@ fn core_limits(rt: HostRuntime) -> Result<(), Fail> {
     Ok(())
 }
 
-/// A machine of the most frames and of one guest with the most pages. Of the room that it takes only that of the pages'
-/// entries and of the notes on frames is filled at once; frames and table are reserved.
+/// A machine of the most frames and of one guest with the most pages. Of the room that it takes, that of the frames is reserved
+/// and not touched.
 #[test]
 fn most_frames_and_pages(rt: HostRuntime) -> Result<(), Fail> {
     let shape = MachineShape::new(MAX_FRAMES, &[MAX_PAGES], &[0])?;

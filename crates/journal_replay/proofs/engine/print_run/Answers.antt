@@ -34,18 +34,17 @@ loop-at-preserved g c =
     let old = string_bytes c.loop-at.out in
     let new = string_bytes c.print_entry.new.out in
     let here : i < length es = omega arith in
-    let same : state_of c.look_ahead.new.core ≡ s = ap state_of c.look_ahead.ensures in
-    let served : state_of c.print_entry.new.core ≡ after = rw same at c.in_ok-print_entry.ensures.step in
+    let served : state_of c.print_entry.new.core ≡ after = c.in_ok-print_entry.ensures.step in
     let parts : old ++ lines_from hash s (drop i es) ≡ (old ++ line) ++ later = ap (λ (xs : List ℕ). old ++ xs) (lines_at hash s es i e here c.index-entries-at.is) ∙ sym (append_assoc old line later) in
     let whole : List ℕ = string_bytes c.args.out.now ++ lines_from hash (state_of c.args.core.now) es in
     let first : Sends (contents c.args.writer.now) (contents c.loop-at.writer) ((old ++ line) ++ later) whole = rw parts at c.loop-at.invariant.sends in
-    let sent : Sends (contents c.loop-at.writer) (contents c.print_entry.new.writer) new (old ++ line) = rw same at c.in_ok-print_entry.ensures.sends in
+    let sent : Sends (contents c.loop-at.writer) (contents c.print_entry.new.writer) new (old ++ line) = c.in_ok-print_entry.ensures.sends in
     let next : Sends (contents c.loop-at.writer) (contents c.print_entry.new.writer) (new ++ later) ((old ++ line) ++ later) = sends_more _ _ new (old ++ line) later sent in
     record {
       sends = rw served (sends_trans _ _ _ ((old ++ line) ++ later) (new ++ later) _ first next);
       state = rw served (sym (state_at hash s es i e here c.index-entries-at.is) ∙ c.loop-at.invariant.state);
-      count = omega (arith, c.in_ok-print_entry.ensures.entries, c.loop-at.invariant.count, ap (λ x. x.entries) c.look_ahead.ensures);
-      guests = c.in_ok-print_entry.ensures.guests ∙ ap (λ x. length (state_of x).guests) c.look_ahead.ensures ∙ c.loop-at.invariant.guests;
+      count = omega (arith, c.in_ok-print_entry.ensures.entries, c.loop-at.invariant.count);
+      guests = c.in_ok-print_entry.ensures.guests ∙ c.loop-at.invariant.guests;
       fine = c.in_ok-print_entry.ensures.fine;
       room = c.in_ok-print_entry.ensures.room;
     }

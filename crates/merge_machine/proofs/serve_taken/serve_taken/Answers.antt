@@ -24,11 +24,11 @@ loop-n-preserved g c =
     let e = c.index_mut.result.now in let e' = c.answer_one.new.end in
     let g0 : x.guest < length c.args.ends.now.items = subst (λ (y : Entry). y.guest < length c.args.ends.now.items) (sym xis) (c.requires.members n x l) in
     let here : x.guest < length c.loop-n.ends.items = omega (arith, g0, v.served.size) in
-    let same : state_of c.note_ahead-noted.new.core ≡ state_after hash s (take n entries) = ap state_of c.note_ahead-noted.ensures ∙ v.memory in
+    let same : state_of c.note_ahead.new.core ≡ state_after hash s (take n entries) = ap state_of c.note_ahead.ensures ∙ v.memory in
     let gave : GaveOne (step hash (state_after hash s (take n entries)) x.guest x.request).verdict e e' = subst (λ (z : State). GaveOne (step hash z x.guest x.request).verdict e e') same c.answer_one.ensures.end in
     record {
       served = served_more hash s entries n c.args.ends.now.items c.loop-n.ends.items x e e' v.served l xis here c.index_mut.ensures.value gave;
       memory = c.answer_one.ensures.memory ∙ (ap (λ (z : State). (step hash z x.guest x.request).state) same ∙ state_more hash s entries n x l xis);
-      counted = omega (arith, c.answer_one.ensures.entries, ap (λ (z : Shown). z.entries) c.note_ahead-noted.ensures, v.counted);
-      guests = c.answer_one.ensures.guests ∙ (ap (λ (z : Shown). length (state_of z).guests) c.note_ahead-noted.ensures ∙ v.guests);
+      counted = omega (arith, c.answer_one.ensures.entries, ap (λ (z : Shown). z.entries) c.note_ahead.ensures, v.counted);
+      guests = c.answer_one.ensures.guests ∙ (ap (λ (z : Shown). length (state_of z).guests) c.note_ahead.ensures ∙ v.guests);
     }

@@ -14,8 +14,8 @@ invariant-loop-turn g l = record {
   few : l.core.entries + length (l.entries.items ++ turns (longest (map with_close (lists_of l.scripts)) - l.turn) (left_of l.turn (lists_of l.scripts))) ≤ 16777216;
   guests : length (state_of l.core).guests ≡ length l.scripts;
   below : AreBelow (length l.scripts) l.entries.items;
-  waiting : length l.entries.items < 64;
-  space : 128 ≤ vec_capacity l.entries;
+  waiting : length l.entries.items < 256;
+  space : 320 ≤ vec_capacity l.entries;
   fine : g.W.Sink.has_failed l.writer ≡ false;
   room : 160 ≤ string_capacity l.out;
 }

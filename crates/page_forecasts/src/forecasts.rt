@@ -1,0 +1,80 @@
+//! The pages that are hashed together with a proposed one.
+use crate::forecast::Forecast;
+use page_digest::PageHash;
+use page_model::{Entry, Page};
+
+/// How many pages are foreseen at most: with the one that is proposed they are as many as are hashed at once.
+pub const FORECASTS: usize = 3;
+
+/// Pages that are foreseen, three at most. Those of before stay until others take their places.
+#[derive(Drop)]
+pub struct Forecasts<H: PageHash> {
+    first: Forecast<H>,
+    second: Forecast<H>,
+    third: Forecast<H>,
+}
+
+impl<H: PageHash> Forecasts<H> {
+    ghost use Rattle.std.specs.Prelude.{◌≡◌, IfSome};
+
+    /// Nothing is foreseen.
+    pub fn new() -> Forecasts<H> {
+        Forecasts {
+            first: Forecast::new(),
+            second: Forecast::new(),
+            third: Forecast::new(),
+        }
+    }
+
+    /// Foresees a page, at place 0, 1 or 2: what it will hold, and whether it will be mapped, once these requests are served
+    /// that come before its proposal. It has this salt, and now these bytes, or none where it is unmapped.
+    ///
+    /// Tells whether it will be mapped. Its hash isn't computed yet.
+    pub fn foresee(
+        &mut self,
+        place: usize,
+        salt: u32,
+        bytes: Option<&Page>,
+        before: &[Entry],
+        guest: u8,
+        ppn: u32,
+    ) -> bool {
+        let forecast = match place {
+            0 => &mut self.first,
+            1 => &mut self.second,
+            _ => &mut self.third,
+        };
+        forecast.begin(salt, bytes);
+        forecast.serve_all(before, guest, ppn, bytes.is_some())
+    }
+
+    /// The hash of a page of this salt and these bytes, where it was foreseen and its hash computed.
+    pub fn hash_of(&self, salt: u32, bytes: &Page) -> Option<u64>
+        ensures { IfSome result (λ code. code ≡ H.hash_of salt bytes.now) }
+    {
+        if let Some(code) = self.first.hash_of(salt, bytes) {
+            return Some(code);
+        }
+        if let Some(code) = self.second.hash_of(salt, bytes) {
+            return Some(code);
+        }
+        self.third.hash_of(salt, bytes)
+    }
+
+    /// The hash of a page, computed at once with those of the pages that are foreseen, which are kept.
+    pub fn hash_beside(&mut self, hash: &H, salt: u32, bytes: &Page) -> u64
+        ensures { result ≡ H.hash_of salt bytes.now }
+    {
+        let Forecasts {
+            first,
+            second,
+            third,
+        } = self;
+        let salts = [salt, first.salt, second.salt, third.salt];
+        let codes = hash.hash_four(salts, bytes, &first.bytes, &second.bytes, &third.bytes);
+        first.learn(codes[1]);
+        second.learn(codes[2]);
+        third.learn(codes[3]);
+        codes[0]
+    }
+}

@@ -1,0 +1,47 @@
+//! What requests do to a page.
+ghost use Rattle.std.specs.Prelude.{◌≡◌};
+ghost use Rattle.page_forecasts.specs.Requests as requests;
+
+use page_model::{Entry, Request};
+
+/// Whether these requests store to a page or release it.
+pub fn is_changed(entries: &[Entry], guest: u8, ppn: u32) -> bool
+    ensures { result ≡ requests.is_changed entries.now guest ppn }
+{
+    entries.iter().any(|entry| entry.guest == guest && changes(&entry.request, ppn))
+}
+
+/// Whether these requests propose a page.
+pub fn is_proposed(entries: &[Entry], guest: u8, ppn: u32) -> bool
+    ensures { result ≡ requests.is_proposed entries.now guest ppn }
+{
+    entries.iter().any(|entry| entry.guest == guest && proposes(&entry.request, ppn))
+}
+
+/// Whether a request stores to a page of its guest or releases it.
+fn changes(request: &Request, ppn: u32) -> bool
+    ensures { result ≡ requests.changes request.now ppn }
+{
+    match request {
+        Request::Store(store) => store.ppn() == ppn,
+        Request::Release(released) => *released == ppn,
+        Request::Propose(_) => false,
+        Request::Load(_) => false,
+        Request::Count => false,
+        Request::Close => false,
+    }
+}
+
+/// Whether a request proposes a page of its guest.
+fn proposes(request: &Request, ppn: u32) -> bool
+    ensures { result ≡ requests.proposes request.now ppn }
+{
+    match request {
+        Request::Propose(proposed) => *proposed == ppn,
+        Request::Store(_) => false,
+        Request::Load(_) => false,
+        Request::Release(_) => false,
+        Request::Count => false,
+        Request::Close => false,
+    }
+}

@@ -1,0 +1,160 @@
+//! Pages that are hashed together with one that is proposed, as the requests in sight will leave them.
+use crate::asks::{Ask, Line, core_of, request_of, serve};
+use crate::hashes::Fours;
+use merge_core::Core;
+use page_digest::PageHash;
+use page_model::{Entry, Verdict};
+use std::alloc::{AllocError, Allocator, Global};
+use std::process::Abort;
+use std::sync::atomic::{AtomicU32, Ordering};
+use std::test::Fail;
+
+/// The requests of these lines.
+fn entries_of(rt: &impl Abort, alloc: Global, lines: &[Line]) -> Result<Vec<Entry>, AllocError> {
+    let mut entries = Vec::new(alloc);
+    for (guest, ask, _) in lines {
+        entries.push(Entry {
+            guest: *guest,
+            request: request_of(rt, *ask),
+        })?;
+    }
+    Ok(entries)
+}
+
+/// Serves the first of these entries, with the others in sight.
+fn told_ahead<H: PageHash, A: Allocator>(
+    rt: &impl Abort,
+    core: &mut Core<H, A>,
+    entries: &[Entry],
+) -> Verdict {
+    assert!(rt; !entries.is_empty());
+    let Entry { guest, request } = &entries[0];
+    assert!(rt; *guest < core.guests());
+    assert!(rt; core.entries() < 1_000_000);
+    core.apply_ahead(*guest, request, &entries[1..])
+}
+
+/// Serves these lines, each with all that come after it in sight.
+fn serve_ahead<H: PageHash, A: Allocator>(
+    rt: &impl Abort,
+    alloc: Global,
+    core: &mut Core<H, A>,
+    lines: &[Line],
+) -> Result<(), AllocError> {
+    let entries = entries_of(rt, alloc, lines)?;
+    for (at, (_, _, verdict)) in lines.iter().enumerate() {
+        assert!(rt; at < entries.len());
+        let answer = told_ahead(rt, core, &entries[at..]);
+        assert!(rt; answer == *verdict, "{answer:?} for {verdict:?}");
+    }
+    Ok(())
+}
+
+/// How many pages are hashed alone, and how many of four at once, where these lines are served on a new machine of two guests
+/// with eight pages each.
+fn hashed(rt: &impl Abort, alloc: Global, lines: &[Line]) -> Result<(u32, u32), Fail> {
+    let (alone, at_once) = (AtomicU32::new(0), AtomicU32::new(0));
+    let hash = Fours {
+        alone: &alone,
+        at_once: &at_once,
+    };
+    let mut core = core_of(rt, alloc, 16, &[8, 8], hash)?;
+    serve_ahead(rt, alloc, &mut core, lines)?;
+    Ok((alone.load(Ordering::SeqCst), at_once.load(Ordering::SeqCst)))
+}
+
+/// Each page is stored to and then proposed, those of two guests in turn: four are hashed at once, then the last one alone.
+#[test]
+fn stored_and_proposed(rt: HostRuntime) -> Result<(), Fail> {
+    let lines = [
+        (0, Ask::Store(0, b"A"), Verdict::Mapped),
+        (0, Ask::Propose(0), Verdict::Hinted),
+        (1, Ask::Store(0, b"B"), Verdict::Mapped),
+        (1, Ask::Propose(0), Verdict::Hinted),
+        (0, Ask::Store(1, b"C"), Verdict::Mapped),
+        (0, Ask::Store(1, b"B"), Verdict::Stored),
+        (0, Ask::Propose(1), Verdict::Paired),
+        (1, Ask::Store(1, b"D"), Verdict::Mapped),
+        (1, Ask::Propose(1), Verdict::Hinted),
+        (0, Ask::Store(2, b"E"), Verdict::Mapped),
+        (0, Ask::Propose(2), Verdict::Hinted),
+    ];
+    assert_eq!(rt; hashed(&rt, rt.alloc(), &lines)?, (1, 4));
+    Ok(())
+}
+
+/// Pages that are at rest are hashed four at once, before those that are stored to first.
+#[test]
+fn at_rest(rt: HostRuntime) -> Result<(), Fail> {
+    let lines = [
+        (0, Ask::Store(0, b"A"), Verdict::Mapped),
+        (0, Ask::Store(1, b"B"), Verdict::Mapped),
+        (0, Ask::Store(2, b"C"), Verdict::Mapped),
+        (0, Ask::Store(3, b"D"), Verdict::Mapped),
+        (0, Ask::Propose(0), Verdict::Hinted),
+        (0, Ask::Store(4, b"E"), Verdict::Mapped),
+        (0, Ask::Propose(4), Verdict::Hinted),
+        (0, Ask::Propose(1), Verdict::Hinted),
+        (0, Ask::Propose(2), Verdict::Hinted),
+        (0, Ask::Propose(3), Verdict::Hinted),
+    ];
+    assert_eq!(rt; hashed(&rt, rt.alloc(), &lines)?, (1, 4));
+    Ok(())
+}
+
+/// A page that is released and stored to anew is foreseen as it will be then; one that will be unmapped, one that there isn't
+/// and one that is shared and not stored to need no hash.
+#[test]
+fn released(rt: HostRuntime) -> Result<(), Fail> {
+    let lines = [
+        (0, Ask::Store(1, b"AB"), Verdict::Mapped),
+        (0, Ask::Store(0, b"A"), Verdict::Mapped),
+        (0, Ask::Propose(0), Verdict::Hinted),
+        (0, Ask::Release(1), Verdict::Released(true)),
+        (0, Ask::Propose(1), Verdict::Unmapped),
+        (0, Ask::Store(2, b"C"), Verdict::Mapped),
+        (0, Ask::Release(2), Verdict::Released(true)),
+        (0, Ask::Store(2, b"A"), Verdict::Mapped),
+        (0, Ask::Propose(2), Verdict::Paired),
+        (0, Ask::Propose(2), Verdict::Already),
+        (0, Ask::Propose(9), Verdict::NoPage),
+    ];
+    assert_eq!(rt; hashed(&rt, rt.alloc(), &lines)?, (0, 4));
+    Ok(())
+}
+
+/// Other requests come than those that were in sight: the page is hashed anew, and the verdicts are those of what came.
+#[test]
+fn other_requests_come(rt: HostRuntime) -> Result<(), Fail> {
+    let (alone, at_once) = (AtomicU32::new(0), AtomicU32::new(0));
+    let hash = Fours {
+        alone: &alone,
+        at_once: &at_once,
+    };
+    let mut core = core_of(&rt, rt.alloc(), 4, &[4], hash)?;
+    serve(&rt, &mut core, &[(0, Ask::Store(0, b"A"), Verdict::Mapped)]);
+    let sight = [
+        (0, Ask::Propose(0), Verdict::Hinted),
+        (0, Ask::Store(1, b"B"), Verdict::Mapped),
+        (0, Ask::Propose(1), Verdict::Hinted),
+    ];
+    let entries = entries_of(&rt, rt.alloc(), &sight)?;
+    let answer = told_ahead(&rt, &mut core, &entries);
+    assert_eq!(rt; answer, Verdict::Hinted);
+    assert_eq!(rt;
+        (alone.load(Ordering::SeqCst), at_once.load(Ordering::SeqCst)),
+        (0, 4)
+    );
+    let came = [
+        (0, Ask::Store(1, b"A"), Verdict::Mapped),
+        (0, Ask::Propose(1), Verdict::Paired),
+        (0, Ask::Store(2, b"B"), Verdict::Mapped),
+        (0, Ask::Propose(2), Verdict::Hinted),
+    ];
+    serve_ahead(&rt, rt.alloc(), &mut core, &came)?;
+    assert_eq!(rt;
+        (alone.load(Ordering::SeqCst), at_once.load(Ordering::SeqCst)),
+        (0, 8)
+    );
+    Ok(())
+}
