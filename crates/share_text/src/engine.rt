@@ -1,9 +1,6 @@
 //! The engine that runs a script, with a thread for each guest.
-ghost use Rattle.std.specs.Prelude.{◌≡◌, ◌≤◌, false, All, IfOk, MatchResult, length};
-ghost use Rattle.share_rings.specs.Closing.{has_close};
-ghost use Rattle.merge_machine.specs.Limits.{IsMachine};
-ghost use Rattle.merge_run.specs.Runs.{IsWholeRun, NotRunFor, entries_of};
-ghost use Rattle.merge_run.specs.View.{settled_ports, settled_journal, settled_core};
+ghost use Rattle.std.specs.Prelude.{◌≡◌, false, MatchResult};
+ghost use Rattle.merge_run.specs.Runs.{CanBeRun, IsWholeRun, NotRunFor};
 ghost use Rattle.journal_replay.specs.Ends.{is_read_fault, is_write_fault, tells_read, tells_write};
 ghost use Rattle.script_text.specs.Views.{script_seen};
 ghost use Rattle.share_text.specs.Threads.{Threads, Serves, as_text_fault};
@@ -65,10 +62,8 @@ fn run_machine<
     gate: &G,
     viewer: Option<&V>,
 ) -> Result<Finished<H, A>, RunFault>
-    requires scripts { IsMachine config.now → length scripts.items ≡ length config.now.pages.items }
-    requires plain { All (λ script. has_close script.items ≡ false) scripts.items }
-    ensures run { IfOk result (λ f. IsWholeRun H.hash_of config.now scripts.items (settled_ports f.settled) (settled_journal f.settled) (settled_core f.settled) f.verdicts.items) }
-    ensures fault { MatchResult result (λ _. IsMachine config.now × (entries_of scripts.items ≤ config.now.journal)) (λ fault. NotRunFor config.now scripts.items fault) }
+    requires scripts { CanBeRun config.now scripts.items }
+    ensures run { MatchResult result (λ f. IsWholeRun H.hash_of config.now scripts.items f.settled f.verdicts.items) (λ fault. NotRunFor config.now scripts.items fault) }
 {
     let Some(viewer) = viewer else {
         return run(rt, alloc, config, hash, scripts, gate);
