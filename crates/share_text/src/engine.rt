@@ -3,7 +3,7 @@ ghost use Rattle.std.specs.Prelude.{◌≡◌, false, MatchResult};
 ghost use Rattle.merge_run.specs.Runs.{CanBeRun, IsWholeRun, NotRunFor};
 ghost use Rattle.journal_replay.specs.Ends.{is_read_fault, is_write_fault, tells_read, tells_write};
 ghost use Rattle.script_text.specs.Views.{script_seen};
-ghost use Rattle.share_text.specs.Threads.{Threads, Serves, as_text_fault};
+ghost use Rattle.share_text.specs.Threads.{NeitherFailed, RunsText, Serves, as_text_fault};
 
 use crate::form::Output;
 use crate::printing::print_run;
@@ -123,11 +123,8 @@ fn read_and_run<
     viewer: Option<&V>,
     form: Output,
 ) -> Result<(), TextFault>
-    requires reader { R.has_failed reader.old ≡ false }
-    requires writer { W.has_failed writer.old ≡ false }
-    ensures bytes { Threads H.hash_of form (R.remaining reader.old) (W.contents writer.old) (W.contents writer.new) result }
-    ensures reader { R.has_failed reader.new ≡ tells_read result }
-    ensures writer { W.has_failed writer.new ≡ tells_write result }
+    requires { NeitherFailed (R.has_failed reader.old) (W.has_failed writer.old) }
+    ensures { RunsText H.hash_of form (R.remaining reader.old) (W.contents writer.old) (W.contents writer.new) (R.has_failed reader.new) (W.has_failed writer.new) result }
 {
     let text = match read_all(alloc, reader) {
         Ok(text) => text,
@@ -167,11 +164,8 @@ pub fn threaded<
     gate: &G,
     form: Output,
 ) -> Result<(), TextFault>
-    requires reader { R.has_failed reader.old ≡ false }
-    requires writer { W.has_failed writer.old ≡ false }
-    ensures bytes { Threads H.hash_of form (R.remaining reader.old) (W.contents writer.old) (W.contents writer.new) result }
-    ensures reader { R.has_failed reader.new ≡ tells_read result }
-    ensures writer { W.has_failed writer.new ≡ tells_write result }
+    requires { NeitherFailed (R.has_failed reader.old) (W.has_failed writer.old) }
+    ensures { RunsText H.hash_of form (R.remaining reader.old) (W.contents writer.old) (W.contents writer.new) (R.has_failed reader.new) (W.has_failed writer.new) result }
 {
     let viewer: Option<&Nobody> = None;
     read_and_run(rt, alloc, reader, writer, hash, gate, viewer, form)
@@ -196,11 +190,8 @@ pub fn threaded_viewed<
     viewer: &V,
     form: Output,
 ) -> Result<(), TextFault>
-    requires reader { R.has_failed reader.old ≡ false }
-    requires writer { W.has_failed writer.old ≡ false }
-    ensures bytes { Threads H.hash_of form (R.remaining reader.old) (W.contents writer.old) (W.contents writer.new) result }
-    ensures reader { R.has_failed reader.new ≡ tells_read result }
-    ensures writer { W.has_failed writer.new ≡ tells_write result }
+    requires { NeitherFailed (R.has_failed reader.old) (W.has_failed writer.old) }
+    ensures { RunsText H.hash_of form (R.remaining reader.old) (W.contents writer.old) (W.contents writer.new) (R.has_failed reader.new) (W.has_failed writer.new) result }
 {
     read_and_run(rt, alloc, reader, writer, hash, gate, Some(viewer), form)
 }
