@@ -56,10 +56,6 @@ map_after f h (x ∷ xs) = ap (λ zs. h (f x) ∷ zs) (map_after f h xs)
 maps_after : {X Y Z : Type 0} (f : X → Y) (h : Y → Z) (xs ys : List X) → map f xs ≡ map f ys → map (λ x. h (f x)) xs ≡ map (λ x. h (f x)) ys
 maps_after f h xs ys e = map_after f h xs ∙ ap (map h) e ∙ sym (map_after f h ys)
 
-of_memory : {X : Type 0} (result : Result X RunFault) → IsErrAnd result (λ fault. fault ≡ OutOfMemory) → IfErr result (λ fault. (fault ≡ OutOfMemory) ⊎ (fault ≡ NoThread))
-of_memory (Ok x) is = absurd is
-of_memory (Err fault) is = inl is
-
 module _ {A : Type 0} where
   pub whole_done : (tasks : List (Task A)) (done : List (DoneTask A)) → AreDone (take (length done) tasks) done → length done ≡ length tasks → AreDone tasks done
   whole_done tasks done are whole =
@@ -82,13 +78,13 @@ module _ {A : Type 0} where
   same_got xs ys e = maps_after closed_view (λ v. v.1.1) xs ys e
 
   -- memory or a thread was wanting where there is such a machine, and its journal has room
-  pub wanting : {X : Type 0} (config : Config A) (scripts : List (Vec Request A)) (result : Result X RunFault) → IsMachine config → entries_of scripts ≤ config.journal → IfErr result (λ fault. (fault ≡ OutOfMemory) ⊎ (fault ≡ NoThread)) → MatchResult result (λ _. IsMachine config × (entries_of scripts ≤ config.journal)) (λ fault. NotRunFor config scripts fault)
-  wanting config scripts (Ok x) machine room why = (machine, room)
-  wanting config scripts (Err fault) machine room (inl memory) = subst (λ f. NotRunFor config scripts f) (sym memory) (machine, room)
-  wanting config scripts (Err fault) machine room (inr thread) = subst (λ f. NotRunFor config scripts f) (sym thread) (machine, room)
+  wanting : (config : Config A) (scripts : List (Vec Request A)) (fault : RunFault) → IsMachine config → entries_of scripts ≤ config.journal → (fault ≡ OutOfMemory) ⊎ (fault ≡ NoThread) → NotRunFor config scripts fault
+  wanting config scripts fault machine room (inl memory) = subst (λ f. NotRunFor config scripts f) (sym memory) (machine, room)
+  wanting config scripts fault machine room (inr thread) = subst (λ f. NotRunFor config scripts f) (sym thread) (machine, room)
 
-  pub wanting_memory : {X : Type 0} (config : Config A) (scripts : List (Vec Request A)) (result : Result X RunFault) → IsMachine config → entries_of scripts ≤ config.journal → IsErrAnd result (λ fault. fault ≡ OutOfMemory) → MatchResult result (λ _. IsMachine config × (entries_of scripts ≤ config.journal)) (λ fault. NotRunFor config scripts fault)
-  wanting_memory config scripts result machine room is = wanting config scripts result machine room (of_memory result is)
+  pub wanting_memory : {X : Type 0} (P : X → Type 0) (config : Config A) (scripts : List (Vec Request A)) (result : Result X RunFault) → IsMachine config → entries_of scripts ≤ config.journal → IsErrAnd result (λ fault. fault ≡ OutOfMemory) → MatchResult result P (λ fault. NotRunFor config scripts fault)
+  wanting_memory P config scripts (Ok x) machine room is = absurd is
+  wanting_memory P config scripts (Err fault) machine room is = wanting config scripts fault machine room (inl is)
 
   -- all ports are of rings of that capacity
   of_ring : (ring : ℕ) (fresh : List (Port A)) (ports : List (ClosedPort A)) → All (IsFreshPort ring) fresh → map closed_capacity ports ≡ port_capacities fresh → All (λ p. closed_capacity p ≡ ring) ports
@@ -99,17 +95,20 @@ module _ {A : Type 0} where
 
   -- what is known of a run, taken together: as many ports and lists of verdicts as scripts
   pub whole_run : {H O : Type 0} {ghosts : Ghosts H} (hash : ℕ → List ℕ → ℕ) (c : Config A) (scripts : List (Vec Request A)) (fresh : List (Port A)) (result : Result (Finished H A ghosts × O) RunFault)
-      → length scripts ≡ length c.pages.items → All (IsFreshPort c.ring) fresh
+      → IsMachine c → entries_of scripts ≤ c.journal → length scripts ≡ length c.pages.items → All (IsFreshPort c.ring) fresh
       → IfOk result (λ r. Settles hash (settled_ports r.0.settled) (settled_journal r.0.settled) (settled_core r.0.settled))
       → IfOk result (λ r. opening (state_of (settled_core r.0.settled)) ≡ empty_state c.frames (shapes c.salts.items c.pages.items))
       → IfOk result (λ r. map closed_capacity (settled_ports r.0.settled) ≡ port_capacities fresh)
       → IfOk result (λ r. map closed_sent (settled_ports r.0.settled) ≡ all_sent scripts)
       → IfOk result (λ r. map (λ list. list.items) r.0.verdicts.items ≡ map closed_got (settled_ports r.0.settled))
-      → IfOk result (λ r. IsWholeRun hash c scripts (settled_ports r.0.settled) (settled_journal r.0.settled) (settled_core r.0.settled) r.0.verdicts.items)
-  whole_run hash c scripts fresh (Err fault) each are settles machine rings sent got = sent
-  whole_run hash c scripts fresh (Ok (f, o)) each are settles machine rings sent got =
+      → IfErr result (λ fault. (fault ≡ OutOfMemory) ⊎ (fault ≡ NoThread))
+      → MatchResult result (λ r. IsWholeRun hash c scripts r.0.settled r.0.verdicts.items) (λ fault. NotRunFor c scripts fault)
+  whole_run hash c scripts fresh (Err fault) limits room each are settles machine rings sent got why = wanting c scripts fault limits room why
+  whole_run hash c scripts fresh (Ok (f, o)) limits room each are settles machine rings sent got why =
       let ports = maps_length closed_sent (λ (x : Vec Request A). with_close x.items) (settled_ports f.settled) scripts sent ∙ each in
       record {
+        limits = limits;
+        room = room;
         settles = settles;
         machine = machine;
         guests = (ports, maps_length (λ (x : Vec Verdict A). x.items) closed_got f.verdicts.items (settled_ports f.settled) got ∙ ports);

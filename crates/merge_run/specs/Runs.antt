@@ -1,14 +1,14 @@
--- What a whole run is, and why a machine is not run to its end.
-use Rattle.std.specs.Prelude.{◌≡◌, ℕ, ◌+◌, ◌<◌, ◌≤◌, All, List, length, map, sum_by}
+-- What can be run, what a whole run is, and why a machine is not run to its end.
+use Rattle.std.specs.Prelude.{◌≡◌, ℕ, ◌+◌, ◌<◌, ◌≤◌, false, All, List, length, map, sum_by}
 use Rattle.std.specs.declared.vec.Vec.{Vec}
 use Rattle.page_model.specs.Limits.{shapes}
 use Rattle.page_model.specs.Replay.{empty_state}
-use Rattle.page_model.specs.declared.request.Entry.{Entry}
+use Rattle.page_model.specs.declared.hashing.HashFunction.{Ghosts}
 use Rattle.page_model.specs.declared.request.Request.{Request}
 use Rattle.page_model.specs.declared.verdict.Verdict.{Verdict}
+use Rattle.share_rings.specs.Closing.{has_close}
 use Rattle.share_rings.specs.Ends.{closed_sent, closed_got, closed_capacity}
-use Rattle.share_rings.specs.declared.closed_port.ClosedPort.{ClosedPort}
-use Rattle.merge_core.specs.Shown.{Shown, state_of}
+use Rattle.merge_core.specs.Shown.{state_of}
 use Rattle.merge_machine.specs.declared.config.Config.{Config}
 use Rattle.merge_machine.specs.declared.config.Fault.{Fault}
 use Rattle.merge_machine.specs.declared.config.Fault.TheVariants as machine
@@ -17,6 +17,8 @@ use Rattle.merge_run.specs.declared.run_fault.RunFault.TheVariants.{Frames, Gues
 use Rattle.merge_machine.specs.Limits.{IsMachine, NoMachineFor}
 use Rattle.merge_machine.specs.Machines.{opening}
 use Rattle.merge_settle.specs.Settling.{Settles}
+use Rattle.merge_settle.specs.View.{settled_journal, settled_ports, settled_core}
+use Rattle.merge_settle.specs.declared.settled.Settled.{Settled}
 use Rattle.merge_run.specs.Tasks.{all_sent}
 
 -- why there is no machine, as a fault of the run
@@ -29,6 +31,12 @@ run_fault_of machine.Journal = Journal
 run_fault_of machine.OutOfMemory = OutOfMemory
 
 module _ {A : Type 0} where
+  -- These scripts can be run on the machine of this configuration: there is one for each of its guests, where there is such a
+  -- machine, and no script holds a close.
+  pub record CanBeRun (c : Config A) (scripts : List (Vec Request A)) : Type 0 where
+    pub each : IsMachine c → length scripts ≡ length c.pages.items
+    pub plain : All (λ script. has_close script.items ≡ false) scripts
+
   -- how many entries a journal gets of these scripts: each request, and a close for each script
   abbrev pub entries_of : List (Vec Request A) → ℕ
   entries_of scripts = sum_by (λ script. length script.items + 1) scripts
@@ -45,13 +53,16 @@ module _ {A : Type 0} where
   NotRunFor c scripts OutOfMemory = IsMachine c × (entries_of scripts ≤ c.journal)
   NotRunFor c scripts NoThread = IsMachine c × (entries_of scripts ≤ c.journal)
 
-  -- The run of these scripts on the machine of this configuration: it is settled, with these ports, this journal and a core
-  -- that shows this. Each guest sent its script and a close over rings of the configuration's capacity, and these are the
-  -- verdicts that it got.
-  pub record IsWholeRun (hash : ℕ → List ℕ → ℕ) (c : Config A) (scripts : List (Vec Request A)) (ports : List (ClosedPort A)) (journal : List Entry) (core : Shown) (verdicts : List (Vec Verdict A)) : Type 0 where
-    pub settles : Settles hash ports journal core
-    pub machine : opening (state_of core) ≡ empty_state c.frames (shapes c.salts.items c.pages.items)
-    pub guests : (length ports ≡ length c.pages.items) × (length verdicts ≡ length c.pages.items)
-    pub rings : All (λ port. closed_capacity port ≡ c.ring) ports
-    pub sent : map closed_sent ports ≡ all_sent scripts
-    pub got : map (λ list. list.items) verdicts ≡ map closed_got ports
+module _ {H A : Type 0} {ghosts : Ghosts H} where
+  -- The run of these scripts on the machine of this configuration: there is such a machine, with room in its journal for all
+  -- that the guests send. It is settled. Each guest sent its script and a close over rings of the configuration's capacity,
+  -- and these are the verdicts that it got.
+  pub record IsWholeRun (hash : ℕ → List ℕ → ℕ) (c : Config A) (scripts : List (Vec Request A)) (settled : Settled H A ghosts) (verdicts : List (Vec Verdict A)) : Type 0 where
+    pub limits : IsMachine c
+    pub room : entries_of scripts ≤ c.journal
+    pub settles : Settles hash (settled_ports settled) (settled_journal settled) (settled_core settled)
+    pub machine : opening (state_of (settled_core settled)) ≡ empty_state c.frames (shapes c.salts.items c.pages.items)
+    pub guests : (length (settled_ports settled) ≡ length c.pages.items) × (length verdicts ≡ length c.pages.items)
+    pub rings : All (λ port. closed_capacity port ≡ c.ring) (settled_ports settled)
+    pub sent : map closed_sent (settled_ports settled) ≡ all_sent scripts
+    pub got : map (λ list. list.items) verdicts ≡ map closed_got (settled_ports settled)

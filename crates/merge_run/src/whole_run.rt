@@ -1,21 +1,17 @@
 //! A whole run: a thread for each guest, and the merger on the calling thread.
-ghost use Rattle.std.specs.Prelude.{◌≡◌, ◌≤◌, ◌⊎◌, None, false, [], All, IfOk, IfErr, MatchResult, length, map, vec_capacity};
+ghost use Rattle.std.specs.Prelude.{◌≡◌, ◌≤◌, ◌⊎◌, None, [], All, IfOk, IfErr, MatchResult, length, map, vec_capacity};
 ghost use Rattle.std.specs.List.{position};
-ghost use Rattle.page_model.specs.Limits.{shapes};
-ghost use Rattle.page_model.specs.Replay.{empty_state};
-ghost use Rattle.share_rings.specs.Closing.{has_close};
 ghost use Rattle.share_rings.specs.Ends.{closed_got, closed_sent, closed_capacity};
 ghost use Rattle.merge_core.specs.Shown.{state_of};
 ghost use Rattle.merge_machine.specs.Kept.{end_names, closed_names, closed_views};
-ghost use Rattle.merge_machine.specs.Limits.{IsMachine};
 ghost use Rattle.merge_machine.specs.Machines.{opening};
 ghost use Rattle.merge_machine.specs.View.{ends_of, core_of, journal_of, machine_of};
 ghost use Rattle.merge_settle.specs.Settling.{Settles, is_running, is_undrained};
 ghost use Rattle.merge_settle.specs.View.{settled_journal, settled_ports, settled_core};
 ghost use Rattle.merge_run.specs.Fronts.{AreOfFronts};
 ghost use Rattle.merge_run.specs.Observed.{Observes};
-ghost use Rattle.merge_run.specs.Runs.{IsWholeRun, NotRunFor, entries_of};
-ghost use Rattle.merge_run.specs.Tasks.{IsReady, task_names, task_capacities, task_requests, ports_of, lists_of, all_sent};
+ghost use Rattle.merge_run.specs.Runs.{CanBeRun, IsWholeRun, NotRunFor};
+ghost use Rattle.merge_run.specs.Tasks.{IsReady, task_names, task_capacities, task_requests, ports_of, lists_of};
 ghost use Rattle.merge_run.specs.Turns.{CanRun, HasRun};
 ghost use Rattle.merge_run.specs.declared.run_fault.RunFault.TheVariants.{OutOfMemory, NoThread};
 
@@ -65,15 +61,8 @@ pub fn run<
     scripts: Vec<Vec<Request, A>, A>,
     gate: &G,
 ) -> Result<Finished<H, A>, RunFault>
-    requires scripts { IsMachine config.now → length scripts.items ≡ length config.now.pages.items }
-    requires plain { All (λ script. has_close script.items ≡ false) scripts.items }
-    ensures settles { IfOk result (λ f. Settles H.hash_of (settled_ports f.settled) (settled_journal f.settled) (settled_core f.settled)) }
-    ensures machine { IfOk result (λ f. opening (state_of (settled_core f.settled)) ≡ empty_state config.now.frames (shapes config.now.salts.items config.now.pages.items)) }
-    ensures guests { IfOk result (λ f. (length (settled_ports f.settled) ≡ length config.now.pages.items) × (length f.verdicts.items ≡ length config.now.pages.items)) }
-    ensures rings { IfOk result (λ f. All (λ port. closed_capacity port ≡ config.now.ring) (settled_ports f.settled)) }
-    ensures sent { IfOk result (λ f. map closed_sent (settled_ports f.settled) ≡ all_sent scripts.items) }
-    ensures got { IfOk result (λ f. map (λ list. list.items) f.verdicts.items ≡ map closed_got (settled_ports f.settled)) }
-    ensures fault { MatchResult result (λ _. IsMachine config.now × (entries_of scripts.items ≤ config.now.journal)) (λ fault. NotRunFor config.now scripts.items fault) }
+    requires scripts { CanBeRun config.now scripts.items }
+    ensures run { MatchResult result (λ f. IsWholeRun H.hash_of config.now scripts.items f.settled f.verdicts.items) (λ fault. NotRunFor config.now scripts.items fault) }
 {
     let (finished, _) = run_observed(rt, alloc, config, hash, scripts, gate, NoObserver)?;
     Ok(finished)
@@ -100,12 +89,10 @@ pub fn run_observed<
     gate: &G,
     observer: O,
 ) -> Result<(Finished<H, A>, O), RunFault>
-    requires scripts { IsMachine config.now → length scripts.items ≡ length config.now.pages.items }
-    requires plain { All (λ script. has_close script.items ≡ false) scripts.items }
+    requires scripts { CanBeRun config.now scripts.items }
     requires fresh { O.kept observer ≡ [] }
-    ensures run { IfOk result (λ (f, o). IsWholeRun H.hash_of config.now scripts.items (settled_ports f.settled) (settled_journal f.settled) (settled_core f.settled) f.verdicts.items) }
+    ensures run { MatchResult result (λ (f, o). IsWholeRun H.hash_of config.now scripts.items f.settled f.verdicts.items) (λ fault. NotRunFor config.now scripts.items fault) }
     ensures observer { IfOk result (λ (f, o). Observes O.name O.kept H.hash_of observer o (opening (state_of (settled_core f.settled))) (settled_journal f.settled)) }
-    ensures fault { MatchResult result (λ _. IsMachine config.now × (entries_of scripts.items ≤ config.now.journal)) (λ fault. NotRunFor config.now scripts.items fault) }
 {
     let checked = config.check()?;
     if !has_room(config.journal, &scripts) {

@@ -1,5 +1,5 @@
 -- How the work on a script ends, and on a text.
-use Rattle.std.proofs.Common.{◌≡◌, ◌≤◌, ◌^◌, inl, inr, ℕ, List, length, Option, Some, None, Result, Ok, Err, true, refl, ap, sym, subst, nat_lt, arith}
+use Rattle.std.proofs.Common.{◌≡◌, ◌≤◌, ◌^◌, inl, inr, ℕ, List, length, Option, Some, None, Result, Ok, Err, true, false, refl, ap, sym, subst, nat_lt, arith}
 use Rattle.std.specs.Prelude.{IfSome, IfOk, IfErr, OnOk, IsOk, IsErr}
 use Rattle.std.specs.Io.KnownBytes.{Appends, Keeps}
 use Rattle.std.specs.declared.vec.Vec.{Vec}
@@ -11,7 +11,7 @@ use Rattle.merge_machine.specs.declared.config.Config.{Config}
 use Rattle.merge_run.specs.Runs.{NotRunFor, entries_of}
 use Rattle.merge_run.specs.declared.run_fault.RunFault.{RunFault}
 use Rattle.merge_run.specs.declared.run_fault.RunFault.TheVariants as runs
-use Rattle.journal_replay.specs.Ends.{AppendsFront, NotRead}
+use Rattle.journal_replay.specs.Ends.{AppendsFront, NotRead, is_write_fault}
 use Rattle.journal_replay.specs.Replayed.{written_for, Told, NotPrinted, Refuses, Refused, Writes}
 use Rattle.journal_text.specs.Views.{Fails}
 use Rattle.journal_text.specs.Words.{◌>>=◌}
@@ -106,6 +106,17 @@ answer_ok hash form outcome text s h = let f : Result Script TextFault → Resul
 answer_err : (hash : ℕ → List ℕ → ℕ) (form : Output) (outcome : Outcome) (text : List ℕ) (fault : TextFault) → script_of text ≡ Err fault → run_answer hash form outcome text ≡ Err fault
 unfolding run_answer
 answer_err hash form outcome text fault h = let f : Result Script TextFault → Result (List ℕ) TextFault = λ r. r >>= λ x. outcome_text hash form x outcome in ap f h
+
+-- where reading failed, no write did
+pub no_write : (input : Option (List ℕ)) (e : TextFault) → NotRead input e → is_write_fault e ≡ false
+no_write input faults.OutOfMemory h = refl
+no_write input faults.Read h = refl
+no_write input faults.Long h = refl
+no_write input (faults.Line n cause) h = refl
+no_write input (faults.Truncated n) h = refl
+no_write input faults.Count h = refl
+no_write input faults.Write h = absurd h
+no_write input (faults.Run f) h = refl
 
 -- where reading failed, nothing was written
 pub threads_unread : (hash : ℕ → List ℕ → ℕ) (form : Output) (input old : Option (List ℕ)) (e : TextFault) → NotRead input e → Threads hash form input old old (Err e)

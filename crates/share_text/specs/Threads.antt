@@ -1,5 +1,5 @@
 -- What the engine with threads does with the bytes of its reader and its writer.
-use Rattle.std.specs.Prelude.{◌≡◌, ℕ, List, ◌++◌, map, Option, Result, Ok, Err, IfSome, IfOk, IsOk}
+use Rattle.std.specs.Prelude.{◌≡◌, ℕ, Bool, false, List, ◌++◌, map, Option, Result, Ok, Err, IfSome, IfOk, IsOk}
 use Rattle.std.specs.Io.KnownBytes.{Appends, Keeps}
 use Rattle.page_model.specs.declared.hashing.HashFunction.{Ghosts}
 use Rattle.page_model.specs.declared.request.Entry.{Entry}
@@ -9,7 +9,7 @@ use Rattle.merge_run.specs.View.{settled_journal, settled_core}
 use Rattle.merge_run.specs.declared.finished.Finished.{Finished}
 use Rattle.merge_run.specs.declared.run_fault.RunFault.{RunFault}
 use Rattle.merge_run.specs.declared.run_fault.RunFault.TheVariants as runs
-use Rattle.journal_replay.specs.Ends.{AppendsFront}
+use Rattle.journal_replay.specs.Ends.{AppendsFront, tells_read, tells_write}
 use Rattle.journal_replay.specs.Replayed.{report_text, written_for, Told, Writes}
 use Rattle.journal_text.specs.Words.{◌>>=◌}
 use Rattle.journal_text.specs.Written.{journal_text}
@@ -58,6 +58,17 @@ pub record Threads (hash : ℕ → List ℕ → ℕ) (form : Output) (input old 
   pub outcome : Outcome
   pub can_end : IfSome input (λ text. IfOk (script_of text) (λ s. CanEnd s outcome))
   pub writes : RunWrites (run_answer hash form outcome) input old new r
+
+-- neither end has failed yet
+pub record NeitherFailed (read_failed write_failed : Bool) : Type 0 where
+  pub reader : read_failed ≡ false
+  pub writer : write_failed ≡ false
+
+-- All that `threaded` does: what it does with the bytes, and that its answer tells which end failed.
+pub record RunsText (hash : ℕ → List ℕ → ℕ) (form : Output) (input old new : Option (List ℕ)) (read_failed write_failed : Bool) (r : Result (Unit {0}) TextFault) : Type 0 where
+  pub bytes : Threads hash form input old new r
+  pub reader : read_failed ≡ tells_read r
+  pub writer : write_failed ≡ tells_write r
 
 -- a run's fault as one of its text: want of memory is the text's own
 abbrev pub as_text_fault : RunFault → TextFault

@@ -1,12 +1,9 @@
 //! The engine that runs a script, with a thread for each guest.
-ghost use Rattle.std.specs.Prelude.{◌≡◌, ◌≤◌, false, All, IfOk, MatchResult, length};
-ghost use Rattle.share_rings.specs.Closing.{has_close};
-ghost use Rattle.merge_machine.specs.Limits.{IsMachine};
-ghost use Rattle.merge_run.specs.Runs.{IsWholeRun, NotRunFor, entries_of};
-ghost use Rattle.merge_run.specs.View.{settled_ports, settled_journal, settled_core};
+ghost use Rattle.std.specs.Prelude.{◌≡◌, false, MatchResult};
+ghost use Rattle.merge_run.specs.Runs.{CanBeRun, IsWholeRun, NotRunFor};
 ghost use Rattle.journal_replay.specs.Ends.{is_read_fault, is_write_fault, tells_read, tells_write};
 ghost use Rattle.script_text.specs.Views.{script_seen};
-ghost use Rattle.share_text.specs.Threads.{Threads, Serves, as_text_fault};
+ghost use Rattle.share_text.specs.Threads.{NeitherFailed, RunsText, Serves, as_text_fault};
 
 use crate::form::Output;
 use crate::printing::print_run;
@@ -65,10 +62,8 @@ fn run_machine<
     gate: &G,
     viewer: Option<&V>,
 ) -> Result<Finished<H, A>, RunFault>
-    requires scripts { IsMachine config.now → length scripts.items ≡ length config.now.pages.items }
-    requires plain { All (λ script. has_close script.items ≡ false) scripts.items }
-    ensures run { IfOk result (λ f. IsWholeRun H.hash_of config.now scripts.items (settled_ports f.settled) (settled_journal f.settled) (settled_core f.settled) f.verdicts.items) }
-    ensures fault { MatchResult result (λ _. IsMachine config.now × (entries_of scripts.items ≤ config.now.journal)) (λ fault. NotRunFor config.now scripts.items fault) }
+    requires scripts { CanBeRun config.now scripts.items }
+    ensures run { MatchResult result (λ f. IsWholeRun H.hash_of config.now scripts.items f.settled f.verdicts.items) (λ fault. NotRunFor config.now scripts.items fault) }
 {
     let Some(viewer) = viewer else {
         return run(rt, alloc, config, hash, scripts, gate);
@@ -128,11 +123,8 @@ fn read_and_run<
     viewer: Option<&V>,
     form: Output,
 ) -> Result<(), TextFault>
-    requires reader { R.has_failed reader.old ≡ false }
-    requires writer { W.has_failed writer.old ≡ false }
-    ensures bytes { Threads H.hash_of form (R.remaining reader.old) (W.contents writer.old) (W.contents writer.new) result }
-    ensures reader { R.has_failed reader.new ≡ tells_read result }
-    ensures writer { W.has_failed writer.new ≡ tells_write result }
+    requires { NeitherFailed (R.has_failed reader.old) (W.has_failed writer.old) }
+    ensures { RunsText H.hash_of form (R.remaining reader.old) (W.contents writer.old) (W.contents writer.new) (R.has_failed reader.new) (W.has_failed writer.new) result }
 {
     let text = match read_all(alloc, reader) {
         Ok(text) => text,
@@ -172,11 +164,8 @@ pub fn threaded<
     gate: &G,
     form: Output,
 ) -> Result<(), TextFault>
-    requires reader { R.has_failed reader.old ≡ false }
-    requires writer { W.has_failed writer.old ≡ false }
-    ensures bytes { Threads H.hash_of form (R.remaining reader.old) (W.contents writer.old) (W.contents writer.new) result }
-    ensures reader { R.has_failed reader.new ≡ tells_read result }
-    ensures writer { W.has_failed writer.new ≡ tells_write result }
+    requires { NeitherFailed (R.has_failed reader.old) (W.has_failed writer.old) }
+    ensures { RunsText H.hash_of form (R.remaining reader.old) (W.contents writer.old) (W.contents writer.new) (R.has_failed reader.new) (W.has_failed writer.new) result }
 {
     let viewer: Option<&Nobody> = None;
     read_and_run(rt, alloc, reader, writer, hash, gate, viewer, form)
@@ -201,11 +190,8 @@ pub fn threaded_viewed<
     viewer: &V,
     form: Output,
 ) -> Result<(), TextFault>
-    requires reader { R.has_failed reader.old ≡ false }
-    requires writer { W.has_failed writer.old ≡ false }
-    ensures bytes { Threads H.hash_of form (R.remaining reader.old) (W.contents writer.old) (W.contents writer.new) result }
-    ensures reader { R.has_failed reader.new ≡ tells_read result }
-    ensures writer { W.has_failed writer.new ≡ tells_write result }
+    requires { NeitherFailed (R.has_failed reader.old) (W.has_failed writer.old) }
+    ensures { RunsText H.hash_of form (R.remaining reader.old) (W.contents writer.old) (W.contents writer.new) (R.has_failed reader.new) (W.has_failed writer.new) result }
 {
     read_and_run(rt, alloc, reader, writer, hash, gate, Some(viewer), form)
 }

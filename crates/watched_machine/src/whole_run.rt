@@ -1,14 +1,12 @@
 //! A whole run of a machine whose reports are shown to a viewer.
-ghost use Rattle.std.specs.Prelude.{◌≡◌, ◌≤◌, false, [], All, IfOk, MatchResult, length};
-ghost use Rattle.share_rings.specs.Closing.{has_close};
+ghost use Rattle.std.specs.Prelude.{◌≡◌, [], IfOk, MatchResult};
 ghost use Rattle.merge_core.specs.Shown.{state_of};
-ghost use Rattle.merge_machine.specs.Limits.{IsMachine};
 ghost use Rattle.merge_machine.specs.Machines.{opening};
-ghost use Rattle.merge_settle.specs.View.{settled_journal, settled_ports, settled_core};
+ghost use Rattle.merge_settle.specs.View.{settled_journal, settled_core};
 ghost use Rattle.merge_reports.specs.Lists.{published};
 ghost use Rattle.merge_run.specs.Fronts.{AreOfFronts};
 ghost use Rattle.merge_run.specs.Observed.{Observes};
-ghost use Rattle.merge_run.specs.Runs.{IsWholeRun, NotRunFor, entries_of};
+ghost use Rattle.merge_run.specs.Runs.{CanBeRun, IsWholeRun, NotRunFor};
 ghost use Rattle.watched_machine.specs.View.{plain_settled};
 
 use crate::causes::find_cause;
@@ -56,10 +54,8 @@ pub fn run<
     gate: &G,
     viewer: &V,
 ) -> Result<Finished<H, A>, RunFault>
-    requires scripts { IsMachine config.now → length scripts.items ≡ length config.now.pages.items }
-    requires plain { All (λ script. has_close script.items ≡ false) scripts.items }
-    ensures run { IfOk result (λ f. IsWholeRun H.hash_of config.now scripts.items (settled_ports (plain_settled f.settled)) (settled_journal (plain_settled f.settled)) (settled_core (plain_settled f.settled)) f.verdicts.items) }
-    ensures fault { MatchResult result (λ _. IsMachine config.now × (entries_of scripts.items ≤ config.now.journal)) (λ fault. NotRunFor config.now scripts.items fault) }
+    requires scripts { CanBeRun config.now scripts.items }
+    ensures run { MatchResult result (λ f. IsWholeRun H.hash_of config.now scripts.items (plain_settled f.settled) f.verdicts.items) (λ fault. NotRunFor config.now scripts.items fault) }
 {
     let Ok(mut publisher) = Publisher::new(alloc, rt) else {
         return Err(find_cause(config, &scripts));
@@ -108,12 +104,10 @@ fn run_published<
     viewer: &V,
     publisher: &mut Publisher<A>,
 ) -> Result<merge_run::Finished<H, A>, RunFault>
-    requires scripts { IsMachine config.now → length scripts.items ≡ length config.now.pages.items }
-    requires plain { All (λ script. has_close script.items ≡ false) scripts.items }
+    requires scripts { CanBeRun config.now scripts.items }
     requires fresh { published publisher.old ≡ [] }
-    ensures run { IfOk result (λ f. IsWholeRun H.hash_of config.now scripts.items (settled_ports f.settled) (settled_journal f.settled) (settled_core f.settled) f.verdicts.items) }
+    ensures run { MatchResult result (λ f. IsWholeRun H.hash_of config.now scripts.items f.settled f.verdicts.items) (λ fault. NotRunFor config.now scripts.items fault) }
     ensures fronts { IfOk result (λ f. AreOfFronts H.hash_of (opening (state_of (settled_core f.settled))) (settled_journal f.settled) (published publisher.new)) }
-    ensures fault { MatchResult result (λ _. IsMachine config.now × (entries_of scripts.items ≤ config.now.journal)) (λ fault. NotRunFor config.now scripts.items fault) }
 {
     let watch = publisher.watch().ok();
     let lent = LentPublisher {
@@ -148,23 +142,19 @@ fn run_viewed<
     watch: Option<Watch<A>>,
     observer: O,
 ) -> Result<(merge_run::Finished<H, A>, O), RunFault>
-    requires scripts { IsMachine config.now → length scripts.items ≡ length config.now.pages.items }
-    requires plain { All (λ script. has_close script.items ≡ false) scripts.items }
+    requires scripts { CanBeRun config.now scripts.items }
     requires fresh { O.kept observer ≡ [] }
-    ensures run { IfOk result (λ (f, o). IsWholeRun H.hash_of config.now scripts.items (settled_ports f.settled) (settled_journal f.settled) (settled_core f.settled) f.verdicts.items) }
+    ensures run { MatchResult result (λ (f, o). IsWholeRun H.hash_of config.now scripts.items f.settled f.verdicts.items) (λ fault. NotRunFor config.now scripts.items fault) }
     ensures observer { IfOk result (λ (f, o). Observes O.name O.kept H.hash_of observer o (opening (state_of (settled_core f.settled))) (settled_journal f.settled)) }
-    ensures fault { MatchResult result (λ _. IsMachine config.now × (entries_of scripts.items ≤ config.now.journal)) (λ fault. NotRunFor config.now scripts.items fault) }
 {
     let over = AtomicU64::new(0);
     let over = &over;
     let shows = move || view(rt, viewer, watch, over);
     let runs = move || -> Result<(merge_run::Finished<H, A>, O), RunFault>
-        requires scripts { IsMachine config.now → length scripts.items ≡ length config.now.pages.items }
-        requires plain { All (λ script. has_close script.items ≡ false) scripts.items }
+        requires scripts { CanBeRun config.now scripts.items }
         requires fresh { O.kept observer ≡ [] }
-        ensures run { IfOk result (λ (f, o). IsWholeRun H.hash_of config.entry.now scripts.items (settled_ports f.settled) (settled_journal f.settled) (settled_core f.settled) f.verdicts.items) }
+        ensures run { MatchResult result (λ (f, o). IsWholeRun H.hash_of config.entry.now scripts.items f.settled f.verdicts.items) (λ fault. NotRunFor config.entry.now scripts.items fault) }
         ensures observer { IfOk result (λ (f, o). Observes O.name O.kept H.hash_of observer o (opening (state_of (settled_core f.settled))) (settled_journal f.settled)) }
-        ensures fault { MatchResult result (λ _. IsMachine config.entry.now × (entries_of scripts.items ≤ config.entry.now.journal)) (λ fault. NotRunFor config.entry.now scripts.items fault) }
     {
         let answer = run_observed(rt, alloc, config, hash, scripts, gate, observer);
         end_view(over);
