@@ -1,5 +1,5 @@
 -- Hashes of listed frames.
-use Rattle.std.proofs.Common.{◌≡◌, ℕ, zero, suc, ◌<◌, List, [], ◌∷◌, map, Option, Some, None, length, get_or, refl, ap, ◌∙◌, arith}
+use Rattle.std.proofs.Common.{◌≡◌, ℕ, zero, suc, ◌<◌, List, [], ◌∷◌, Option, Some, None, length, get_or, refl, ap, ◌∙◌, arith}
 use Rattle.std.specs.Prelude.{unwrap_or}
 use Rattle.machine_frames.specs.FrameMap.{FrameMap, frame}
 use Rattle.page_digest.specs.Many.{bytes_of, frame_hash, frame_hashes}

@@ -1,7 +1,7 @@
 -- The notes on frames as a contract sees them.
-use Rattle.std.specs.Prelude.{ℕ, List, Option, map, option_map}
+use Rattle.std.specs.Prelude.{ℕ, ◌-◌, List, ◌++◌, Option, length, map, replicate, option_map}
 use Rattle.std.specs.Int.{w64, from_le_bytes}
-use Rattle.merge_core.specs.Names.{Known}
+use Rattle.merge_core.specs.Names.{Known, unknown}
 use Rattle.merge_core.specs.declared.notes.Note.{Note}
 
 -- the hash of these little-endian bytes
@@ -13,3 +13,7 @@ known_of n = record { salt = n.salt; hash = code_of n.hash }
 
 abbrev pub notes_in : List Note → List Known
 notes_in notes = map known_of notes
+
+-- the notes on so many frames: of those past the list nothing is known
+abbrev pub notes_on : ℕ → List Note → List Known
+notes_on frames notes = notes_in notes ++ replicate (frames - length notes) unknown

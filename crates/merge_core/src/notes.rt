@@ -1,6 +1,7 @@
 //! What is known of frames, beside their bytes.
-ghost use Rattle.std.specs.Prelude.{◌≡◌, ◌<◌, length, replicate, slice_set, Some, None, IfOk};
+ghost use Rattle.std.specs.Prelude.{◌≡◌, ◌+◌, ◌-◌, ◌<◌, ◌≤◌, ◌++◌, length, replicate, slice_set, vec_capacity, Some, None, IfOk};
 ghost use Rattle.merge_core.specs.Names.{known_at, unknown};
+ghost use Rattle.merge_core.specs.Noted.{known_of, notes_in};
 
 use std::alloc::{AllocError, Allocator, Global};
 use std::marker::Model;
@@ -14,10 +15,18 @@ pub struct Note {
     pub hash: Option<[u8; 8]>,
 }
 
-/// A note on each frame.
+/// What is known of a frame at first.
+const UNKNOWN: Note = Note {
+    salt: 0,
+    hash: None,
+};
+
+/// A note on each frame. The list has room for all of them and goes as far as the last frame that was noted: so to make it
+/// touches no memory.
 #[derive(Drop)]
 pub struct Notes<A: Allocator = Global> {
     notes: Vec<Note, A>,
+    frames: u32,
 }
 
 impl<A: Allocator> Model for Notes<A> {
@@ -26,9 +35,12 @@ impl<A: Allocator> Model for Notes<A> {
 
     ghost Value = { List Known };
 
-    ghost use Rattle.merge_core.specs.Noted.{notes_in};
+    ghost use Rattle.std.specs.Prelude.{◌≤◌, length, vec_capacity};
+    ghost use Rattle.merge_core.specs.Noted.{notes_on};
 
-    ghost view = { λ n. notes_in n.notes.items };
+    ghost view = { λ n. notes_on n.frames n.notes.items };
+
+    ghost invariant = { λ n. (length n.notes.items ≤ n.frames) × (n.frames ≤ vec_capacity n.notes) };
 }
 
 impl<A: Allocator> Notes<A> {
@@ -36,14 +48,8 @@ impl<A: Allocator> Notes<A> {
     pub fn new(alloc: A, frames: u32) -> Result<Notes<A>, AllocError>
         ensures { IfOk result (λ notes. notes ≡ replicate frames unknown) }
     {
-        let mut notes = Vec::with_capacity(alloc, frames as usize)?;
-        for _ in 0..frames {
-            notes.push_reserved(Note {
-                salt: 0,
-                hash: None,
-            });
-        }
-        Ok(Notes { notes })
+        let notes = Vec::with_capacity(alloc, frames as usize)?;
+        Ok(Notes { notes, frames })
     }
 
     /// The salt of a frame's pages.
@@ -51,7 +57,7 @@ impl<A: Allocator> Notes<A> {
         requires mpn { mpn < length self.now }
         ensures salt { result ≡ (known_at self.now mpn).salt }
     {
-        self.notes[mpn as usize].salt
+        note_at(&self.notes, mpn).salt
     }
 
     /// A frame's hash, where it is known.
@@ -59,7 +65,7 @@ impl<A: Allocator> Notes<A> {
         requires mpn { mpn < length self.now }
         ensures hash { result ≡ (known_at self.now mpn).hash }
     {
-        match self.notes[mpn as usize].hash {
+        match note_at(&self.notes, mpn).hash {
             None => None,
             Some(bytes) => Some(u64::from_le_bytes(bytes)),
         }
@@ -70,7 +76,7 @@ impl<A: Allocator> Notes<A> {
         requires mpn { mpn < length self.old }
         ensures notes { self.new ≡ slice_set self.old mpn (record { salt = salt; hash = None }) }
     {
-        self.notes[mpn as usize] = Note { salt, hash: None };
+        set_note(&mut self.notes, mpn, Note { salt, hash: None });
     }
 
     /// Notes the salt of a frame's pages, and its hash.
@@ -78,9 +84,43 @@ impl<A: Allocator> Notes<A> {
         requires mpn { mpn < length self.old }
         ensures notes { self.new ≡ slice_set self.old mpn (record { salt = salt; hash = Some code }) }
     {
-        self.notes[mpn as usize] = Note {
+        let note = Note {
             salt,
             hash: Some(code.to_le_bytes()),
         };
+        set_note(&mut self.notes, mpn, note);
+    }
+}
+
+/// The note on a frame, which may stand past the list's end.
+fn note_at(notes: &[Note], mpn: u32) -> Note
+    ensures { known_of result ≡ known_at (notes_in notes.now) mpn }
+{
+    if mpn as usize >= notes.len() {
+        return UNKNOWN;
+    }
+    notes[mpn as usize]
+}
+
+/// Sets the note on a frame, which may stand past the list's end.
+fn set_note<A: Allocator>(notes: &mut Vec<Note, A>, mpn: u32, note: Note)
+    requires room { mpn < vec_capacity notes.old }
+    ensures notes { notes_in notes.new.items ≡ slice_set (notes_in notes.old.items ++ replicate (mpn + 1 - length notes.old.items) unknown) mpn (known_of note) }
+    ensures size { length notes.new.items ≡ length notes.old.items + (mpn + 1 - length notes.old.items) }
+    ensures capacity { vec_capacity notes.new ≡ vec_capacity notes.old }
+{
+    lengthen(notes, mpn as usize + 1);
+    notes[mpn as usize] = note;
+}
+
+/// Puts notes of which nothing is known behind the list, until it has so many.
+fn lengthen<A: Allocator>(notes: &mut Vec<Note, A>, least: usize)
+    requires room { least ≤ vec_capacity notes.old }
+    ensures notes { notes_in notes.new.items ≡ notes_in notes.old.items ++ replicate (least - length notes.old.items) unknown }
+    ensures size { length notes.new.items ≡ length notes.old.items + (least - length notes.old.items) }
+    ensures capacity { vec_capacity notes.new ≡ vec_capacity notes.old }
+{
+    for _ in 0..least.saturating_sub(notes.len()) {
+        notes.push_reserved(UNKNOWN);
     }
 }

@@ -1,5 +1,4 @@
 use Rattle.std.proofs.Common.{◌≡◌, ℕ, List, [], ◌∷◌, ◌∙◌}
-use Rattle.merge_core.specs.Names.{bytes_in}
 use Rattle.merge_core.proofs.FrameLemmas.{bytes_told}
 use Rattle.merge_core.proofs.ahead.hash_four.Goals as goal
 

@@ -1,4 +1,4 @@
-use Rattle.std.proofs.Common.{◌≡◌, All}
+use Rattle.std.proofs.Common.{All}
 use Rattle.merge_core.specs.Ahead.{IsPrivate}
 use Rattle.merge_core.specs.View.{names_of}
 use Rattle.merge_core.proofs.forecast.at_rest.Given as goal
