@@ -40,12 +40,12 @@ pub fn foresee<H: PageHash, A: Allocator>(
         note(held, private, code);
         return;
     }
-    hash_ahead(held, forecasts, private, &next[..next.len().min(REACH)]);
+    hash_together(held, forecasts, private, &next[..next.len().min(REACH)]);
 }
 
 /// Computes and notes the hash of a private page together with those of pages that these requests propose: of four pages whose
 /// bytes they leave as they are, or else of pages as these requests will leave them.
-fn hash_ahead<H: PageHash, A: Allocator>(
+fn hash_together<H: PageHash, A: Allocator>(
     held: &mut Held<H, A>,
     forecasts: &mut Forecasts<H>,
     private: PrivatePage,
