@@ -36,11 +36,10 @@ pub block_taken : (padded : List ℕ) (n : ℕ) (before after block : List ℕ) 
     → block ≡ take 64 (drop (n * 64) padded) → after ≡ compress before block → after ≡ hash_after initial_hash_256 padded (n + 1)
 block_taken padded n before after block eb ek ea = ea ∙ rw (eb, ek) refl ∙ sym (hash_after_next initial_hash_256 padded n)
 
--- the first block
-pub first_taken : (padded : List ℕ) (before after block : List ℕ) → before ≡ initial_hash_256
-    → block ≡ take 64 padded → after ≡ compress before block → after ≡ hash_after initial_hash_256 padded 1
+-- no block yet
+pub none_taken : (padded before : List ℕ) → before ≡ initial_hash_256 → before ≡ hash_after initial_hash_256 padded 0
 unfolding hash_after
-first_taken padded before after block eb ek ea = ea ∙ rw (eb, ek) refl
+none_taken padded before eb = eb
 
 compress-lt : (h b : List ℕ) → (slice_index (compress h b) 0 < 2 ^ 32) × (slice_index (compress h b) 1 < 2 ^ 32)
 unfolding compress

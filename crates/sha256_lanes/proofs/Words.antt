@@ -1,11 +1,14 @@
 -- The words that rounds take, and what the rounds leave.
-use Rattle.std.proofs.Common.{◌≡◌, ◌≢◌, ℕ, zero, suc, ◌+◌, ◌-◌, ◌*◌, ◌<◌, ◌≤◌, List, [], ◌∷◌, slice_index, slice_index_or, slice_set, refl, sym, ap, ◌∙◌, inl, inr, arith, add-one}
+use Rattle.std.proofs.Common.{◌≡◌, ◌≢◌, ℕ, zero, suc, ◌+◌, ◌-◌, ◌*◌, ◌<◌, ◌≤◌, List, [], ◌∷◌, length, slice_index, slice_index_or, slice_set, refl, sym, ap, ◌∙◌, inl, inr, arith, add-one, length-set}
 use Rattle.std.proofs.lemmas.Bool.{cases_lt}
-use Rattle.std.proofs.lemmas.List.{get_or-set_other}
+use Rattle.std.proofs.lemmas.List.{get_or-set_other, get_or-set_same}
+use Rattle.std.proofs.lemmas.Simd.{get_or-chunk}
+use Rattle.std.specs.Simd.Lanes.{chunk}
 use Rattle.sha2.specs.Sha256.{add32, add_state, compress, next_word, round, round_constants, rounds, schedule, word_at}
 use Rattle.sha2.proofs.Schedule256.{slice_index-schedule_first, slice_index-schedule_next}
 use Rattle.sha256_lanes.proofs.Lanes.{word_of}
 use Rattle.sha256_lanes.specs.Lanes.{lane}
+use Rattle.sha256_lanes.specs.Schedules.{Schedules}
 
 -- no round yet
 pub no_round : (start words : List ℕ) → start ≡ rounds start words 0
@@ -32,33 +35,57 @@ pub whole_block : (start words block after : List ℕ) → ((t : ℕ) → t < 64
 unfolding compress
 whole_block start words block after same e = e ∙ ap (add_state start) (same_rounds start words (schedule block 48) 64 same)
 
--- a word that is put in at t is none that the words up to t follow from
-pub follows_before : (words : List ℕ) (word t k : ℕ) → 16 ≤ k → k ≤ t → next_word (slice_set words t word) k ≡ next_word words k
-follows_before words word t k from upto =
-    rw (
-      get_or-set_other words t (k - 2) word 0 (before 2 (omega arith) (omega arith)),
-      get_or-set_other words t (k - 7) word 0 (before 7 (omega arith) (omega arith)),
-      get_or-set_other words t (k - 15) word 0 (before 15 (omega arith) (omega arith)),
-      get_or-set_other words t (k - 16) word 0 (before 16 (omega arith) (omega arith)),
-    ) refl
-  where
-    before : (back : ℕ) → 1 ≤ back → back ≤ 16 → k - back ≢ t
-    before back some few = omega arith
+-- a word that is read from the 16 bytes that stand in a block from one place on
+pub word_within : (block : List ℕ) (at k : ℕ) → k < 4 → word_at (chunk at 16 block) (4 * k) ≡ word_at block (at + 4 * k)
+word_within block at k lt =
+    let byte : (i : ℕ) → i < 4 → slice_index (chunk at 16 block) (4 * k + i) ≡ slice_index block (at + 4 * k + i) =
+    λ i few.
+    let place : at + (4 * k + i) ≡ at + 4 * k + i = omega arith in
+    get_or-chunk at 16 block (4 * k + i) 0 (omega arith) ∙ ap (slice_index block) place in
+    rw (get_or-chunk at 16 block (4 * k) 0 (omega arith), byte 1 (omega arith), byte 2 (omega arith), byte 3 (omega arith)) refl
 
--- words of which the first are the block's and each other follows from those before it are the block's schedule
-pub are_schedule : (words block : List ℕ) → ((t : ℕ) → t < 16 → slice_index words t ≡ word_at block (4 * t))
-    → ((t : ℕ) → 16 ≤ t → t < 64 → slice_index words t ≡ next_word words t)
-    → (n t : ℕ) → n ≤ 64 → t < n → slice_index words t ≡ slice_index (schedule block 48) t
-are_schedule words block first next zero t few lt = absurd (omega arith)
-are_schedule words block first next (suc n) t few lt = elim (cases_lt t 16) [
-  | inl early ↦ first t early ∙ sym (slice_index-schedule_first block 48 t early)
-  | inr late ↦
-      let known : (back : ℕ) → 1 ≤ back → back ≤ 16 → slice_index words (t - back) ≡ slice_index (schedule block 48) (t - back) =
-      λ back some upto. are_schedule words block first next n (t - back) (omega arith) (omega arith) in
-      next t late (omega arith)
-      ∙ rw (known 2 (omega arith) (omega arith), known 7 (omega arith) (omega arith), known 15 (omega arith) (omega arith), known 16 (omega arith) (omega arith)) refl
-      ∙ sym (slice_index-schedule_next block 48 t late (omega arith))
+-- a further word of the schedule
+pub word_put : (words block : List ℕ) (t word : ℕ) → t < length words → Schedules words block t
+    → word ≡ slice_index (schedule block 48) t → Schedules (slice_set words t word) block (t + 1)
+word_put words block t word fits so_far is k lt = elim (cases_lt k t) [
+  | inl before ↦
+      let other : k ≢ t = omega arith in
+      get_or-set_other words t k word 0 other ∙ so_far k before
+  | inr last ↦
+      let same : t ≡ k = omega arith in
+      rw (← same) (get_or-set_same words t word 0 fits ∙ is)
 ]
+
+-- four further words
+pub four_put : (words block : List ℕ) (t v w x y : ℕ) → t + 4 ≤ length words → Schedules words block t
+    → v ≡ slice_index (schedule block 48) t → w ≡ slice_index (schedule block 48) (t + 1)
+    → x ≡ slice_index (schedule block 48) (t + 2) → y ≡ slice_index (schedule block 48) (t + 3)
+    → Schedules (slice_set (slice_set (slice_set (slice_set words t v) (t + 1) w) (t + 2) x) (t + 3) y) block (t + 4)
+four_put words block t v w x y room so_far ev ew ex ey =
+    let with_v = slice_set words t v in
+    let with_w = slice_set with_v (t + 1) w in
+    let with_x = slice_set with_w (t + 2) x in
+    let room_v : length with_v ≡ length words = length-set words t v in
+    let room_w : length with_w ≡ length words = length-set with_v (t + 1) w ∙ room_v in
+    let room_x : length with_x ≡ length words = length-set with_w (t + 2) x ∙ room_w in
+    let one = word_put words block t v (omega arith) so_far ev in
+    let two = word_put with_v block (t + 1) w (omega (arith, room_v)) one ew in
+    let three = word_put with_w block (t + 2) x (omega (arith, room_w)) (λ k upto. two k (omega arith)) ex in
+    λ k upto. word_put with_x block (t + 3) y (omega (arith, room_x)) (λ n before. three n (omega arith)) ey k (omega arith)
+
+-- the first 16 words are the block's own
+pub own_word : (block : List ℕ) (t word : ℕ) → t < 16 → word ≡ word_at block (4 * t) → word ≡ slice_index (schedule block 48) t
+own_word block t word few is = is ∙ sym (slice_index-schedule_first block 48 t few)
+
+-- each other word follows from four before it
+pub later_word : (words block : List ℕ) (t word : ℕ) → 16 ≤ t → t < 64 → Schedules words block t
+    → word ≡ next_word words t → word ≡ slice_index (schedule block 48) t
+later_word words block t word late below so_far is =
+    let known : (back : ℕ) → 1 ≤ back → back ≤ 16 → slice_index words (t - back) ≡ slice_index (schedule block 48) (t - back) =
+    λ back some upto. so_far (t - back) (omega arith) in
+    is
+    ∙ rw (known 2 (omega arith) (omega arith), known 7 (omega arith) (omega arith), known 15 (omega arith) (omega arith), known 16 (omega arith) (omega arith)) refl
+    ∙ sym (slice_index-schedule_next block 48 t late (omega arith))
 
 -- ---- the sums of two states' words
 pub sums : (j : ℕ) (x y : List (List ℕ)) →

@@ -1,7 +1,7 @@
 //! The functions of FIPS 180-4, 4.1.2, that rotate a word, in each lane.
 //!
-//! A rotation takes four instructions and a copy, so what is rotated twice is rotated once: by two steps the inner one
-//! goes on from where the outer one stops.
+//! Each rotation begins from the word itself. Rotating what was rotated takes a copy less, but has each step wait for
+//! the one before it, and in a row of rounds that costs more.
 ghost use Rattle.std.specs.Prelude.{◌≡◌, ℕ, ◌<◌, slice_index};
 ghost use Rattle.sha2.specs.Sha256.{big_sigma0, big_sigma1, small_sigma0, small_sigma1};
 
@@ -13,9 +13,10 @@ use std::simd::u32x4;
 pub(crate) fn big_sigma0(x: u32x4) -> u32x4
     ensures { (j : ℕ) → j < 4 → slice_index result j ≡ big_sigma0 (slice_index x j) }
 {
-    let far = xor(x, rotate_right(x, 9));
-    let near = xor(x, rotate_right(far, 11));
-    rotate_right(near, 2)
+    xor(
+        xor(rotate_right(x, 2), rotate_right(x, 13)),
+        rotate_right(x, 22),
+    )
 }
 
 /// Rotations by 6, 11 and 25.
@@ -23,9 +24,10 @@ pub(crate) fn big_sigma0(x: u32x4) -> u32x4
 pub(crate) fn big_sigma1(x: u32x4) -> u32x4
     ensures { (j : ℕ) → j < 4 → slice_index result j ≡ big_sigma1 (slice_index x j) }
 {
-    let far = xor(x, rotate_right(x, 14));
-    let near = xor(x, rotate_right(far, 5));
-    rotate_right(near, 6)
+    xor(
+        xor(rotate_right(x, 6), rotate_right(x, 11)),
+        rotate_right(x, 25),
+    )
 }
 
 /// Rotations by 7 and 18, and a shift by 3.
@@ -33,8 +35,10 @@ pub(crate) fn big_sigma1(x: u32x4) -> u32x4
 pub(crate) fn small_sigma0(x: u32x4) -> u32x4
     ensures { (j : ℕ) → j < 4 → slice_index result j ≡ small_sigma0 (slice_index x j) }
 {
-    let far = xor(x, rotate_right(x, 11));
-    xor(rotate_right(far, 7), shift_right(x, 3))
+    xor(
+        xor(rotate_right(x, 7), rotate_right(x, 18)),
+        shift_right(x, 3),
+    )
 }
 
 /// Rotations by 17 and 19, and a shift by 10.
@@ -42,6 +46,8 @@ pub(crate) fn small_sigma0(x: u32x4) -> u32x4
 pub(crate) fn small_sigma1(x: u32x4) -> u32x4
     ensures { (j : ℕ) → j < 4 → slice_index result j ≡ small_sigma1 (slice_index x j) }
 {
-    let far = xor(x, rotate_right(x, 2));
-    xor(rotate_right(far, 17), shift_right(x, 10))
+    xor(
+        xor(rotate_right(x, 17), rotate_right(x, 19)),
+        shift_right(x, 10),
+    )
 }

@@ -19,32 +19,16 @@ pub fn hash_four(a: &Padded<'_>, b: &Padded<'_>, c: &Padded<'_>, d: &Padded<'_>)
 {
     let mut state = initial();
     let mut words = [u32x4::splat(0); 64];
-    absorb(
-        &mut state,
-        &mut words,
-        a.first(),
-        b.first(),
-        c.first(),
-        d.first(),
-    );
-    for n in 0..a.middle_blocks() {
+    for n in 0..a.blocks() {
         absorb(
             &mut state,
             &mut words,
-            a.middle(n),
-            b.middle(n),
-            c.middle(n),
-            d.middle(n),
+            a.block(n),
+            b.block(n),
+            c.block(n),
+            d.block(n),
         );
     }
-    absorb(
-        &mut state,
-        &mut words,
-        a.last(),
-        b.last(),
-        c.last(),
-        d.last(),
-    );
     leading_numbers(&state)
 }
 
@@ -64,7 +48,9 @@ fn initial() -> State
     ]
 }
 
-// Takes the next block of each message into its hash value. `words` is room for the schedules.
+// Takes the next block of each message into its hash value. `words` is room for the schedules. Inlined, so that the
+// compiler sees where that room is aligned.
+#[inline(always)]
 fn absorb(state: &mut State, words: &mut Words, a: &[u8], b: &[u8], c: &[u8], d: &[u8])
     requires a { length a.now ≡ 64 }
     requires b { length b.now ≡ 64 }

@@ -1,5 +1,5 @@
 //! Messages that end at a block's edge.
-ghost use Rattle.std.specs.Prelude.{◌≡◌, ◌≤◌, ◌+◌, ◌-◌, ◌*◌, ◌%◌, ◌++◌, length, take, drop};
+ghost use Rattle.std.specs.Prelude.{◌≡◌, ◌≤◌, ◌<◌, ◌+◌, ◌*◌, ◌%◌, ◌++◌, length, take, drop};
 
 use std::marker::Model;
 
@@ -40,35 +40,26 @@ impl<'a> Padded<'a> {
         }
     }
 
-    /// The first block.
-    pub(crate) fn first(&self) -> &[u8]
-        ensures value { result.now ≡ take 64 self.now }
-        ensures block { length result.now ≡ 64 }
+    /// How many blocks there are.
+    pub(crate) fn blocks(&self) -> usize
+        ensures all { 64 * result ≡ length self.now }
+        ensures some { 0 < result }
     {
-        &self.first
+        self.middle.len() / BLOCK_BYTES + 2
     }
 
-    /// How many blocks stand between the first and the last.
-    pub(crate) fn middle_blocks(&self) -> usize
-        ensures { 64 * (result + 2) ≡ length self.now }
-    {
-        self.middle.len() / BLOCK_BYTES
-    }
-
-    /// The block with so many blocks between it and the first.
-    pub(crate) fn middle(&self, n: usize) -> &[u8]
-        requires { 64 * (n + 3) ≤ length self.now }
-        ensures value { result.now ≡ take 64 (drop ((n + 1) * 64) self.now) }
+    /// The block with so many before it.
+    pub(crate) fn block(&self, n: usize) -> &[u8]
+        requires { 64 * (n + 1) ≤ length self.now }
+        ensures value { result.now ≡ take 64 (drop (n * 64) self.now) }
         ensures block { length result.now ≡ 64 }
     {
-        &self.middle[64 * n..64 * n + 64]
-    }
-
-    /// The last block.
-    pub(crate) fn last(&self) -> &[u8]
-        ensures value { result.now ≡ take 64 (drop (length self.now - 64) self.now) }
-        ensures block { length result.now ≡ 64 }
-    {
-        &self.last
+        if n == 0 {
+            &self.first
+        } else if n <= self.middle.len() / BLOCK_BYTES {
+            &self.middle[64 * (n - 1)..64 * n]
+        } else {
+            &self.last
+        }
     }
 }

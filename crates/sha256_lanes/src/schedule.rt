@@ -1,11 +1,12 @@
 //! The message schedule (FIPS 180-4, 6.2.2, step 1): the 64 words that the rounds take, from a block of 16.
-ghost use Rattle.std.specs.Prelude.{◌≡◌, ℕ, ◌+◌, ◌*◌, ◌<◌, ◌≤◌, length, slice_index};
-ghost use Rattle.sha2.specs.Sha256.{next_word, schedule, word_at};
+ghost use Rattle.std.specs.Prelude.{◌≡◌, ℕ, List, ◌+◌, ◌*◌, ◌<◌, ◌≤◌, length, slice_index};
+ghost use Rattle.sha2.specs.Sha256.{next_word, word_at};
 ghost use Rattle.sha256_lanes.specs.Lanes.{lane, one_of};
+ghost use Rattle.sha256_lanes.specs.Schedules.{Schedules};
 
 use crate::functions::{small_sigma0, small_sigma1};
-use crate::vectors::add;
-use std::simd::u32x4;
+use crate::vectors::{add, big_endian, transposed};
+use std::simd::{u8x16, u32x4};
 
 /// The schedules of four messages.
 pub(crate) type Words = [u32x4; 64];
@@ -17,8 +18,7 @@ pub(crate) fn fill(words: &mut Words, a: &[u8], b: &[u8], c: &[u8], d: &[u8])
     requires b { length b.now ≡ 64 }
     requires c { length c.now ≡ 64 }
     requires d { length d.now ≡ 64 }
-    ensures { (j t : ℕ) → j < 4 → t < 64
-        → slice_index (lane j words.new) t ≡ slice_index (schedule (one_of j a.now b.now c.now d.now) 48) t }
+    ensures { (j : ℕ) → j < 4 → Schedules (lane j words.new) (one_of j a.now b.now c.now d.now) 64 }
 {
     begin(words, a, b, c, d);
     extend(words);
@@ -31,23 +31,79 @@ fn begin(words: &mut Words, a: &[u8], b: &[u8], c: &[u8], d: &[u8])
     requires b { length b.now ≡ 64 }
     requires c { length c.now ≡ 64 }
     requires d { length d.now ≡ 64 }
-    ensures { (j t : ℕ) → j < 4 → t < 16
-        → slice_index (lane j words.new) t ≡ word_at (one_of j a.now b.now c.now d.now) (4 * t) }
+    ensures { (j : ℕ) → j < 4 → Schedules (lane j words.new) (one_of j a.now b.now c.now d.now) 16 }
 {
-    for t in 0..16 {
-        words[t] = words_at(a, b, c, d, 4 * t);
+    for turn in 0..4 {
+        take_four(words, a, b, c, d, 4 * turn);
     }
 }
 
-// Each further word follows from four before it.
+// Four words of each block are read together: those of a block as one vector, which then are parted by their places.
+#[inline(always)]
+fn take_four(words: &mut Words, a: &[u8], b: &[u8], c: &[u8], d: &[u8], t: usize)
+    requires few { t + 4 ≤ 16 }
+    requires a { length a.now ≡ 64 }
+    requires b { length b.now ≡ 64 }
+    requires c { length c.now ≡ 64 }
+    requires d { length d.now ≡ 64 }
+    ensures { (j : ℕ) → j < 4 → Schedules (lane j words.old) (one_of j a.now b.now c.now d.now) t
+        → Schedules (lane j words.new) (one_of j a.now b.now c.now d.now) (t + 4) }
+{
+    let at = 4 * t;
+    let [v, w, x, y] = transposed(
+        words_at(a, at),
+        words_at(b, at),
+        words_at(c, at),
+        words_at(d, at),
+    );
+    words[t] = v;
+    words[t + 1] = w;
+    words[t + 2] = x;
+    words[t + 3] = y;
+}
+
+// The four words from a block's byte `at` on.
+#[inline(always)]
+fn words_at(block: &[u8], at: usize) -> u32x4
+    requires { at + 16 ≤ length block.now }
+    ensures { (k : ℕ) → k < 4 → slice_index result k ≡ word_at block.now (at + 4 * k) }
+{
+    big_endian(u8x16::from_slice(&block[at..]))
+}
+
+// The other 48 follow from those before them.
 #[inline(always)]
 fn extend(words: &mut Words)
-    ensures first { (j t : ℕ) → j < 4 → t < 16 → slice_index (lane j words.new) t ≡ slice_index (lane j words.old) t }
-    ensures next { (j t : ℕ) → j < 4 → 16 ≤ t → t < 64 → slice_index (lane j words.new) t ≡ next_word (lane j words.new) t }
+    ensures { (j : ℕ) → j < 4 → (block : List ℕ) → Schedules (lane j words.old) block 16
+        → Schedules (lane j words.new) block 64 }
 {
-    for t in 16..64 {
-        words[t] = word_after(words, t);
+    for turn in 4..16 {
+        extend_by_four(words, 4 * turn);
     }
+}
+
+// Of four words in a row each finds in registers what the one before it had read.
+#[inline(always)]
+fn extend_by_four(words: &mut Words, t: usize)
+    requires low { 16 ≤ t }
+    requires high { t + 4 ≤ 64 }
+    ensures { (j : ℕ) → j < 4 → (block : List ℕ) → Schedules (lane j words.old) block t
+        → Schedules (lane j words.new) block (t + 4) }
+{
+    extend_by_one(words, t);
+    extend_by_one(words, t + 1);
+    extend_by_one(words, t + 2);
+    extend_by_one(words, t + 3);
+}
+
+#[inline(always)]
+fn extend_by_one(words: &mut Words, t: usize)
+    requires low { 16 ≤ t }
+    requires high { t < 64 }
+    ensures { (j : ℕ) → j < 4 → (block : List ℕ) → Schedules (lane j words.old) block t
+        → Schedules (lane j words.new) block (t + 1) }
+{
+    words[t] = word_after(words, t);
 }
 
 #[inline(always)]
@@ -59,24 +115,4 @@ fn word_after(words: &Words, t: usize) -> u32x4
     let late = add(small_sigma1(words[t - 2]), words[t - 7]);
     let early = add(late, small_sigma0(words[t - 15]));
     add(early, words[t - 16])
-}
-
-// The word at byte `at` of each block.
-#[inline(always)]
-fn words_at(a: &[u8], b: &[u8], c: &[u8], d: &[u8], at: usize) -> u32x4
-    requires a { at + 4 ≤ length a.now }
-    requires b { at + 4 ≤ length b.now }
-    requires c { at + 4 ≤ length c.now }
-    requires d { at + 4 ≤ length d.now }
-    ensures { (j : ℕ) → j < 4 → slice_index result j ≡ word_at (one_of j a.now b.now c.now d.now) at }
-{
-    u32x4::from_array([word(a, at), word(b, at), word(c, at), word(d, at)])
-}
-
-#[inline(always)]
-fn word(block: &[u8], at: usize) -> u32
-    requires { at + 4 ≤ length block.now }
-    ensures { result ≡ word_at block.now at }
-{
-    u32::from_be_bytes([block[at], block[at + 1], block[at + 2], block[at + 3]])
 }

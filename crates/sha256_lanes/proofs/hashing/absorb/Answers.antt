@@ -8,5 +8,5 @@ pub returns : goal.returns
 returns c j lt =
     let start = lane j c.args.state.now in
     whole_block start (lane j c.fill.new.words) (one_of j c.args.a.now c.args.b.now c.args.c.now c.args.d.now) _
-    (λ t few. c.fill.ensures j t lt few)
+    (c.fill.ensures j lt)
     (c.sum.ensures j lt ∙ ap (add_state start) (c.all_rounds-after.ensures j lt))

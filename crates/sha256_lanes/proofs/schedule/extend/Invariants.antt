@@ -1,11 +1,7 @@
-use Rattle.std.proofs.Common.{◌≡◌, ℕ, ◌<◌, ◌≤◌, length, slice_index}
-use Rattle.sha2.specs.Sha256.{next_word}
+use Rattle.std.proofs.Common.{ℕ, List, ◌*◌, ◌<◌}
 use Rattle.sha256_lanes.specs.Lanes.{lane}
+use Rattle.sha256_lanes.specs.Schedules.{Schedules}
 use Rattle.sha256_lanes.proofs.schedule.extend.Given as goal
 
-abbrev pub invariant-loop-t : goal.invariant-loop-t
-invariant-loop-t l = record {
-  len : length l.words ≡ 64;
-  first : (j k : ℕ) → j < 4 → k < 16 → slice_index (lane j l.words) k ≡ slice_index (lane j l.initial.words) k;
-  next : (j k : ℕ) → j < 4 → 16 ≤ k → k < l.t → slice_index (lane j l.words) k ≡ next_word (lane j l.words) k;
-}
+abbrev pub invariant-loop-turn : goal.invariant-loop-turn
+invariant-loop-turn l = (j : ℕ) → j < 4 → (block : List ℕ) → Schedules (lane j l.initial.words) block 16 → Schedules (lane j l.words) block (4 * l.turn)

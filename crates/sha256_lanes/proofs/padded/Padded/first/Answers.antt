@@ -1,8 +1,0 @@
-use Rattle.std.proofs.Common.{sym}
-use Rattle.sha256_lanes.proofs.Messages.{first_of}
-use Rattle.sha256_lanes.proofs.padded.Padded.first.Goals as goal
-
-pub returns-clause-value : goal.returns-clause-value
-returns-clause-value c =
-    let p = c.self.inside in
-    rw (← c.self.view_is) (sym (first_of p.first p.middle.now p.last c.self.told.0 c.self.told.2))
