@@ -1,8 +1,9 @@
 //! The hash of a page that is proposed, computed with those of pages that the next requests propose: four pages at once.
-ghost use Rattle.std.specs.Prelude.{◌≡◌, All, IfSome};
+ghost use Rattle.std.specs.Prelude.{◌≡◌, ◌<◌, All, IfSome};
 ghost use Rattle.merge_core.specs.Ahead.{IsPrivate, hash_in};
 ghost use Rattle.merge_core.specs.Hashing.{IsPaged};
 ghost use Rattle.merge_core.specs.View.{names_of, Whole};
+ghost use Rattle.page_forecasts.specs.declared.forecasts.TheConstants.{FORECASTS};
 
 use crate::ahead::{PrivatePage, note, note_four, unhashed};
 use crate::by_workers::frame_of;
@@ -169,6 +170,7 @@ fn foresee_page<H: PageHash, A: Allocator>(
     ppn: u32,
 ) -> bool
     requires whole { Whole H.hash_of held.now }
+    requires place { place < FORECASTS }
 {
     if !is_changed(before, guest, ppn) && unhashed(held, guest as usize, ppn as usize).is_none() {
         return false;

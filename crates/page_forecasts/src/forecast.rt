@@ -4,23 +4,43 @@ ghost use Rattle.std.specs.Option.{ForSome};
 
 use page_digest::PageHash;
 use page_model::{Entry, PAGE_BYTES, Page, Request};
-use std::marker::PhantomData;
+use std::marker::{Model, PhantomData};
 
 /// The bytes that a page is expected to hold, its salt, and their hash once it was computed.
+///
+/// A contract sees a `Foreseen`.
 #[derive(Drop)]
 pub(crate) struct Forecast<H: PageHash> {
-    pub(crate) salt: u32,
-    pub(crate) bytes: Page,
+    salt: u32,
+    bytes: Page,
     hash: Option<u64>,
     by: PhantomData<H>,
-    pub ghost hashed: { ForSome hash (λ code. code ≡ H.hash_of salt bytes) },
+}
+
+impl<H: PageHash> Model for Forecast<H> {
+    ghost use Rattle.std.specs.Prelude.{◌≡◌};
+    ghost use Rattle.std.specs.Option.{ForSome};
+    ghost use Rattle.page_forecasts.specs.Forecasts.{Foreseen};
+
+    ghost Value = { Foreseen };
+
+    ghost view = { λ f. record { salt = f.salt; bytes = f.bytes; hash = f.hash } };
+
+    ghost invariant = { λ f. ForSome f.hash (λ code. code ≡ H.hash_of f.salt f.bytes) };
 }
 
 impl<H: PageHash> Forecast<H> {
-    ghost use Rattle.std.specs.Prelude.{◌≡◌, ◌+◌, ◌≤◌, length, IfSome};
+    ghost use Rattle.std.specs.Prelude.{List, ℕ, Option, Some, None, is_some, ◌≡◌, ◌+◌, ◌≤◌, ◌==◌, if◌then◌else◌, length, IfSome};
+    ghost use Rattle.std.specs.Option.{option_map};
+    ghost use Rattle.page_model.specs.Pages.{written};
+    ghost use Rattle.page_model.specs.declared.limits.TheConstants.{PAGE_BYTES};
+    ghost use Rattle.page_forecasts.specs.Forecasts.{Expects, expected, hash_for, hashed, left, left_by};
 
     /// A page of zeros, whose hash wasn't computed.
-    pub(crate) fn new() -> Forecast<H> {
+    #[tactic(auto, unfolding(page_model::specs::Pages::blank))]
+    pub(crate) fn new() -> Forecast<H>
+        ensures { result ≡ expected 0 None }
+    {
         Forecast {
             salt: 0,
             bytes: [0; PAGE_BYTES],
@@ -29,8 +49,42 @@ impl<H: PageHash> Forecast<H> {
         }
     }
 
+    /// The salt.
+    pub(crate) fn salt(&self) -> u32
+        ensures { result ≡ self.now.salt }
+    {
+        self.salt
+    }
+
+    /// The bytes.
+    pub(crate) fn bytes(&self) -> &Page
+        ensures { result.now ≡ self.now.bytes }
+    {
+        &self.bytes
+    }
+
+    /// Foresees a page: what it will hold, and whether it will be mapped, once these requests are served. It has this salt, and
+    /// now these bytes, or none where it is unmapped. Tells whether it will be mapped.
+    pub(crate) fn foresee(
+        &mut self,
+        salt: u32,
+        bytes: Option<&Page>,
+        before: &[Entry],
+        guest: u8,
+        ppn: u32,
+    ) -> bool
+        ensures forecast { self.new ≡ expected salt (left_by before.now guest ppn (option_map (λ page. page.now) bytes.entry)) }
+        ensures mapped { result ≡ is_some (left_by before.now guest ppn (option_map (λ page. page.now) bytes.entry)) }
+    {
+        self.begin(salt, bytes);
+        self.serve_all(before, guest, ppn, bytes.is_some())
+    }
+
     /// Begins anew, with a page of these bytes, or one of zeros.
-    pub(crate) fn begin(&mut self, salt: u32, bytes: Option<&Page>) {
+    #[tactic(auto, unfolding(page_model::specs::Pages::blank))]
+    fn begin(&mut self, salt: u32, bytes: Option<&Page>)
+        ensures { self.new ≡ expected salt (option_map (λ page. page.now) bytes.entry) }
+    {
         self.hash = None;
         self.salt = salt;
         match bytes {
@@ -40,13 +94,10 @@ impl<H: PageHash> Forecast<H> {
     }
 
     /// Foresees what these requests do to a page. Tells whether it is mapped after them.
-    pub(crate) fn serve_all(
-        &mut self,
-        requests: &[Entry],
-        guest: u8,
-        ppn: u32,
-        is_mapped: bool,
-    ) -> bool {
+    fn serve_all(&mut self, requests: &[Entry], guest: u8, ppn: u32, is_mapped: bool) -> bool
+        ensures { (salt : ℕ) (page : Option (List ℕ)) → Expects self.old salt is_mapped page
+            → Expects self.new salt result (left_by requests.now guest ppn page) }
+    {
         let mut is_mapped = is_mapped;
         for entry in requests {
             if entry.guest == guest {
@@ -57,7 +108,10 @@ impl<H: PageHash> Forecast<H> {
     }
 
     /// Foresees what one of a guest's requests does to a page of it. Tells whether the page is mapped after it.
-    fn serve(&mut self, request: &Request, ppn: u32, is_mapped: bool) -> bool {
+    fn serve(&mut self, request: &Request, ppn: u32, is_mapped: bool) -> bool
+        ensures { (salt : ℕ) (page : Option (List ℕ)) → Expects self.old salt is_mapped page
+            → Expects self.new salt result (left request.now ppn page) }
+    {
         match request {
             Request::Store(store) => {
                 if store.ppn() != ppn {
@@ -82,7 +136,8 @@ impl<H: PageHash> Forecast<H> {
 
     /// Foresees a store.
     fn store(&mut self, at: usize, bytes: &[u8])
-        requires { at + length bytes.now ≤ 4096 }
+        requires { at + length bytes.now ≤ PAGE_BYTES }
+        ensures { self.new ≡ expected self.old.salt (Some (written self.old.bytes at bytes.now)) }
     {
         self.hash = None;
         self.bytes[at..at + bytes.len()].copy_from_slice(bytes);
@@ -91,13 +146,15 @@ impl<H: PageHash> Forecast<H> {
     /// Keeps the hash of what is foreseen.
     pub(crate) fn learn(&mut self, code: u64)
         requires { code ≡ H.hash_of self.old.salt self.old.bytes }
+        ensures { self.new ≡ hashed H.hash_of self.old }
     {
         self.hash = Some(code);
     }
 
     /// The hash, where it was computed, of a page that holds what was foreseen.
     pub(crate) fn hash_of(&self, salt: u32, bytes: &Page) -> Option<u64>
-        ensures { IfSome result (λ code. code ≡ H.hash_of salt bytes.now) }
+        ensures known { result ≡ hash_for salt bytes.now self.now }
+        ensures right { IfSome result (λ code. code ≡ H.hash_of salt bytes.now) }
     {
         if self.salt == salt && self.bytes == *bytes {
             self.hash
