@@ -1,4 +1,5 @@
 pub mod Ahead
+pub mod Applying
 pub mod Hashing
 pub mod Names
 pub mod Noted

@@ -1,17 +1,17 @@
 //! The core.
-ghost use Rattle.std.specs.Prelude.{◌≡◌, ◌+◌, ◌<◌, ◌≤◌, length, slice_get, is_some, Some, IsSome, IfOk, IfSome, MatchResult};
+ghost use Rattle.std.specs.Prelude.{◌≡◌, ◌<◌, ◌≤◌, length, slice_get, is_some, Some, IsSome, IfOk, IfSome, MatchResult};
 ghost use Rattle.std.specs.Option.{option_map};
 ghost use Rattle.page_model.specs.Limits.{shapes};
 ghost use Rattle.page_model.specs.Pages.{page_at, totals, is_mapped};
 ghost use Rattle.page_model.specs.Replay.{empty_state};
-ghost use Rattle.page_model.specs.Steps.{step};
 ghost use Rattle.page_model.specs.Stored.{byte_at, text_at};
 ghost use Rattle.machine_frames.specs.FrameMap.{frame, no_frames};
 ghost use Rattle.share_table.specs.TableMaps.{empty_table};
+ghost use Rattle.merge_core.specs.Applying.{Applies};
 ghost use Rattle.merge_core.specs.Hashing.{IsHashFor, page_hash, page_hashes};
 ghost use Rattle.merge_core.specs.Refusals.{AreLimits, NoCoreFor};
 ghost use Rattle.merge_core.specs.Shown.{state_of, FramesOfPages, TableOfPages};
-ghost use Rattle.merge_core.specs.Stays.{frame_at, FramesStay};
+ghost use Rattle.merge_core.specs.Stays.{frame_at};
 
 use crate::ahead::note_hashes;
 use crate::by_workers::{note_by_workers, note_page, push_hashes};
@@ -104,10 +104,7 @@ impl<H: PageHash, A: Allocator> Core<H, A> {
     pub fn apply(&mut self, guest: u8, request: &Request) -> Verdict
         requires guest { guest < length (state_of self.old).guests }
         requires room { self.old.entries < 4294967295 }
-        ensures step { record { state = state_of self.new; verdict = result } ≡ step H.hash_of (state_of self.old) guest request.now }
-        ensures stay { FramesStay guest request.now result self.old self.new }
-        ensures entries { self.new.entries ≡ self.old.entries + 1 }
-        ensures guests { length (state_of self.new).guests ≡ length (state_of self.old).guests }
+        ensures { Applies H.hash_of guest request.now result self.old self.new }
     {
         self.entries += 1;
         let guest = guest as usize;
@@ -129,10 +126,7 @@ impl<H: PageHash, A: Allocator> Core<H, A> {
     pub fn apply_ahead(&mut self, guest: u8, request: &Request, next: &[Entry]) -> Verdict
         requires guest { guest < length (state_of self.old).guests }
         requires room { self.old.entries < 4294967295 }
-        ensures step { record { state = state_of self.new; verdict = result } ≡ step H.hash_of (state_of self.old) guest request.now }
-        ensures stay { FramesStay guest request.now result self.old self.new }
-        ensures entries { self.new.entries ≡ self.old.entries + 1 }
-        ensures guests { length (state_of self.new).guests ≡ length (state_of self.old).guests }
+        ensures { Applies H.hash_of guest request.now result self.old self.new }
     {
         self.foresee(guest, request, next);
         self.apply(guest, request)
@@ -162,10 +156,7 @@ impl<H: PageHash, A: Allocator> Core<H, A> {
         requires guest { guest < length (state_of self.old).guests }
         requires room { self.old.entries < 4294967295 }
         requires hash { IsHashFor H.hash_of (state_of self.old).guests guest request.now hash }
-        ensures step { record { state = state_of self.new; verdict = result } ≡ step H.hash_of (state_of self.old) guest request.now }
-        ensures stay { FramesStay guest request.now result self.old self.new }
-        ensures entries { self.new.entries ≡ self.old.entries + 1 }
-        ensures guests { length (state_of self.new).guests ≡ length (state_of self.old).guests }
+        ensures { Applies H.hash_of guest request.now result self.old self.new }
     {
         self.note_proposed(guest, request, hash);
         self.apply(guest, request)

@@ -1,20 +1,22 @@
-use Rattle.std.proofs.Common.{length, ap, ◌∙◌}
-use Rattle.page_model.specs.Steps.{Outcome}
-use Rattle.merge_core.specs.View.{guests_of}
-use Rattle.merge_core.proofs.Lengths.{at_page_len, proposed_len, stored_len, released_len}
+use Rattle.page_model.specs.Steps.{answered}
+use Rattle.page_model.specs.declared.request.Request.TheVariants.{Propose, Store, Release}
+use Rattle.merge_core.proofs.Applied.{applied}
 use Rattle.merge_core.proofs.machine.Core.apply.Goals as goal
 
-pub returns-in-Propose-clause-guests : goal.returns-in-Propose-clause-guests
-returns-in-Propose-clause-guests g c =
-    let held = c.self.inside.held in
-    rw (← c.self.view_is) (ap (λ (o : Outcome). length o.guests) c.propose.ensures.step ∙ at_page_len (guests_of held) c.args.guest _ _ (λ salt slot. proposed_len g.H.HashFunction.hash_of (guests_of held) c.args.guest _ salt slot))
+pub returns-in-Propose : goal.returns-in-Propose
+unfolding answered
+returns-in-Propose g c =
+    let core = c.self.inside in
+    rw (← c.self.view_is) (rw c.in-Propose.is (applied g.H.HashFunction.hash_of c.args.guest (Propose c.in-Propose.ppn) c.propose.result core.entries core.held c.propose.new.held c.propose.ensures.step c.propose.ensures.total c.propose.ensures.stay))
 
-pub returns-in-Store-clause-guests : goal.returns-in-Store-clause-guests
-returns-in-Store-clause-guests g c =
-    let held = c.self.inside.held in
-    rw (← c.self.view_is) (ap (λ (o : Outcome). length o.guests) c.store.ensures.step ∙ at_page_len (guests_of held) c.args.guest _ _ (λ salt slot. stored_len (length held.frames) (guests_of held) c.args.guest _ _ _ salt slot))
+pub returns-in-Store : goal.returns-in-Store
+unfolding answered
+returns-in-Store g c =
+    let core = c.self.inside in
+    rw (← c.self.view_is) (rw c.in-Store.is (applied g.H.HashFunction.hash_of c.args.guest (Store c.in-Store.r) c.store.result core.entries core.held c.store.new.held c.store.ensures.step c.store.ensures.total c.store.ensures.stay))
 
-pub returns-in-Release-clause-guests : goal.returns-in-Release-clause-guests
-returns-in-Release-clause-guests g c =
-    let held = c.self.inside.held in
-    rw (← c.self.view_is) (ap (λ (o : Outcome). length o.guests) c.release.ensures.step ∙ at_page_len (guests_of held) c.args.guest _ _ (λ salt slot. released_len (guests_of held) c.args.guest _ salt slot))
+pub returns-in-Release : goal.returns-in-Release
+unfolding answered
+returns-in-Release g c =
+    let core = c.self.inside in
+    rw (← c.self.view_is) (rw c.in-Release.is (applied g.H.HashFunction.hash_of c.args.guest (Release c.in-Release.ppn) c.release.result core.entries core.held c.release.new.held c.release.ensures.step c.release.ensures.total c.release.ensures.stay))
