@@ -3,14 +3,19 @@
 
     checks/commands.py [PROGRAM]
 
-PROGRAM is by default out/pageshare (`make build`). Nothing is built here. Prints each case that went wrong, and then how many
-cases went right (status 0 where all did, else 1).
+PROGRAM is by default out/pageshare (`make build`). Nothing is built here. Prints each case that went wrong, and at the end
+`N passed, M failed` (status 0 where all passed, else 1).
 
-The cases: each command on good texts, from a file and from standard input; each cause for which a text is at fault; texts that
-are too long; inputs that can't be opened or read, outputs that take nothing, too little memory, no room for a thread's stack;
-words that are no command line, help and the version; estimates of small images, and each cause for which there is none; and what
-a terminal is told.
+The cases: each command on the worked texts below examples/, from a file and from standard input; each text at fault in faults.py,
+and each front of a journal and of a script; texts that are too long; inputs that can't be opened or read, outputs that take
+nothing, too little memory, no room for a thread's stack; words that are no command line, help and the version; estimates of small
+images, and each cause for which there is none; and what a terminal is told.
+
+A worked text is NAME.journal or NAME.script, and what a command is to write of it stands beside it as NAME.COMMAND: NAME.replay,
+NAME.serial, NAME.run (where each run writes the same) and NAME.run-journal. Which order the guests' requests have in a run's journal
+depends on the threads: in NAME.run-journal they stand guest by guest, and each guest's own must be those.
 """
+import itertools
 import json
 import os
 import pathlib
@@ -21,121 +26,156 @@ import subprocess
 import sys
 import tempfile
 
+import faults
+from soak import Differs, by_guest, look, requests_of
+
 TOP = pathlib.Path(__file__).resolve().parent.parent
-PROGRAM = sys.argv[1] if len(sys.argv) > 1 else str(TOP / "out/pageshare")
+EXAMPLES = TOP / "examples"
+ROWS = EXAMPLES / "rows"
+# (absolute, since some cases run in other folders)
+PROGRAM = os.path.abspath(sys.argv[1]) if len(sys.argv) > 1 else str(TOP / "out/pageshare")
 SECONDS = 60
 MOST_BYTES = 67_108_864
+# A script of several guests is run so many times, since threads meet differently each time.
+RUNS = 50
 
-JOURNAL = "pageshare journal 1\nframes 1\npages 1\n0 close\nend 1\n"
-JOURNAL_OUT = "0 closed\nreport entries 1 mapped 0 shared 0 frames 0 reclaimed 0 hints 0\n"
-SCRIPT_HEAD = "pageshare script 1\nframes 2\npages 1\nring 1\njournal 5\n"
-SCRIPT = SCRIPT_HEAD + "0 store 0 0 41\n0 scan random 7 2\n0 release 0\nend 3\n"
-SCRIPT_OUT = (
-    "0 mapped\n0 hinted\n0 kept\n0 released freed\n0 closed\n"
-    "report entries 5 mapped 0 shared 0 frames 0 reclaimed 0 hints 0\n"
-)
-SCRIPT_JOURNAL = (
-    "pageshare journal 1\nframes 2\npages 1\n0 store 0 0 41\n0 propose 0\n0 propose 0\n0 release 0\n0 close\nend 5\n"
-)
-# Two guests: the first column is the serial order's, the second each guest's own.
-TWO = "pageshare script 1\nframes 2\npages 1 1\nring 1\njournal 5\n1 store 0 0 41\n0 store 0 0 41\n1 propose 0\nend 3\n"
-TWO_REPORT = "report entries 5 mapped 2 shared 0 frames 2 reclaimed 0 hints 1\n"
-TWO_SERIAL = "0 mapped\n1 mapped\n0 closed\n1 hinted\n1 closed\n" + TWO_REPORT
-TWO_RUN = "0 mapped\n0 closed\n1 mapped\n1 hinted\n1 closed\n" + TWO_REPORT
+JOURNAL = (ROWS / "close-alone.journal").read_text()
+SCRIPT = (ROWS / "scan.script").read_text()
+SCRIPT_OUT = (ROWS / "scan.serial").read_text()
+SCRIPT_HEAD = faults.ONE_GUEST
 
 OF_JOURNALS = [["replay"]]
 OF_SCRIPTS = [["serial"], ["run"], ["run", "--journal"]]
 
-HEAD = "pageshare journal 1\nframes 1\npages 1\n"
-JOURNAL_FAULTS = [
-    ("", "truncated line 1"),
-    ("pageshare journal 3\n", "line 1: header"),
-    (SCRIPT, "line 1: header"),
-    ("pageshare journal 1\nframes 0\n", "line 2: frames"),
-    ("pageshare journal 1\nframes 1\npages" + " 1" * 65 + "\n", "line 3: guests"),
-    ("pageshare journal 1\nframes 1\npages 0\n", "line 3: pages"),
-    ("pageshare journal 2\nframes 1\npages 1\nsalts 1 1\n", "line 4: salts"),
-    (HEAD + "0  close\n", "line 4: form"),
-    (HEAD + "1 close\n", "line 4: no-guest"),
-    (HEAD + "0 close\n0 close\n", "line 5: after-close"),
-    (HEAD + "0 load 0 0 65\n", "line 4: length"),
-    (HEAD + "0 load 0 4096 1\n", "line 4: crosses"),
-    (HEAD + "0 close\nend 2\n", "count"),
-    (HEAD + "0 close\nend 1\n0 close\n", "line 6: form"),
-    (HEAD + "0 close\nend 1", "truncated line 5"),
-]
-SCRIPT_FAULTS = [
-    ("", "truncated line 1"),
-    (JOURNAL, "line 1: header"),
-    ("pageshare script 1\nframes 1048577\n", "line 2: frames"),
-    ("pageshare script 1\nframes 1\npages" + " 1" * 65 + "\n", "line 3: guests"),
-    ("pageshare script 1\nframes 1\npages 1 0\n", "line 3: pages"),
-    ("pageshare script 2\nframes 1\npages 1\nsalts 1 1\n", "line 4: salts"),
-    ("pageshare script 1\nframes 1\npages 1\nring 0\n", "line 4: ring"),
-    ("pageshare script 1\nframes 1\npages 1\nring 1\njournal 0\n", "line 5: journal"),
-    ("pageshare script 1\nframes 1\npages 1 1\nring 1\njournal 1\n", "line 5: too-many"),
-    (SCRIPT_HEAD + "0 close\n", "line 6: form"),
-    (SCRIPT_HEAD + "1 scan sequential 1\n", "line 6: no-guest"),
-    (SCRIPT_HEAD + "0 scan sequential 0\n", "line 6: length"),
-    (SCRIPT_HEAD + "0 store 0 4096 41\n", "line 6: crosses"),
-    (SCRIPT_HEAD + "0 scan sequential 5\n", "line 6: too-many"),
-    (SCRIPT_HEAD + "0 count\nend 2\n", "count"),
-    (SCRIPT_HEAD + "0 count\nend 1", "truncated line 7"),
-]
+passed = failed = 0
 
-wrong, tried = [], 0
+
+def case(name, wrong):
+    """One case, with what is wrong in it: nothing where it passed."""
+    global passed, failed
+    if not wrong:
+        passed += 1
+        return
+    failed += 1
+    for what in wrong:
+        print(f"{name}: {what}")
 
 
 def limits_of(limits):
-    """What sets a child's limits; None sets none."""
-    return lambda: [resource.setrlimit(name, (size, size)) for name, size in (limits or [])]
+    """What sets a child's limits; None where there are none to set."""
+    return limits and (lambda: [resource.setrlimit(name, (size, size)) for name, size in limits])
 
 
-def ran(words, text=b"", output=subprocess.PIPE, limits=None):
+def ran(words, text=b"", output=subprocess.PIPE, limits=None, folder=None):
     return subprocess.run(
         [PROGRAM, *words], input=text, stdout=output, stderr=subprocess.PIPE, timeout=SECONDS, check=False,
-        preexec_fn=limits_of(limits),
+        preexec_fn=limits_of(limits), cwd=folder,
     )
 
 
 def expect(name, words, text, status, out, err, **how):
     """One case. `out` and `err` are the whole text that is due, or True where any text is, or None where nobody sees it."""
-    global tried
-    tried += 1
     done = ran(words, text.encode() if isinstance(text, str) else text, **how)
+    wrong = []
     for what, is_due, given in [("output", out, done.stdout), ("error", err, done.stderr)]:
         if is_due is None:
             continue
         given = given.decode("utf-8", "replace")
         if not (bool(given) if is_due is True else given == is_due):
-            wrong.append(f"{name}: standard {what} is {given[:200]!r}, and {is_due!r} was due")
+            wrong.append(f"standard {what} is {given[:200]!r}, and {is_due!r} was due")
     if done.returncode != status:
-        wrong.append(f"{name}: status {done.returncode}, and {status} was due")
+        wrong.append(f"status {done.returncode}, and {status} was due")
+    case(name, wrong)
 
 
-def good_texts(folder):
-    texts = [
-        (["replay"], JOURNAL, JOURNAL_OUT),
-        (["serial"], SCRIPT, SCRIPT_OUT),
-        (["run"], SCRIPT, SCRIPT_OUT),
-        (["run", "--journal"], SCRIPT, SCRIPT_JOURNAL),
-        (["replay"], SCRIPT_JOURNAL, SCRIPT_OUT),
-        (["serial"], TWO, TWO_SERIAL),
-        (["run"], TWO, TWO_RUN),
-    ]
-    file = folder / "text"
-    for words, text, out in texts:
-        name = " ".join(words)
-        expect(f"{name}, standard input", words, text, 0, out, "")
-        file.write_text(text)
-        expect(f"{name}, a file", [*words, str(file)], "", 0, out, "")
+def worked(ending):
+    """The worked texts of one kind."""
+    return sorted(EXAMPLES.glob(f"**/*.{ending}"))
+
+
+def wanted(path, command):
+    """What a command is to write of a worked text; None where that isn't one text."""
+    beside = path.with_suffix(f".{command}")
+    return beside.read_text() if beside.exists() else None
+
+
+def from_both(path, words, out):
+    """A command on a worked text, from standard input and from the file."""
+    name = f"{' '.join(words)}, {path.name}"
+    expect(f"{name}, standard input", words, path.read_text(), 0, out, "")
+    expect(f"{name}, a file", [*words, str(path)], "", 0, out, "")
+
+
+def journals():
+    for path in worked("journal"):
+        from_both(path, ["replay"], wanted(path, "replay"))
+    count = 3000
+    text = faults.ONE_PAGE + "0 count\n" * count + f"end {count}\n"
+    numbers = "mapped 0 shared 0 frames 0 reclaimed 0 hints 0\n"
+    totals = "".join(f"0 totals entries {n} {numbers}" for n in range(1, count + 1))
+    expect("replay, a long output", ["replay"], text, 0, f"{totals}report entries {count} {numbers}", "")
+
+
+def is_clean(done):
+    return done.returncode == 0 and not done.stderr
+
+
+def parts_of(journal):
+    """What a journal holds but for the order among guests: its head, each guest's requests, and its end."""
+    lines = journal.split("\n")
+    asked, head = requests_of(lines[:-1])
+    return head, by_guest(asked), lines[-2:]
+
+
+def answers_of(output):
+    """Each guest's verdicts, and the report, of what a replay or a run writes."""
+    lines = output.split("\n")[:-1]
+    return by_guest(lines[:-1]), lines[-1]
+
+
+def journal_of_a_run(path, due, output):
+    """A run's journal; where each run writes the same, so does the replay of its journal, but for the guests' order."""
+    name = f"run --journal, {path.name}"
+    done = ran(["run", "--journal", str(path)])
+    is_due = is_clean(done) and parts_of(done.stdout.decode()) == parts_of(due)
+    case(name, [] if is_due else [f"{done}, and {due!r} was due, but for the guests' order"])
+    if is_due and output:
+        replayed = ran(["replay"], done.stdout)
+        is_due = is_clean(replayed) and answers_of(replayed.stdout.decode()) == answers_of(output)
+        case(f"{name}, replayed", [] if is_due else [f"{replayed}, and {output!r} was due, but for the guests' order"])
+
+
+def scripts():
+    for path in worked("script"):
+        text = path.read_text()
+        times = range(RUNS if len(text.split("\n")[2].split()) > 2 else 1)
+        serial, run, journal = wanted(path, "serial"), wanted(path, "run"), wanted(path, "run-journal")
+        if serial:
+            from_both(path, ["serial"], serial)
+        for _ in times:
+            if run:
+                from_both(path, ["run"], run)
+            if journal:
+                journal_of_a_run(path, journal, run)
+        try:
+            look(PROGRAM, text, False)
+            case(path.name, [])
+        except Differs as what:
+            case(path.name, [f"it differs in {what}"])
+
+
+def fronts(text):
+    """Each front of a text, and its fault."""
+    return [(text[:size], f"truncated line {text.count(chr(10), 0, size) + 1}") for size in range(len(text))]
 
 
 def texts_at_fault():
-    for commands, faults in [(OF_JOURNALS, JOURNAL_FAULTS), (OF_SCRIPTS, SCRIPT_FAULTS)]:
-        for words in commands:
-            for text, fault in faults:
-                expect(f"{' '.join(words)}, {fault}", words, text, 1, f"fault {fault}\n", "")
+    journal = (ROWS / "zeros.journal").read_text()
+    of_journals = [*faults.OF_JOURNALS, *fronts(journal)]
+    of_scripts = [*faults.OF_SCRIPTS, *fronts(SCRIPT)]
+    for commands, texts in [(OF_JOURNALS, of_journals), (OF_SCRIPTS, of_scripts)]:
+        for words, (text, fault) in itertools.product(commands, texts):
+            expect(f"{' '.join(words)}, {fault}, {text[-40:]!r}", words, text, 1, f"fault {fault}\n", "")
 
 
 def ends_and_limits(folder):
@@ -216,8 +256,10 @@ def estimates(folder):
         done = ran(["estimate", "--json", *texts])
         told_of = json.loads(done.stdout or b"{}")
         expect(f"estimate {texts}", ["estimate", *texts], "", 0, True, "")
-        if told_of.get("total", whole)["pages"] != pages or not ran(["estimate", *texts]).stdout.decode().startswith(lines):
-            wrong.append(f"estimate {texts}: {done.stdout}, and {pages} pages were due")
+        is_right = told_of.get("total", whole)["pages"] == pages and ran(["estimate", *texts]).stdout.decode().startswith(lines)
+        case(f"estimate {texts}", [] if is_right else [f"{done.stdout}, and {pages} pages were due"])
+    salted = ["estimate", "--workers", "2", "--salts", "0,0,5", "first.raw", "second.core", "first.raw"]
+    expect("estimate of images.estimate", salted, "", 0, (ROWS / "images.estimate").read_text(), "", folder=ROWS)
     for n, (data, cause) in enumerate(IMAGE_FAULTS):
         path = folder / f"{n}.core"
         path.write_bytes(data)
@@ -238,8 +280,7 @@ def estimate_ends(folder):
         expect("estimate, a full device", ["estimate", raw], "", 1, None, f"standard output: {fault}", output=full)
         expect("estimate, a picture to a full device", ["estimate", "--svg", "/dev/full", raw], "", 1, "", f"/dev/full: {fault}")
     expect("estimate, a picture", ["estimate", "--svg", str(svg), raw], "", 0, True, "")
-    if not svg.read_text().endswith("</svg>\n"):
-        wrong.append("estimate, a picture: it isn't whole")
+    case("estimate, a picture", [] if svg.read_text().endswith("</svg>\n") else ["it isn't whole"])
     large = [str(folder / "large-1"), str(folder / "large-2")]
     for path in large:
         with open(path, "wb") as file:
@@ -254,16 +295,15 @@ def estimate_ends(folder):
         expect(f"estimate {words}", ["estimate", *words], "", 2, "", True)
     expect("estimate --help", ["estimate", "--help"], "", 0, True, "")
     shown = ran(["estimate", "--progress", "always", raw]).stderr.decode()
-    if not (shown.startswith("\r100 %  0 of 0 MiB") and shown.endswith("s left\x1b[K\n")):
-        wrong.append(f"estimate, progress: {shown!r}")
+    is_drawn = shown.startswith("\r100 %  0 of 0 MiB") and shown.endswith("s left\x1b[K\n")
+    case("estimate, progress", [] if is_drawn else [f"{shown!r}"])
     for how, due in [("never", False), ("auto", True)]:
         status, given = told(["estimate", "--progress", how, raw], "")
-        if status != 0 or bool(given) != due:
-            wrong.append(f"estimate, progress {how} on a terminal: {status}, {given!r}")
+        is_right = status == 0 and bool(given) == due
+        case(f"estimate, progress {how} on a terminal", [] if is_right else [f"{status}, {given!r}"])
 
 
 def terminals(folder):
-    global tried
     none = str(folder / "none")
     cases = [
         (["replay"], JOURNAL, (0, "")),
@@ -273,34 +313,31 @@ def terminals(folder):
         (["replay", none], "", (1, f"fault read\n{none}: No such file or directory (os error 2)\n")),
     ]
     for words, text, due in cases:
-        tried += 1
         given = told(words, text)
-        if given != due:
-            wrong.append(f"{' '.join(words)}, a terminal: {given}, and {due} was due")
+        case(f"{' '.join(words)}, a terminal", [] if given == due else [f"{given}, and {due} was due"])
 
 
 def progress_of_runs():
     """The line that tells how far a run is: drawn always, never, and on auto where standard error is a terminal."""
-    global tried
-    script = SCRIPT.encode() if isinstance(SCRIPT, str) else SCRIPT
+    script = SCRIPT.encode()
     plain = ran(["run"], script)
     drawn = ran(["run", "--progress", "always"], script)
     shown = drawn.stderr.decode()
-    tried += 3
-    if (drawn.returncode, drawn.stdout) != (0, plain.stdout) or plain.stderr:
-        wrong.append(f"run --progress always: {drawn}, and without it {plain}")
-    if not (shown.startswith("\r") and "100 %  " in shown and shown.endswith(" reclaimed\x1b[K\n")):
-        wrong.append(f"run, progress: {shown!r}")
+    is_alike = (drawn.returncode, drawn.stdout) == (0, plain.stdout) and not plain.stderr
+    case("run --progress always", [] if is_alike else [f"{drawn}, and without it {plain}"])
+    is_drawn = shown.startswith("\r") and "100 %  " in shown and shown.endswith(" reclaimed\x1b[K\n")
+    case("run, progress", [] if is_drawn else [f"{shown!r}"])
     for how, due in [("never", False), ("auto", True)]:
         status, given = told(["run", "--progress", how], SCRIPT)
-        if status != 0 or bool(given) != due:
-            wrong.append(f"run, progress {how} on a terminal: {status}, {given!r}")
+        is_right = status == 0 and bool(given) == due
+        case(f"run, progress {how} on a terminal", [] if is_right else [f"{status}, {given!r}"])
 
 
 def main():
     with tempfile.TemporaryDirectory() as name:
         folder = pathlib.Path(name)
-        good_texts(folder)
+        journals()
+        scripts()
         texts_at_fault()
         ends_and_limits(folder)
         command_lines()
@@ -308,10 +345,8 @@ def main():
         estimates(folder)
         estimate_ends(folder)
         progress_of_runs()
-    for line in wrong:
-        print(line)
-    print(f"{tried} cases, {len(wrong)} answers that are wrong")
-    return 1 if wrong else 0
+    print(f"{passed} passed, {failed} failed")
+    return 1 if failed else 0
 
 
 if __name__ == "__main__":

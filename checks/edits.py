@@ -1,0 +1,340 @@
+#!/usr/bin/env python3
+"""Tries every edit of crates/NAME/edits, many in one check: the prover must refuse each.
+
+    checks/edits.py [CRATE ..]
+
+To be run at the repository's top after `rt ci`, over the libraries that it left in out/. An edit is a file as in must-fail/: a
+line 'file: PATH', and then pairs of lines 'old: TEXT' and 'new: TEXT'. Prints each edit with its first error, how long each
+check took, and last 'N passed, M failed' (status 0 where M is 0, else 1).
+
+A function is proved from the contracts of what it calls and never from their bodies. So edits of different functions can stand in
+one copy of the crate, which is checked once, and each edited function must be refused by itself: an error in its own proof, or a
+goal of its own that isn't proved. That it calls a function that isn't proved is no refusal. An edit that isn't refused so is
+tried once more among others, and then alone, and one that stands outside of all functions is tried alone at once. Where a
+function that nobody edited is refused by itself, the edits of that check are tried again in two halves, down to one. An edit that
+is known to bring that about has a line 'alone: WHY', and is tried alone at once. Of an edit that is tried alone it is enough that any
+function is refused by itself, as the kit's own gate has it.
+"""
+import dataclasses
+import importlib.machinery
+import importlib.util
+import os
+import re
+import resource
+import shutil
+import sys
+import tempfile
+import threading
+import time
+
+FLAGS = ["--jobs", "1"]
+HEAD = re.compile(r'^(\s*)(?:pub(?:\([a-z ]+\))? )?(?:unsafe )?(?:extern "C" )?(?:const )?fn (\w+)')
+# The type and the trait of an impl, with the trait's first argument; a trait's own methods stand under its name.
+IMPL = re.compile(r"^impl(?:<.*?>)?\s+(?:(?P<trait>[\w:]+)(?:<\(?(?:\w+::)*(?P<argument>\w+)?.*>)?\s+for\s+)?&?(?:'\w+ )?(?P<type>\w+)")
+TRAIT = re.compile(r"^(?:pub(?:\([a-z ]+\))? )?(?:unsafe )?trait (?P<type>\w+)")
+TYPE = re.compile(r"(?m)^(?:pub(?:\([a-z ]+\))? )?(?:struct|enum|trait) (\w+)")
+OF_A_CALL = re.compile(r"it calls [^;]*, which (?:is|are) not proved")
+# What a proof file says where an edit took away a name that the proof cites.
+NAMES = re.compile(r"(\./)?proofs/.*(has no field|is not in scope|has no `|was not admitted)")
+
+
+def load_kit():
+    """The kit's own command as a module, set as `rt ci` sets it."""
+    path = os.path.realpath(shutil.which("rt"))
+    loader = importlib.machinery.SourceFileLoader("rt", path)
+    made = importlib.util.module_from_spec(importlib.util.spec_from_loader("rt", loader))
+    loader.exec_module(made)
+    made.Crate.cuts_libraries = True
+    made.rtlib.Crate = made.Crate
+    made.rtlib.guarded()
+    return made
+
+
+@dataclasses.dataclass(frozen=True)
+class Function:
+    """A function by its place: its module, the type that it is a method of, with the trait, and its name.
+
+    A type's own methods stand in the type's module, wherever the impl is. Where a type has a trait more than once, as From, the
+    checker puts the trait's argument behind the owner.
+    """
+
+    module: tuple
+    owner: str
+    name: str
+    argument: str = ""
+
+    def is_named(self, path):
+        """Whether the checker means this function, or a closure in it, by these words of a path."""
+        rest = path[len(self.module) :]
+        if path[: len(self.module)] != self.module or self.name not in rest:
+            return False
+        before = [it for it in rest[: rest.index(self.name)] if it != "fn"]
+        return before in ([[self.owner], [self.owner + self.argument]] if self.owner else [[]])
+
+
+@dataclasses.dataclass
+class Edit:
+    name: str
+    texts: dict = dataclasses.field(default_factory=dict)
+    changes: list = dataclasses.field(default_factory=list)
+    functions: frozenset = frozenset()
+    tries: int = 0
+
+
+def module_of(file):
+    words = file.removeprefix("src/").removesuffix(".rt").split("/")
+    return tuple(words[:-1] if words[-1] in ("lib", "main", "mod") else words)
+
+
+def homes_of(crate):
+    """The module of each type and each trait of a crate."""
+    homes = {}
+    for folder, _folders, files in os.walk(f"{crate.folder}/src"):
+        for name in files:
+            with open(f"{folder}/{name}", encoding="utf-8") as it:
+                module = module_of(os.path.relpath(f"{folder}/{name}", crate.folder))
+                homes.update({found[1]: module for found in TYPE.finditer(it.read())})
+    return homes
+
+
+def functions_of(file, text, homes):
+    """The functions of a file, each with the places of its first letter and behind its last one. The layout is that of rt fmt."""
+    found, owner, module, argument, open_one, at = [], "", (), "", None, 0
+    for line in text.split("\n"):
+        after = at + len(line) + 1
+        block = IMPL.match(line) or TRAIT.match(line)
+        if block:
+            words = block.groupdict()
+            owner = words["type"] + (words.get("trait") or "").split("::")[-1]
+            module = module_of(file) if words.get("trait") else homes.get(words["type"], module_of(file))
+            argument = words.get("argument") or ""
+        head = HEAD.match(line)
+        if head:
+            own = Function(module, owner, head[2], argument) if head[1] else Function(module_of(file), "", head[2])
+            open_one = (own, at, head[1])
+        if open_one and (line in (open_one[2] + "}", open_one[2] + "{}") or head and line.endswith("}")):
+            found.append((open_one[0], open_one[1], after))
+            open_one = None
+        elif line == "}":
+            owner, open_one = "", None
+        at = after
+    return found
+
+
+def pairs_of(text):
+    file = old = None
+    for line in text.split("\n"):
+        if line.startswith("file: "):
+            file = line.removeprefix("file: ").strip()
+        elif line.startswith("old: "):
+            old = line.removeprefix("old: ")
+        elif line.startswith("new:"):
+            yield file, old, line.removeprefix("new:").removeprefix(" ")
+
+
+def changes_of(text, texts, plain):
+    """What an edit changes, each as a file, two places in the unedited text, and what comes between them."""
+    changes = []
+    for file, old, new in pairs_of(text):
+        if plain[file].count(old) != 1:
+            return whole_changes(texts, plain)
+        at = plain[file].index(old)
+        changes.append((file, at, at + len(old), new))
+    changes.sort()
+    overlap = any(a[0] == b[0] and b[1] < a[2] for a, b in zip(changes, changes[1:]))
+    return whole_changes(texts, plain) if overlap else changes
+
+
+def whole_changes(texts, plain):
+    """The same by what is different: one change a file."""
+    changes = []
+    for file, text in texts.items():
+        old, start, end = plain[file], len(os.path.commonprefix([plain[file], text])), 0
+        while end < min(len(old), len(text)) - start and old[-1 - end] == text[-1 - end]:
+            end += 1
+        changes.append((file, start, len(old) - end, text[start : len(text) - end]))
+    return changes
+
+
+class Trial:
+    """The edits of one crate."""
+
+    def __init__(self, kit, crate, folder):
+        self.kit, self.crate, self.told, self.lines, self.plain = kit, crate, {}, [], {}
+        self.waiting, self.alone, self.homes = [], [], homes_of(crate)
+        for name in sorted(os.listdir(folder)):
+            if name.endswith(".edit"):
+                self.read(f"{folder}/{name}", name)
+            elif not name.endswith(".md"):
+                self.tell(name, False, "BAD EDIT: an edit's name ends in .edit")
+
+    def tell(self, name, is_refused, said):
+        self.told[name] = (is_refused, f"edit {self.crate.name}/{name}: {said}")
+
+    def read(self, path, name):
+        texts, why = self.kit.read_edit(path, self.crate.folder)
+        if why:
+            self.tell(name, False, f"BAD EDIT: {why}")
+            return
+        for file in texts:
+            with open(f"{self.crate.folder}/{file}", encoding="utf-8") as it:
+                self.plain.setdefault(file, it.read())
+        with open(path, encoding="utf-8") as it:
+            text = it.read()
+        changes = changes_of(text, texts, self.plain)
+        owners = [self.owner_of(*change[:3]) for change in changes]
+        edit = Edit(name, texts, changes, frozenset(owners))
+        (self.alone if None in owners or re.search(r"(?m)^alone: ", text) else self.waiting).append(edit)
+
+    def owner_of(self, file, start, end):
+        if not file.startswith("src/"):
+            return None
+        held = [it for it, first, last in functions_of(file, self.plain[file], self.homes) if first <= start and end <= last]
+        return held[0] if held else None
+
+    def run(self):
+        with tempfile.TemporaryDirectory(prefix="edits-") as self.kept:
+            while self.waiting:
+                batch = []
+                for edit in self.waiting:
+                    if not any(edit.functions & other.functions for other in batch):
+                        batch.append(edit)
+                self.waiting = [it for it in self.waiting if it not in batch]
+                self.try_batch(batch)
+            for edit in self.alone:
+                self.try_alone(edit)
+        return self
+
+    def check(self, texts, what):
+        begun = time.time()
+        ran = self.kit.checked(self.crate, texts, FLAGS, self.kept)
+        self.lines.append(f"{self.crate.name}: {what}, {time.time() - begun:.0f} s")
+        if self.kit.rtlib.STALE.search(ran.stdout):
+            raise RuntimeError(f"{self.crate.name}: the libraries in out/ can't be used: run rt ci first")
+        return ran
+
+    def merged(self, batch):
+        """The texts with all changes of the batch, each put in at its place in the unedited text."""
+        texts = {}
+        for file in sorted({file for edit in batch for file in edit.texts}):
+            last, parts = 0, []
+            for _file, start, end, new in sorted(it for edit in batch for it in edit.changes if it[0] == file):
+                parts += [self.plain[file][last:start], new]
+                last = end
+            texts[file] = "".join(parts) + self.plain[file][last:]
+        return texts
+
+    def try_batch(self, batch):
+        texts = self.merged(batch)
+        ran = self.check(texts, f"{len(batch)} edits in one check")
+        said = Said(self.kit, ran, texts)
+        edited = {it for edit in batch for it in edit.functions}
+        strays = [it for it in said.refused if not any(function.is_named(it) for function in edited)]
+        if not said.was_judged or strays:
+            self.split(batch)
+            return
+        for edit in batch:
+            own = [it for it in said.refused if any(function.is_named(it) for function in edit.functions)]
+            if own:
+                self.tell(edit.name, True, said.reason(own))
+            else:
+                edit.tries += 1
+                (self.waiting if edit.tries < 2 and len(batch) > 1 else self.alone).append(edit)
+
+    def split(self, batch):
+        if len(batch) == 1:
+            self.alone += batch
+            return
+        self.try_batch(batch[: len(batch) // 2])
+        self.try_batch(batch[len(batch) // 2 :])
+
+    def try_alone(self, edit):
+        ran = self.check(edit.texts, f"{edit.name} alone")
+        said = Said(self.kit, ran, edit.texts)
+        if said.unread:
+            self.tell(edit.name, False, f"BAD EDIT: the prover cannot read the edited text, so no contract was tried: {said.unread[:200]}")
+        elif not said.was_judged and ran.returncode == 0:
+            self.tell(edit.name, False, "NOT REFUSED: the crate is still proved with this edit")
+        elif not said.was_judged:
+            self.tell(edit.name, False, f"BAD EDIT: it did not reach the prover: {ran.stdout[:300]}")
+        elif said.refused:
+            self.tell(edit.name, True, said.reason(said.refused))
+        else:
+            self.tell(edit.name, False, f"NOT REFUSED: no function is refused by itself: {said.first_error()}")
+
+
+class Said:
+    """What the prover said of a copy of a crate."""
+
+    def __init__(self, kit, ran, texts):
+        self.lines = ran.stdout.rstrip("\n").split("\n")
+        self.unread = next((it for it in self.lines if kit.unread(it, texts)), "")
+        self.was_judged = not self.unread and ran.returncode == 1 and self.lines[-1].startswith("logic=not-proved")
+        self.refused = {}
+        for line in self.lines:
+            found = re.match(r"fn (\S+?): (not proved|no proof:)(.*)", line)
+            if found:
+                path = tuple(found[1].split("::")[1:])
+                why = OF_A_CALL.sub("", found[3])
+                calls_one, has_more = why != found[3], bool(why.strip(" ;,"))
+                if has_more or self.own_error(path) or found[2] == "not proved" and not calls_one:
+                    self.refused[path] = line
+
+    def first_error(self, below="proofs/"):
+        return next((it for it in self.lines if it.removeprefix("./").startswith(below) and ": error" in it), "")
+
+    def own_error(self, path):
+        return self.first_error(f"proofs/{'/'.join(path)}/")
+
+    def reason(self, paths):
+        """That these functions are refused, with the first error that says something of a contract."""
+        errors = [self.own_error(path) or self.refused[path] for path in paths]
+        first = next((it for it in errors if not NAMES.match(it)), "")
+        if not first:
+            return (
+                "refused, as it must be (only because a proof file names what the edit took away, so this says little of the"
+                f" contract: change a value and keep the names): {errors[0][:160]}"
+            )
+        return f"refused, as it must be: {first[:160]}"
+
+
+def try_crates(kit, crates):
+    """Tries the edits of all crates, as many side by side as processors and memory allow. Returns what was told, crate by crate."""
+    printing = threading.Lock()
+
+    def work(crate, _given, _jobs):
+        try:
+            trial = Trial(kit, crate, f"{crate.folder}/edits").run()
+            lines, told = trial.lines, [trial.told[it] for it in sorted(trial.told)]
+        except (OSError, RuntimeError) as error:
+            lines, told = [], [(False, f"{crate.name}: its edits were not tried: {error}")]
+        with printing:
+            print("\n".join([*lines, *(said for _is_refused, said in told)]), flush=True)
+        return told
+
+    tasks = {}
+    for crate in crates:
+        lines, call = crate.count(rb"\n"), lambda given, jobs, it=crate: work(it, given, jobs)
+        tasks[crate.name, "edits"] = ([], lines, kit.need(crate), call)
+    return [it for told in kit.in_lanes(tasks).values() for it in told]
+
+
+def main(names):
+    kit = load_kit()
+    kit.Crate.allowed = kit.handles_of(os.getcwd())
+    crates = [it for it in kit.rtlib.crates_below(os.getcwd()) if os.path.isdir(f"{it.folder}/edits")]
+    unknown = {*names} - {it.name for it in crates}
+    told = [(False, f"{it}: no crate with edits has this name") for it in sorted(unknown)]
+    print("".join(f"{said}\n" for _is_refused, said in told), end="")
+    told += try_crates(kit, [it for it in crates if not names or it.name in names])
+    failed = [said for is_refused, said in told if not is_refused]
+    for said in failed:
+        print(f"FAILED: {said}")
+    used = resource.getrusage(resource.RUSAGE_CHILDREN)
+    print(f"{used.ru_utime + used.ru_stime:.0f} processor seconds")
+    print(f"{len(told) - len(failed)} passed, {len(failed)} failed")
+    return 1 if failed else 0
+
+
+if __name__ == "__main__":
+    sys.exit(main(sys.argv[1:]))

@@ -1,0 +1,90 @@
+#!/usr/bin/env python3
+"""Shows checks/edits.py a small crate, and looks at what it tells of each edit.
+
+    checks/edits_test.py
+
+A script that looks for wrong bodies can be wrong itself: it might tell of a refusal where there is none. So the crate has edits
+that must be told as refused, as not refused, and as bad ones. Prints what went wrong, and 'N passed, M failed'.
+"""
+import os
+import pathlib
+import subprocess
+import sys
+import tempfile
+
+TOP = pathlib.Path(__file__).resolve().parent.parent
+
+CRATE = """\
+//! Small sums.
+#![tactic(auto)]
+ghost use Rattle.std.specs.Prelude.{◌≡◌, ◌+◌, ◌≤◌};
+
+/// Twice a number.
+pub fn twice(number: u32) -> u32
+    requires { number ≤ 1000 }
+    ensures { result ≡ number + number }
+{
+    let other = number;
+    number + other
+}
+
+/// Twice a number, and one more. What it calls is known by its contract alone.
+pub fn odd(half: u32) -> u32
+    requires { half ≤ 1000 }
+    ensures { result ≡ half + half + 1 }
+{
+    twice(half) + 1
+}
+
+/// A number that no contract speaks of.
+pub fn guess() -> u32 {
+    4
+}
+"""
+
+# An edit's name, what it changes, and how what is told of it begins.
+EDITS = [
+    ("twice_of_one", "let other = number;", "let other = 1;", "refused, as it must be"),
+    ("once", "number + other", "other", "refused, as it must be"),
+    ("one_too_few", "twice(half) + 1", "twice(half)", "refused, as it must be"),
+    ("the_same_sum", "twice(half) + 1", "1 + twice(half)", "NOT REFUSED"),
+    ("another_guess", "    4", "    5", "NOT REFUSED"),
+    ("not_there", "number * other", "number", "BAD EDIT: an 'old:' text is in src/lib.rt 0 times"),
+    ("out_of_scope", "let other = number;", "let other = nobody;", "BAD EDIT"),
+]
+
+
+def write_crate(room):
+    crate = room / "crates/sums"
+    for folder in ("src", "edits"):
+        (crate / folder).mkdir(parents=True)
+    (room / "crates.txt").write_text("sums:\n")
+    (room / "HANDLES").write_text("Handles allowed: none.\n")
+    (crate / "src/lib.rt").write_text(CRATE)
+    for name, old, new, _told in EDITS:
+        (crate / f"edits/{name}.edit").write_text(f"file: src/lib.rt\nold: {old}\nnew: {new}\n")
+
+
+def main():
+    with tempfile.TemporaryDirectory(prefix="edits-test-") as room:
+        write_crate(pathlib.Path(room))
+        ran = subprocess.run(
+            [sys.executable, TOP / "checks/edits.py"], cwd=room, stdin=subprocess.DEVNULL, capture_output=True, text=True,
+            errors="replace", check=False,
+        )
+    lines, wrong = ran.stdout.splitlines(), []
+    for name, _old, _new, told in EDITS:
+        if not any(it.startswith(f"edit sums/{name}.edit: {told}") for it in lines):
+            wrong.append(f"{name} isn't told as {told!r}")
+    refused = sum(told.startswith("refused") for *_edit, told in EDITS)
+    closing = f"{refused} passed, {len(EDITS) - refused} failed"
+    if lines[-1:] != [closing] or ran.returncode != 1:
+        wrong.append(f"the last line isn't {closing!r} with status 1, but {lines[-1:]} with status {ran.returncode}")
+    if wrong:
+        print("\n".join([*wrong, *lines, ran.stderr]))
+    print(f"{len(EDITS) + 1 - len(wrong)} passed, {len(wrong)} failed")
+    return 1 if wrong else 0
+
+
+if __name__ == "__main__":
+    sys.exit(main())
