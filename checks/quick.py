@@ -1,0 +1,42 @@
+#!/usr/bin/env python3
+"""The checks of the program that the gate ends with: few of each kind, with fixed seeds, each in less than a minute.
+
+    checks/quick.py [PROGRAM]
+
+PROGRAM is by default out/pageshare. Nothing is built here. Runs commands.py, 1,000 texts of fuzz.py, ten seconds of soak.py and 100
+images of estimate.py, and prints what they print. The last line is `N passed, M failed`, of all of them (status 0 where all
+passed, else 1).
+"""
+import pathlib
+import re
+import subprocess
+import sys
+
+TOP = pathlib.Path(__file__).resolve().parent.parent
+SEED = "1"
+CHECKS = [("commands.py", []), ("fuzz.py", ["1000", SEED]), ("soak.py", ["10", SEED]), ("estimate.py", ["100", SEED])]
+CLOSING = re.compile(r"^(\d+) passed, (\d+) failed\n\Z", re.M)
+
+
+def tried(check, words):
+    """What a check counts as passed and failed; one that ends otherwise than it should has failed once more."""
+    done = subprocess.run([sys.executable, TOP / "checks" / check, *words], stdout=subprocess.PIPE, text=True, check=False)
+    closing = CLOSING.search(done.stdout)
+    print(f"{check}:\n{CLOSING.sub('', done.stdout)}", end="", flush=True)
+    passed, failed = map(int, closing.groups()) if closing else (0, 0)
+    if closing is None or done.returncode != (1 if failed else 0):
+        print(f"it ended with status {done.returncode}")
+        failed += 1
+    print(f"{passed} of {passed + failed} are right", flush=True)
+    return passed, failed
+
+
+def main(program=str(TOP / "out/pageshare")):
+    results = [tried(check, [*words, program]) for check, words in CHECKS]
+    passed, failed = map(sum, zip(*results))
+    print(f"{passed} passed, {failed} failed")
+    return 1 if failed else 0
+
+
+if __name__ == "__main__":
+    sys.exit(main(*sys.argv[1:2]))

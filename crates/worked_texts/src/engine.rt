@@ -1,0 +1,138 @@
+//! The engines under one name, so that a test can go over all of them.
+use crate::journals::{CLOSE_ALONE, ZEROS};
+use crate::scripts::{SCAN_JOURNAL, scan};
+use merge_run::OpenGate;
+use page_digest::PageHash;
+use share_text::{Noted, Output, Sink, Source, TextFault, ThreadedFault, replay, serial, threaded};
+use std::alloc::{Allocator, Global};
+use std::io::{Read, Write};
+use std::sync::Wait;
+use std::thread::Threads;
+
+/// Which engine serves a text.
+#[derive(Clone, Copy)]
+pub enum Engine {
+    /// `replay`, of journals.
+    Replay,
+    /// `serial`, of scripts.
+    Serial,
+    /// `threaded`, of scripts, whose output has this form.
+    Threaded(Output),
+}
+
+/// A text of an engine, and what the engine writes of it.
+#[derive(Clone, Copy)]
+pub struct Case {
+    pub engine: Engine,
+    pub text: &'static str,
+    pub output: &'static str,
+}
+
+/// Each engine in each form, with a text that has one output.
+pub fn cases() -> [Case; 5] {
+    [
+        Case {
+            engine: Engine::Replay,
+            text: CLOSE_ALONE,
+            output: "0 closed\nreport entries 1 mapped 0 shared 0 frames 0 reclaimed 0 hints 0\n",
+        },
+        Case {
+            engine: Engine::Replay,
+            text: ZEROS,
+            output: "0 mapped\n0 bytes 6869\n0 bytes 0000\n0 bytes 00\n0 closed\nreport entries 5 mapped 1 shared 0 frames 1 reclaimed 0 hints 0\n",
+        },
+        Case {
+            engine: Engine::Serial,
+            text: scan().text,
+            output: scan().output,
+        },
+        Case {
+            engine: Engine::Threaded(Output::Verdicts),
+            text: scan().text,
+            output: scan().output,
+        },
+        Case {
+            engine: Engine::Threaded(Output::JournalText),
+            text: scan().text,
+            output: SCAN_JOURNAL,
+        },
+    ]
+}
+
+/// How an engine ended: its answer, and which of its ends failed.
+#[derive(Drop)]
+pub struct Ended {
+    answer: Result<(), ThreadedFault>,
+    pub read_failed: bool,
+    pub write_failed: bool,
+}
+
+impl Ended {
+    /// Whether the text was served.
+    pub fn is_well(&self) -> bool {
+        self.answer == Ok(())
+    }
+
+    /// Whether the text was refused for this fault.
+    pub fn is_refused(&self, fault: TextFault) -> bool {
+        self.answer == Err(ThreadedFault::Text(fault))
+    }
+}
+
+/// How an engine serves a reader's text and writes to a writer, allocating by `heap`.
+///
+/// It promises nothing, so that no test carries the engines' contracts through its body.
+pub fn serve<
+    T: Threads + Wait + Sync,
+    A: Allocator + Copy + Send + Sync,
+    R: Read + Drop,
+    W: Write + Drop,
+    H: PageHash + Drop,
+>(rt: &T, heap: A, engine: Engine, reader: R, writer: W, hash: H) -> Ended {
+    let mut source = Noted::new(reader);
+    let mut sink = Noted::new(writer);
+    let answer = match engine {
+        Engine::Replay => {
+            replay(heap, &mut source, &mut sink, hash).map_err(ThreadedFault::Text)
+        }
+        Engine::Serial => {
+            serial(heap, &mut source, &mut sink, hash).map_err(ThreadedFault::Text)
+        }
+        Engine::Threaded(form) => {
+            threaded(rt, heap, &mut source, &mut sink, hash, &OpenGate, form)
+        }
+    };
+    Ended {
+        answer,
+        read_failed: source.failed(),
+        write_failed: sink.failed(),
+    }
+}
+
+/// How an engine serves a text, and what it writes. `heap` is what the engine allocates by, and the output stands in other
+/// memory.
+pub fn served_in<T: Threads + Wait + Sync, A: Allocator + Copy + Send + Sync, H: PageHash + Drop>(
+    rt: &T,
+    alloc: Global,
+    heap: A,
+    engine: Engine,
+    text: &str,
+    hash: H,
+) -> (Ended, Vec<u8>) {
+    let mut out = Vec::new(alloc);
+    let ended = serve(rt, heap, engine, text.as_bytes(), &mut out, hash);
+    (ended, out)
+}
+
+/// Whether an engine serves a text and writes this.
+pub fn writes<T: Threads + Wait + Sync, H: PageHash + Drop>(
+    rt: &T,
+    alloc: Global,
+    engine: Engine,
+    text: &str,
+    hash: H,
+    output: &str,
+) -> bool {
+    let (ended, out) = served_in(rt, alloc, alloc, engine, text, hash);
+    ended.is_well() && out.as_slice() == output.as_bytes()
+}

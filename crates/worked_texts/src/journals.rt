@@ -1,0 +1,323 @@
+//! Journals, with what their replays write.
+
+/// A text, and what an engine writes of it.
+#[derive(Clone, Copy)]
+pub struct Row {
+    pub name: &'static str,
+    pub text: &'static str,
+    pub output: &'static str,
+}
+
+/// A journal of a close alone.
+pub const CLOSE_ALONE: &str = "pageshare journal 1\nframes 1\npages 1\n0 close\nend 1\n";
+
+/// A journal of loads, most of them of zeros.
+pub const ZEROS: &str = "\
+    pageshare journal 1\n\
+    frames 4\n\
+    pages 2\n\
+    0 store 0 0 6869\n\
+    0 load 0 0 2\n\
+    0 load 0 100 2\n\
+    0 load 1 0 1\n\
+    0 close\n\
+    end 5\n";
+
+pub fn three_share() -> Row {
+    Row {
+        name: "three share",
+        text: "\
+            pageshare journal 1\n\
+            frames 3\n\
+            pages 2 1\n\
+            0 store 0 0 41\n\
+            0 store 1 0 41\n\
+            1 store 0 0 41\n\
+            0 propose 0\n\
+            0 propose 1\n\
+            1 propose 0\n\
+            end 6\n",
+        output: "\
+            0 mapped\n\
+            0 mapped\n\
+            1 mapped\n\
+            0 hinted\n\
+            0 paired\n\
+            1 joined 3\n\
+            report entries 6 mapped 3 shared 3 frames 1 reclaimed 2 hints 0\n",
+    }
+}
+
+pub fn copy_at_a_store() -> Row {
+    Row {
+        name: "copy at a store",
+        text: "\
+            pageshare journal 1\n\
+            frames 3\n\
+            pages 2 1\n\
+            0 store 0 0 41\n\
+            0 store 1 0 41\n\
+            1 store 0 0 41\n\
+            0 propose 0\n\
+            0 propose 1\n\
+            1 propose 0\n\
+            1 store 0 0 42\n\
+            0 load 0 0 1\n\
+            0 load 1 0 1\n\
+            1 load 0 0 1\n\
+            end 10\n",
+        output: "\
+            0 mapped\n\
+            0 mapped\n\
+            1 mapped\n\
+            0 hinted\n\
+            0 paired\n\
+            1 joined 3\n\
+            1 copied\n\
+            0 bytes 41\n\
+            0 bytes 41\n\
+            1 bytes 42\n\
+            report entries 10 mapped 3 shared 2 frames 2 reclaimed 1 hints 0\n",
+    }
+}
+
+pub fn last_reference() -> Row {
+    Row {
+        name: "last reference",
+        text: "\
+            pageshare journal 1\n\
+            frames 2\n\
+            pages 3\n\
+            0 store 0 0 41\n\
+            0 store 1 0 41\n\
+            0 propose 0\n\
+            0 propose 1\n\
+            0 store 2 0 43\n\
+            0 store 0 0 44\n\
+            0 release 0\n\
+            0 store 1 0 45\n\
+            0 count\n\
+            0 load 1 0 1\n\
+            end 10\n",
+        output: "\
+            0 mapped\n\
+            0 mapped\n\
+            0 hinted\n\
+            0 paired\n\
+            0 mapped\n\
+            0 no-frame\n\
+            0 released held\n\
+            0 taken\n\
+            0 totals entries 9 mapped 2 shared 0 frames 2 reclaimed 0 hints 0\n\
+            0 bytes 45\n\
+            report entries 10 mapped 2 shared 0 frames 2 reclaimed 0 hints 0\n",
+    }
+}
+
+pub fn frame_used_again() -> Row {
+    Row {
+        name: "frame used again",
+        text: "\
+            pageshare journal 1\n\
+            frames 1\n\
+            pages 2\n\
+            0 store 0 0 41\n\
+            0 store 1 0 42\n\
+            0 release 0\n\
+            0 store 1 0 42\n\
+            0 release 0\n\
+            end 5\n",
+        output: "\
+            0 mapped\n\
+            0 no-frame\n\
+            0 released freed\n\
+            0 mapped\n\
+            0 unmapped\n\
+            report entries 5 mapped 1 shared 0 frames 1 reclaimed 0 hints 0\n",
+    }
+}
+
+pub fn stale_hint() -> Row {
+    Row {
+        name: "stale hint",
+        text: "\
+            pageshare journal 1\n\
+            frames 2\n\
+            pages 2\n\
+            0 store 0 0 41\n\
+            0 propose 0\n\
+            0 store 0 0 42\n\
+            0 store 1 0 41\n\
+            0 propose 1\n\
+            0 propose 0\n\
+            end 6\n",
+        output: "\
+            0 mapped\n\
+            0 hinted\n\
+            0 stored\n\
+            0 mapped\n\
+            0 replaced\n\
+            0 hinted\n\
+            report entries 6 mapped 2 shared 0 frames 2 reclaimed 0 hints 2\n",
+    }
+}
+
+pub fn kept_hint() -> Row {
+    Row {
+        name: "kept hint",
+        text: "\
+            pageshare journal 1\n\
+            frames 2\n\
+            pages 2\n\
+            0 store 0 0 41\n\
+            0 propose 0\n\
+            0 propose 0\n\
+            0 store 0 0 42\n\
+            0 store 0 0 41\n\
+            0 store 1 0 41\n\
+            0 propose 1\n\
+            end 7\n",
+        output: "\
+            0 mapped\n\
+            0 hinted\n\
+            0 kept\n\
+            0 stored\n\
+            0 stored\n\
+            0 mapped\n\
+            0 paired\n\
+            report entries 7 mapped 2 shared 2 frames 1 reclaimed 1 hints 0\n",
+    }
+}
+
+pub fn hint_moved() -> Row {
+    Row {
+        name: "hint moved",
+        text: "\
+            pageshare journal 1\n\
+            frames 1\n\
+            pages 1\n\
+            0 store 0 0 41\n\
+            0 propose 0\n\
+            0 store 0 0 42\n\
+            0 propose 0\n\
+            end 4\n",
+        output: "\
+            0 mapped\n\
+            0 hinted\n\
+            0 stored\n\
+            0 hinted\n\
+            report entries 4 mapped 1 shared 0 frames 1 reclaimed 0 hints 1\n",
+    }
+}
+
+/// By `FirstByteHash`.
+pub fn false_match() -> Row {
+    Row {
+        name: "false match",
+        text: "\
+            pageshare journal 1\n\
+            frames 3\n\
+            pages 3\n\
+            0 store 0 0 4101\n\
+            0 propose 0\n\
+            0 store 1 0 4102\n\
+            0 propose 1\n\
+            0 store 2 0 4101\n\
+            0 propose 2\n\
+            end 6\n",
+        output: "\
+            0 mapped\n\
+            0 hinted\n\
+            0 mapped\n\
+            0 ineligible\n\
+            0 mapped\n\
+            0 paired\n\
+            report entries 6 mapped 3 shared 2 frames 2 reclaimed 1 hints 0\n",
+    }
+}
+
+/// By `FirstByteHash`.
+pub fn false_match_again() -> Row {
+    Row {
+        name: "false match again",
+        text: "\
+            pageshare journal 1\n\
+            frames 3\n\
+            pages 3\n\
+            0 store 0 0 4101\n\
+            0 propose 0\n\
+            0 store 1 0 4102\n\
+            0 propose 1\n\
+            0 store 2 0 4101\n\
+            0 propose 2\n\
+            0 propose 1\n\
+            end 7\n",
+        output: "\
+            0 mapped\n\
+            0 hinted\n\
+            0 mapped\n\
+            0 ineligible\n\
+            0 mapped\n\
+            0 paired\n\
+            0 ineligible\n\
+            report entries 7 mapped 3 shared 2 frames 2 reclaimed 1 hints 0\n",
+    }
+}
+
+/// By `TwoByteHash`.
+pub fn one_key_two_hashes() -> Row {
+    Row {
+        name: "one key two hashes",
+        text: "\
+            pageshare journal 1\n\
+            frames 3\n\
+            pages 3\n\
+            0 store 0 0 4107\n\
+            0 propose 0\n\
+            0 store 1 0 4207\n\
+            0 propose 1\n\
+            0 store 2 0 4107\n\
+            0 propose 2\n\
+            0 propose 1\n\
+            0 store 1 0 41\n\
+            0 propose 1\n\
+            end 9\n",
+        output: "\
+            0 mapped\n\
+            0 hinted\n\
+            0 mapped\n\
+            0 ineligible\n\
+            0 mapped\n\
+            0 paired\n\
+            0 hinted\n\
+            0 stored\n\
+            0 joined 3\n\
+            report entries 9 mapped 3 shared 3 frames 1 reclaimed 2 hints 0\n",
+    }
+}
+
+/// The requests of `stale_hint`, by a hash that is 0 for every page.
+pub fn weak_hash() -> Row {
+    Row {
+        name: "weak hash",
+        text: "\
+            pageshare journal 1\n\
+            frames 2\n\
+            pages 2\n\
+            0 store 0 0 41\n\
+            0 propose 0\n\
+            0 store 0 0 42\n\
+            0 store 1 0 41\n\
+            0 propose 1\n\
+            0 propose 0\n\
+            end 6\n",
+        output: "\
+            0 mapped\n\
+            0 hinted\n\
+            0 stored\n\
+            0 mapped\n\
+            0 ineligible\n\
+            0 kept\n\
+            report entries 6 mapped 2 shared 0 frames 2 reclaimed 0 hints 1\n",
+    }
+}
