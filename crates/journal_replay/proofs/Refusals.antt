@@ -46,7 +46,6 @@ unread answer input old (faults.Line n cause) long h = absurd h
 unread answer input old (faults.Truncated n) long h = absurd h
 unread answer input old faults.Count long h = absurd h
 unread answer input old faults.Write long h = absurd h
-unread answer input old (faults.Run f) long h = absurd h
 
 -- what holds of the text that was read holds of the input
 pub on_input : (input : Option (List ℕ)) (text : List ℕ) (P : List ℕ → Type 0) → IfSome input (λ bytes. text ≡ bytes) → P text → IfSome input P
@@ -71,7 +70,6 @@ prints answer input old new text out (Err (faults.Truncated n)) same read ok err
 prints answer input old new text out (Err faults.Count) same read ok err = absurd err
 prints answer input old new text out (Err faults.Read) same read ok err = absurd err
 prints answer input old new text out (Err faults.Long) same read ok err = absurd err
-prints answer input old new text out (Err (faults.Run f)) same read ok err = absurd err
 
 -- a fault of the text, of which a line tells
 abbrev IsTold : TextFault → Type 0
@@ -82,7 +80,6 @@ IsTold faults.OutOfMemory = ⊥
 IsTold faults.Read = ⊥
 IsTold faults.Write = ⊥
 IsTold faults.Long = ⊥
-IsTold (faults.Run f) = ⊥
 
 told_as : (old new : Option (List ℕ)) (fault : TextFault) (answer : Result (List ℕ) TextFault) → answer ≡ Err fault → Appends old new (fault_line fault ++ codes "\n") → Told fault old new answer
 told_as old new fault answer e h = let P : Result (List ℕ) TextFault → Type 0 = λ a. Appends old new (written_for a) in (e, subst P (sym e) h)
@@ -102,7 +99,6 @@ tells answer input old new text faults.OutOfMemory is same read h = absurd is
 tells answer input old new text faults.Read is same read h = absurd is
 tells answer input old new text faults.Write is same read h = absurd is
 tells answer input old new text faults.Long is same read h = absurd is
-tells answer input old new text (faults.Run f) is same read h = absurd is
 
 -- where the text is at fault, the fault's line was written, or why it wasn't is told
 refuses : (answer : List ℕ → Result (List ℕ) TextFault) (input old new : Option (List ℕ)) (text : List ℕ) (fault : TextFault) (r : Result (Unit {0}) TextFault) → IsTold fault
@@ -137,4 +133,3 @@ refused answer input old new text said faults.Long r by_fault same fails h =
     as_answered answer input old new r faults.Long h.0 (on_input input text Q same (by_fault _ fails), h.1)
 refused answer input old new text said faults.Read r by_fault same fails h = absurd fails
 refused answer input old new text said faults.Write r by_fault same fails h = absurd fails
-refused answer input old new text said (faults.Run f) r by_fault same fails h = absurd fails

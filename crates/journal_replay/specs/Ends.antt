@@ -37,7 +37,6 @@ is_read_fault (faults.Truncated n) = false
 is_read_fault faults.Count = false
 is_read_fault faults.OutOfMemory = false
 is_read_fault faults.Long = false
-is_read_fault (faults.Run f) = false
 
 -- the fault tells of a failed write
 abbrev pub is_write_fault : TextFault → Bool
@@ -48,7 +47,6 @@ is_write_fault (faults.Truncated n) = false
 is_write_fault faults.Count = false
 is_write_fault faults.OutOfMemory = false
 is_write_fault faults.Long = false
-is_write_fault (faults.Run f) = false
 
 -- the answer is that a read failed, and that a write did
 abbrev pub tells_read : {X : Type 0} → Result X TextFault → Bool
@@ -68,4 +66,3 @@ NotRead known (faults.Line n cause) = ⊥
 NotRead known (faults.Truncated n) = ⊥
 NotRead known faults.Count = ⊥
 NotRead known faults.Write = ⊥
-NotRead known (faults.Run f) = ⊥

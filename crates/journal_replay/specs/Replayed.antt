@@ -53,7 +53,6 @@ NotPrinted old new text (faults.Truncated n) = ⊥
 NotPrinted old new text faults.Count = ⊥
 NotPrinted old new text faults.Read = ⊥
 NotPrinted old new text faults.Long = ⊥
-NotPrinted old new text (faults.Run f) = ⊥
 
 -- a fault of the text, of which one line tells
 abbrev pub Told : TextFault → Option (List ℕ) → Option (List ℕ) → Result (List ℕ) TextFault → Type 0
@@ -71,7 +70,6 @@ abbrev pub Refused : TextFault → Option (List ℕ) → Option (List ℕ) → R
 Refused (faults.Line n cause) old new r = IsErr r × IfErr r (λ e. Refuses (faults.Line n cause) old new e)
 Refused (faults.Truncated n) old new r = IsErr r × IfErr r (λ e. Refuses (faults.Truncated n) old new e)
 Refused faults.Count old new r = IsErr r × IfErr r (λ e. Refuses faults.Count old new e)
-Refused (faults.Run f) old new r = IsErr r × IfErr r (λ e. Refuses (faults.Run f) old new e)
 Refused faults.OutOfMemory old new r = (r ≡ Err faults.OutOfMemory) × Keeps old new
 Refused faults.Long old new r = (r ≡ Err faults.Long) × Keeps old new
 Refused faults.Read old new r = (r ≡ Err faults.Read) × Keeps old new
@@ -88,7 +86,6 @@ Writes answer input old new (Err faults.OutOfMemory) = Keeps old new
 Writes answer input old new (Err faults.Read) = Keeps old new
 Writes answer input old new (Err faults.Write) = IfSome input (λ text. AppendsFront old new (written_for (answer text)))
 Writes answer input old new (Err faults.Long) = IfSome input (λ text. answer text ≡ Err faults.Long) × Keeps old new
-Writes answer input old new (Err (faults.Run f)) = ⊥
 
 -- what a replay of a journal does with the bytes
 abbrev pub Replays : (ℕ → List ℕ → ℕ) → Option (List ℕ) → Option (List ℕ) → Option (List ℕ) → Result (Unit {0}) TextFault → Type 0

@@ -190,8 +190,8 @@ fn refuse<W: Sink, A: Allocator>(
     Err(fault)
 }
 
-/// Answers a fault that kept a text from being read or served. One of the text's lines, or of its run, is told by the
-/// fault's line; of the others nothing is written.
+/// Answers a fault that kept a text from being read or served. One of the text's lines is told by the fault's line; of
+/// the others nothing is written.
 pub fn tell_fault<W: Sink, A: Allocator>(
     alloc: A,
     writer: &mut W,
@@ -208,7 +208,6 @@ pub fn tell_fault<W: Sink, A: Allocator>(
         TextFault::Line(n, cause) => refuse(alloc, writer, TextFault::Line(n, cause)),
         TextFault::Truncated(n) => refuse(alloc, writer, TextFault::Truncated(n)),
         TextFault::Count => refuse(alloc, writer, TextFault::Count),
-        TextFault::Run(fault) => refuse(alloc, writer, TextFault::Run(fault)),
         TextFault::OutOfMemory => Err(TextFault::OutOfMemory),
         TextFault::Read => Err(TextFault::Read),
         TextFault::Write => Err(TextFault::Write),

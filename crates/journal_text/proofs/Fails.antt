@@ -14,4 +14,3 @@ fails_on faults.OutOfMemory r f h = tt
 fails_on faults.Long r f h = ap (λ x. x >>= f) h
 fails_on faults.Read r f h = absurd h
 fails_on faults.Write r f h = absurd h
-fails_on (faults.Run fault) r f h = absurd h

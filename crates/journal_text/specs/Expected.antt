@@ -1,7 +1,5 @@
 -- What would have been right where a text or the work on it is at fault, in words for a person.
 use Rattle.std.specs.Prelude.{ℕ, ◌==◌, if◌then◌else◌, List, codes}
-use Rattle.merge_run.specs.declared.run_fault.RunFault.{RunFault}
-use Rattle.merge_run.specs.declared.run_fault.RunFault.TheVariants as runs
 use Rattle.journal_text.specs.declared.fault.Cause.{Cause}
 use Rattle.journal_text.specs.declared.fault.Cause.TheVariants as causes
 use Rattle.journal_text.specs.declared.fault.TextFault.{TextFault}
@@ -32,17 +30,6 @@ expected_on n causes.AfterClose = codes "nothing of this guest after its close"
 expected_on n causes.TooMany = codes "no more requests than the \"journal\" line allows"
 expected_on n causes.Salts = codes "one salt for each guest"
 
--- what a run needs, where it is refused for this cause
-abbrev pub expected_of_run : RunFault → List ℕ
-expected_of_run runs.Frames = codes "1 to 1,048,576 frames"
-expected_of_run runs.Guests = codes "1 to 64 guests, with a salt each"
-expected_of_run runs.Pages = codes "a page or more for each guest, and at most 1,048,576 together"
-expected_of_run runs.Ring = codes "a ring of 1 to 65,536 requests"
-expected_of_run runs.Journal = codes "a journal of 1 to 16,777,216 requests"
-expected_of_run (runs.Stopped full) = codes "a journal with room for all requests and a close for each guest"
-expected_of_run runs.OutOfMemory = codes "memory for the run"
-expected_of_run runs.NoThread = codes "a thread for each guest"
-
 -- what would have been right
 abbrev pub expectation : TextFault → List ℕ
 expectation (faults.Line n cause) = expected_on n cause
@@ -52,4 +39,3 @@ expectation faults.OutOfMemory = codes "memory for the text, the machine and the
 expectation faults.Read = codes "an input that can be read"
 expectation faults.Write = codes "an output that takes what is written"
 expectation faults.Long = codes "at most 67,108,864 bytes"
-expectation (faults.Run f) = expected_of_run f

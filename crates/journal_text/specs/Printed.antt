@@ -4,8 +4,6 @@ use Rattle.hex.specs.Hex.{encode_lower}
 use Rattle.page_model.specs.Parts.{Totals}
 use Rattle.page_model.specs.declared.verdict.Verdict.{Verdict}
 use Rattle.page_model.specs.declared.verdict.Verdict.TheVariants as v
-use Rattle.merge_run.specs.declared.run_fault.RunFault.{RunFault}
-use Rattle.merge_run.specs.declared.run_fault.RunFault.TheVariants as runs
 use Rattle.journal_text.specs.declared.fault.Cause.{Cause}
 use Rattle.journal_text.specs.declared.fault.Cause.TheVariants as causes
 use Rattle.journal_text.specs.declared.fault.TextFault.{TextFault}
@@ -71,16 +69,6 @@ cause_word causes.AfterClose = codes "after-close"
 cause_word causes.TooMany = codes "too-many"
 cause_word causes.Salts = codes "salts"
 
-abbrev pub run_word : RunFault → List ℕ
-run_word runs.Frames = codes "frames"
-run_word runs.Guests = codes "guests"
-run_word runs.Pages = codes "pages"
-run_word runs.Ring = codes "ring"
-run_word runs.Journal = codes "journal"
-run_word (runs.Stopped full) = codes "stopped"
-run_word runs.OutOfMemory = codes "memory"
-run_word runs.NoThread = codes "no-thread"
-
 -- a fault's line
 unfoldable pub fault_line : TextFault → List ℕ
 fault_line (faults.Line n cause) = counted (codes "fault line ") n ++ (codes ": " ++ cause_word cause)
@@ -90,4 +78,3 @@ fault_line faults.OutOfMemory = codes "fault memory"
 fault_line faults.Read = codes "fault read"
 fault_line faults.Write = codes "fault write"
 fault_line faults.Long = codes "fault long"
-fault_line (faults.Run f) = codes "fault run: " ++ run_word f

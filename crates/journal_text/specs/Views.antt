@@ -15,7 +15,7 @@ abbrev pub head_seen : {A : Type 0} → Head A → said.Head
 head_seen h = record { has_salts = h.has_salts; frames = h.frames; pages = h.pages.items; salts = h.salts.items }
 
 -- A call answers this fault, and what it looks at says read: the same fault, unless memory ran out. No look at a text
--- answers Read, Write or Run.
+-- answers Read or Write.
 abbrev pub Fails : {Y : Type 0} → TextFault → Result Y TextFault → Type 0
 Fails (faults.Line n cause) read = read ≡ Err (faults.Line n cause)
 Fails (faults.Truncated n) read = read ≡ Err (faults.Truncated n)
@@ -24,7 +24,6 @@ Fails faults.OutOfMemory read = Unit {0}
 Fails faults.Read read = ⊥
 Fails faults.Write read = ⊥
 Fails faults.Long read = read ≡ Err faults.Long
-Fails (faults.Run f) read = ⊥
 
 -- a call answers what read says, with its value seen by view, unless memory ran out
 abbrev pub Gives : {X Y : Type 0} → (X → Y) → Result X TextFault → Result Y TextFault → Type 0

@@ -1,9 +1,8 @@
 //! What would have been right where a text or the work on it is at fault, in words for a person.
 ghost use Rattle.std.specs.Prelude.{◌≡◌};
-ghost use Rattle.journal_text.specs.Expected.{line_form, expected_on, expected_of_run, expectation};
+ghost use Rattle.journal_text.specs.Expected.{line_form, expected_on, expectation};
 
 use crate::fault::{Cause, TextFault};
-use merge_run::RunFault;
 
 /// The form of line `n`.
 fn line_form(n: u32) -> &'static str
@@ -43,22 +42,6 @@ fn expected_on(n: u32, cause: Cause) -> &'static str
     }
 }
 
-/// What a run needs, where it is refused for this cause.
-fn expected_of_run(fault: RunFault) -> &'static str
-    ensures { result.now ≡ expected_of_run fault }
-{
-    match fault {
-        RunFault::Frames => "1 to 1,048,576 frames",
-        RunFault::Guests => "1 to 64 guests, with a salt each",
-        RunFault::Pages => "a page or more for each guest, and at most 1,048,576 together",
-        RunFault::Ring => "a ring of 1 to 65,536 requests",
-        RunFault::Journal => "a journal of 1 to 16,777,216 requests",
-        RunFault::Stopped(_) => "a journal with room for all requests and a close for each guest",
-        RunFault::OutOfMemory => "memory for the run",
-        RunFault::NoThread => "a thread for each guest",
-    }
-}
-
 /// What would have been right in place of a fault, in words for a person.
 pub fn expectation(fault: &TextFault) -> &'static str
     ensures { result.now ≡ expectation fault.now }
@@ -71,6 +54,5 @@ pub fn expectation(fault: &TextFault) -> &'static str
         TextFault::Read => "an input that can be read",
         TextFault::Write => "an output that takes what is written",
         TextFault::Long => "at most 67,108,864 bytes",
-        TextFault::Run(fault) => expected_of_run(*fault),
     }
 }

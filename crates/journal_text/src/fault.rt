@@ -3,7 +3,6 @@ ghost use Rattle.std.specs.Prelude.{◌≡◌};
 ghost use Rattle.journal_text.specs.declared.fault.TextFault.TheVariants.{OutOfMemory};
 
 use crate::expect::expectation;
-use merge_run::RunFault;
 use std::alloc::{AllocError, AllocFailed};
 use thiserror::Error;
 
@@ -78,9 +77,6 @@ pub enum TextFault {
     /// The text has more than 67,108,864 bytes.
     #[error("the text is too long: expected {wanted}", wanted = expectation(self))]
     Long,
-    /// The run of a script was refused.
-    #[error("the run was refused: expected {wanted}", wanted = expectation(self))]
-    Run(RunFault),
 }
 
 impl From<AllocError> for TextFault {

@@ -4,11 +4,10 @@
 //! was reserved for a longest line is always enough.
 ghost use Rattle.std.specs.Prelude.{◌≡◌, ◌+◌, ◌*◌, ◌<◌, ◌≤◌, ◌++◌, ◌^◌, length, codes, decimal, string_bytes, string_len, string_capacity, IfOk, OnOk, OnErr};
 ghost use Rattle.hex.specs.Hex.{encode_lower};
-ghost use Rattle.journal_text.specs.Printed.{pages_words, saved_words, frames_words, report_words, report_line, verdict_words, verdict_line, cause_word, run_word, fault_line};
+ghost use Rattle.journal_text.specs.Printed.{pages_words, saved_words, frames_words, report_words, report_line, verdict_words, verdict_line, cause_word, fault_line};
 
 use crate::fault::{Cause, TextFault};
 use itoa::Buffer;
-use merge_run::RunFault;
 use page_model::{Report, Verdict};
 use std::alloc::{AllocError, Allocator};
 
@@ -206,21 +205,6 @@ fn cause_word(cause: &Cause) -> &'static str
     }
 }
 
-fn run_word(fault: &RunFault) -> &'static str
-    ensures { result.now ≡ run_word fault.now }
-{
-    match fault {
-        RunFault::Frames => "frames",
-        RunFault::Guests => "guests",
-        RunFault::Pages => "pages",
-        RunFault::Ring => "ring",
-        RunFault::Journal => "journal",
-        RunFault::Stopped(_) => "stopped",
-        RunFault::OutOfMemory => "memory",
-        RunFault::NoThread => "no-thread",
-    }
-}
-
 /// Appends a fault's line, without its line feed.
 #[tactic(auto, unfolding(crate::specs::Printed::fault_line))]
 fn push_fault<A: Allocator>(out: &mut String<A>, fault: &TextFault) -> Result<(), AllocError>
@@ -238,10 +222,6 @@ fn push_fault<A: Allocator>(out: &mut String<A>, fault: &TextFault) -> Result<()
         TextFault::Read => out.push_str("fault read"),
         TextFault::Write => out.push_str("fault write"),
         TextFault::Long => out.push_str("fault long"),
-        TextFault::Run(fault) => {
-            out.push_str("fault run: ")?;
-            out.push_str(run_word(fault))
-        }
     }
 }
 

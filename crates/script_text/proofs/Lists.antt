@@ -7,13 +7,13 @@ use Rattle.std.proofs.lemmas.List.Elements.{All-set}
 use Rattle.std.proofs.lemmas.List.Sums.{sum_by-set, sum_by-cons}
 use Rattle.page_model.specs.Closing.{has_close}
 use Rattle.page_model.specs.declared.request.Request.{Request}
-use Rattle.merge_run.specs.Runs.{entries_of}
 use Rattle.journal_text.specs.declared.fault.Cause.TheVariants as causes
 use Rattle.journal_text.specs.declared.fault.TextFault.{TextFault}
 use Rattle.journal_text.specs.declared.fault.TextFault.TheVariants as faults
 use Rattle.journal_text.specs.Texts.{ended, nothing_more}
 use Rattle.script_text.specs.declared.work.Item.{Item}
 use Rattle.script_text.specs.Lines.{IsPlain}
+use Rattle.script_text.specs.Order.{entries_needed}
 use Rattle.script_text.specs.Views.{lists_of, Adds, Fills}
 use Rattle.script_text.specs.Works.{requests_of, size_of}
 use Rattle.script_text.proofs.Works.{onto_said, onto_last, plain_both, requests_plain, requests_length}
@@ -33,7 +33,7 @@ module _ {A : Type 0} where
   fresh_plain vs n h = λ k d l. ap has_close (fresh_at vs n k d h l)
 
   -- their closes alone
-  pub fresh_entries : (vs : List (Vec Request A)) (n : ℕ) → lists_of vs ≡ replicate n [] → entries_of vs ≡ n
+  pub fresh_entries : (vs : List (Vec Request A)) (n : ℕ) → lists_of vs ≡ replicate n [] → entries_needed vs ≡ n
   fresh_entries [] zero h = refl
   fresh_entries [] (suc n) h = absurd (omega (arith, ap length h))
   fresh_entries (v ∷ vs) zero h = absurd (omega (arith, ap length h))
@@ -67,14 +67,14 @@ module _ {A : Type 0} where
       let script : has_close adds.script.items ≡ false = ap has_close adds.grown ∙ plain_both (get_or old item.guest adds.script).items (requests_of (get_or pages item.guest 0) item.work) (all item.guest adds.script few) (requests_plain (get_or pages item.guest 0) item.work plain) in
       rw adds.set (All-set P old item.guest adds.script script all)
 
-  pub entries_added : (pages : List ℕ) (item : Item) (old new : List (Vec Request A)) → Adds pages item old new → item.guest < length old → entries_of new ≡ entries_of old + size_of item.work
+  pub entries_added : (pages : List ℕ) (item : Item) (old new : List (Vec Request A)) → Adds pages item old new → item.guest < length old → entries_needed new ≡ entries_needed old + size_of item.work
   entries_added pages item old new adds few =
       let f : Vec Request A → ℕ = λ s. length s.items + 1 in
       let sums = sum_by-set f old item.guest adds.script adds.script few in
       let before : List Request = (get_or old item.guest adds.script).items in
       let more : List Request = requests_of (get_or pages item.guest 0) item.work in
       let grown : length adds.script.items ≡ length before + size_of item.work = ap length adds.grown ∙ length-append before more ∙ ap (λ (n : ℕ). length before + n) (requests_length (get_or pages item.guest 0) item.work) in
-      omega (arith, ap entries_of adds.set, sums, grown)
+      omega (arith, ap entries_needed adds.set, sums, grown)
 
 -- a list of requests is filled up to the end line
 fills_by : (b last : Bool) (m : ℕ) (pages : List ℕ) (lists : List (List Request)) (read : Result (List (List Request)) TextFault) → length lists ≡ length pages

@@ -6,8 +6,7 @@ use Rattle.std.proofs.lemmas.List.Sums.{sum_by-cons}
 use Rattle.page_model.specs.declared.request.Entry.{Entry}
 use Rattle.page_model.specs.declared.request.Request.{Request}
 use Rattle.page_model.specs.declared.request.Request.TheVariants.{Close}
-use Rattle.merge_run.specs.Runs.{entries_of}
-use Rattle.script_text.specs.Order.{with_close, rest_of, first_of, firsts, turns, longest, left_of, serial_order}
+use Rattle.script_text.specs.Order.{with_close, entries_needed, rest_of, first_of, firsts, turns, longest, left_of, serial_order}
 use Rattle.script_text.specs.Views.{lists_of}
 
 -- after one more turn
@@ -120,10 +119,10 @@ module _ {A : Type 0} where
       ap (λ (xs : List (Vec Request A)). longest (map with_close (lists_of xs))) step in
       omega (arith, next, long)
 
-  total_entries : (vs : List (Vec Request A)) → total (map with_close (lists_of vs)) ≡ entries_of vs
+  total_entries : (vs : List (Vec Request A)) → total (map with_close (lists_of vs)) ≡ entries_needed vs
   total_entries [] = refl
   total_entries (v ∷ vs) = omega (arith, sum_by-cons (λ (s : Vec Request A). length s.items + 1) v vs, length-append v.items (Close ∷ []), total_entries vs)
 
   -- there are no more entries than requests and closes
-  pub serial_few : (vs : List (Vec Request A)) → length (serial_order (lists_of vs)) ≤ entries_of vs
+  pub serial_few : (vs : List (Vec Request A)) → length (serial_order (lists_of vs)) ≤ entries_needed vs
   serial_few vs = omega (arith, turns_total (longest (map with_close (lists_of vs))) (map with_close (lists_of vs)), total_entries vs)

@@ -2,10 +2,9 @@
 ghost use Rattle.std.specs.Prelude.{◌≡◌, ◌+◌, ◌≤◌, [], false, true, length, string_bytes, string_capacity, vec_capacity, IfErr, OnOk, OnErr};
 ghost use Rattle.std.specs.Io.KnownBytes.{Appends};
 ghost use Rattle.merge_core.specs.Shown.{state_of};
-ghost use Rattle.merge_run.specs.Runs.{entries_of};
 ghost use Rattle.journal_replay.specs.Ends.{AppendsFront, tells_read, tells_write};
 ghost use Rattle.journal_replay.specs.Replayed.{NotPrinted, printed_from};
-ghost use Rattle.script_text.specs.Order.{serial_order};
+ghost use Rattle.script_text.specs.Order.{entries_needed, serial_order};
 ghost use Rattle.script_text.specs.Served.{serial_printed, Serves};
 ghost use Rattle.script_text.specs.Views.{lists_of, script_seen};
 
@@ -40,7 +39,7 @@ fn print_turns<H: PageHash, W: Sink, A: Allocator>(
 ) -> Result<(), TextFault>
     requires many { length scripts.now ≤ 64 }
     requires guests { length (state_of core.old).guests ≡ length scripts.now }
-    requires few { core.old.entries + entries_of scripts.now ≤ 16777216 }
+    requires few { core.old.entries + entries_needed scripts.now ≤ 16777216 }
     requires none { entries.old.items ≡ [] }
     requires space { ROOM ≤ vec_capacity entries.old }
     requires fine { W.has_failed writer.old ≡ false }

@@ -1,8 +1,8 @@
 //! The reader of scripts.
 ghost use Rattle.std.specs.Prelude.{◌≡◌, ◌+◌, ◌≤◌, ◌<◌, ◌^◌, All, [], false, length, replicate, IfOk, IfErr, OnOk};
 ghost use Rattle.page_model.specs.Closing.{has_close};
-ghost use Rattle.merge_run.specs.Runs.{entries_of};
 ghost use Rattle.journal_text.specs.Views.{Gives};
+ghost use Rattle.script_text.specs.Order.{entries_needed};
 ghost use Rattle.script_text.specs.Texts.{scripts_in, script_in, script_of};
 ghost use Rattle.script_text.specs.Views.{lists_of, script_seen, Fills, Adds};
 ghost use Rattle.journal_text.specs.declared.fault.TextFault.TheVariants.{OutOfMemory};
@@ -55,7 +55,7 @@ fn add_lines<A: Allocator>(
     ensures value { Fills (lists_of scripts.new.items) result (scripts_in pages.now most first text.now) }
     ensures guests { OnOk result (length scripts.new.items ≡ length pages.now) }
     ensures plain { OnOk result (All (λ script. has_close script.items ≡ false) scripts.new.items) }
-    ensures room { OnOk result (entries_of scripts.new.items ≤ most) }
+    ensures room { OnOk result (entries_needed scripts.new.items ≤ most) }
 {
     let mut total = pages.len() as u32;
     let mut asked = 0;
@@ -93,7 +93,7 @@ fn read_lists<A: Allocator + Clone>(
     ensures value { Gives (λ v. lists_of v.items) result (scripts_in pages.now most first text.now) }
     ensures guests { IfOk result (λ v. length v.items ≡ length pages.now) }
     ensures plain { IfOk result (λ v. All (λ script. has_close script.items ≡ false) v.items) }
-    ensures room { IfOk result (λ v. entries_of v.items ≤ most) }
+    ensures room { IfOk result (λ v. entries_needed v.items ≤ most) }
 {
     let mut scripts = empty_scripts(alloc, pages.len(), text)?;
     add_lines(&mut scripts, pages, most, first, text)?;

@@ -2,7 +2,7 @@
 ghost use Rattle.std.specs.Prelude.{◌≡◌, ◌≤◌, All, false, length};
 ghost use Rattle.page_model.specs.Closing.{has_close};
 ghost use Rattle.merge_machine.specs.Limits.{IsMachine};
-ghost use Rattle.merge_run.specs.Runs.{entries_of};
+ghost use Rattle.script_text.specs.Order.{entries_needed};
 
 use merge_machine::Config;
 use page_model::{MachineShape, Request, ShapeFault};
@@ -19,7 +19,7 @@ pub struct Script<A: Allocator> {
     pub ghost machine: { IsMachine config },
     pub ghost guests: { length scripts.items ≡ length config.pages.items },
     pub ghost plain: { All (λ script. has_close script.items ≡ false) scripts.items },
-    pub ghost room: { entries_of scripts.items ≤ config.journal },
+    pub ghost room: { entries_needed scripts.items ≤ config.journal },
 }
 
 impl<A: Allocator> Script<A> {

@@ -1,13 +1,15 @@
 //! The engine that runs a script, with a thread for each guest.
 ghost use Rattle.std.specs.Prelude.{◌≡◌, false, MatchResult};
 ghost use Rattle.merge_run.specs.Runs.{CanBeRun, IsWholeRun, NotRunFor};
-ghost use Rattle.journal_replay.specs.Ends.{is_read_fault, is_write_fault, tells_read, tells_write};
+ghost use Rattle.journal_replay.specs.Ends.{tells_read, tells_write};
 ghost use Rattle.script_text.specs.Views.{script_seen};
-ghost use Rattle.share_text.specs.Threads.{NeitherFailed, RunsText, Serves, as_text_fault};
+ghost use Rattle.share_text.specs.Threads as threads;
+ghost use Rattle.share_text.specs.Threads.{EndsAs, IsLeft, NeitherFailed, RunsText, Serves, as_written, no_thread_text, of_text};
 
+use crate::fault::ThreadedFault;
 use crate::form::Output;
 use crate::printing::print_run;
-use journal_replay::ends::read_all;
+use journal_replay::ends::{read_all, write_all};
 use journal_replay::engine::tell_fault;
 use journal_replay::{Sink, Source};
 use journal_text::TextFault;
@@ -21,21 +23,47 @@ use std::sync::Wait;
 use std::thread::Threads;
 use watched_machine::Viewer;
 
-/// A run's fault as one of its text: want of memory is the text's own.
-fn text_fault(fault: RunFault) -> TextFault
-    ensures fault { result ≡ as_text_fault fault }
-    ensures read { is_read_fault result ≡ false }
-    ensures written { is_write_fault result ≡ false }
+/// The answer of work in which no run was refused.
+fn of_text(answer: Result<(), TextFault>) -> Result<(), ThreadedFault>
+    ensures answer { result ≡ of_text answer }
+    ensures written { as_written result ≡ answer }
+{
+    match answer {
+        Ok(()) => Ok(()),
+        Err(fault) => Err(ThreadedFault::Text(fault)),
+    }
+}
+
+/// Writes the line of a run that was refused for want of a thread, and answers that fault.
+fn tell_no_thread<W: Sink>(writer: &mut W) -> Result<(), ThreadedFault>
+    requires fine { W.has_failed writer.old ≡ false }
+    ensures ends { EndsAs threads.NoThread no_thread_text (W.contents writer.old) (W.contents writer.new) result }
+    ensures reader { tells_read (as_written result) ≡ false }
+    ensures writer { W.has_failed writer.new ≡ tells_write (as_written result) }
+{
+    match write_all(writer, "fault run: no-thread\n".as_bytes()) {
+        Ok(()) => Err(ThreadedFault::NoThread),
+        Err(fault) => Err(ThreadedFault::Text(fault)),
+    }
+}
+
+/// Answers why the run of a script that was read was refused: where no thread could be started, the line of that is written.
+fn tell_refused<W: Sink>(writer: &mut W, fault: RunFault) -> Result<(), ThreadedFault>
+    requires left { IsLeft fault }
+    requires fine { W.has_failed writer.old ≡ false }
+    ensures ends { EndsAs threads.NoThread no_thread_text (W.contents writer.old) (W.contents writer.new) result }
+    ensures reader { tells_read (as_written result) ≡ false }
+    ensures writer { W.has_failed writer.new ≡ tells_write (as_written result) }
 {
     match fault {
-        RunFault::Frames => TextFault::Run(RunFault::Frames),
-        RunFault::Guests => TextFault::Run(RunFault::Guests),
-        RunFault::Pages => TextFault::Run(RunFault::Pages),
-        RunFault::Ring => TextFault::Run(RunFault::Ring),
-        RunFault::Journal => TextFault::Run(RunFault::Journal),
-        RunFault::Stopped(full) => TextFault::Run(RunFault::Stopped(full)),
-        RunFault::OutOfMemory => TextFault::OutOfMemory,
-        RunFault::NoThread => TextFault::Run(RunFault::NoThread),
+        RunFault::NoThread => tell_no_thread(writer),
+        RunFault::OutOfMemory => Err(ThreadedFault::Text(TextFault::OutOfMemory)),
+        RunFault::Frames => unreachable!(),
+        RunFault::Guests => unreachable!(),
+        RunFault::Pages => unreachable!(),
+        RunFault::Ring => unreachable!(),
+        RunFault::Journal => unreachable!(),
+        RunFault::Stopped(_) => unreachable!(),
     }
 }
 
@@ -91,16 +119,16 @@ fn run_script<
     gate: &G,
     viewer: Option<&V>,
     form: Output,
-) -> Result<(), TextFault>
+) -> Result<(), ThreadedFault>
     requires fine { W.has_failed writer.old ≡ false }
     ensures serves { Serves H.hash_of form (script_seen script) (W.contents writer.old) (W.contents writer.new) result }
-    ensures reader { tells_read result ≡ false }
-    ensures writer { W.has_failed writer.new ≡ tells_write result }
+    ensures reader { tells_read (as_written result) ≡ false }
+    ensures writer { W.has_failed writer.new ≡ tells_write (as_written result) }
 {
     let Script { config, scripts } = script;
     match run_machine(rt, alloc, &config, hash, scripts, gate, viewer) {
-        Ok(finished) => print_run(alloc, form, &config, &finished, writer),
-        Err(fault) => tell_fault(alloc, writer, text_fault(fault)),
+        Ok(finished) => of_text(print_run(alloc, form, &config, &finished, writer)),
+        Err(fault) => tell_refused(writer, fault),
     }
 }
 
@@ -122,17 +150,17 @@ fn read_and_run<
     gate: &G,
     viewer: Option<&V>,
     form: Output,
-) -> Result<(), TextFault>
+) -> Result<(), ThreadedFault>
     requires { NeitherFailed (R.has_failed reader.old) (W.has_failed writer.old) }
     ensures { RunsText H.hash_of form (R.remaining reader.old) (W.contents writer.old) (W.contents writer.new) (R.has_failed reader.new) (W.has_failed writer.new) result }
 {
     let text = match read_all(alloc, reader) {
         Ok(text) => text,
-        Err(fault) => return Err(fault),
+        Err(fault) => return Err(ThreadedFault::Text(fault)),
     };
     match read_script(alloc, &text) {
         Ok(script) => run_script(rt, alloc, script, writer, hash, gate, viewer, form),
-        Err(fault) => tell_fault(alloc, writer, fault),
+        Err(fault) => of_text(tell_fault(alloc, writer, fault)),
     }
 }
 
@@ -144,10 +172,10 @@ fn read_and_run<
 ///
 /// # Errors
 ///
-/// Where the text is at fault, the fault's line is written and nothing else, and the fault is answered. Where the start
-/// of a guest's thread is refused, that is the fault `Run(NoThread)`, and `Run` comes for no other cause. On
-/// `OutOfMemory`, `Read` and `Long` nothing was written, and on `Write` a front of the output went out. `Read` is
-/// answered exactly where the reader failed, and `Write` exactly where the writer did.
+/// Where the text is at fault, the fault's line is written and nothing else, and the fault is answered; so it is with
+/// `NoThread` where the start of a guest's thread is refused. On `OutOfMemory`, `Read` and `Long` nothing was written, and
+/// on `Write` a front of the output went out. `Read` is answered exactly where the reader failed, and `Write` exactly where
+/// the writer did.
 pub fn threaded<
     T: Threads + Wait + Sync,
     R: Source,
@@ -163,7 +191,7 @@ pub fn threaded<
     hash: H,
     gate: &G,
     form: Output,
-) -> Result<(), TextFault>
+) -> Result<(), ThreadedFault>
     requires { NeitherFailed (R.has_failed reader.old) (W.has_failed writer.old) }
     ensures { RunsText H.hash_of form (R.remaining reader.old) (W.contents writer.old) (W.contents writer.new) (R.has_failed reader.new) (W.has_failed writer.new) result }
 {
@@ -189,7 +217,7 @@ pub fn threaded_viewed<
     gate: &G,
     viewer: &V,
     form: Output,
-) -> Result<(), TextFault>
+) -> Result<(), ThreadedFault>
     requires { NeitherFailed (R.has_failed reader.old) (W.has_failed writer.old) }
     ensures { RunsText H.hash_of form (R.remaining reader.old) (W.contents writer.old) (W.contents writer.new) (R.has_failed reader.new) (W.has_failed writer.new) result }
 {

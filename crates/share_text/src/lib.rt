@@ -6,10 +6,12 @@
 #![tactic(auto)]
 
 mod engine;
+mod fault;
 mod form;
 mod printing;
 
 pub use engine::{threaded, threaded_viewed};
+pub use fault::{ThreadedFault, threaded_expectation, threaded_fault_line};
 pub use form::Output;
 pub use journal_replay::{Noted, Sink, Source, replay};
 pub use journal_text::{

@@ -11,4 +11,5 @@ returns-in-Ok-clause-serves g c =
     let f = c.in-Ok.finished in
     let s = c.args.script in
     let text = text_of_run hash c.args.form s f ran.settles ran.machine ran.guests.0 ran.got in
-    wrote hash c.args.form (script_seen s) (settled_journal f.settled) _ _ c.print_run.result (is_run hash s f ran.settles ran.guests.0 ran.sent) (rw text at c.print_run.ensures.ok) (rw text at c.print_run.ensures.err)
+    let written = wrote hash c.args.form (script_seen s) (settled_journal f.settled) _ _ c.print_run.result (is_run hash s f ran.settles ran.guests.0 ran.sent) (rw text at c.print_run.ensures.ok) (rw text at c.print_run.ensures.err) in
+    rw c.of_text.ensures.answer written
