@@ -1,6 +1,6 @@
 //! What is told of a fault, and the status that it gives.
 use crate::script_forms::script_form;
-use share_text::TextFault;
+use share_text::{TextFault, ThreadedFault};
 use std::io;
 use std::process::ExitCode;
 
@@ -8,21 +8,21 @@ use std::process::ExitCode;
 #[derive(Drop)]
 pub struct Ending<'a> {
     pub is_of_script: bool,
-    pub done: Result<(), TextFault>,
+    pub done: Result<(), ThreadedFault>,
     pub failure: Option<(&'a str, io::Error)>,
 }
 
 /// The line on standard error of a fault of which the output can't tell; `None` where it does.
-fn line_of(fault: &TextFault) -> Option<&'static str> {
+fn line_of(fault: &ThreadedFault) -> Option<&'static str> {
     match fault {
-        TextFault::Line(_, _) => None,
-        TextFault::Truncated(_) => None,
-        TextFault::Count => None,
-        TextFault::Run(_) => None,
-        TextFault::OutOfMemory => Some("fault memory"),
-        TextFault::Read => Some("fault read"),
-        TextFault::Write => Some("fault write"),
-        TextFault::Long => Some("fault long"),
+        ThreadedFault::NoThread => None,
+        ThreadedFault::Text(TextFault::Line(_, _)) => None,
+        ThreadedFault::Text(TextFault::Truncated(_)) => None,
+        ThreadedFault::Text(TextFault::Count) => None,
+        ThreadedFault::Text(TextFault::OutOfMemory) => Some("fault memory"),
+        ThreadedFault::Text(TextFault::Read) => Some("fault read"),
+        ThreadedFault::Text(TextFault::Write) => Some("fault write"),
+        ThreadedFault::Text(TextFault::Long) => Some("fault long"),
     }
 }
 
@@ -43,11 +43,11 @@ pub fn tell(rt: &impl Eprint, is_terminal: bool, ending: &Ending<'_>) -> io::Res
 }
 
 /// Why it is a fault: in the system's own words where there are some, and else by what was expected.
-fn explain(rt: &impl Eprint, fault: &TextFault, ending: &Ending<'_>) -> io::Result<()> {
-    match &ending.failure {
-        Some((name, error)) => eprintln!(rt; "{name}: {error}"),
-        None if ending.is_of_script => explain_script(rt, fault),
-        None => eprintln!(rt; "{fault}"),
+fn explain(rt: &impl Eprint, fault: &ThreadedFault, ending: &Ending<'_>) -> io::Result<()> {
+    match (&ending.failure, fault) {
+        (Some((name, error)), _) => eprintln!(rt; "{name}: {error}"),
+        (None, ThreadedFault::Text(fault)) if ending.is_of_script => explain_script(rt, fault),
+        (None, fault) => eprintln!(rt; "{fault}"),
     }
 }
 

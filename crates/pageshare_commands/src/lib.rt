@@ -5,22 +5,16 @@
 //! where input, output, memory or a thread was at fault, and 2 for a bad command line.
 #![tactic(auto)]
 
-mod estimate;
-mod estimate_faults;
-mod estimate_words;
 mod faults;
-mod images;
-mod progress;
-mod progress_words;
-mod reading;
 mod running;
 mod script_forms;
 mod texts;
-mod words;
 
 use clap::Error;
 use clap::error::ErrorKind;
-use estimate::do_estimate;
+use command_words::{Asked, asked_of};
+use estimate_command::do_estimate;
+pub use script_forms::script_form;
 use std::alloc::Global;
 use std::fs::{File, Files};
 use std::io::{self, Eprint, Print, Read, Write};
@@ -29,7 +23,6 @@ use std::sync::Wait;
 use std::thread::Threads;
 use std::time::Clock;
 use texts::{do_text, tell_memory};
-use words::{Asked, asked_of};
 
 /// Does what the words of a command line ask for, and gives the program's status. The first word is the program's name.
 ///

@@ -1,9 +1,8 @@
 //! How far a run is.
-use crate::progress::{DrawnLine, Told};
 use merge_run::Gate;
 use page_model::Report;
+use progress_line::{DrawnLine, RunSoFar, Told};
 use share_text::Viewer;
-use std::fmt::{self, Display, Formatter};
 use std::sync::atomic::{AtomicBool, AtomicU32, AtomicU64, Ordering};
 use std::time::Clock;
 
@@ -90,65 +89,5 @@ impl<R: Eprint + Clock + Sync> Viewer for Running<'_, R> {
         } else {
             self.line.draw_if_due(self);
         }
-    }
-}
-
-/// What a run has come to in so many milliseconds.
-#[derive(Clone, Copy, Debug, PartialEq, Eq, Drop)]
-pub struct RunSoFar {
-    pub requests: u64,
-    pub entries: u32,
-    pub mapped: u32,
-    pub shared: u32,
-    pub reclaimed: u32,
-    pub elapsed: u64,
-}
-
-impl RunSoFar {
-    /// The hundredths of the requests that were served.
-    fn per_cent(&self) -> u64 {
-        let part = u64::from(self.entries).saturating_mul(100);
-        part.checked_div(self.requests).unwrap_or(100)
-    }
-
-    /// The requests served in a second.
-    fn rate(&self) -> u64 {
-        let thousandfold = u64::from(self.entries).saturating_mul(1000);
-        thousandfold.checked_div(self.elapsed).unwrap_or(0)
-    }
-}
-
-impl Display for RunSoFar {
-    fn fmt<W: fmt::Write>(&self, f: &mut Formatter<W>) -> fmt::Result {
-        let (part, rate) = (self.per_cent(), self.rate());
-        let (done, all) = (self.entries, self.requests);
-        write!(f, "{part:>3} %  {done} of {all} requests  {rate} a second")?;
-        let (mapped, shared, reclaimed) = (self.mapped, self.shared, self.reclaimed);
-        write!(
-            f,
-            "  {mapped} pages mapped, {shared} shared, {reclaimed} reclaimed"
-        )
-    }
-}
-
-#[cfg(test)]
-mod tests {
-    use super::RunSoFar;
-    use std::test::Fail;
-
-    #[test]
-    fn tells_how_far_a_run_is(rt: HostRuntime) -> Result<(), Fail> {
-        let so_far = RunSoFar {
-            requests: 3_000,
-            entries: 1_000,
-            mapped: 12,
-            shared: 8,
-            reclaimed: 5,
-            elapsed: 250,
-        };
-        let shown =
-            " 33 %  1000 of 3000 requests  4000 a second  12 pages mapped, 8 shared, 5 reclaimed";
-        assert_eq!(rt; format!(in rt.alloc(); "{so_far}")?.as_str(), shown);
-        Ok(())
     }
 }

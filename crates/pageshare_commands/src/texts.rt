@@ -2,13 +2,14 @@
 ghost use Rattle.std.specs.Prelude.{◌≡◌, false};
 
 use crate::faults::{Ending, tell};
-use crate::progress::{DrawnLine, line_where};
 use crate::running::Running;
-use crate::words::{Task, Work};
+use command_words::{Task, Work};
 use merge_run::OpenGate;
 use page_digest::Sha256Hash;
+use progress_line::{DrawnLine, line_where};
 use share_text::{
-    Noted, Output, Sink, Source, TextFault, replay, serial, threaded, threaded_viewed,
+    Noted, Output, Sink, Source, TextFault, ThreadedFault, replay, serial, threaded,
+    threaded_viewed,
 };
 use std::alloc::Global;
 use std::fs::{self, Files};
@@ -43,7 +44,7 @@ pub fn do_text<T: Threads + Wait + Sync + Files + Eprint + Clock, R: Read + Drop
             // A file that can't be opened is an input that can't be read.
             Err(error) => Ending {
                 is_of_script: work.is_of_script(),
-                done: Err(TextFault::Read),
+                done: Err(ThreadedFault::Text(TextFault::Read)),
                 failure: Some((path, error)),
             },
         },
@@ -55,7 +56,7 @@ pub fn do_text<T: Threads + Wait + Sync + Files + Eprint + Clock, R: Read + Drop
 pub fn tell_memory(rt: &impl Eprint, is_terminal: bool) -> io::Result<ExitCode> {
     let ending = Ending {
         is_of_script: false,
-        done: Err(TextFault::OutOfMemory),
+        done: Err(ThreadedFault::Text(TextFault::OutOfMemory)),
         failure: None,
     };
     tell(rt, is_terminal, &ending)
@@ -74,9 +75,17 @@ fn done_of<'a, T: Threads + Wait + Sync + Eprint + Clock, R: Read + Drop, W: Wri
     let mut input = Noted::new(reader);
     let mut output = Noted::new(writer);
     let done = match work {
-        Work::Replay => replay(alloc, &mut input, &mut output, Sha256Hash),
-        Work::Serial => serial(alloc, &mut input, &mut output, Sha256Hash),
-        Work::Run(form, progress) => {
+        Work::Replay => {
+            replay(alloc, &mut input, &mut output, Sha256Hash).map_err(ThreadedFault::Text)
+        }
+        Work::Serial => {
+            serial(alloc, &mut input, &mut output, Sha256Hash).map_err(ThreadedFault::Text)
+        }
+        Work::Run {
+            is_journal,
+            progress,
+        } => {
+            let form = form_of(is_journal);
             let line = line_where(rt, progress.is_on(is_terminal));
             run(rt, alloc, &mut input, &mut output, form, line)
         }
@@ -93,6 +102,14 @@ fn done_of<'a, T: Threads + Wait + Sync + Eprint + Clock, R: Read + Drop, W: Wri
     }
 }
 
+fn form_of(is_journal: bool) -> Output {
+    if is_journal {
+        Output::JournalText
+    } else {
+        Output::Verdicts
+    }
+}
+
 /// Runs a script, and draws the line meanwhile, if there is one.
 fn run<T: Threads + Wait + Sync + Eprint + Clock, R: Source, W: Sink>(
     rt: &T,
@@ -101,7 +118,7 @@ fn run<T: Threads + Wait + Sync + Eprint + Clock, R: Source, W: Sink>(
     writer: &mut W,
     form: Output,
     line: Option<DrawnLine<'_, T>>,
-) -> Result<(), TextFault>
+) -> Result<(), ThreadedFault>
     requires reader { R.has_failed reader.old ≡ false }
     requires writer { W.has_failed writer.old ≡ false }
 {

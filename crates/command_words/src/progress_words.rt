@@ -1,4 +1,5 @@
 //! The option `--progress`.
+use crate::parts::option;
 use clap::{Arg, ArgMatches};
 use std::alloc::Global;
 
@@ -27,12 +28,8 @@ impl Drawn {
 
 /// The option, with what it is for.
 pub fn progress_option<'a>(alloc: Global, help: &'a str) -> Arg<'a> {
-    Arg::new(alloc, "progress")
-        .long("progress")
-        .value_name("WHEN")
-        .help(help)
-        .value_parser(WHEN.as_slice())
-        .default_value("auto")
+    let progress = option(alloc, "progress", "WHEN", help);
+    progress.value_parser(WHEN.as_slice()).default_value("auto")
 }
 
 /// What the words ask for.

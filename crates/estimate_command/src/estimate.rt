@@ -1,13 +1,13 @@
 //! The command `estimate`.
 ghost use Rattle.std.specs.Prelude.{◌≤◌};
 
-use crate::estimate_faults::{Cause, EstimateFault};
-use crate::estimate_words::{EstimateWords, MOST_WORKERS};
+use crate::faults::{Cause, EstimateFault};
 use crate::images::{Images, check_unchanged, open_images};
-use crate::progress::line_where;
 use crate::reading::Reading;
 use census_text::{Estimate, guest_lines, json_text, picture_text, table_text};
+use command_words::{EstimateWords, MOST_WORKERS};
 use page_census::{CensusFault, CensusNumbers, FoldHash, census};
+use progress_line::line_where;
 use std::alloc::{AllocError, Global};
 use std::fs::{self, File, Files};
 use std::io::{self, Eprint, Write};

@@ -1,6 +1,6 @@
 //! The images that an estimate is made of.
-use crate::estimate_faults::{Cause, EstimateFault};
-use crate::estimate_words::EstimateWords;
+use crate::faults::{Cause, EstimateFault};
+use command_words::EstimateWords;
 use memory_images::{FileBytes, Image, ImageFault};
 use page_census::{Guest, PageSource};
 use std::alloc::Global;

@@ -1,7 +1,8 @@
 //! The words of the command `estimate`.
+use crate::parts::{described, flag, option, positional};
 use crate::progress_words::{Drawn, progress_of, progress_option};
 use clap::error::ErrorKind;
-use clap::{Arg, ArgAction, ArgMatches, Command, Error, value_parser};
+use clap::{Arg, ArgMatches, Command, Error, value_parser};
 use std::alloc::{AllocError, Global};
 
 /// What stands below the help of `estimate`.
@@ -15,6 +16,12 @@ prints a line for each guest, the total and how often contents occur, and last a
     425 MiB of 512 MiB could be reclaimed (83.0 %): 355 MiB are zeros, 23 MiB are between guests
 
 docs/IMAGES.md has the forms of images, and what each number means. The status is 0 where the work was done, 1 where an image, the picture, the output or memory was at fault, and 2 for a bad command line.";
+
+const ABOUT: &str =
+    "Tell how much memory sharing equal pages would reclaim, from images of guests' memory";
+
+const SALTS: &str =
+    "A number for each image: pages are shared only where these are equal [default: 0 for each]";
 
 const READING: &str = "Tell on standard error how much was read; on auto where that is a terminal";
 
@@ -40,53 +47,52 @@ pub struct EstimateWords<'a> {
 
 /// The command, as part of the program's.
 pub fn estimate_command<'a>(alloc: Global) -> Result<Command<'a>, AllocError> {
-    let raw = Arg::new(alloc, "raw")
-        .long("raw")
-        .help("Take each image as raw, whatever it begins with")
-        .action(ArgAction::SetTrue);
-    let json = Arg::new(alloc, "json")
-        .long("json")
-        .help("Print a JSON object in place of the table")
-        .action(ArgAction::SetTrue);
-    let svg = Arg::new(alloc, "svg")
-        .long("svg")
-        .value_name("FILE")
-        .help("Write a picture to this file");
-    let images = Arg::new(alloc, "IMAGE")
-        .help("An image of memory for each guest, guest 0's first")
-        .num_args(1..)
-        .required(true);
-    Command::new(alloc, "estimate")
-        .about(
-            "Tell how much memory sharing equal pages would reclaim, from images of guests' memory",
-        )
-        .after_help(EXAMPLE)
-        .arg(salts_option(alloc))?
-        .arg(workers_option(alloc))?
+    let estimate = described(alloc, "estimate", ABOUT, EXAMPLE);
+    with_files(alloc, with_numbers(alloc, estimate)?)
+}
+
+fn with_numbers<'a>(alloc: Global, command: Command<'a>) -> Result<Command<'a>, AllocError> {
+    command.arg(salts_option(alloc))?.arg(workers_option(alloc))
+}
+
+/// The other options and the images, in the order in which help has them.
+fn with_files<'a>(alloc: Global, command: Command<'a>) -> Result<Command<'a>, AllocError> {
+    let raw = flag(
+        alloc,
+        "raw",
+        "Take each image as raw, whatever it begins with",
+    );
+    let json = flag(alloc, "json", "Print a JSON object in place of the table");
+    let svg = option(alloc, "svg", "FILE", "Write a picture to this file");
+    command
         .arg(raw)?
         .arg(json)?
         .arg(svg)?
         .arg(progress_option(alloc, READING))?
-        .arg(images)
+        .arg(images_words(alloc))
+}
+
+fn images_words<'a>(alloc: Global) -> Arg<'a> {
+    image_word(alloc).num_args(1..)
+}
+
+fn image_word<'a>(alloc: Global) -> Arg<'a> {
+    let help = "An image of memory for each guest, guest 0's first";
+    positional(alloc, "IMAGE", help).required(true)
 }
 
 fn salts_option<'a>(alloc: Global) -> Arg<'a> {
-    Arg::new(alloc, "salts")
-        .long("salts")
-        .value_name("N,N,..")
-        .help(
-            "A number for each image: pages are shared only where these are equal [default: 0 for each]",
-        )
-        .value_parser(value_parser!(u32))
-        .value_delimiter(',')
+    salt_option(alloc).value_delimiter(',')
+}
+
+fn salt_option<'a>(alloc: Global) -> Arg<'a> {
+    option(alloc, "salts", "N,N,..", SALTS).value_parser(value_parser!(u32))
 }
 
 fn workers_option<'a>(alloc: Global) -> Arg<'a> {
-    Arg::new(alloc, "workers")
-        .long("workers")
-        .value_name("N")
-        .help("How many threads read, 1 to 64 [default: the number of processors]")
-        .value_parser(value_parser!(u32).range(1..=64))
+    let help = "How many threads read, 1 to 64 [default: the number of processors]";
+    let workers = option(alloc, "workers", "N", help);
+    workers.value_parser(value_parser!(u32).range(1..=64))
 }
 
 /// What the words behind `estimate` ask for. Another number of salts than of images is an error.

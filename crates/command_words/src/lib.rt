@@ -1,0 +1,14 @@
+//! The command line of the program `pageshare`: what its words ask for, with help and the faults of words by the crate `clap`.
+//!
+//! `clap`'s builder carries all that is known of an argument from call to call, so a function here makes few of its calls, and
+//! hands on an argument or a command of which nothing is told.
+#![tactic(auto)]
+
+mod estimate_words;
+mod parts;
+mod progress_words;
+mod words;
+
+pub use estimate_words::{EstimateWords, MOST_WORKERS};
+pub use progress_words::Drawn;
+pub use words::{Asked, Task, Work, asked_of};

@@ -1,0 +1,9 @@
+//! The command `estimate` of the program `pageshare`: it tells what sharing equal pages of memory images would reclaim.
+#![tactic(auto)]
+
+mod estimate;
+mod faults;
+mod images;
+mod reading;
+
+pub use estimate::do_estimate;

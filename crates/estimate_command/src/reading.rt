@@ -1,0 +1,52 @@
+//! How much of some images was read.
+use page_census::Progress;
+use progress_line::{DrawnLine, ReadSoFar, Told};
+use std::sync::atomic::{AtomicU64, Ordering};
+use std::time::Clock;
+
+/// How many pages of images were read, and the line that tells it, if any is drawn.
+#[derive(Drop)]
+pub struct Reading<'a, R> {
+    line: Option<DrawnLine<'a, R>>,
+    done: AtomicU64,
+    total: u64,
+}
+
+impl<'a, R: Eprint + Clock> Reading<'a, R> {
+    /// Nothing is read yet of so many pages.
+    pub fn new(line: Option<DrawnLine<'a, R>>, total: u64) -> Reading<'a, R> {
+        Reading {
+            line,
+            done: AtomicU64::new(0),
+            total,
+        }
+    }
+
+    /// Draws the line for the last time, and ends it.
+    pub fn end(&self) {
+        if let Some(line) = &self.line {
+            line.end(self);
+        }
+    }
+}
+
+impl<R> Told for Reading<'_, R> {
+    type Shown = ReadSoFar;
+
+    fn told(&self, elapsed: u64) -> ReadSoFar {
+        ReadSoFar {
+            done: self.done.load(Ordering::SeqCst),
+            total: self.total,
+            elapsed,
+        }
+    }
+}
+
+impl<R: Eprint + Clock + Sync> Progress for Reading<'_, R> {
+    fn advance(&self, pages: usize) {
+        if let Some(line) = &self.line {
+            self.done.fetch_add(pages as u64, Ordering::SeqCst);
+            line.draw_if_due(self);
+        }
+    }
+}

@@ -1,0 +1,10 @@
+//! A line on standard error that tells how far the work is.
+#![tactic(auto)]
+
+mod drawn;
+mod reading;
+mod running;
+
+pub use drawn::{DrawnLine, Told, line_where};
+pub use reading::ReadSoFar;
+pub use running::RunSoFar;

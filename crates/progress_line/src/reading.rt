@@ -1,0 +1,50 @@
+//! How much of some images was read.
+use std::fmt::{self, Display, Formatter};
+
+/// Pages of 4,096 bytes in a MiB.
+const PAGES: u64 = 256;
+
+/// So many pages of all were read in so many milliseconds.
+#[derive(Clone, Copy, Debug, PartialEq, Eq, Drop)]
+pub struct ReadSoFar {
+    pub done: u64,
+    pub total: u64,
+    pub elapsed: u64,
+}
+
+impl ReadSoFar {
+    /// The hundredths that were read. Nothing is whole.
+    fn per_cent(&self) -> u64 {
+        match self.done.saturating_mul(100).checked_div(self.total) {
+            Some(part) => part,
+            None => 100,
+        }
+    }
+
+    /// The MiB read in a second.
+    fn rate(&self) -> u64 {
+        let thousandfold = self.done.saturating_mul(1000);
+        (thousandfold / PAGES)
+            .checked_div(self.elapsed)
+            .unwrap_or(0)
+    }
+
+    /// The seconds that are left at this rate, rounded up; `None` where nothing was read.
+    fn seconds_left(&self) -> Option<u64> {
+        let left = self.total.saturating_sub(self.done);
+        let time = left.saturating_mul(self.elapsed).checked_div(self.done)?;
+        Some(time.div_ceil(1000))
+    }
+}
+
+impl Display for ReadSoFar {
+    fn fmt<W: fmt::Write>(&self, f: &mut Formatter<W>) -> fmt::Result {
+        let (part, rate) = (self.per_cent(), self.rate());
+        let (read, all) = (self.done / PAGES, self.total / PAGES);
+        write!(f, "{part:>3} %  {read} of {all} MiB  {rate} MiB/s")?;
+        match self.seconds_left() {
+            Some(seconds) => write!(f, "  {seconds} s left"),
+            None => Ok(()),
+        }
+    }
+}

@@ -1,0 +1,154 @@
+//! What the words of a command line ask for.
+use clap::error::ErrorKind;
+use command_words::{Asked, Drawn, EstimateWords, Task, Work, asked_of};
+use std::alloc::{AllocError, Global};
+use std::test::Fail;
+
+fn of_run(is_journal: bool, progress: Drawn) -> Work {
+    Work::Run {
+        is_journal,
+        progress,
+    }
+}
+
+fn words(alloc: Global, texts: &[&str]) -> Result<Vec<String>, AllocError> {
+    let mut words = Vec::new(alloc);
+    words.push(String::from_str(alloc, "pageshare")?)?;
+    for text in texts {
+        words.push(String::from_str(alloc, text)?)?;
+    }
+    Ok(words)
+}
+
+#[test]
+fn reads_the_words(rt: HostRuntime) -> Result<(), Fail> {
+    let alloc = rt.alloc();
+    let asked: [(&[&str], Work, Option<&str>); 9] = [
+        (&["replay"], Work::Replay, None),
+        (&["replay", "a.journal"], Work::Replay, Some("a.journal")),
+        (&["serial"], Work::Serial, None),
+        (&["serial", "a.script"], Work::Serial, Some("a.script")),
+        (&["run"], of_run(false, Drawn::Auto), None),
+        (
+            &["run", "a.script"],
+            of_run(false, Drawn::Auto),
+            Some("a.script"),
+        ),
+        (&["run", "--journal"], of_run(true, Drawn::Auto), None),
+        (
+            &["run", "--progress", "always", "a.script"],
+            of_run(false, Drawn::Always),
+            Some("a.script"),
+        ),
+        (
+            &["run", "--journal", "--progress=never", "a.script"],
+            of_run(true, Drawn::Never),
+            Some("a.script"),
+        ),
+    ];
+    for (texts, work, file) in asked {
+        let given = words(alloc, texts)?;
+        let due = Asked::Text(Task { work, file });
+        assert_eq!(rt; asked_of(alloc, &given).ok(), Some(due));
+    }
+    let mistakes: [(&[&str], ErrorKind); 21] = [
+        (&[], ErrorKind::MissingSubcommand),
+        (&["journal"], ErrorKind::InvalidSubcommand),
+        (
+            &["replay", "a.journal", "b.journal"],
+            ErrorKind::UnknownArgument,
+        ),
+        (&["replay", "--journal"], ErrorKind::UnknownArgument),
+        (&["serial", "--journal"], ErrorKind::UnknownArgument),
+        (&["run", "a.script", "b.script"], ErrorKind::UnknownArgument),
+        (&["run", "--progress", "often"], ErrorKind::InvalidValue),
+        (
+            &["serial", "--progress", "auto"],
+            ErrorKind::UnknownArgument,
+        ),
+        (&["--help"], ErrorKind::DisplayHelp),
+        (&["replay", "--help"], ErrorKind::DisplayHelp),
+        (&["run", "--help"], ErrorKind::DisplayHelp),
+        (&["serial", "--help"], ErrorKind::DisplayHelp),
+        (&["--version"], ErrorKind::DisplayVersion),
+        (&["estimate", "--help"], ErrorKind::DisplayHelp),
+        (&["estimate"], ErrorKind::MissingRequiredArgument),
+        (
+            &["estimate", "--salts", "1", "a", "b"],
+            ErrorKind::WrongNumberOfValues,
+        ),
+        (
+            &["estimate", "--salts", "1,x", "a", "b"],
+            ErrorKind::ValueValidation,
+        ),
+        (
+            &["estimate", "--workers", "0", "a"],
+            ErrorKind::ValueValidation,
+        ),
+        (
+            &["estimate", "--workers", "65", "a"],
+            ErrorKind::ValueValidation,
+        ),
+        (
+            &["estimate", "--progress", "often", "a"],
+            ErrorKind::InvalidValue,
+        ),
+        (&["estimate", "--table", "a"], ErrorKind::UnknownArgument),
+    ];
+    for (texts, kind) in mistakes {
+        let given = words(alloc, texts)?;
+        let error = asked_of(alloc, &given).err().ok_or("no error")?;
+        assert_eq!(rt; error.kind(), kind);
+    }
+    Ok(())
+}
+
+fn estimate_of<'a>(alloc: Global, words: &'a [String]) -> Result<EstimateWords<'a>, Fail> {
+    match asked_of(alloc, words).map_err(|_| "an error")? {
+        Asked::Estimate(asked) => Ok(asked),
+        Asked::Text(_) => Err("a text")?,
+    }
+}
+
+#[test]
+fn reads_the_words_of_an_estimate(rt: HostRuntime) -> Result<(), Fail> {
+    let given = words(rt.alloc(), &["estimate", "a.raw", "b.core"])?;
+    let asked = estimate_of(rt.alloc(), &given)?;
+    assert_eq!(rt; asked.images.len(), 2);
+    assert_eq!(rt; asked.images.first().copied(), Some("a.raw"));
+    assert_eq!(rt; asked.images.last().copied(), Some("b.core"));
+    assert!(rt; asked.salts.is_empty());
+    assert_eq!(rt; asked.workers, None);
+    assert!(rt; !asked.raw && !asked.json);
+    assert_eq!(rt; asked.svg, None);
+    assert_eq!(rt; asked.progress, Drawn::Auto);
+    Ok(())
+}
+
+#[test]
+fn reads_the_options_of_an_estimate(rt: HostRuntime) -> Result<(), Fail> {
+    let options = [
+        "estimate",
+        "--salts=0,4294967295",
+        "--workers",
+        "64",
+        "--raw",
+        "--json",
+        "--svg",
+        "a.svg",
+        "--progress",
+        "never",
+        "a.raw",
+        "a.raw",
+    ];
+    let given = words(rt.alloc(), &options)?;
+    let asked = estimate_of(rt.alloc(), &given)?;
+    assert_eq!(rt; asked.images.len(), 2);
+    assert_eq!(rt; asked.images.last().copied(), Some("a.raw"));
+    assert_eq!(rt; asked.salts.as_slice(), [0, u32::MAX].as_slice());
+    assert_eq!(rt; asked.workers, Some(64));
+    assert!(rt; asked.raw && asked.json);
+    assert_eq!(rt; asked.svg, Some("a.svg"));
+    assert_eq!(rt; asked.progress, Drawn::Never);
+    Ok(())
+}
