@@ -1,0 +1,33 @@
+//! Times the stores of pages: the calls of `Frames`, those of `Table`, or the hashes of pages, as the first word says, `frames`,
+//! `table` or `hash`, over as many as the second says. With no number it only tries them, and with no word it tries each.
+#![tactic(auto)]
+
+mod frame_calls;
+mod keys;
+mod pages;
+mod table_calls;
+mod time_frames;
+mod time_hashes;
+mod time_table;
+
+use std::{env, io};
+
+fn main(rt: HostRuntime) -> io::Result<()> {
+    let (alloc, mut words) = (rt.alloc(), env::args(&rt)?);
+    let _program = words.next();
+    let Some(part) = words.next() else {
+        time_frames::time_frames(&rt, alloc, None)?;
+        time_table::time_table(&rt, alloc, None)?;
+        return time_hashes::time_hashes(&rt, alloc, None);
+    };
+    let asked = match words.next() {
+        Some(word) => word.parse().ok(),
+        None => None,
+    };
+    match part.as_str() {
+        "frames" => time_frames::time_frames(&rt, alloc, asked),
+        "table" => time_table::time_table(&rt, alloc, asked),
+        "hash" => time_hashes::time_hashes(&rt, alloc, asked),
+        other => println!(rt; "store_bench: no part is named {other}"),
+    }
+}

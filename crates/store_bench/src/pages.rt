@@ -1,0 +1,78 @@
+//! The pages that are hashed.
+ghost use Rattle.std.specs.Prelude.{IfOk, IfSome};
+ghost use Rattle.machine_frames.specs.FrameMap.{IsTaken};
+ghost use Rattle.page_digest.specs.Many.{AreTaken};
+
+use machine_frames::Frames;
+use page_digest::{PageHash, Sha256Hash};
+use page_model::Page;
+use std::alloc::{AllocError, Global};
+
+/// Frames, and a list of salts and MPNs of these.
+#[derive(Drop)]
+pub struct Listed {
+    pub frames: Frames,
+    pub pairs: Vec<(u32, u32)>,
+}
+
+/// Two frames, listed so often in turn under two salts.
+pub fn list_pages(alloc: Global, count: u32) -> Option<Listed>
+    ensures { IfSome result (λ listed. AreTaken listed.frames listed.pairs.items) }
+{
+    let mut frames = Frames::new(alloc, 2).ok()?;
+    let first = frames.take_zeroed()?;
+    let second = frames.take_zeroed()?;
+    frames.write(second, 0, &[0x41]);
+    let pairs = list_in_turn(alloc, &frames, first, second, count).ok()?;
+    Some(Listed { frames, pairs })
+}
+
+fn list_in_turn(
+    alloc: Global,
+    frames: &Frames,
+    first: u32,
+    second: u32,
+    count: u32,
+) -> Result<Vec<(u32, u32)>, AllocError>
+    requires first { IsTaken frames.now first }
+    requires second { IsTaken frames.now second }
+    ensures { IfOk result (λ pairs. AreTaken frames.now pairs.items) }
+{
+    let mut pairs = Vec::with_capacity(alloc, count as usize)?;
+    for n in 0..count {
+        let mpn = in_turn(frames, first, second, n);
+        pairs.push_reserved((n % 3, mpn));
+    }
+    Ok(pairs)
+}
+
+fn in_turn(_frames: &Frames, first: u32, second: u32, n: u32) -> u32
+    requires first { IsTaken _frames.now first }
+    requires second { IsTaken _frames.now second }
+    ensures { IsTaken _frames.now result }
+{
+    if n % 2 == 0 { first } else { second }
+}
+
+/// The sum of so many hashes of a page, made one by one.
+pub fn one_by_one(page: &Page, count: u32) -> u64 {
+    let mut sum = 0u64;
+    for n in 0..count {
+        sum = sum.wrapping_add(Sha256Hash.hash(n % 4, page));
+    }
+    sum
+}
+
+/// The same, made four at once, as far as whole fours go.
+pub fn four_at_once(page: &Page, count: u32) -> u64 {
+    let mut sum = 0u64;
+    for _four in 0..count / 4 {
+        let numbers = Sha256Hash.hash_four([0, 1, 2, 3], page, page, page, page);
+        sum = sum
+            .wrapping_add(numbers[0])
+            .wrapping_add(numbers[1])
+            .wrapping_add(numbers[2])
+            .wrapping_add(numbers[3]);
+    }
+    sum
+}
