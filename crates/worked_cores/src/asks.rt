@@ -1,15 +1,18 @@
-//! Requests with the verdicts that are wanted.
-use merge_core::{Core, CoreFault};
+//! Requests with the verdicts that are wanted, and what is seen of machines that serve them.
+//!
+//! Machines are made, served and let go behind functions without clauses that answer plain data, so that a test is little to
+//! prove: it makes a list of lines and compares what was seen.
+use merge_core::Core;
 use page_digest::PageHash;
 use page_model::{Request, Verdict};
-use std::alloc::Allocator;
+use std::alloc::{AllocError, Allocator, Global};
 use std::process::Abort;
-use std::test::Fail;
 
 /// What a guest asks. A store begins at the page's first byte.
 #[derive(Clone, Copy)]
 pub enum Ask {
-    Store(u32, &'static [u8]),
+    Store(u32, u8),
+    StoreTwo(u32, [u8; 2]),
     Propose(u32),
     Release(u32),
     Count,
@@ -20,7 +23,8 @@ pub type Line = (u8, Ask, Verdict);
 
 pub fn request_of(rt: &impl Abort, ask: Ask) -> Request {
     match ask {
-        Ask::Store(ppn, bytes) => Request::store(ppn, 0, bytes).ok().expect(rt, "a store"),
+        Ask::Store(ppn, byte) => Request::store(ppn, 0, &[byte]).ok().expect(rt, "a store"),
+        Ask::StoreTwo(ppn, bytes) => Request::store(ppn, 0, &bytes).ok().expect(rt, "a store"),
         Ask::Propose(ppn) => Request::Propose(ppn),
         Ask::Release(ppn) => Request::Release(ppn),
         Ask::Count => Request::Count,
@@ -65,35 +69,42 @@ pub fn core_of<H: PageHash + Drop, A: Allocator + Clone>(
     frames: u32,
     pages: &[u32],
     hash: H,
-) -> Result<Core<H, A>, CoreFault> {
+) -> Core<H, A> {
     let salts = [0; 64];
     assert!(rt; pages.len() <= 64);
     Core::new(alloc, frames, pages, &salts[..pages.len()], hash)
+        .ok()
+        .expect(rt, "a core")
 }
 
 /// Three pages of one content share one frame: two of guest 0, and one of guest 1.
+pub const SHARE_THREE: [Line; 6] = [
+    (0, Ask::Store(0, b'A'), Verdict::Mapped),
+    (0, Ask::Store(1, b'A'), Verdict::Mapped),
+    (1, Ask::Store(0, b'A'), Verdict::Mapped),
+    (0, Ask::Propose(0), Verdict::Hinted),
+    (0, Ask::Propose(1), Verdict::Paired),
+    (1, Ask::Propose(0), Verdict::Joined(3)),
+];
+
 pub fn share_three<H: PageHash, A: Allocator>(rt: &impl Abort, core: &mut Core<H, A>) {
-    let lines = [
-        (0, Ask::Store(0, b"A"), Verdict::Mapped),
-        (0, Ask::Store(1, b"A"), Verdict::Mapped),
-        (1, Ask::Store(0, b"A"), Verdict::Mapped),
-        (0, Ask::Propose(0), Verdict::Hinted),
-        (0, Ask::Propose(1), Verdict::Paired),
-        (1, Ask::Propose(0), Verdict::Joined(3)),
-    ];
-    serve(rt, core, &lines);
+    serve(rt, core, &SHARE_THREE);
     assert_eq!(rt; numbers(core), [6, 3, 3, 1, 2, 0]);
 }
 
-/// A core of three frames in which three pages share one.
-pub fn three_share<H: PageHash + Drop, A: Allocator + Clone>(
+/// Stores the same to each of guest 0's first pages. So many pages, each by its guest and number.
+pub fn store_each<H: PageHash>(
     rt: &impl Abort,
-    alloc: A,
-    hash: H,
-) -> Result<Core<H, A>, Fail> {
-    let mut core = core_of(rt, alloc, 3, &[2, 1], hash)?;
-    share_three(rt, &mut core);
-    Ok(core)
+    alloc: Global,
+    core: &mut Core<H>,
+    count: u32,
+) -> Result<Vec<(u8, u32)>, AllocError> {
+    let mut pages = Vec::new(alloc);
+    for ppn in 0..count {
+        serve(rt, core, &[(0, Ask::Store(ppn, b'A'), Verdict::Mapped)]);
+        pages.push((0, ppn))?;
+    }
+    Ok(pages)
 }
 
 /// The page's frame.

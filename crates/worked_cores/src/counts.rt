@@ -2,39 +2,52 @@
 use crate::asks::{Ask, core_of, numbers, serve, share_three, told};
 use page_digest::Sha256Hash;
 use page_model::Verdict;
-use std::test::Fail;
+use std::alloc::Global;
+use std::process::Abort;
+
+/// The count and the report of a machine in which three pages share a frame; then of that whose count begins anew; and the
+/// report after a store.
+fn counted_anew(rt: &impl Abort, alloc: Global) -> ([u32; 2], [[u32; 6]; 3]) {
+    let mut core = core_of(rt, alloc, 3, &[2, 1], Sha256Hash);
+    share_three(rt, &mut core);
+    let (count, before) = (core.entries(), numbers(&core));
+    core.restart_count();
+    let (anew, after) = (core.entries(), numbers(&core));
+    serve(rt, &mut core, &[(1, Ask::Store(0, b'B'), Verdict::Copied)]);
+    ([count, anew], [before, after, numbers(&core)])
+}
 
 /// The count begins anew, and nothing else changes.
 #[test]
-fn count_anew(rt: HostRuntime) -> Result<(), Fail> {
-    let mut core = core_of(&rt, rt.alloc(), 3, &[2, 1], Sha256Hash)?;
-    share_three(&rt, &mut core);
-    assert_eq!(rt; core.entries(), 6);
-    core.restart_count();
-    assert_eq!(rt; core.entries(), 0);
-    assert_eq!(rt; numbers(&core), [0, 3, 3, 1, 2, 0]);
-    serve(&rt, &mut core, &[(1, Ask::Store(0, b"B"), Verdict::Copied)]);
-    assert_eq!(rt; numbers(&core), [1, 3, 2, 2, 1, 0]);
-    Ok(())
+fn count_anew(rt: HostRuntime) {
+    let (counts, [shared, anew, copied]) = counted_anew(&rt, rt.alloc());
+    assert_eq!(rt; counts, [6, 0]);
+    assert_eq!(rt; shared, [6, 3, 3, 1, 2, 0]);
+    assert_eq!(rt; anew, [0, 3, 3, 1, 2, 0]);
+    assert_eq!(rt; copied, [1, 3, 2, 2, 1, 0]);
+}
+
+/// A machine of two frames, which both are taken when their last page is stored to: whether a count then tells the report, and
+/// the report.
+fn filled(rt: &impl Abort, alloc: Global) -> (bool, [u32; 6]) {
+    let mut core = core_of(rt, alloc, 2, &[3], Sha256Hash);
+    let lines = [
+        (0, Ask::Store(0, b'A'), Verdict::Mapped),
+        (0, Ask::Store(1, b'A'), Verdict::Mapped),
+        (0, Ask::Propose(0), Verdict::Hinted),
+        (0, Ask::Propose(1), Verdict::Paired),
+        (0, Ask::Store(2, b'C'), Verdict::Mapped),
+        (0, Ask::Store(0, b'D'), Verdict::NoFrame),
+        (0, Ask::Release(0), Verdict::Released(false)),
+        (0, Ask::Store(1, b'E'), Verdict::Taken),
+    ];
+    serve(rt, &mut core, &lines);
+    let answer = told(rt, &mut core, 0, Ask::Count);
+    (answer == Verdict::Totals(core.report()), numbers(&core))
 }
 
 /// A full machine still takes a store through the last page of a shared frame.
 #[test]
-fn last_reference(rt: HostRuntime) -> Result<(), Fail> {
-    let mut core = core_of(&rt, rt.alloc(), 2, &[3], Sha256Hash)?;
-    let lines = [
-        (0, Ask::Store(0, b"A"), Verdict::Mapped),
-        (0, Ask::Store(1, b"A"), Verdict::Mapped),
-        (0, Ask::Propose(0), Verdict::Hinted),
-        (0, Ask::Propose(1), Verdict::Paired),
-        (0, Ask::Store(2, b"C"), Verdict::Mapped),
-        (0, Ask::Store(0, b"D"), Verdict::NoFrame),
-        (0, Ask::Release(0), Verdict::Released(false)),
-        (0, Ask::Store(1, b"E"), Verdict::Taken),
-    ];
-    serve(&rt, &mut core, &lines);
-    let answer = told(&rt, &mut core, 0, Ask::Count);
-    assert!(rt; answer == Verdict::Totals(core.report()), "{answer:?}");
-    assert_eq!(rt; numbers(&core), [9, 2, 0, 2, 0, 0]);
-    Ok(())
+fn last_reference(rt: HostRuntime) {
+    assert_eq!(rt; filled(&rt, rt.alloc()), (true, [9, 2, 0, 2, 0, 0]));
 }

@@ -1,12 +1,11 @@
 //! Pages that are hashed together with one that is proposed, as the requests in sight will leave them.
 use crate::asks::{Ask, Line, core_of, request_of, serve};
-use crate::hashes::Fours;
+use crate::hashes::{Calls, Fours};
 use merge_core::Core;
 use page_digest::PageHash;
 use page_model::{Entry, Verdict};
 use std::alloc::{AllocError, Allocator, Global};
 use std::process::Abort;
-use std::sync::atomic::{AtomicU32, Ordering};
 use std::test::Fail;
 
 /// The requests of these lines.
@@ -52,31 +51,27 @@ fn serve_ahead<H: PageHash, A: Allocator>(
 
 /// How many pages are hashed alone, and how many of four at once, where these lines are served on a new machine of two guests
 /// with eight pages each.
-fn hashed(rt: &impl Abort, alloc: Global, lines: &[Line]) -> Result<(u32, u32), Fail> {
-    let (alone, at_once) = (AtomicU32::new(0), AtomicU32::new(0));
-    let hash = Fours {
-        alone: &alone,
-        at_once: &at_once,
-    };
-    let mut core = core_of(rt, alloc, 16, &[8, 8], hash)?;
+fn hashed(rt: &impl Abort, alloc: Global, lines: &[Line]) -> Result<(u32, u32), AllocError> {
+    let calls = Calls::new();
+    let mut core = core_of(rt, alloc, 16, &[8, 8], Fours(&calls));
     serve_ahead(rt, alloc, &mut core, lines)?;
-    Ok((alone.load(Ordering::SeqCst), at_once.load(Ordering::SeqCst)))
+    Ok(calls.both())
 }
 
 /// Each page is stored to and then proposed, those of two guests in turn: four are hashed at once, then the last one alone.
 #[test]
 fn stored_and_proposed(rt: HostRuntime) -> Result<(), Fail> {
     let lines = [
-        (0, Ask::Store(0, b"A"), Verdict::Mapped),
+        (0, Ask::Store(0, b'A'), Verdict::Mapped),
         (0, Ask::Propose(0), Verdict::Hinted),
-        (1, Ask::Store(0, b"B"), Verdict::Mapped),
+        (1, Ask::Store(0, b'B'), Verdict::Mapped),
         (1, Ask::Propose(0), Verdict::Hinted),
-        (0, Ask::Store(1, b"C"), Verdict::Mapped),
-        (0, Ask::Store(1, b"B"), Verdict::Stored),
+        (0, Ask::Store(1, b'C'), Verdict::Mapped),
+        (0, Ask::Store(1, b'B'), Verdict::Stored),
         (0, Ask::Propose(1), Verdict::Paired),
-        (1, Ask::Store(1, b"D"), Verdict::Mapped),
+        (1, Ask::Store(1, b'D'), Verdict::Mapped),
         (1, Ask::Propose(1), Verdict::Hinted),
-        (0, Ask::Store(2, b"E"), Verdict::Mapped),
+        (0, Ask::Store(2, b'E'), Verdict::Mapped),
         (0, Ask::Propose(2), Verdict::Hinted),
     ];
     assert_eq!(rt; hashed(&rt, rt.alloc(), &lines)?, (1, 4));
@@ -87,12 +82,12 @@ fn stored_and_proposed(rt: HostRuntime) -> Result<(), Fail> {
 #[test]
 fn at_rest(rt: HostRuntime) -> Result<(), Fail> {
     let lines = [
-        (0, Ask::Store(0, b"A"), Verdict::Mapped),
-        (0, Ask::Store(1, b"B"), Verdict::Mapped),
-        (0, Ask::Store(2, b"C"), Verdict::Mapped),
-        (0, Ask::Store(3, b"D"), Verdict::Mapped),
+        (0, Ask::Store(0, b'A'), Verdict::Mapped),
+        (0, Ask::Store(1, b'B'), Verdict::Mapped),
+        (0, Ask::Store(2, b'C'), Verdict::Mapped),
+        (0, Ask::Store(3, b'D'), Verdict::Mapped),
         (0, Ask::Propose(0), Verdict::Hinted),
-        (0, Ask::Store(4, b"E"), Verdict::Mapped),
+        (0, Ask::Store(4, b'E'), Verdict::Mapped),
         (0, Ask::Propose(4), Verdict::Hinted),
         (0, Ask::Propose(1), Verdict::Hinted),
         (0, Ask::Propose(2), Verdict::Hinted),
@@ -107,14 +102,14 @@ fn at_rest(rt: HostRuntime) -> Result<(), Fail> {
 #[test]
 fn released(rt: HostRuntime) -> Result<(), Fail> {
     let lines = [
-        (0, Ask::Store(1, b"AB"), Verdict::Mapped),
-        (0, Ask::Store(0, b"A"), Verdict::Mapped),
+        (0, Ask::StoreTwo(1, [b'A', b'B']), Verdict::Mapped),
+        (0, Ask::Store(0, b'A'), Verdict::Mapped),
         (0, Ask::Propose(0), Verdict::Hinted),
         (0, Ask::Release(1), Verdict::Released(true)),
         (0, Ask::Propose(1), Verdict::Unmapped),
-        (0, Ask::Store(2, b"C"), Verdict::Mapped),
+        (0, Ask::Store(2, b'C'), Verdict::Mapped),
         (0, Ask::Release(2), Verdict::Released(true)),
-        (0, Ask::Store(2, b"A"), Verdict::Mapped),
+        (0, Ask::Store(2, b'A'), Verdict::Mapped),
         (0, Ask::Propose(2), Verdict::Paired),
         (0, Ask::Propose(2), Verdict::Already),
         (0, Ask::Propose(9), Verdict::NoPage),
@@ -123,38 +118,40 @@ fn released(rt: HostRuntime) -> Result<(), Fail> {
     Ok(())
 }
 
+/// The same for a machine of one guest with four pages, after the first line of those that are in `sight`, and once other
+/// lines `came` than the rest of them.
+fn hashed_otherwise(
+    rt: &impl Abort,
+    alloc: Global,
+    sight: &[Line],
+    came: &[Line],
+) -> Result<[(u32, u32); 2], AllocError> {
+    let calls = Calls::new();
+    let mut core = core_of(rt, alloc, 4, &[4], Fours(&calls));
+    serve(rt, &mut core, &[(0, Ask::Store(0, b'A'), Verdict::Mapped)]);
+    let entries = entries_of(rt, alloc, sight)?;
+    let answer = told_ahead(rt, &mut core, &entries);
+    assert_eq!(rt; answer, Verdict::Hinted);
+    let first = calls.both();
+    serve_ahead(rt, alloc, &mut core, came)?;
+    Ok([first, calls.both()])
+}
+
 /// Other requests come than those that were in sight: the page is hashed anew, and the verdicts are those of what came.
 #[test]
 fn other_requests_come(rt: HostRuntime) -> Result<(), Fail> {
-    let (alone, at_once) = (AtomicU32::new(0), AtomicU32::new(0));
-    let hash = Fours {
-        alone: &alone,
-        at_once: &at_once,
-    };
-    let mut core = core_of(&rt, rt.alloc(), 4, &[4], hash)?;
-    serve(&rt, &mut core, &[(0, Ask::Store(0, b"A"), Verdict::Mapped)]);
     let sight = [
         (0, Ask::Propose(0), Verdict::Hinted),
-        (0, Ask::Store(1, b"B"), Verdict::Mapped),
+        (0, Ask::Store(1, b'B'), Verdict::Mapped),
         (0, Ask::Propose(1), Verdict::Hinted),
     ];
-    let entries = entries_of(&rt, rt.alloc(), &sight)?;
-    let answer = told_ahead(&rt, &mut core, &entries);
-    assert_eq!(rt; answer, Verdict::Hinted);
-    assert_eq!(rt;
-        (alone.load(Ordering::SeqCst), at_once.load(Ordering::SeqCst)),
-        (0, 4)
-    );
     let came = [
-        (0, Ask::Store(1, b"A"), Verdict::Mapped),
+        (0, Ask::Store(1, b'A'), Verdict::Mapped),
         (0, Ask::Propose(1), Verdict::Paired),
-        (0, Ask::Store(2, b"B"), Verdict::Mapped),
+        (0, Ask::Store(2, b'B'), Verdict::Mapped),
         (0, Ask::Propose(2), Verdict::Hinted),
     ];
-    serve_ahead(&rt, rt.alloc(), &mut core, &came)?;
-    assert_eq!(rt;
-        (alone.load(Ordering::SeqCst), at_once.load(Ordering::SeqCst)),
-        (0, 8)
-    );
+    let counts = hashed_otherwise(&rt, rt.alloc(), &sight, &came)?;
+    assert_eq!(rt; counts, [(0, 4), (0, 8)]);
     Ok(())
 }

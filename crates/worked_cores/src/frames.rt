@@ -1,81 +1,111 @@
 //! Which frame each page has, before and after requests.
-use crate::asks::{Ask, core_of, frame, serve, share_three, three_share};
+use crate::asks::{Ask, Line, SHARE_THREE, core_of, frame, numbers, serve};
 use merge_core::Core;
-use page_digest::{PageHash, Sha256Hash};
+use page_digest::Sha256Hash;
 use page_model::Verdict;
-use std::alloc::Allocator;
+use std::alloc::Global;
 use std::process::Abort;
-use std::test::Fail;
 
-#[test]
-fn one_frame(rt: HostRuntime) -> Result<(), Fail> {
-    let alloc = rt.alloc();
-    let rt = &rt;
-    let mut core = three_share(rt, alloc, Sha256Hash)?;
-    let one = frame(rt, &core, 0, 0);
-    assert!(rt; one.is_some());
-    assert_eq!(rt; frame(rt, &core, 0, 1), one);
-    assert_eq!(rt; frame(rt, &core, 1, 0), one);
-    assert_eq!(rt; core.frames().used(), 1);
-    assert_eq!(rt; core.frames().total(), 3);
-    serve(rt, &mut core, &[(1, Ask::Store(0, b"B"), Verdict::Copied)]);
-    let other = frame(rt, &core, 1, 0);
-    assert!(rt; other.is_some() && other != one);
-    serve(
-        rt,
-        &mut core,
-        &[(1, Ask::Release(0), Verdict::Released(true))],
-    );
-    assert_eq!(rt; frame(rt, &core, 1, 0), None);
-    Ok(())
+/// What is seen of a machine of two guests, of which the second has few pages.
+#[derive(Clone, Copy)]
+struct Seen {
+    report: [u32; 6],
+    /// The frames of guest 0's pages 0 and 1 and of guest 1's page 0.
+    frames: [Option<u32>; 3],
+    /// How many frames are taken, and how many there are.
+    taken: [u32; 2],
+    /// How many guests there are, and how many pages guest 1 has.
+    guests: u8,
+    pages: u32,
+    /// The first and the last byte of guest 1's page 0.
+    bytes: [u8; 2],
 }
 
-/// The frames of guest 0's pages 0 and 1 and of guest 1's page 0.
-fn three_frames<H: PageHash, A: Allocator>(rt: &impl Abort, core: &Core<H, A>) -> [Option<u32>; 3] {
-    [
-        frame(rt, core, 0, 0),
-        frame(rt, core, 0, 1),
-        frame(rt, core, 1, 0),
-    ]
+fn taken(core: &Core<Sha256Hash>) -> [u32; 2] {
+    let frames = core.frames();
+    [frames.used(), frames.total()]
+}
+
+/// The first and the last byte of a page.
+fn bytes(rt: &impl Abort, core: &Core<Sha256Hash>, guest: u8, ppn: u32) -> [u8; 2] {
+    assert!(rt; guest < core.guests());
+    assert!(rt; ppn < core.pages(guest));
+    [core.read(guest, ppn, 0), core.read(guest, ppn, 4095)]
+}
+
+fn pages(rt: &impl Abort, core: &Core<Sha256Hash>, guest: u8) -> u32 {
+    assert!(rt; guest < core.guests());
+    core.pages(guest)
+}
+
+/// What is seen once these lines are served.
+fn look(rt: &impl Abort, core: &mut Core<Sha256Hash>, lines: &[Line]) -> Seen {
+    serve(rt, core, lines);
+    Seen {
+        report: numbers(core),
+        frames: [
+            frame(rt, core, 0, 0),
+            frame(rt, core, 0, 1),
+            frame(rt, core, 1, 0),
+        ],
+        taken: taken(core),
+        guests: core.guests(),
+        pages: pages(rt, core, 1),
+        bytes: bytes(rt, core, 1, 0),
+    }
+}
+
+/// What is seen of a machine of three frames and of guests with two pages and one, after each of three parts.
+fn seen_after(rt: &impl Abort, alloc: Global, a: &[Line], b: &[Line], c: &[Line]) -> [Seen; 3] {
+    let mut core = core_of(rt, alloc, 3, &[2, 1], Sha256Hash);
+    let first = look(rt, &mut core, a);
+    let second = look(rt, &mut core, b);
+    [first, second, look(rt, &mut core, c)]
+}
+
+#[test]
+fn one_frame(rt: HostRuntime) {
+    let copied = [(1, Ask::Store(0, b'B'), Verdict::Copied)];
+    let released = [(1, Ask::Release(0), Verdict::Released(true))];
+    let [shared, apart, gone] = seen_after(&rt, rt.alloc(), &SHARE_THREE, &copied, &released);
+    assert_eq!(rt; shared.report, [6, 3, 3, 1, 2, 0]);
+    let [one, same, third] = shared.frames;
+    assert!(rt; one.is_some());
+    assert_eq!(rt; [same, third], [one, one]);
+    assert_eq!(rt; shared.taken, [1, 3]);
+    let [_, _, other] = apart.frames;
+    assert!(rt; other.is_some() && other != one);
+    assert_eq!(rt; gone.frames[2], None);
 }
 
 /// The page that was the hint keeps its frame where another pairs with it, and the last page of a shared frame where
 /// it is stored to. No other page's frame moves.
 #[test]
-fn frames_stay(rt: HostRuntime) -> Result<(), Fail> {
-    let alloc = rt.alloc();
-    let rt = &rt;
-    let mut core = core_of(rt, alloc, 3, &[2, 1], Sha256Hash)?;
-    let lines = [
-        (0, Ask::Store(0, b"A"), Verdict::Mapped),
-        (0, Ask::Store(1, b"A"), Verdict::Mapped),
-        (1, Ask::Store(0, b"B"), Verdict::Mapped),
+fn frames_stay(rt: HostRuntime) {
+    let hinted = [
+        (0, Ask::Store(0, b'A'), Verdict::Mapped),
+        (0, Ask::Store(1, b'A'), Verdict::Mapped),
+        (1, Ask::Store(0, b'B'), Verdict::Mapped),
         (0, Ask::Propose(0), Verdict::Hinted),
     ];
-    serve(rt, &mut core, &lines);
-    let [hint, _, alone] = three_frames(rt, &core);
-    serve(rt, &mut core, &[(0, Ask::Propose(1), Verdict::Paired)]);
-    assert_eq!(rt; three_frames(rt, &core), [hint, hint, alone]);
-    let lines = [
+    let paired = [(0, Ask::Propose(1), Verdict::Paired)];
+    let left = [
         (0, Ask::Release(0), Verdict::Released(false)),
-        (0, Ask::Store(1, b"C"), Verdict::Taken),
-        (1, Ask::Store(0, b"D"), Verdict::Stored),
+        (0, Ask::Store(1, b'C'), Verdict::Taken),
+        (1, Ask::Store(0, b'D'), Verdict::Stored),
     ];
-    serve(rt, &mut core, &lines);
-    assert_eq!(rt; three_frames(rt, &core), [None, hint, alone]);
-    Ok(())
+    let [before, shared, after] = seen_after(&rt, rt.alloc(), &hinted, &paired, &left);
+    let [hint, _, alone] = before.frames;
+    assert_eq!(rt; shared.frames, [hint, hint, alone]);
+    assert_eq!(rt; after.frames, [None, hint, alone]);
 }
 
 #[test]
-fn read(rt: HostRuntime) -> Result<(), Fail> {
-    let mut core = core_of(&rt, rt.alloc(), 3, &[2, 1], Sha256Hash)?;
-    assert!(rt; core.guests() == 2);
-    assert!(rt; core.pages(1) == 1);
-    assert_eq!(rt; core.read(1, 0, 0), 0);
-    share_three(&rt, &mut core);
-    assert!(rt; core.guests() == 2);
-    assert!(rt; core.pages(1) == 1);
-    assert_eq!(rt; core.read(1, 0, 0), 0x41);
-    assert_eq!(rt; core.read(1, 0, 4095), 0);
-    Ok(())
+fn read(rt: HostRuntime) {
+    let [before, after, _] = seen_after(&rt, rt.alloc(), &[], &SHARE_THREE, &[]);
+    assert_eq!(rt; (before.guests, before.pages), (2, 1));
+    assert_eq!(rt; before.bytes[0], 0);
+    assert_eq!(rt; after.report, [6, 3, 3, 1, 2, 0]);
+    assert_eq!(rt; (after.guests, after.pages), (2, 1));
+    assert_eq!(rt; after.bytes, [0x41, 0]);
 }

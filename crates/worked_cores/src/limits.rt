@@ -1,20 +1,26 @@
 //! Which machines there are, and the greatest ones.
-use crate::asks::{Ask, core_of, frame, numbers, told};
+use crate::asks::{Ask, Line, core_of, frame, numbers, serve};
 use merge_core::{Core, CoreFault};
 use page_digest::FirstByteHash;
 use page_model::{MAX_FRAMES, MAX_GUESTS, MAX_PAGES, MachineShape, Verdict};
+use std::alloc::Global;
+use std::process::Abort;
 use std::test::Fail;
 
+/// Why there is no such machine.
+fn fault_of(alloc: Global, frames: u32, pages: &[u32], salts: &[u32]) -> Option<CoreFault> {
+    Core::new(alloc, frames, pages, salts, FirstByteHash).err()
+}
+
 #[test]
-fn core_limits(rt: HostRuntime) -> Result<(), Fail> {
-    let many = vec![in rt.alloc(); 1u32; 65]?;
-    let pages = many.as_slice();
+fn core_limits(rt: HostRuntime) {
+    let pages = [1; 65];
     let limits: [(u32, &[u32], &[u32], Option<CoreFault>); 10] = [
         (0, &[], &[], Some(CoreFault::Frames)),
         (0, &[1], &[], Some(CoreFault::Frames)),
         (MAX_FRAMES + 1, &[1], &[0], Some(CoreFault::Frames)),
         (1, &[], &[], Some(CoreFault::Guests)),
-        (1, pages, pages, Some(CoreFault::Guests)),
+        (1, &pages, &pages, Some(CoreFault::Guests)),
         (1, &[1], &[], Some(CoreFault::Guests)),
         (1, &[0], &[], Some(CoreFault::Guests)),
         (1, &[1, 0], &[0, 0], Some(CoreFault::Pages)),
@@ -22,39 +28,57 @@ fn core_limits(rt: HostRuntime) -> Result<(), Fail> {
         (1, &[1], &[0], None),
     ];
     for (frames, pages, salts, fault) in limits {
-        let core = Core::new(rt.alloc(), frames, pages, salts, FirstByteHash);
-        assert_eq!(rt; core.err(), fault, "{frames} frames");
+        assert_eq!(rt;
+            fault_of(rt.alloc(), frames, pages, salts),
+            fault,
+            "{frames} frames"
+        );
     }
-    Ok(())
 }
 
-/// A machine of the most frames and of one guest with the most pages. Of the room that it takes, that of the frames is reserved
-/// and not touched.
+/// A machine of the most frames and of one guest with the most pages.
+fn greatest(alloc: Global) -> Result<Core<FirstByteHash>, Fail> {
+    let shape = MachineShape::new(MAX_FRAMES, &[MAX_PAGES], &[0])?;
+    Ok(Core::with_shape(alloc, &shape, FirstByteHash)?)
+}
+
+/// The report of the greatest machine once it has served these lines, whether guest 0's page is mapped, and the frames.
+fn greatest_served(
+    rt: &impl Abort,
+    alloc: Global,
+    lines: &[Line],
+    ppn: u32,
+) -> Result<([u32; 6], bool, u32), Fail> {
+    let mut core = greatest(alloc)?;
+    serve(rt, &mut core, lines);
+    let is_mapped = frame(rt, &core, 0, ppn).is_some();
+    Ok((numbers(&core), is_mapped, core.frames().total()))
+}
+
+/// Of the room that the greatest machine takes, that of the frames is reserved and not touched.
 #[test]
 fn most_frames_and_pages(rt: HostRuntime) -> Result<(), Fail> {
-    let shape = MachineShape::new(MAX_FRAMES, &[MAX_PAGES], &[0])?;
-    let mut core = Core::with_shape(rt.alloc(), &shape, FirstByteHash)?;
     let last = MAX_PAGES - 1;
-    let answer = told(&rt, &mut core, 0, Ask::Store(last, b"A"));
-    assert_eq!(rt; answer, Verdict::Mapped);
-    let answer = told(&rt, &mut core, 0, Ask::Propose(last));
-    assert_eq!(rt; answer, Verdict::Hinted);
-    let answer = told(&rt, &mut core, 0, Ask::Store(MAX_PAGES, b"A"));
-    assert_eq!(rt; answer, Verdict::NoPage);
-    assert_eq!(rt; numbers(&core), [3, 1, 0, 1, 0, 1]);
-    assert!(rt; frame(&rt, &core, 0, last).is_some());
-    assert_eq!(rt; core.frames().total(), MAX_FRAMES);
+    let lines = [
+        (0, Ask::Store(last, b'A'), Verdict::Mapped),
+        (0, Ask::Propose(last), Verdict::Hinted),
+        (0, Ask::Store(MAX_PAGES, b'A'), Verdict::NoPage),
+    ];
+    let served = greatest_served(&rt, rt.alloc(), &lines, last)?;
+    assert_eq!(rt; served, ([3, 1, 0, 1, 0, 1], true, MAX_FRAMES));
     Ok(())
 }
 
-/// 64 guests, each with 1/64 of the most pages, share one frame.
-#[test]
-fn most_guests(rt: HostRuntime) -> Result<(), Fail> {
+/// 64 guests, each with 1/64 of the most pages: each stores the same to a page, then each proposes it. The report.
+fn all_propose(rt: &impl Abort, alloc: Global) -> [u32; 6] {
     let pages = [MAX_PAGES / 64; MAX_GUESTS];
-    let mut core = core_of(&rt, rt.alloc(), 64, &pages, FirstByteHash)?;
+    let mut core = core_of(rt, alloc, 64, &pages, FirstByteHash);
     for guest in 0..64 {
-        let answer = told(&rt, &mut core, guest, Ask::Store(7, b"A"));
-        assert_eq!(rt; answer, Verdict::Mapped);
+        serve(
+            rt,
+            &mut core,
+            &[(guest, Ask::Store(7, b'A'), Verdict::Mapped)],
+        );
     }
     for guest in 0..64 {
         let wanted = match guest {
@@ -62,9 +86,13 @@ fn most_guests(rt: HostRuntime) -> Result<(), Fail> {
             1 => Verdict::Paired,
             n => Verdict::Joined(u32::from(n) + 1),
         };
-        let answer = told(&rt, &mut core, guest, Ask::Propose(7));
-        assert_eq!(rt; answer, wanted);
+        serve(rt, &mut core, &[(guest, Ask::Propose(7), wanted)]);
     }
-    assert_eq!(rt; numbers(&core), [128, 64, 64, 1, 63, 0]);
-    Ok(())
+    numbers(&core)
+}
+
+/// The most guests share one frame.
+#[test]
+fn most_guests(rt: HostRuntime) {
+    assert_eq!(rt; all_propose(&rt, rt.alloc()), [128, 64, 64, 1, 63, 0]);
 }

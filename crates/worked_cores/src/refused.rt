@@ -4,34 +4,39 @@ use merge_core::{Core, CoreFault};
 use page_digest::Sha256Hash;
 use page_model::Verdict;
 use refusing::Refusing;
-use std::test::Fail;
+use std::alloc::Allocator;
+use std::process::Abort;
 
 const MOST_GROWTHS: u64 = 100;
 
+/// A machine whose memory this allocator gives, and which is served once every later growth is refused; its fault where there
+/// is none. Whether a growth was refused before that.
+fn served<B: Allocator>(rt: &impl Abort, heap: &Refusing<B>) -> (Option<CoreFault>, bool) {
+    match Core::new(heap, 3, &[2, 1], &[0, 0], Sha256Hash) {
+        Ok(mut core) => {
+            let has_refused = heap.has_refused();
+            heap.refuse_all();
+            share_three(rt, &mut core);
+            serve(rt, &mut core, &[(1, Ask::Store(0, b'B'), Verdict::Copied)]);
+            (None, has_refused)
+        }
+        Err(fault) => (Some(fault), heap.has_refused()),
+    }
+}
+
 /// Growth number n is refused, n counting up until a run has no refusal; afterwards every growth is.
 #[test]
-fn refused_growth(rt: HostRuntime) -> Result<(), Fail> {
-    let mut whole_at = None;
+fn refused_growth(rt: HostRuntime) {
     for n in 0..MOST_GROWTHS {
         let heap = Refusing::new(rt.alloc(), n, 0);
-        match Core::new(&heap, 3, &[2, 1], &[0, 0], Sha256Hash) {
-            Ok(mut core) => {
-                assert!(rt; !heap.has_refused(), "at {n}");
-                heap.refuse_all();
-                share_three(&rt, &mut core);
-                serve(&rt, &mut core, &[(1, Ask::Store(0, b"B"), Verdict::Copied)]);
-                whole_at = Some(n);
-            }
-            Err(fault) => {
-                assert!(rt; fault == CoreFault::OutOfMemory, "at {n}");
-                assert!(rt; heap.has_refused(), "at {n}");
-            }
-        }
+        let (fault, has_refused) = served(&rt, &heap);
         assert!(rt; heap.holds_nothing(), "at {n}");
-        if whole_at.is_some() {
-            break;
+        if fault.is_none() {
+            assert!(rt; !has_refused, "at {n}");
+            return;
         }
+        assert_eq!(rt; fault, Some(CoreFault::OutOfMemory), "at {n}");
+        assert!(rt; has_refused, "at {n}");
     }
-    assert!(rt; whole_at.is_some());
-    Ok(())
+    assert!(rt; false, "no growth is the last");
 }

@@ -3,7 +3,8 @@ use merge_core::Core;
 use page_digest::Sha256Hash;
 use page_model::{MAX_FRAMES, MAX_PAGES};
 use refusing::Refusing;
-use std::test::Fail;
+use std::alloc::Global;
+use std::process::Abort;
 
 // What a machine keeps beside the pages of its frames: at most so much for each frame, for each page, and in all.
 const FRAME: u64 = 48;
@@ -12,20 +13,24 @@ const PAGE: u64 = 16;
 
 const MORE: u64 = 4096;
 
+/// How many bytes a machine asks for that has so many frames, and one guest of so many pages.
+fn asked(rt: &impl Abort, alloc: Global, frames: u32, pages: u32) -> u64 {
+    let heap = Refusing::new(alloc, u64::MAX, 0);
+    let core = Core::new(&heap, frames, &[pages], &[0], Sha256Hash);
+    assert!(rt; core.is_ok(), "{frames} frames");
+    heap.bytes_asked()
+}
+
 /// All memory of a machine is asked for by `Core::new`: the frames' own 4,096 bytes, and little beside.
 #[test]
-fn bytes_asked(rt: HostRuntime) -> Result<(), Fail> {
+fn bytes_asked(rt: HostRuntime) {
     for (frames, pages) in [(1, 1), (513, 700), (100_000, 3), (MAX_FRAMES, MAX_PAGES)] {
-        let heap = Refusing::new(rt.alloc(), u64::MAX, 0);
-        let core = Core::new(&heap, frames, &[pages], &[0], Sha256Hash);
-        assert!(rt; core.is_ok(), "{frames} frames");
         let least = 4096 * u64::from(frames);
         let beside = FRAME * u64::from(frames) + PAGE * u64::from(pages) + MORE;
-        let asked = heap.bytes_asked();
+        let asked = asked(&rt, rt.alloc(), frames, pages);
         assert!(rt;
             asked >= least && asked <= least + beside,
             "{asked} bytes for {frames} frames"
         );
     }
-    Ok(())
 }

@@ -20,7 +20,7 @@ fn salted_row<H: PageHash + Drop, A: Allocator + Clone>(
     assert!(rt; salts.len() <= 4);
     let mut core = Core::new(alloc, frames, &ones[..salts.len()], salts, hash)?;
     for guest in 0..core.guests() {
-        let answer = told(rt, &mut core, guest, Ask::Store(0, b"A"));
+        let answer = told(rt, &mut core, guest, Ask::Store(0, b'A'));
         assert_eq!(rt; answer, Verdict::Mapped);
     }
     for (guest, verdict) in (0..core.guests()).zip(verdicts) {

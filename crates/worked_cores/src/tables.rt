@@ -1,70 +1,104 @@
 //! What the table shows, and a frame that more pages share than a 16-bit count can tell.
-use crate::asks::{Ask, core_of, frame, numbers, serve, told};
+use crate::asks::{Ask, Line, core_of, frame, numbers, serve};
+use merge_core::Core;
 use page_digest::{FirstByteHash, PageHash, Sha256Hash};
 use page_model::Verdict;
 use share_table::HintFrame;
+use std::alloc::Global;
+use std::process::Abort;
 use std::test::Fail;
+
+/// What the table of a core shows of a hash.
+#[derive(Clone, Copy)]
+struct Shown {
+    len: u32,
+    references: u32,
+    hint: Option<HintFrame>,
+    shared: Option<(u32, u32)>,
+}
+
+fn show(core: &Core<Sha256Hash>, code: u64) -> Shown {
+    let table = core.table();
+    Shown {
+        len: table.len(),
+        references: table.references(),
+        hint: table.find_hint((code % 4_294_967_296) as u32),
+        shared: table.find_shared(code),
+    }
+}
+
+/// Page 0's frame after the first of two parts, and what the table shows of a hash after each.
+fn shown_after(
+    rt: &impl Abort,
+    alloc: Global,
+    code: u64,
+    first: &[Line],
+    second: &[Line],
+) -> (Option<u32>, Shown, Shown) {
+    let mut core = core_of(rt, alloc, 3, &[2, 1], Sha256Hash);
+    serve(rt, &mut core, first);
+    let (mpn, before) = (frame(rt, &core, 0, 0), show(&core, code));
+    serve(rt, &mut core, second);
+    (mpn, before, show(&core, code))
+}
 
 #[test]
 fn table_shows_core(rt: HostRuntime) -> Result<(), Fail> {
-    let alloc = rt.alloc();
-    let rt = &rt;
     let mut page = [0; 4096];
     page[0] = 0x41;
     let code = Sha256Hash.hash(0, &page);
-    let mut core = core_of(rt, alloc, 3, &[2, 1], Sha256Hash)?;
-    let lines = [
-        (0, Ask::Store(0, b"A"), Verdict::Mapped),
-        (0, Ask::Store(1, b"A"), Verdict::Mapped),
-        (1, Ask::Store(0, b"A"), Verdict::Mapped),
+    let hinted = [
+        (0, Ask::Store(0, b'A'), Verdict::Mapped),
+        (0, Ask::Store(1, b'A'), Verdict::Mapped),
+        (1, Ask::Store(0, b'A'), Verdict::Mapped),
         (0, Ask::Propose(0), Verdict::Hinted),
     ];
-    serve(rt, &mut core, &lines);
-    let mpn = frame(rt, &core, 0, 0).ok_or("unmapped")?;
+    let joined = [
+        (0, Ask::Propose(1), Verdict::Paired),
+        (1, Ask::Propose(0), Verdict::Joined(3)),
+    ];
+    let (mpn, before, after) = shown_after(&rt, rt.alloc(), code, &hinted, &joined);
+    let mpn = mpn.ok_or("unmapped")?;
     let hint = HintFrame {
         guest: 0,
         ppn: 0,
         mpn,
     };
-    assert_eq!(rt; core.table().len(), 1);
-    assert_eq!(rt; core.table().references(), 0);
-    assert_eq!(rt;
-        core.table().find_hint((code % 4_294_967_296) as u32),
-        Some(hint)
-    );
-    let lines = [
-        (0, Ask::Propose(1), Verdict::Paired),
-        (1, Ask::Propose(0), Verdict::Joined(3)),
-    ];
-    serve(rt, &mut core, &lines);
-    assert_eq!(rt; core.table().len(), 1);
-    assert_eq!(rt; core.table().references(), 3);
-    assert_eq!(rt; core.table().find_shared(code), Some((mpn, 3)));
+    assert_eq!(rt; (before.len, before.references), (1, 0));
+    assert_eq!(rt; before.hint, Some(hint));
+    assert_eq!(rt; (after.len, after.references), (1, 3));
+    assert_eq!(rt; after.shared, Some((mpn, 3)));
     Ok(())
 }
 
-#[test]
-fn wide_group(rt: HostRuntime) -> Result<(), Fail> {
-    let alloc = rt.alloc();
-    let rt = &rt;
-    let mut core = core_of(rt, alloc, 2, &[65_536], FirstByteHash)?;
-    for ppn in 0..65_536 {
-        let answer = told(rt, &mut core, 0, Ask::Store(ppn, b"A"));
-        assert!(rt; answer == Verdict::Mapped, "{ppn}");
+/// So many pages of one content share a frame, by stores and proposals in turn; then page 0 is released. The report before and
+/// after that.
+fn share_all(rt: &impl Abort, alloc: Global, pages: u32) -> [[u32; 6]; 2] {
+    let mut core = core_of(rt, alloc, 2, &[pages], FirstByteHash);
+    for ppn in 0..pages {
         let verdict = match ppn {
             0 => Verdict::Hinted,
             1 => Verdict::Paired,
             n => Verdict::Joined(n + 1),
         };
-        let answer = told(rt, &mut core, 0, Ask::Propose(ppn));
-        assert!(rt; answer == verdict, "{ppn}");
+        let lines = [
+            (0, Ask::Store(ppn, b'A'), Verdict::Mapped),
+            (0, Ask::Propose(ppn), verdict),
+        ];
+        serve(rt, &mut core, &lines);
     }
-    assert_eq!(rt; numbers(&core), [131_072, 65_536, 65_536, 1, 65_535, 0]);
+    let before = numbers(&core);
     serve(
         rt,
         &mut core,
         &[(0, Ask::Release(0), Verdict::Released(false))],
     );
-    assert_eq!(rt; numbers(&core), [131_073, 65_535, 65_535, 1, 65_534, 0]);
-    Ok(())
+    [before, numbers(&core)]
+}
+
+#[test]
+fn wide_group(rt: HostRuntime) {
+    let [all, fewer] = share_all(&rt, rt.alloc(), 65_536);
+    assert_eq!(rt; all, [131_072, 65_536, 65_536, 1, 65_535, 0]);
+    assert_eq!(rt; fewer, [131_073, 65_535, 65_535, 1, 65_534, 0]);
 }

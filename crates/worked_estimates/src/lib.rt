@@ -1,17 +1,11 @@
-//! Worked estimates: what is written of numbers that stand here.
+//! Worked estimates: a few pages counted by hand, images of memory made by hand, and what is written of numbers that stand here.
 //!
 //! There is nothing here but tests.
 #![tactic(auto)]
 
 #[cfg(test)]
-mod amounts;
+mod censuses;
 #[cfg(test)]
-mod names;
-#[cfg(test)]
-mod numbers;
-#[cfg(test)]
-mod parts;
-#[cfg(test)]
-mod refused;
+mod images;
 #[cfg(test)]
 mod texts;

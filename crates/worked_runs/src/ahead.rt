@@ -1,12 +1,13 @@
 //! A run whose round has proposals enough for a second worker, with each growth of memory refused in turn.
 ghost use Rattle.std.specs.Prelude.{◌≡◌};
 
-use crate::makes::{Ask, config_of, got, numbers, scripts_of};
-use merge_run::{Finished, Gate, RunFault, run};
+use crate::makes::{Ask, Numbers};
+use crate::plain::{Outcome, got, ran};
+use merge_run::{Gate, RunFault};
 use page_digest::PageHash;
 use page_model::{HashFunction, Page, Verdict};
 use refusing::Refusing;
-use std::alloc::Allocator;
+use std::alloc::{AllocError, Allocator, Global};
 use std::process::Abort;
 use std::sync::atomic::{AtomicBool, Ordering};
 use std::test::Fail;
@@ -96,16 +97,16 @@ impl<'a> PageHash for Waiting<'a> {
 }
 
 /// A store to each page, each of another byte, and then the proposals.
-fn script() -> [Ask; REQUESTS] {
-    let mut asks = [Ask::Count; REQUESTS];
+fn script(alloc: Global) -> Result<Vec<Ask>, AllocError> {
+    let mut asks = Vec::new(alloc);
     for n in 0..PAGES {
-        asks[n] = Ask::Store(n as u32, n as u8 + 1);
+        asks.push(Ask::Store(n as u32, n as u8 + 1))?;
     }
-    asks[PAGES] = Ask::Propose(PAGES as u32 - 1);
+    asks.push(Ask::Propose(PAGES as u32 - 1))?;
     for n in 0..PAGES - 1 {
-        asks[PAGES + 1 + n] = Ask::Propose(n as u32);
+        asks.push(Ask::Propose(n as u32))?;
     }
-    asks
+    Ok(asks)
 }
 
 /// The verdict of request number `nth`.
@@ -119,14 +120,14 @@ fn due(nth: usize) -> Verdict {
     }
 }
 
-fn check_whole<H: PageHash, A: Allocator>(rt: &impl Abort, finished: &Finished<H, A>) {
-    let verdicts = got(finished, 0);
-    assert_eq!(rt; finished.verdicts.len(), 1);
+fn check_whole<A: Allocator>(rt: &impl Abort, ran: &Outcome<A>) {
+    let verdicts = got(ran, 0);
+    assert_eq!(rt; ran.verdicts.len(), 1);
     assert_eq!(rt; verdicts.len(), REQUESTS + 1);
     for nth in 0..verdicts.len() {
         assert!(rt; verdicts[nth] == due(nth), "verdict {nth}");
     }
-    assert_eq!(rt; numbers(&finished.settled.report()), [83, 41, 0, 41, 0, 41]);
+    assert_eq!(rt; ran.report, [83, 41, 0, 41, 0, 41]);
 }
 
 // The run's nth request for memory is refused, n counting up until a run has no refusal. Before the first whole run each
@@ -134,19 +135,24 @@ fn check_whole<H: PageHash, A: Allocator>(rt: &impl Abort, finished: &Finished<H
 // are some, so that the run serves by rounds.
 #[test]
 fn rounds_refused_in_turn(rt: HostRuntime) -> Result<(), Fail> {
-    let asks = script();
+    let asks = script(rt.alloc())?;
+    let numbers = Numbers {
+        frames: 41,
+        pages: &[41],
+        salts: &[0],
+        ring: RING,
+        journal: 83,
+    };
     let mut whole_though_refused = 0u32;
     let mut has_ended = false;
     for n in 0..MOST {
         let heap = Refusing::new(rt.alloc(), BEFORE + n, 0);
-        let config = config_of(&heap, 41, &[41], &[0], RING, 83)?;
-        let scripts = scripts_of(&heap, &[&asks])?;
         let meeting = Meeting::new();
         let hash = Waiting { meeting: &meeting };
-        match run(&rt, &heap, &config, hash, scripts, &meeting) {
-            Ok(finished) => {
+        match ran(&rt, &heap, &numbers, &[&asks], hash, &meeting) {
+            Ok(ran) => {
                 assert!(rt; !meeting.missed.load(Ordering::SeqCst), "at {n}");
-                check_whole(&rt, &finished);
+                check_whole(&rt, &ran);
                 has_ended = !heap.has_refused();
                 whole_though_refused = whole_though_refused.wrapping_add(u32::from(
                     heap.has_refused(),
@@ -158,7 +164,6 @@ fn rounds_refused_in_turn(rt: HostRuntime) -> Result<(), Fail> {
                 assert_eq!(rt; whole_though_refused, 0, "at {n}");
             }
         }
-        drop(config);
         assert!(rt; heap.holds_nothing(), "at {n}");
         if has_ended {
             break;

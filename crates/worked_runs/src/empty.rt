@@ -1,46 +1,65 @@
 //! Guests that send their closes alone, and machines without guests.
-use crate::makes::{config_of, got, numbers, scripts_of};
-use crate::replays::check_replay;
-use merge_run::{JournalFull, OpenGate, RunFault, run};
-use page_digest::Sha256Hash;
+use crate::makes::Numbers;
+use crate::plain::{fault_of, got, replayed};
+use merge_run::{JournalFull, OpenGate, RunFault};
 use page_model::Verdict;
 use std::test::Fail;
 
 #[test]
 fn empty_scripts(rt: HostRuntime) -> Result<(), Fail> {
-    let config = config_of(rt.alloc(), 1, &[1, 1], &[0, 0], 1, 2)?;
-    let scripts = scripts_of(rt.alloc(), &[&[], &[]])?;
-    let finished = run(&rt, rt.alloc(), &config, Sha256Hash, scripts, &OpenGate)?;
-    assert_eq!(rt; finished.verdicts.len(), 2);
-    assert_eq!(rt; got(&finished, 0), [Verdict::Closed].as_slice());
-    assert_eq!(rt; got(&finished, 1), [Verdict::Closed].as_slice());
-    assert_eq!(rt; numbers(&finished.settled.report()), [2, 0, 0, 0, 0, 0]);
-    check_replay(&rt, rt.alloc(), &config, &finished)
+    let numbers = Numbers {
+        frames: 1,
+        pages: &[1, 1],
+        salts: &[0, 0],
+        ring: 1,
+        journal: 2,
+    };
+    let ran = replayed(&rt, rt.alloc(), &numbers, &[&[], &[]], &OpenGate)?;
+    assert_eq!(rt; ran.verdicts.len(), 2);
+    assert_eq!(rt; got(&ran, 0), [Verdict::Closed].as_slice());
+    assert_eq!(rt; got(&ran, 1), [Verdict::Closed].as_slice());
+    assert_eq!(rt; ran.report, [2, 0, 0, 0, 0, 0]);
+    Ok(())
 }
 
 #[test]
 fn no_room_for_two_closes(rt: HostRuntime) -> Result<(), Fail> {
-    let config = config_of(rt.alloc(), 1, &[1, 1], &[0, 0], 1, 1)?;
-    let scripts = scripts_of(rt.alloc(), &[&[], &[]])?;
-    let fault = run(&rt, rt.alloc(), &config, Sha256Hash, scripts, &OpenGate).err();
+    let numbers = Numbers {
+        frames: 1,
+        pages: &[1, 1],
+        salts: &[0, 0],
+        ring: 1,
+        journal: 1,
+    };
+    let fault = fault_of(&rt, rt.alloc(), &numbers, &[&[], &[]], &OpenGate);
     assert_eq!(rt; fault, Some(RunFault::Stopped(JournalFull)));
     Ok(())
 }
 
 #[test]
 fn no_guests(rt: HostRuntime) -> Result<(), Fail> {
-    let config = config_of(rt.alloc(), 1, &[], &[], 1, 2)?;
-    let scripts = scripts_of(rt.alloc(), &[])?;
-    let fault = run(&rt, rt.alloc(), &config, Sha256Hash, scripts, &OpenGate).err();
+    let numbers = Numbers {
+        frames: 1,
+        pages: &[],
+        salts: &[],
+        ring: 1,
+        journal: 2,
+    };
+    let fault = fault_of(&rt, rt.alloc(), &numbers, &[], &OpenGate);
     assert_eq!(rt; fault, Some(RunFault::Guests));
     Ok(())
 }
 
 #[test]
 fn no_frames_and_no_guests(rt: HostRuntime) -> Result<(), Fail> {
-    let config = config_of(rt.alloc(), 0, &[], &[], 1, 2)?;
-    let scripts = scripts_of(rt.alloc(), &[])?;
-    let fault = run(&rt, rt.alloc(), &config, Sha256Hash, scripts, &OpenGate).err();
+    let numbers = Numbers {
+        frames: 0,
+        pages: &[],
+        salts: &[],
+        ring: 1,
+        journal: 2,
+    };
+    let fault = fault_of(&rt, rt.alloc(), &numbers, &[], &OpenGate);
     assert_eq!(rt; fault, Some(RunFault::Frames));
     Ok(())
 }
@@ -48,9 +67,14 @@ fn no_frames_and_no_guests(rt: HostRuntime) -> Result<(), Fail> {
 // A machine that there can't be is answered as such, whatever the number of scripts.
 #[test]
 fn no_machine_for_a_script(rt: HostRuntime) -> Result<(), Fail> {
-    let config = config_of(rt.alloc(), 0, &[1, 1], &[0, 0], 1, 2)?;
-    let scripts = scripts_of(rt.alloc(), &[&[]])?;
-    let fault = run(&rt, rt.alloc(), &config, Sha256Hash, scripts, &OpenGate).err();
+    let numbers = Numbers {
+        frames: 0,
+        pages: &[1, 1],
+        salts: &[0, 0],
+        ring: 1,
+        journal: 2,
+    };
+    let fault = fault_of(&rt, rt.alloc(), &numbers, &[&[]], &OpenGate);
     assert_eq!(rt; fault, Some(RunFault::Frames));
     Ok(())
 }

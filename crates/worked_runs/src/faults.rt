@@ -1,7 +1,7 @@
 //! The order in which the causes of a run's fault are looked at.
-use crate::makes::{Ask, config_of, scripts_of};
-use merge_run::{JournalFull, OpenGate, RunFault, run};
-use page_digest::Sha256Hash;
+use crate::makes::{Ask, Numbers};
+use crate::plain::fault_without_memory;
+use merge_run::{JournalFull, RunFault};
 use page_model::{MAX_ENTRIES, MAX_FRAMES, MAX_PAGES, MAX_RING_CAPACITY};
 use refusing::Refusing;
 use std::test::Fail;
@@ -34,17 +34,20 @@ fn order_of_faults(rt: HostRuntime) -> Result<(), Fail> {
     ];
     for (frames, (first, second), salts, ring, journal, fault) in cases {
         let heap = Refusing::new(rt.alloc(), u64::MAX, 0);
-        let config = config_of(&heap, frames, &[first, second], salts, ring, journal)?;
-        let scripts = scripts_of(&heap, &[&SCRIPT, &SCRIPT])?;
-        heap.refuse_all();
-        let answer = run(&rt, &heap, &config, Sha256Hash, scripts, &OpenGate).err();
+        let numbers = Numbers {
+            frames,
+            pages: &[first, second],
+            salts,
+            ring,
+            journal,
+        };
+        let answer = fault_without_memory(&rt, &heap, &numbers, &[&SCRIPT, &SCRIPT]);
         assert_eq!(rt;
             answer,
             Some(fault),
             "{frames} {first} {second} {ring} {journal}"
         );
         assert_eq!(rt; heap.has_refused(), fault == RunFault::OutOfMemory);
-        drop(config);
         assert!(rt; heap.holds_nothing());
     }
     Ok(())

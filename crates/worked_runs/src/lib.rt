@@ -18,6 +18,8 @@ mod many;
 #[cfg(test)]
 mod meeting;
 #[cfg(test)]
+mod plain;
+#[cfg(test)]
 mod refused;
 #[cfg(test)]
 mod replays;

@@ -1,9 +1,8 @@
 //! A script that is much longer than its rings.
-use crate::makes::{Ask, config_of, got, numbers, scripts_of};
-use crate::replays::check_replay;
+use crate::makes::{Ask, Numbers};
+use crate::plain::{got, replayed};
 use arrayvec::ArrayVec;
-use merge_run::{OpenGate, run};
-use page_digest::Sha256Hash;
+use merge_run::OpenGate;
 use page_model::Verdict;
 use std::test::Fail;
 
@@ -31,10 +30,15 @@ fn fifty_requests_over_one_slot(rt: HostRuntime) -> Result<(), Fail> {
         wanted.push(byte(n))?;
     }
     wanted.push(Verdict::Closed)?;
-    let config = config_of(rt.alloc(), 1, &[1], &[0], 1, u32::from(REQUESTS) + 1)?;
-    let scripts = scripts_of(rt.alloc(), &[&asks])?;
-    let finished = run(&rt, rt.alloc(), &config, Sha256Hash, scripts, &OpenGate)?;
-    assert_eq!(rt; got(&finished, 0), wanted.as_slice());
-    assert_eq!(rt; numbers(&finished.settled.report()), [51, 1, 0, 1, 0, 0]);
-    check_replay(&rt, rt.alloc(), &config, &finished)
+    let numbers = Numbers {
+        frames: 1,
+        pages: &[1],
+        salts: &[0],
+        ring: 1,
+        journal: u32::from(REQUESTS) + 1,
+    };
+    let ran = replayed(&rt, rt.alloc(), &numbers, &[&asks], &OpenGate)?;
+    assert_eq!(rt; got(&ran, 0), wanted.as_slice());
+    assert_eq!(rt; ran.report, [51, 1, 0, 1, 0, 0]);
+    Ok(())
 }

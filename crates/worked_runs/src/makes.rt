@@ -1,11 +1,12 @@
-//! Configurations and scripts, and what a run gives back.
+//! Machines' numbers and scripts, by hand and as a run takes them.
 ghost use Rattle.std.specs.Prelude.{◌≡◌, false, All, length, IfOk};
 ghost use Rattle.share_rings.specs.Closing.{has_close, is_close};
+ghost use Rattle.merge_run.specs.Runs.{CanBeRun};
 
-use merge_run::{Config, Finished};
-use page_digest::{PageHash, Sha256Hash};
-use page_model::{Report, Request, Verdict};
+use merge_run::Config;
+use page_model::Request;
 use std::alloc::{AllocError, Allocator};
+use std::process::Abort;
 
 /// What a script asks of a page. It is no close, since a run sends that itself.
 #[derive(Clone, Copy, Debug, PartialEq, Eq)]
@@ -60,59 +61,51 @@ pub fn scripts_of<A: Allocator + Copy>(
 }
 
 /// A machine's numbers: guest i has `pages[i]` pages and the salt `salts[i]`.
+#[derive(Clone, Copy, Debug, PartialEq, Eq)]
+pub struct Numbers<'a> {
+    pub frames: u32,
+    pub pages: &'a [u32],
+    pub salts: &'a [u32],
+    pub ring: u32,
+    pub journal: u32,
+}
+
+/// What can be run.
+#[derive(Drop)]
+pub struct Setting<A: Allocator> {
+    pub config: Config<A>,
+    pub scripts: Vec<Vec<Request, A>, A>,
+}
+
+/// The machine's numbers as a run takes them.
 pub fn config_of<A: Allocator + Copy>(
     alloc: A,
-    frames: u32,
-    pages: &[u32],
-    salts: &[u32],
-    ring: u32,
-    journal: u32,
+    numbers: &Numbers<'_>,
 ) -> Result<Config<A>, AllocError>
-    ensures frames { IfOk result (λ config. config.frames ≡ frames) }
-    ensures pages { IfOk result (λ config. config.pages.items ≡ pages.now) }
+    ensures frames { IfOk result (λ config. config.frames ≡ numbers.now.frames) }
+    ensures pages { IfOk result (λ config. config.pages.items ≡ numbers.now.pages.now) }
 {
     Ok(Config {
-        frames,
-        pages: Vec::from_slice(alloc, pages)?,
-        salts: Vec::from_slice(alloc, salts)?,
-        ring,
-        journal,
+        frames: numbers.frames,
+        pages: Vec::from_slice(alloc, numbers.pages)?,
+        salts: Vec::from_slice(alloc, numbers.salts)?,
+        ring: numbers.ring,
+        journal: numbers.journal,
     })
 }
 
-/// A guest's verdicts, oldest first; none where there is no such guest.
-pub fn got<H: PageHash, A: Allocator>(finished: &Finished<H, A>, guest: usize) -> &[Verdict] {
-    match finished.verdicts.get(guest) {
-        Some(list) => list,
-        None => &[],
-    }
-}
-
-/// How often a verdict stands in the lists of all guests.
-pub fn times_got<A: Allocator>(finished: &Finished<Sha256Hash, A>, verdict: &Verdict) -> u32 {
-    let mut times = 0u32;
-    for list in &finished.verdicts {
-        times = times.wrapping_add(times_in(list, verdict));
-    }
-    times
-}
-
-fn times_in(list: &[Verdict], verdict: &Verdict) -> u32 {
-    let mut times = 0u32;
-    for other in list {
-        times = times.wrapping_add(u32::from(other == verdict));
-    }
-    times
-}
-
-/// The numbers of a report: entries, mapped, shared, frames, reclaimed, hints.
-pub fn numbers(report: &Report) -> [u32; 6] {
-    [
-        report.entries(),
-        report.mapped(),
-        report.shared(),
-        report.frames(),
-        report.reclaimed(),
-        report.hints(),
-    ]
+/// What is run: a script for each guest, but where there is no such machine for want of frames. Two lists are taken for
+/// the machine's numbers, then one for the scripts and one for each of them.
+pub fn setting_of<A: Allocator + Copy>(
+    rt: &impl Abort,
+    alloc: A,
+    numbers: &Numbers<'_>,
+    asks: &[&[Ask]],
+) -> Setting<A>
+    ensures { CanBeRun result.config result.scripts.items }
+{
+    assert!(rt; numbers.frames == 0 || numbers.pages.len() == asks.len());
+    let config = config_of(alloc, numbers).expect(rt, "memory for the numbers");
+    let scripts = scripts_of(alloc, asks).expect(rt, "memory for the scripts");
+    Setting { config, scripts }
 }

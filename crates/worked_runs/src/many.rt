@@ -1,11 +1,11 @@
 //! The most guests that there may be, with a thousand requests each.
 ghost use Rattle.std.specs.Prelude.{◌≡◌, false, All, length, IfOk};
 ghost use Rattle.share_rings.specs.Closing.{has_close};
+ghost use Rattle.merge_run.specs.Runs.{CanBeRun};
 
-use crate::makes::{Ask, config_of, request_of};
-use crate::replays::check_replay;
-use merge_run::{OpenGate, run};
-use page_digest::Sha256Hash;
+use crate::makes::{Ask, Numbers, Setting, config_of, request_of};
+use crate::plain::replayed_setting;
+use merge_run::OpenGate;
 use page_model::Request;
 use std::alloc::{AllocError, Global};
 use std::test::Fail;
@@ -69,17 +69,31 @@ fn salts() -> [u32; 64] {
     salts
 }
 
+fn setting(alloc: Global, journal: u32) -> Result<Setting<Global>, AllocError>
+    ensures { IfOk result (λ setting. CanBeRun setting.config setting.scripts.items) }
+{
+    let pages = [PAGES; 64];
+    let salts = salts();
+    let numbers = Numbers {
+        frames: FRAMES,
+        pages: &pages,
+        salts: &salts,
+        ring: RING,
+        journal,
+    };
+    let config = config_of(alloc, &numbers)?;
+    let scripts = scripts(alloc)?;
+    Ok(Setting { config, scripts })
+}
+
 // Each run ends, though there are many more threads than processors.
 #[test]
 fn most_guests(rt: HostRuntime) -> Result<(), Fail> {
     let journal = GUESTS * (REQUESTS + 1);
-    let pages = [PAGES; 64];
-    let config = config_of(rt.alloc(), FRAMES, &pages, &salts(), RING, journal)?;
     for _ in 0..RUNS {
-        let scripts = scripts(rt.alloc())?;
-        let finished = run(&rt, rt.alloc(), &config, Sha256Hash, scripts, &OpenGate)?;
-        assert_eq!(rt; finished.settled.journal().len(), journal as usize);
-        check_replay(&rt, rt.alloc(), &config, &finished)?;
+        let setting = setting(rt.alloc(), journal)?;
+        let ran = replayed_setting(&rt, rt.alloc(), setting, &OpenGate)?;
+        assert_eq!(rt; ran.journal, journal as usize);
     }
     Ok(())
 }

@@ -1,8 +1,7 @@
 //! Two guests that wait for each other, so that the run ends only where each has a thread of its own.
-use crate::makes::{Ask, config_of, got, numbers, scripts_of};
-use crate::replays::check_replay;
-use merge_run::{Gate, JournalFull, RunFault, run};
-use page_digest::Sha256Hash;
+use crate::makes::{Ask, Numbers};
+use crate::plain::{fault_of, got, replayed};
+use merge_run::{Gate, JournalFull, RunFault};
 use page_model::Verdict;
 use std::sync::atomic::{AtomicBool, Ordering};
 use std::test::Fail;
@@ -86,29 +85,39 @@ impl Gate for Meeting {
 // On one thread guest 0 would wait in vain for guest 1, or guest 1 for guest 0.
 #[test]
 fn guests_that_wait_for_each_other(rt: HostRuntime) -> Result<(), Fail> {
-    let config = config_of(rt.alloc(), 2, &[1, 1], &[0, 0], 1, 6)?;
-    let scripts = scripts_of(rt.alloc(), &[&SCRIPT, &SCRIPT])?;
+    let numbers = Numbers {
+        frames: 2,
+        pages: &[1, 1],
+        salts: &[0, 0],
+        ring: 1,
+        journal: 6,
+    };
     let gate = Meeting::new();
-    let finished = run(&rt, rt.alloc(), &config, Sha256Hash, scripts, &gate)?;
+    let ran = replayed(&rt, rt.alloc(), &numbers, &[&SCRIPT, &SCRIPT], &gate)?;
     assert!(rt; !gate.has_failed());
     assert!(rt; gate.is_over());
     let hinted = [Verdict::Mapped, Verdict::Hinted, Verdict::Closed];
     let paired = [Verdict::Mapped, Verdict::Paired, Verdict::Closed];
-    let (first, second) = (got(&finished, 0), got(&finished, 1));
+    let (first, second) = (got(&ran, 0), got(&ran, 1));
     let first_leads = first == hinted.as_slice() && second == paired.as_slice();
     let second_leads = first == paired.as_slice() && second == hinted.as_slice();
     assert!(rt; first_leads || second_leads, "{first:?} {second:?}");
-    assert_eq!(rt; numbers(&finished.settled.report()), [6, 2, 2, 1, 1, 0]);
-    check_replay(&rt, rt.alloc(), &config, &finished)
+    assert_eq!(rt; ran.report, [6, 2, 2, 1, 1, 0]);
+    Ok(())
 }
 
 // Where the journal lacks room for one request, no guest begins.
 #[test]
 fn no_guest_begins_without_room(rt: HostRuntime) -> Result<(), Fail> {
-    let config = config_of(rt.alloc(), 2, &[1, 1], &[0, 0], 1, 5)?;
-    let scripts = scripts_of(rt.alloc(), &[&SCRIPT, &SCRIPT])?;
+    let numbers = Numbers {
+        frames: 2,
+        pages: &[1, 1],
+        salts: &[0, 0],
+        ring: 1,
+        journal: 5,
+    };
     let gate = Meeting::new();
-    let fault = run(&rt, rt.alloc(), &config, Sha256Hash, scripts, &gate).err();
+    let fault = fault_of(&rt, rt.alloc(), &numbers, &[&SCRIPT, &SCRIPT], &gate);
     assert_eq!(rt; fault, Some(RunFault::Stopped(JournalFull)));
     assert!(rt; !gate.has_begun());
     Ok(())

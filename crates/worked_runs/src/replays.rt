@@ -1,8 +1,8 @@
 //! A run's journal, replayed on one thread.
-use merge_core::Core;
+use merge_core::{Core, CoreFault};
 use merge_run::{Config, Finished};
 use page_digest::Sha256Hash;
-use page_model::{MAX_ENTRIES, Verdict};
+use page_model::{Entry, MAX_ENTRIES, Verdict};
 use std::alloc::{AllocError, Global};
 use std::process::Abort;
 use std::test::Fail;
@@ -16,6 +16,40 @@ fn empty_lists(alloc: Global, guests: usize) -> Result<Vec<Vec<Verdict>>, AllocE
     Ok(lists)
 }
 
+/// A fresh core of these numbers.
+fn new_core(alloc: Global, config: &Config) -> Result<Core<Sha256Hash>, CoreFault> {
+    Core::new(
+        alloc,
+        config.frames,
+        &config.pages,
+        &config.salts,
+        Sha256Hash,
+    )
+}
+
+fn apply(rt: &impl Abort, core: &mut Core<Sha256Hash>, entry: &Entry) -> Verdict {
+    assert!(rt; entry.guest < core.guests());
+    assert!(rt; core.entries() < MAX_ENTRIES);
+    core.apply(entry.guest, &entry.request)
+}
+
+/// Each guest's verdicts, and the core after the last entry.
+fn apply_all(
+    rt: &impl Abort,
+    alloc: Global,
+    config: &Config,
+    journal: &[Entry],
+) -> Result<(Core<Sha256Hash>, Vec<Vec<Verdict>>), Fail> {
+    let mut core = new_core(alloc, config)?;
+    let mut lists = empty_lists(alloc, config.pages.len())?;
+    for entry in journal {
+        let verdict = apply(rt, &mut core, entry);
+        let list = lists.get_mut(entry.guest as usize).ok_or("no guest")?;
+        list.push(verdict)?;
+    }
+    Ok((core, lists))
+}
+
 /// A fresh core that applies the journal entry by entry gives each guest's verdicts and the report.
 pub fn check_replay(
     rt: &impl Abort,
@@ -23,21 +57,7 @@ pub fn check_replay(
     config: &Config,
     finished: &Finished<Sha256Hash>,
 ) -> Result<(), Fail> {
-    let mut core = Core::new(
-        alloc,
-        config.frames,
-        &config.pages,
-        &config.salts,
-        Sha256Hash,
-    )?;
-    let mut lists = empty_lists(alloc, config.pages.len())?;
-    for entry in finished.settled.journal() {
-        assert!(rt; entry.guest < core.guests());
-        assert!(rt; core.entries() < MAX_ENTRIES);
-        let verdict = core.apply(entry.guest, &entry.request);
-        let list = lists.get_mut(entry.guest as usize).ok_or("no guest")?;
-        list.push(verdict)?;
-    }
+    let (core, lists) = apply_all(rt, alloc, config, finished.settled.journal())?;
     assert!(rt; lists == finished.verdicts);
     assert_eq!(rt; core.report(), finished.settled.report());
     Ok(())

@@ -1,8 +1,7 @@
 //! Pages of one content are shared between guests of one salt alone.
-use crate::makes::{Ask, config_of, got, numbers, scripts_of, times_got};
-use crate::replays::check_replay;
-use merge_run::{OpenGate, run};
-use page_digest::Sha256Hash;
+use crate::makes::{Ask, Numbers};
+use crate::plain::{got, replayed, times_got};
+use merge_run::OpenGate;
 use page_model::Verdict;
 use std::test::Fail;
 
@@ -10,16 +9,27 @@ use std::test::Fail;
 #[test]
 fn one_page_each(rt: HostRuntime) -> Result<(), Fail> {
     let script = [Ask::Store(0, 0x41), Ask::Propose(0)];
-    let config = config_of(rt.alloc(), 3, &[1, 1, 1], &[1, 2, 1], 1, 9)?;
-    let scripts = scripts_of(rt.alloc(), &[&script, &script, &script])?;
-    let finished = run(&rt, rt.alloc(), &config, Sha256Hash, scripts, &OpenGate)?;
+    let numbers = Numbers {
+        frames: 3,
+        pages: &[1, 1, 1],
+        salts: &[1, 2, 1],
+        ring: 1,
+        journal: 9,
+    };
+    let ran = replayed(
+        &rt,
+        rt.alloc(),
+        &numbers,
+        &[&script, &script, &script],
+        &OpenGate,
+    )?;
     let alone = [Verdict::Mapped, Verdict::Hinted, Verdict::Closed];
-    assert_eq!(rt; got(&finished, 1), alone.as_slice());
-    assert_eq!(rt; times_got(&finished, &Verdict::Mapped), 3);
-    assert_eq!(rt; times_got(&finished, &Verdict::Hinted), 2);
-    assert_eq!(rt; times_got(&finished, &Verdict::Paired), 1);
-    assert_eq!(rt; numbers(&finished.settled.report()), [9, 3, 2, 2, 1, 1]);
-    check_replay(&rt, rt.alloc(), &config, &finished)
+    assert_eq!(rt; got(&ran, 1), alone.as_slice());
+    assert_eq!(rt; times_got(&ran, &Verdict::Mapped), 3);
+    assert_eq!(rt; times_got(&ran, &Verdict::Hinted), 2);
+    assert_eq!(rt; times_got(&ran, &Verdict::Paired), 1);
+    assert_eq!(rt; ran.report, [9, 3, 2, 2, 1, 1]);
+    Ok(())
 }
 
 // Four pages of one salt come to share one frame, and two of another salt a second one.
@@ -31,9 +41,20 @@ fn two_pages_each(rt: HostRuntime) -> Result<(), Fail> {
         Ask::Propose(0),
         Ask::Propose(1),
     ];
-    let config = config_of(rt.alloc(), 6, &[2, 2, 2], &[1, 2, 1], 2, 15)?;
-    let scripts = scripts_of(rt.alloc(), &[&script, &script, &script])?;
-    let finished = run(&rt, rt.alloc(), &config, Sha256Hash, scripts, &OpenGate)?;
+    let numbers = Numbers {
+        frames: 6,
+        pages: &[2, 2, 2],
+        salts: &[1, 2, 1],
+        ring: 2,
+        journal: 15,
+    };
+    let ran = replayed(
+        &rt,
+        rt.alloc(),
+        &numbers,
+        &[&script, &script, &script],
+        &OpenGate,
+    )?;
     let alone = [
         Verdict::Mapped,
         Verdict::Mapped,
@@ -41,12 +62,12 @@ fn two_pages_each(rt: HostRuntime) -> Result<(), Fail> {
         Verdict::Paired,
         Verdict::Closed,
     ];
-    assert_eq!(rt; got(&finished, 1), alone.as_slice());
-    assert_eq!(rt; times_got(&finished, &Verdict::Mapped), 6);
-    assert_eq!(rt; times_got(&finished, &Verdict::Hinted), 2);
-    assert_eq!(rt; times_got(&finished, &Verdict::Paired), 2);
-    assert_eq!(rt; times_got(&finished, &Verdict::Joined(3)), 1);
-    assert_eq!(rt; times_got(&finished, &Verdict::Joined(4)), 1);
-    assert_eq!(rt; numbers(&finished.settled.report()), [15, 6, 6, 2, 4, 0]);
-    check_replay(&rt, rt.alloc(), &config, &finished)
+    assert_eq!(rt; got(&ran, 1), alone.as_slice());
+    assert_eq!(rt; times_got(&ran, &Verdict::Mapped), 6);
+    assert_eq!(rt; times_got(&ran, &Verdict::Hinted), 2);
+    assert_eq!(rt; times_got(&ran, &Verdict::Paired), 2);
+    assert_eq!(rt; times_got(&ran, &Verdict::Joined(3)), 1);
+    assert_eq!(rt; times_got(&ran, &Verdict::Joined(4)), 1);
+    assert_eq!(rt; ran.report, [15, 6, 6, 2, 4, 0]);
+    Ok(())
 }

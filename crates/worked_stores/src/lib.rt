@@ -1,4 +1,4 @@
-//! Worked stores of pages, by the public calls of the crates that keep them.
+//! Worked stores of pages and hashes of them, by the public calls of the crates that keep and compute them.
 //! This crate has tests alone.
 #![tactic(auto)]
 
@@ -6,5 +6,7 @@
 mod chains;
 #[cfg(test)]
 mod frames;
+#[cfg(test)]
+mod hashes;
 #[cfg(test)]
 mod tables;

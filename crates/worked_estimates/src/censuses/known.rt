@@ -1,0 +1,167 @@
+//! The census of a few pages, counted by hand.
+use crate::censuses::pages::{Memory, Quiet, ZeroHash, counted, guest_of};
+use page_census::{CensusFault, CopiesClass, FoldHash, Guest, GuestNumbers, TotalNumbers, census};
+use page_digest::{FirstByteHash, PageHash, Sha256Hash};
+use refusing::Refusing;
+use std::alloc::Global;
+use std::process::Abort;
+use std::test::Fail;
+use std::thread::Threads;
+
+const GUESTS: [GuestNumbers; 3] = [
+    GuestNumbers {
+        pages: 4,
+        zero: 1,
+        distinct: 3,
+        shared: 3,
+        within: 2,
+        alone: 1,
+    },
+    GuestNumbers {
+        pages: 4,
+        zero: 1,
+        distinct: 3,
+        shared: 4,
+        within: 2,
+        alone: 1,
+    },
+    GuestNumbers {
+        pages: 4,
+        zero: 2,
+        distinct: 3,
+        shared: 2,
+        within: 2,
+        alone: 1,
+    },
+];
+
+const TOTAL: TotalNumbers = TotalNumbers {
+    pages: 12,
+    zero: 4,
+    shared: 9,
+    frames: 7,
+    reclaimed: 5,
+    zero_reclaimed: 2,
+    between: 2,
+};
+
+const COPIES: [CopiesClass; 3] = [
+    CopiesClass {
+        from: 1,
+        to: 1,
+        contents: 3,
+        pages: 3,
+    },
+    CopiesClass {
+        from: 2,
+        to: 2,
+        contents: 3,
+        pages: 6,
+    },
+    CopiesClass {
+        from: 3,
+        to: 4,
+        contents: 1,
+        pages: 3,
+    },
+];
+
+// More than a census takes.
+const MOST_REQUESTS: u64 = 100;
+
+// Pages a, b and c begin with one byte. Guests 0 and 1 have one salt, guest 2 another. Of guest 1 so many can be read.
+fn three_guests(alloc: Global, readable: u32) -> Result<Vec<Guest<Memory>>, Fail> {
+    let (a, b, c) = (Some(1), Some(2), Some(3));
+    let mut guests = Vec::with_capacity(alloc, 3)?;
+    guests.push_reserved(guest_of(alloc, 0, &[None, a, b, a], 4)?);
+    guests.push_reserved(guest_of(alloc, 0, &[a, None, c, c], readable)?);
+    guests.push_reserved(guest_of(alloc, 1, &[a, None, None, b], 4)?);
+    Ok(guests)
+}
+
+fn counts<R: Threads + Abort + Sync, H: PageHash>(
+    rt: &R,
+    alloc: Global,
+    hash: &H,
+    workers: u32,
+) -> Result<(), Fail> {
+    let guests = three_guests(alloc, 4)?;
+    let told = counted(rt, alloc, workers, hash, &guests);
+    assert_eq!(rt; told.guests.as_slice(), GUESTS.as_slice());
+    assert_eq!(rt; told.total, TOTAL);
+    assert_eq!(rt; told.copies.as_slice(), COPIES.as_slice());
+    Ok(())
+}
+
+#[test]
+fn by_sha256(rt: HostRuntime) -> Result<(), Fail> {
+    counts(&rt, rt.alloc(), &Sha256Hash, 4)
+}
+
+#[test]
+fn by_folding(rt: HostRuntime) -> Result<(), Fail> {
+    counts(&rt, rt.alloc(), &FoldHash, 3)
+}
+
+#[test]
+fn by_one_byte(rt: HostRuntime) -> Result<(), Fail> {
+    counts(&rt, rt.alloc(), &FirstByteHash, 1)
+}
+
+#[test]
+fn by_no_hash(rt: HostRuntime) -> Result<(), Fail> {
+    counts(&rt, rt.alloc(), &ZeroHash, 2)
+}
+
+#[test]
+fn unreadable(rt: HostRuntime) -> Result<(), Fail> {
+    let guests = three_guests(rt.alloc(), 3)?;
+    let told = census(&rt, rt.alloc(), 4, &Sha256Hash, &guests, &Quiet);
+    assert!(rt; matches!(told, Err(CensusFault::Read(1, _))));
+    Ok(())
+}
+
+// The total where memory is given, and none where it is refused.
+fn total_by<R: Threads + Abort + Sync, H: PageHash>(
+    rt: &R,
+    heap: &Refusing<Global>,
+    hash: &H,
+    guests: &[Guest<Memory>],
+) -> Option<TotalNumbers> {
+    match census(rt, heap, 4, hash, guests, &Quiet) {
+        Ok(told) => Some(told.total),
+        Err(CensusFault::OutOfMemory) => None,
+        Err(_) => panic!(rt; "another fault"),
+    }
+}
+
+// Request number n is refused, n counting up until a census has no refusal.
+fn refuses_in_turn<R: Threads + Abort + Sync, H: PageHash>(
+    rt: &R,
+    alloc: Global,
+    hash: &H,
+) -> Result<(), Fail> {
+    let guests = three_guests(alloc, 4)?;
+    for n in 0..MOST_REQUESTS {
+        let heap = Refusing::new(alloc, n, 0);
+        let total = total_by(rt, &heap, hash, &guests);
+        assert!(rt; heap.has_refused() == total.is_none(), "at {n}");
+        assert!(rt; heap.holds_nothing(), "at {n}");
+        if total.is_some() {
+            assert_eq!(rt; total, Some(TOTAL));
+            return Ok(());
+        }
+    }
+    panic!(rt; "no request is the last")
+}
+
+#[test]
+fn refused_in_turn(rt: HostRuntime) -> Result<(), Fail> {
+    refuses_in_turn(&rt, rt.alloc(), &Sha256Hash)
+}
+
+// Classes are found twice where different pages have one mark.
+#[test]
+fn refused_in_turn_by_no_hash(rt: HostRuntime) -> Result<(), Fail> {
+    refuses_in_turn(&rt, rt.alloc(), &ZeroHash)
+}

@@ -1,0 +1,84 @@
+//! More pages than are read at once, in parts by several workers, and none.
+use crate::censuses::pages::{Memory, counted, guest_of};
+use page_census::{CopiesClass, Guest, GuestNumbers, TotalNumbers};
+use page_digest::Sha256Hash;
+use std::alloc::{AllocError, Global};
+use std::test::Fail;
+
+// 50 different pages, four times each.
+const EACH: GuestNumbers = GuestNumbers {
+    pages: 200,
+    zero: 0,
+    distinct: 50,
+    shared: 200,
+    within: 200,
+    alone: 150,
+};
+
+const BOTH: TotalNumbers = TotalNumbers {
+    pages: 400,
+    zero: 0,
+    shared: 400,
+    frames: 100,
+    reclaimed: 300,
+    zero_reclaimed: 0,
+    between: 0,
+};
+
+const FOUR_TIMES: CopiesClass = CopiesClass {
+    from: 3,
+    to: 4,
+    contents: 100,
+    pages: 400,
+};
+
+const NONE: TotalNumbers = TotalNumbers {
+    pages: 0,
+    zero: 0,
+    shared: 0,
+    frames: 0,
+    reclaimed: 0,
+    zero_reclaimed: 0,
+    between: 0,
+};
+
+/// Two guests of 200 pages each, under two salts.
+fn two_guests(alloc: Global) -> Result<Vec<Guest<Memory>>, AllocError> {
+    let mut lasts = [None; 200];
+    for n in 0..200u8 {
+        lasts[n as usize] = Some(n % 50);
+    }
+    let mut guests = Vec::with_capacity(alloc, 2)?;
+    guests.push_reserved(guest_of(alloc, 7, &lasts, 200)?);
+    guests.push_reserved(guest_of(alloc, 9, &lasts, 200)?);
+    Ok(guests)
+}
+
+// The same pages under two salts are different contents.
+#[test]
+fn in_parts(rt: HostRuntime) -> Result<(), Fail> {
+    let guests = two_guests(rt.alloc())?;
+    for workers in 1..6 {
+        let told = counted(&rt, rt.alloc(), workers, &Sha256Hash, &guests);
+        assert_eq!(rt;
+            told.guests.as_slice(),
+            [EACH, EACH].as_slice(),
+            "by {workers}"
+        );
+        assert_eq!(rt; told.total, BOTH, "by {workers}");
+        assert_eq!(rt;
+            told.copies.as_slice(),
+            [FOUR_TIMES].as_slice(),
+            "by {workers}"
+        );
+    }
+    Ok(())
+}
+
+#[test]
+fn none(rt: HostRuntime) {
+    let told = counted(&rt, rt.alloc(), 4, &Sha256Hash, &[]);
+    assert_eq!(rt; told.guests.len(), 0);
+    assert_eq!(rt; told.total, NONE);
+    assert_eq!(rt; told.copies.len(), 0);
+}

@@ -1,0 +1,106 @@
+//! Guests whose pages stand in memory, and hashes and progress for tests.
+ghost use Rattle.std.specs.Prelude.{◌<◌, ◌^◌, length, vec_len};
+
+use page_census::{CensusNumbers, Guest, PageSource, Progress, census};
+use page_digest::PageHash;
+use page_model::{HashFunction, Page};
+use std::alloc::{AllocError, Global};
+use std::process::Abort;
+use std::thread::Threads;
+
+/// Fewer than 2^32 pages in memory, of which only the first can be read.
+#[derive(Drop)]
+pub struct Memory {
+    pub pages: Vec<Page>,
+    pub readable: u32,
+    ghost few: { vec_len pages < 2 ^ 32 },
+}
+
+/// A page is none of those that can be read.
+#[derive(Debug, Drop)]
+pub struct Unreadable;
+
+impl PageSource for Memory {
+    type Fault = Unreadable;
+
+    ghost pages = { λ s. s.pages.items };
+
+    ghost is_steady = { λ _. Unit {0} };
+
+    fn count(&self) -> u32 {
+        self.pages.len() as u32
+    }
+
+    fn read(&self, first: u32, into: &mut [Page]) -> Result<(), Unreadable> {
+        let from = first as usize;
+        let end = from + into.len();
+        if end > self.readable as usize {
+            return Err(Unreadable);
+        }
+        into.copy_from_slice(&self.pages[from..end]);
+        Ok(())
+    }
+}
+
+/// 0 for every page.
+pub struct ZeroHash;
+
+impl HashFunction for ZeroHash {
+    ghost hash_of = { λ _ _. 0 };
+}
+
+impl PageHash for ZeroHash {
+    fn hash(&self, _salt: u32, _page: &Page) -> u64 {
+        0
+    }
+}
+
+/// Nothing is told of progress.
+pub struct Quiet;
+
+impl Progress for Quiet {
+    fn advance(&self, _pages: usize) {}
+}
+
+/// A page that begins with 0x41 and ends with this byte, or zeros.
+fn page_of(last: Option<u8>) -> Page {
+    let mut page = [0; 4096];
+    if let Some(last) = last {
+        page[0] = 0x41;
+        page[4095] = last;
+    }
+    page
+}
+
+/// A guest with a page for each of these last bytes, of which so many can be read.
+pub fn guest_of(
+    alloc: Global,
+    salt: u32,
+    lasts: &[Option<u8>],
+    readable: u32,
+) -> Result<Guest<Memory>, AllocError>
+    requires { length lasts.now < 2 ^ 32 }
+{
+    let mut pages = Vec::with_capacity(alloc, lasts.len())?;
+    for last in lasts {
+        pages.push_reserved(page_of(*last));
+    }
+    Ok(Guest {
+        salt,
+        source: Memory { pages, readable },
+    })
+}
+
+/// What a census of these guests tells, by so many workers.
+pub fn counted<R: Threads + Abort + Sync, H: PageHash>(
+    rt: &R,
+    alloc: Global,
+    workers: u32,
+    hash: &H,
+    guests: &[Guest<Memory>],
+) -> CensusNumbers<Global> {
+    assert!(rt; workers >= 1);
+    census(rt, alloc, workers, hash, guests, &Quiet)
+        .ok()
+        .expect(rt, "a census")
+}

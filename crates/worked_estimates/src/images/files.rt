@@ -1,0 +1,196 @@
+//! Files in memory, and the pages that images of them tell.
+
+use memory_images::{FormFault, Image, ImageFault, ReadAt};
+use page_census::PageSource;
+use page_model::{PAGE_BYTES, Page};
+use std::alloc::{AllocError, Allocator, Global};
+use std::test::Fail;
+
+/// A file whose first `readable` bytes can be read.
+#[derive(Drop)]
+pub struct Memory {
+    pub bytes: Vec<u8>,
+    pub readable: usize,
+}
+
+/// A byte is none of those that can be read.
+#[derive(Clone, Copy, Debug, PartialEq, Eq)]
+pub struct Unreadable;
+
+impl ReadAt for Memory {
+    type Fault = Unreadable;
+
+    ghost bytes = { λ s. s.bytes.items };
+
+    ghost is_steady = { λ _. Unit {0} };
+
+    fn len(&self) -> u64 {
+        self.bytes.len() as u64
+    }
+
+    fn read_at(&self, at: u64, into: &mut [u8]) -> Result<(), Unreadable> {
+        let from = at as usize;
+        let end = from + into.len();
+        if end > self.readable {
+            return Err(Unreadable);
+        }
+        into.copy_from_slice(&self.bytes[from..end]);
+        Ok(())
+    }
+}
+
+/// What stands at a place of each file, but for its headers.
+pub fn byte_at(place: usize) -> u8 {
+    (place % 251) as u8
+}
+
+/// A file of so many bytes, each told by its place.
+pub fn plain_file(alloc: Global, len: usize) -> Result<Memory, AllocError> {
+    let mut bytes = Vec::with_capacity(alloc, len)?;
+    for place in 0..len {
+        bytes.push(byte_at(place))?;
+    }
+    Ok(Memory {
+        bytes,
+        readable: usize::MAX,
+    })
+}
+
+/// Puts a little-endian number of `len` bytes at a place.
+pub fn put(bytes: &mut [u8], at: usize, len: usize, number: u64) {
+    let mut left = number;
+    for i in 0..len {
+        if let Some(byte) = bytes.get_mut(at.wrapping_add(i)) {
+            *byte = (left % 256) as u8;
+        }
+        left /= 256;
+    }
+}
+
+/// A program header: its type, the place and the number of its bytes in the file and the number in memory.
+#[derive(Clone, Copy)]
+pub struct Told {
+    pub kind: u32,
+    pub offset: u64,
+    pub file_bytes: u64,
+    pub memory_bytes: u64,
+}
+
+/// A segment to load, which is as long in memory as in the file.
+pub fn load(offset: u64, len: u64) -> Told {
+    Told {
+        kind: 1,
+        offset,
+        file_bytes: len,
+        memory_bytes: len,
+    }
+}
+
+/// A core of so many bytes with these program headers, from byte 64 on.
+pub fn core_file(alloc: Global, len: usize, headers: &[Told]) -> Result<Memory, AllocError> {
+    let mut file = plain_file(alloc, len)?;
+    put_header(file.bytes.as_mut_slice(), headers.len() as u64);
+    let mut at: usize = 64;
+    for header in headers {
+        put_program_header(file.bytes.as_mut_slice(), at, header);
+        at = at.wrapping_add(56);
+    }
+    Ok(file)
+}
+
+/// Puts the header of a core with so many program headers.
+fn put_header(bytes: &mut [u8], count: u64) {
+    put(bytes, 0, 4, 0x464c_457f);
+    put(bytes, 4, 1, 2);
+    put(bytes, 5, 1, 1);
+    put(bytes, 16, 2, 4);
+    put(bytes, 32, 8, 64);
+    put(bytes, 40, 8, 0);
+    put(bytes, 54, 2, 56);
+    put(bytes, 56, 2, count);
+    put(bytes, 58, 2, 0);
+}
+
+/// Puts a program header at a place.
+fn put_program_header(bytes: &mut [u8], at: usize, header: &Told) {
+    put(bytes, at, 4, u64::from(header.kind));
+    put(bytes, at.wrapping_add(8), 8, header.offset);
+    put(bytes, at.wrapping_add(32), 8, header.file_bytes);
+    put(bytes, at.wrapping_add(40), 8, header.memory_bytes);
+}
+
+/// Whether a page is so many bytes of the file from a place on, and zeros behind them.
+pub fn is_page(page: &Page, from: usize, len: usize) -> bool {
+    for i in 0..PAGE_BYTES {
+        let told = if i < len {
+            byte_at(from.wrapping_add(i))
+        } else {
+            0
+        };
+        if page[i] != told {
+            return false;
+        }
+    }
+    true
+}
+
+/// Whether the pages of an image are these parts of its file, a place and a length each, read at once and one by one.
+pub fn has_pages<A: Allocator + Sync>(
+    alloc: Global,
+    image: &Image<Memory, A>,
+    parts: &[(usize, usize)],
+) -> Result<bool, AllocError> {
+    if image.count() as usize != parts.len() {
+        return Ok(false);
+    }
+    let mut pages = vec![in alloc; [7; PAGE_BYTES]; parts.len()]?;
+    let mut page = [[7; PAGE_BYTES]; 1];
+    if image.read(0, &mut pages).is_err() {
+        return Ok(false);
+    }
+    for (n, (from, len)) in parts.iter().enumerate() {
+        if image.read(n as u32, &mut page).is_err() {
+            return Ok(false);
+        }
+        if !is_page(&pages[n], *from, *len) || !is_page(&page[0], *from, *len) {
+            return Ok(false);
+        }
+    }
+    Ok(true)
+}
+
+/// Whether a raw file has these pages.
+pub fn raw_has_pages(alloc: Global, file: Memory, parts: &[(usize, usize)]) -> Result<bool, Fail> {
+    let image = Image::raw(alloc, file).map_err(|_| "fault")?;
+    Ok(has_pages(alloc, &image, parts)?)
+}
+
+/// Whether a file opens as an image of these pages.
+pub fn opened_has_pages(
+    alloc: Global,
+    file: Memory,
+    parts: &[(usize, usize)],
+) -> Result<bool, Fail> {
+    let image = Image::open(alloc, file).map_err(|_| "fault")?;
+    Ok(has_pages(alloc, &image, parts)?)
+}
+
+/// Whether a file is refused with this fault.
+pub fn fails(alloc: Global, file: Memory, fault: FormFault) -> bool {
+    match Image::open(alloc, file) {
+        Err(ImageFault::Form(form)) => form == fault,
+        Err(ImageFault::Read(_)) => false,
+        Err(ImageFault::OutOfMemory) => false,
+        Ok(_) => false,
+    }
+}
+
+/// Whether a read of a file fails while it is opened.
+pub fn is_unreadable(alloc: Global, file: Memory) -> bool {
+    match Image::open(alloc, file) {
+        Err(ImageFault::Form(_)) => false,
+        Err(ImageFault::Read(_)) => true,
+        Err(ImageFault::OutOfMemory) => false,
+        Ok(_) => false,
+    }
+}

@@ -1,0 +1,66 @@
+//! Memory that is refused, and reads that fail.
+
+use crate::images::files::{core_file, has_pages, is_unreadable, load};
+use memory_images::{Image, ImageFault};
+use page_census::PageSource;
+use page_model::PAGE_BYTES;
+use refusing::Refusing;
+use std::test::Fail;
+
+// More than opening an image takes.
+const MOST_REQUESTS: u64 = 100;
+
+// Request number n is refused, n counting up until there is no refusal.
+#[test]
+fn refused_in_turn(rt: HostRuntime) -> Result<(), Fail> {
+    let headers = [
+        load(400, 20),
+        load(450, 20),
+        load(500, 20),
+        load(550, 20),
+        load(600, 20),
+    ];
+    let parts = [(400, 20), (450, 20), (500, 20), (550, 20), (600, 20)];
+    let mut is_whole = false;
+    for n in 0..MOST_REQUESTS {
+        let heap = Refusing::new(rt.alloc(), n, 0);
+        match Image::open(&heap, core_file(rt.alloc(), 1000, &headers)?) {
+            Ok(image) => {
+                assert!(rt; !heap.has_refused(), "at {n}");
+                assert!(rt; has_pages(rt.alloc(), &image, &parts)?);
+                is_whole = true;
+            }
+            Err(ImageFault::OutOfMemory) => assert!(rt; heap.has_refused(), "at {n}"),
+            Err(_) => assert!(rt; false, "at {n}"),
+        }
+        assert!(rt; heap.holds_nothing(), "at {n}");
+        if is_whole {
+            break;
+        }
+    }
+    assert!(rt; is_whole);
+    Ok(())
+}
+
+// The magic, the header and each program header are read in turn.
+#[test]
+fn unreadable_headers(rt: HostRuntime) -> Result<(), Fail> {
+    for readable in [0, 3, 4, 63, 64, 119, 120, 175] {
+        let mut file = core_file(rt.alloc(), 1000, &[load(400, 20), load(500, 20)])?;
+        file.readable = readable;
+        assert!(rt; is_unreadable(rt.alloc(), file), "{readable}");
+    }
+    Ok(())
+}
+
+#[test]
+fn unreadable_pages(rt: HostRuntime) -> Result<(), Fail> {
+    let mut file = core_file(rt.alloc(), 1000, &[load(400, 20), load(500, 20)])?;
+    file.readable = 519;
+    let image = Image::open(rt.alloc(), file).map_err(|_| "fault")?;
+    assert_eq!(rt; image.count(), 2);
+    let mut pages = [[0; PAGE_BYTES]; 2];
+    assert!(rt; image.read(0, &mut pages).is_err());
+    assert!(rt; image.read(0, &mut pages[..1]).is_ok());
+    Ok(())
+}

@@ -1,0 +1,46 @@
+//! Memory that is refused.
+use crate::texts::numbers::{COPIES, GUESTS, TOTAL};
+use census_text::{Estimate, guest_lines, picture_text, table_text};
+use refusing::Refusing;
+use std::alloc::{AllocError, Allocator};
+use std::test::Fail;
+
+// More than the texts take.
+const MOST_REQUESTS: u64 = 200;
+
+/// The bytes of both texts, and of as many guests.
+fn texts<A: Allocator + Clone>(alloc: &A) -> Result<usize, AllocError> {
+    let guests = guest_lines(alloc, &["a", "b"], &[0, 7], &GUESTS)?;
+    let estimate = Estimate {
+        guests: &guests,
+        total: TOTAL,
+        copies: &COPIES,
+    };
+    let table = table_text(alloc, &estimate)?;
+    let picture = picture_text(alloc, &estimate)?;
+    Ok(table.len().saturating_add(picture.len()))
+}
+
+// Request number n is refused, n counting up until there is no refusal.
+#[test]
+fn refused_in_turn(rt: HostRuntime) -> Result<(), Fail> {
+    let whole = texts(&rt.alloc())?;
+    let mut is_whole = false;
+    for n in 0..MOST_REQUESTS {
+        let heap = Refusing::new(rt.alloc(), n, 0);
+        match texts(&&heap) {
+            Ok(bytes) => {
+                assert!(rt; !heap.has_refused(), "at {n}");
+                assert_eq!(rt; bytes, whole);
+                is_whole = true;
+            }
+            Err(AllocError) => assert!(rt; heap.has_refused(), "at {n}"),
+        }
+        assert!(rt; heap.holds_nothing(), "at {n}");
+        if is_whole {
+            break;
+        }
+    }
+    assert!(rt; is_whole);
+    Ok(())
+}

@@ -1,0 +1,161 @@
+//! Whole runs whose answers are plain data. No function here that a test calls has a clause, so that no test carries those
+//! of a run.
+ghost use Rattle.std.specs.Prelude.{◌≡◌};
+ghost use Rattle.merge_run.specs.Runs.{CanBeRun};
+
+use crate::makes::{Ask, Numbers, Setting, setting_of};
+use crate::replays::check_replay;
+use merge_run::{Config, Finished, Gate, OpenGate, RunFault, run};
+use page_digest::{PageHash, Sha256Hash};
+use page_model::{Report, Request, Verdict};
+use refusing::Refusing;
+use std::alloc::{Allocator, Global};
+use std::process::Abort;
+use std::sync::Wait;
+use std::test::Fail;
+use std::thread::Threads;
+
+/// What is compared of a run.
+#[derive(Drop)]
+pub struct Outcome<A: Allocator = Global> {
+    /// Each guest's verdicts, oldest first, and guest 0's list first.
+    pub verdicts: Vec<Vec<Verdict, A>, A>,
+    /// The report's numbers: entries, mapped, shared, frames, reclaimed, hints.
+    pub report: [u32; 6],
+    /// How many entries the journal has.
+    pub journal: usize,
+}
+
+/// A guest's verdicts, oldest first; none where there is no such guest.
+pub fn got<A: Allocator>(ran: &Outcome<A>, guest: usize) -> &[Verdict] {
+    match ran.verdicts.get(guest) {
+        Some(list) => list,
+        None => &[],
+    }
+}
+
+/// How often a verdict stands in the lists of all guests.
+pub fn times_got(ran: &Outcome, verdict: &Verdict) -> u32 {
+    let mut times = 0u32;
+    for list in &ran.verdicts {
+        times = times.wrapping_add(times_in(list, verdict));
+    }
+    times
+}
+
+fn times_in(list: &[Verdict], verdict: &Verdict) -> u32 {
+    let mut times = 0u32;
+    for other in list {
+        times = times.wrapping_add(u32::from(other == verdict));
+    }
+    times
+}
+
+fn numbers(report: &Report) -> [u32; 6] {
+    [
+        report.entries(),
+        report.mapped(),
+        report.shared(),
+        report.frames(),
+        report.reclaimed(),
+        report.hints(),
+    ]
+}
+
+fn compared<H: PageHash + Drop, A: Allocator>(finished: Finished<H, A>) -> Outcome<A> {
+    let report = numbers(&finished.settled.report());
+    let journal = finished.settled.journal().len();
+    Outcome {
+        verdicts: finished.verdicts,
+        report,
+        journal,
+    }
+}
+
+/// The run itself.
+fn run_plainly<
+    R: Threads + Wait + Sync,
+    H: PageHash + Drop,
+    A: Allocator + Copy + Send + Sync,
+    G: Gate + Sync,
+>(
+    rt: &R,
+    alloc: A,
+    config: &Config<A>,
+    hash: H,
+    scripts: Vec<Vec<Request, A>, A>,
+    gate: &G,
+) -> Result<Finished<H, A>, RunFault>
+    requires { CanBeRun config.now scripts.items }
+{
+    run(rt, alloc, config, hash, scripts, gate)
+}
+
+/// A run of these scripts, with all memory from one allocator.
+pub fn ran<
+    R: Threads + Wait + Sync + Abort,
+    H: PageHash + Drop,
+    A: Allocator + Copy + Send + Sync,
+    G: Gate + Sync,
+>(
+    rt: &R,
+    alloc: A,
+    numbers: &Numbers<'_>,
+    asks: &[&[Ask]],
+    hash: H,
+    gate: &G,
+) -> Result<Outcome<A>, RunFault> {
+    let Setting { config, scripts } = setting_of(rt, alloc, numbers, asks);
+    let finished = run_plainly(rt, alloc, &config, hash, scripts, gate)?;
+    Ok(compared(finished))
+}
+
+/// Why there is no such run under SHA-256.
+pub fn fault_of<R: Threads + Wait + Sync + Abort, G: Gate + Sync>(
+    rt: &R,
+    alloc: Global,
+    numbers: &Numbers<'_>,
+    asks: &[&[Ask]],
+    gate: &G,
+) -> Option<RunFault> {
+    ran(rt, alloc, numbers, asks, Sha256Hash, gate).err()
+}
+
+/// The same where all memory is refused once the scripts are made.
+pub fn fault_without_memory<R: Threads + Wait + Sync + Abort>(
+    rt: &R,
+    heap: &Refusing<Global>,
+    numbers: &Numbers<'_>,
+    asks: &[&[Ask]],
+) -> Option<RunFault> {
+    let Setting { config, scripts } = setting_of(rt, heap, numbers, asks);
+    heap.refuse_all();
+    run_plainly(rt, heap, &config, Sha256Hash, scripts, &OpenGate).err()
+}
+
+/// A run whose journal one thread replays to the same verdicts and report.
+pub fn replayed<R: Threads + Wait + Sync + Abort, G: Gate + Sync>(
+    rt: &R,
+    alloc: Global,
+    numbers: &Numbers<'_>,
+    asks: &[&[Ask]],
+    gate: &G,
+) -> Result<Outcome, Fail> {
+    let setting = setting_of(rt, alloc, numbers, asks);
+    replayed_setting(rt, alloc, setting, gate)
+}
+
+/// The same of a setting.
+pub fn replayed_setting<R: Threads + Wait + Sync + Abort, G: Gate + Sync>(
+    rt: &R,
+    alloc: Global,
+    setting: Setting<Global>,
+    gate: &G,
+) -> Result<Outcome, Fail>
+    requires { CanBeRun setting.config setting.scripts.items }
+{
+    let Setting { config, scripts } = setting;
+    let finished = run_plainly(rt, alloc, &config, Sha256Hash, scripts, gate)?;
+    check_replay(rt, alloc, &config, &finished)?;
+    Ok(compared(finished))
+}

@@ -1,0 +1,68 @@
+//! A hash of two pages each of which waits for the other, so that two workers are needed.
+ghost use Rattle.std.specs.Prelude.{◌≡◌};
+
+use crate::hashes::makes::{pairs_of, two_frames};
+use page_digest::{PageHash, hash_many};
+use page_model::{HashFunction, Page};
+use std::alloc::Global;
+use std::sync::atomic::{AtomicBool, Ordering};
+use std::test::Fail;
+use std::thread;
+
+const TRIES: u64 = 1 << 30;
+
+/// Byte 0 of the page, told once a page of zeros and another page are both being hashed.
+#[derive(Drop)]
+struct Together {
+    blank_came: AtomicBool,
+    other_came: AtomicBool,
+    missed: AtomicBool,
+}
+
+impl Together {
+    // Sets a flag and waits for the other. Notes where it is never seen.
+    fn meet(&self, own: &AtomicBool, other: &AtomicBool) {
+        own.store(true, Ordering::SeqCst);
+        for _ in 0..TRIES {
+            if other.load(Ordering::SeqCst) {
+                return;
+            }
+            thread::yield_now();
+        }
+        self.missed.store(true, Ordering::SeqCst);
+    }
+}
+
+impl HashFunction for Together {
+    ghost use Rattle.page_digest.specs.Hashes.{first_byte_hash};
+
+    ghost hash_of = { first_byte_hash };
+}
+
+impl PageHash for Together {
+    fn hash(&self, _salt: u32, page: &Page) -> u64 {
+        if page[0] == 0 {
+            self.meet(&self.blank_came, &self.other_came);
+        } else {
+            self.meet(&self.other_came, &self.blank_came);
+        }
+        page[0].into()
+    }
+}
+
+// On one thread the page of zeros would wait in vain for the other.
+#[test]
+fn by_two_workers(rt: HostRuntime) -> Result<(), Fail> {
+    let heap: Global = rt.alloc();
+    let hash = Together {
+        blank_came: AtomicBool::new(false),
+        other_came: AtomicBool::new(false),
+        missed: AtomicBool::new(false),
+    };
+    let two = two_frames(heap)?;
+    let pairs = pairs_of(heap, &two, 2)?;
+    let hashes = hash_many(&rt, heap, 2, &hash, &two.frames, &pairs).map_err(|_| "refused")?;
+    assert_eq!(rt; hashes.as_slice(), [0, 0x41].as_slice());
+    assert!(rt; !hash.missed.load(Ordering::SeqCst));
+    Ok(())
+}
