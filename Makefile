@@ -1,8 +1,9 @@
 .PHONY: test build demo commands estimate no-thread embed fuzz soak hints bench
 
-# The gate: every proof from nothing, the edits that must be refused, the tests and the programs.
+# The gate: every proof from nothing, the tests, the edits that must be refused, and the proved program on worked texts. It leaves
+# the times of all steps at out/gate.tsv, whose dearest checks/gate.py prints.
 test:
-	rt ci
+	checks/gate.py run
 
 # The proved program, left at out/pageshare.
 build: out/pageshare
@@ -30,7 +31,7 @@ estimate: out/pageshare
 	checks/estimate.py $(or $(COUNT),1000) $(SEED)
 
 # Outside the gate: where the system refuses to start a thread, a run, a script and a hashing of many pages answer so and end.
-no-thread: out/run_bench out/hash_bench out/pageshare
+no-thread: out/thread_bench out/store_bench out/pageshare
 	checks/no_thread.sh out
 
 out/%_bench: $(SOURCES)
@@ -42,9 +43,9 @@ out/%_bench: $(SOURCES)
 fuzz: out/pageshare
 	checks/fuzz.py $(or $(COUNT),100000) $(SEED)
 
-# Outside the gate: random scripts through threads, their journals replayed, for ten minutes (MINUTES and SEED may be given).
+# Outside the gate: random scripts through threads, their journals replayed, for ten minutes (SECONDS and SEED may be given).
 soak: out/pageshare
-	checks/soak.py $(or $(MINUTES),10) $(SEED)
+	checks/soak.py $(or $(SECONDS),600) $(SEED)
 
 # Outside the gate: a replay's time grows with the number of its hints and no faster. Nothing else may run meanwhile.
 hints: out/pageshare
@@ -52,7 +53,7 @@ hints: out/pageshare
 
 # Outside the gate: the proved programs beside plain Rust, in one table; status 1 where a ratio is above its goal. CRATES may name
 # a folder with the sources of the opponents' crates. Nothing else may run meanwhile.
-bench: out/pageshare out/frames_bench out/table_bench out/hash_bench out/rings_bench out/run_bench
+bench: out/pageshare out/store_bench out/thread_bench
 	checks/bench.py --table out/bench.tsv $(if $(CRATES),--crates $(CRATES))
 	checks/plots.py out/bench.tsv out
 

@@ -3,7 +3,7 @@
 
     checks/bench.py [--crates FOLDER] [--turns N] [--quick] [--only WORD] [--table FILE] [--instructions]
 
-The proved programs are those in out/: pageshare (`make build`) and the crates *_bench (`make out/frames_bench` and so on). The opponents are the
+The proved programs are those in out/: pageshare (`make build`) and the crates *_bench (`make out/store_bench out/thread_bench`). The opponents are the
 Cargo package benches/, which is copied to out/bench and built there. --crates names a folder with the sources of its
 crates, as Debian's packages librust-hex-dev, librust-rayon-dev, librust-sha2-dev and librust-slab-dev leave it at
 /usr/share/cargo/registry; without it cargo looks for them as it is set up to. The opponents hash in software, as the proved
@@ -222,18 +222,18 @@ def run_time(command):
     return 1e3 * (time.perf_counter() - start)
 
 
-def counted(table, theirs, name, opponent, words, goals, own=()):
-    """The figures that one benchmark and its opponent print, and of its own those that stand beside one another."""
-    ours = os.path.join(TOP, "out", name)
+def counted(table, theirs, program, part, opponent, words, goals, own=()):
+    """The figures that a part of a benchmark and its opponent print, and of its own those that stand beside one another."""
+    ours = os.path.join(TOP, "out", program)
     other = os.path.join(theirs, opponent) if theirs and opponent else None
-    mine, others = table.in_turns(lambda: told(ours, words), (lambda: told(other, words)) if other else None)
+    mine, others = table.in_turns(lambda: told(ours, [part, *words]), (lambda: told(other, words)) if other else None)
     for figure in mine[0]:
         same = "one by one" if figure in ("four at once", "one worker") else figure
         rest = [turn[same] for turn in others] if others and same in others[0] else []
-        table.add(f"{name[:-6]}: {figure}", "ns", goals.get(figure, goals.get("")), [turn[figure] for turn in mine], rest)
+        table.add(f"{part}: {figure}", "ns", goals.get(figure, goals.get("")), [turn[figure] for turn in mine], rest)
     for figure, beside, shown, goal in own:
         both = [[turn[one] if one in turn else one for turn in mine] for one in (figure, beside)]
-        table.add(f"{name[:-6]}: {figure}, beside {shown}", "ns", goal, *both)
+        table.add(f"{part}: {figure}, beside {shown}", "ns", goal, *both)
 
 
 # What a run in threads has to beat: the same requests through a core on one thread.
@@ -265,12 +265,12 @@ def main():
     size = str(20_000 if asked.quick else 200_000)
     parts = {
         "replay": lambda: replays(table, theirs, asked.quick),
-        "frames": lambda: counted(table, theirs, "frames_bench", "frames", [size], {"": 1.2, "give_back": None}),
-        "table": lambda: counted(table, theirs, "table_bench", "table", [size], {"": 1.2}),
-        "rings": lambda: counted(table, theirs, "rings_bench", "rings", [size], {"": 1.2, "between two": None}),
-        "hash": lambda: counted(table, theirs, "hash_bench", "hashing", ["2000"], {"": 1.0}, WORKERS),
+        "frames": lambda: counted(table, theirs, "store_bench", "frames", "frames", [size], {"": 1.2, "give_back": None}),
+        "table": lambda: counted(table, theirs, "store_bench", "table", "table", [size], {"": 1.2}),
+        "rings": lambda: counted(table, theirs, "thread_bench", "rings", "rings", [size], {"": 1.2, "between two": None}),
+        "hash": lambda: counted(table, theirs, "store_bench", "hash", "hashing", ["2000"], {"": 1.0}, WORKERS),
         "estimate": lambda: estimates(table, theirs, asked.quick),
-        "run": lambda: counted(table, theirs, "run_bench", "runs", [str(2_000 if asked.quick else 20_000)], {"": 1.0}, LARGEST + THREADS),
+        "run": lambda: counted(table, theirs, "thread_bench", "run", "runs", [str(2_000 if asked.quick else 20_000)], {"": 1.0}, LARGEST + THREADS),
     }
     for name, part in parts.items():
         if asked.only in name:

@@ -6,8 +6,8 @@
 Makes COUNT random images, by default 1,000, a few at a time: raw files and ELF cores with segments out of order, holes, last parts
 and, now and then, the number of program headers in section header 0; empty ones; one image twice; cores read as raw; several salts.
 For each few it compares the object of `--json`, the table's numbers and its last sentence, and that the picture is XML. PROGRAM is
-by default out/pageshare (`make build`). Nothing is built here. Prints each difference, and at the end how many images went right
-(status 0 where all did, else 1).
+by default out/pageshare (`make build`). Nothing is built here. Prints each difference, and at the end `N passed, M failed`, of
+images (status 0 where all passed, else 1).
 """
 import collections
 import hashlib
@@ -229,7 +229,7 @@ def main():
             print(f"after {made} images of seed {seed}: {fault}")
         wrong += len(images) if faults else 0
         made += len(images)
-    print(f"{made - wrong} of {made} images right (seed {seed})")
+    print(f"{made - wrong} passed, {wrong} failed")
     sys.exit(1 if wrong else 0)
 
 

@@ -1,12 +1,12 @@
 #!/usr/bin/env python3
 """Gives broken texts to the program. Whatever it reads, it must answer with its output or with one fault line, and soon.
 
-    checks/fuzz.py [COUNT [SEED]]
+    checks/fuzz.py [COUNT [SEED [PROGRAM]]]
 
 COUNT texts, by default 10,000, follow from SEED, by default 1. Each is a random journal or script that had bytes changed,
 cut or doubled, lines swapped or left out, or numbers put at a limit, and goes to one of the commands that read such texts.
-It takes out/pageshare (`make build`). Prints how many texts got which answer (status 0), or the first text that got a wrong
-one, which it leaves at out/fuzz.text (status 1).
+PROGRAM is by default out/pageshare (`make build`). Prints how many texts got which answer (status 0), or the first text that
+got a wrong one, which it leaves at out/fuzz.text (status 1). The last line is `N passed, M failed`, of texts.
 
 An answer is right where the status is 0, every line but the last is a verdict line, and the last is the report of as many
 entries (or, for `run --journal`, the output is a journal that `replay` accepts); or where the status is 1 and the whole
@@ -24,7 +24,6 @@ import sys
 from random_texts import journal, script
 
 TOP = pathlib.Path(__file__).resolve().parent.parent
-PROGRAM = str(TOP / "out/pageshare")
 SECONDS, BYTE_SECONDS = 5.0, 1e-4
 
 COMMANDS = {"journal": [["replay"]], "script": [["serial"], ["run"], ["run", "--journal"]]}
@@ -90,9 +89,9 @@ def case(seed, nth, commands):
     return text, rng.choice(commands[kind])
 
 
-def ask(words, text):
+def ask(program, words, text):
     limit = SECONDS + BYTE_SECONDS * len(text)
-    return subprocess.run([PROGRAM, *words], input=text, capture_output=True, timeout=limit, check=False)
+    return subprocess.run([program, *words], input=text, capture_output=True, timeout=limit, check=False)
 
 
 def verdict_lines_are_right(output):
@@ -101,10 +100,10 @@ def verdict_lines_are_right(output):
     return bool(report) and int(report[1]) == len(lines) - 2 and all(map(VERDICT.fullmatch, lines[:-2]))
 
 
-def answer_of(words, text):
+def answer_of(program, words, text):
     """The answer's name, and whether it is right."""
     try:
-        done = ask(words, text)
+        done = ask(program, words, text)
     except subprocess.TimeoutExpired:
         return "too late", False
     output = done.stdout.decode("latin-1")
@@ -114,33 +113,38 @@ def answer_of(words, text):
     if done.returncode != 0:
         return f"{' '.join(words)}: status {done.returncode}", False
     if words[-1] == "--journal":
-        return "run --journal: a journal", ask(["replay"], done.stdout).returncode == 0
+        return "run --journal: a journal", ask(program, ["replay"], done.stdout).returncode == 0
     return f"{' '.join(words)}: verdicts", verdict_lines_are_right(output)
 
 
-def main(count=10000, seed=1):
-    known = subprocess.run([PROGRAM, "--help"], capture_output=True, text=True, check=True).stdout
+def main(count=10000, seed=1, program=str(TOP / "out/pageshare")):
+    count, seed = int(count), int(seed)
+    known = subprocess.run([program, "--help"], capture_output=True, text=True, check=True).stdout
     commands = {kind: [words for words in many if words[0] in known] for kind, many in COMMANDS.items()}
     commands = {kind: many for kind, many in commands.items() if many}
     answers = collections.Counter()
 
     def tried(nth):
         text, words = case(seed, nth, commands)
-        return nth, text, words, answer_of(words, text)
+        return nth, text, words, answer_of(program, words, text)
 
     with concurrent.futures.ThreadPoolExecutor(os.cpu_count()) as pool:
         for nth, text, words, (answer, is_right) in pool.map(tried, range(count)):
             if not is_right:
-                (TOP / "out/fuzz.text").write_bytes(text)
-                print(f"text {nth} of seed {seed}, by {' '.join(words)}: {answer}; it is at {TOP / 'out/fuzz.text'}")
+                left = TOP / "out/fuzz.text"
+                left.parent.mkdir(exist_ok=True)
+                left.write_bytes(text)
+                print(f"text {nth} of seed {seed}, by {' '.join(words)}: {answer}; it is at {left}")
+                print(f"{nth} passed, 1 failed")
                 pool.shutdown(cancel_futures=True)
                 return 1
             answers[answer] += 1
     print(f"{count} texts of seed {seed}: each got its output or one fault line")
     for answer, times in sorted(answers.items()):
         print(f"{times:8} {answer}")
+    print(f"{count} passed, 0 failed")
     return 0
 
 
 if __name__ == "__main__":
-    sys.exit(main(*map(int, sys.argv[1:3])))
+    sys.exit(main(*sys.argv[1:4]))

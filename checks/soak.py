@@ -1,10 +1,10 @@
 #!/usr/bin/env python3
-"""Random scripts through threads and back, for some minutes.
+"""Random scripts through threads and back, for some time.
 
-    checks/soak.py [MINUTES [SEED]]
+    checks/soak.py [SECONDS [SEED [PROGRAM]]]
 
-MINUTES, by default 10; the scripts follow from SEED, by default the time, and the seed is printed. It takes out/pageshare
-(`make build`). Of each script it looks that
+SECONDS, by default 600; the scripts follow from SEED, by default the time, and the seed is printed. PROGRAM is by default
+out/pageshare (`make build`). Of each script it looks that
 
 - `run --journal` writes a journal that has each guest's requests in the script's order and its close, and no others;
 - `replay` of that journal answers each request once, and its report is of as many entries;
@@ -13,7 +13,7 @@ MINUTES, by default 10; the scripts follow from SEED, by default the time, and t
 - `serial` answers like `replay` of the journal in the serial order.
 
 Prints the number of scripts and requests (status 0), or the first script that differs, which it leaves at out/soak.script
-(status 1).
+(status 1). The last line is `N passed, M failed`, of scripts.
 """
 import itertools
 import pathlib
@@ -25,7 +25,6 @@ import time
 from random_texts import header, request, script, text_of
 
 TOP = pathlib.Path(__file__).resolve().parent.parent
-PROGRAM = str(TOP / "out/pageshare")
 KINDS = {
     "propose": {"no-page", "unmapped", "already", "joined", "paired", "hinted", "kept", "replaced", "ineligible"},
     "store": {"no-page", "mapped", "stored", "copied", "taken", "no-frame"},
@@ -40,8 +39,8 @@ class Differs(Exception):
     """What differs."""
 
 
-def say(words, text):
-    done = subprocess.run([PROGRAM, *words], input=text, capture_output=True, text=True, timeout=300, check=False)
+def say(program, words, text):
+    done = subprocess.run([program, *words], input=text, capture_output=True, text=True, timeout=300, check=False)
     if done.returncode != 0:
         raise Differs(f"{' '.join(words)}: status {done.returncode}: {done.stdout[:200]}{done.stderr[:200]}")
     return done.stdout.splitlines()
@@ -73,21 +72,21 @@ def serial_order(lists, guests):
     return [f"{pair[0]} {pair[1]}" for turn in turns for pair in turn if pair]
 
 
-def look(text, is_apart):
+def look(program, text, is_apart):
     """Looks at one script, and answers the number of its requests."""
-    journal = say(["run", "--journal"], text)
+    journal = say(program, ["run", "--journal"], text)
     asked_lines, head = requests_of(journal)
     guests = len(head[2].split()) - 1
     asked = by_guest(asked_lines)
     # The script's own requests, in order: the same script with one guest after the other is told by its serial journal.
-    replayed = say(["replay"], "\n".join(journal) + "\n")
+    replayed = say(program, ["replay"], "\n".join(journal) + "\n")
     expect("the replay's report", replayed[-1].split()[2], str(len(asked_lines)))
     answers = by_guest(replayed[:-1])
-    run = say(["run"], text)
+    run = say(program, ["run"], text)
     got = by_guest(run[:-1])
-    serial = say(["serial"], text)
+    serial = say(program, ["serial"], text)
     order = serial_order(asked, guests)
-    expect("serial", serial, say(["replay"], "\n".join([*head, *order, f"end {len(order)}"]) + "\n"))
+    expect("serial", serial, say(program, ["replay"], "\n".join([*head, *order, f"end {len(order)}"]) + "\n"))
     for guest in range(guests):
         kinds = [line.split()[0] for line in asked[guest]]
         expect(f"the close of guest {guest}", kinds.index("close"), len(kinds) - 1)
@@ -109,24 +108,28 @@ def apart(rng):
     return text_of(head, lines)
 
 
-def main(minutes=10.0, seed=None):
+def main(seconds=600.0, seed=None, program=str(TOP / "out/pageshare")):
     seed = int(time.time()) if seed is None else int(seed)
     print(f"seed {seed}", flush=True)
-    rng, end = random.Random(seed), time.monotonic() + 60 * minutes
+    rng, end = random.Random(seed), time.monotonic() + float(seconds)
     scripts = requests = 0
     while time.monotonic() < end:
         is_apart = rng.random() < 0.5
         text = apart(rng) if is_apart else script(rng, most=3000)[0]
         try:
-            requests += look(text, is_apart)
+            requests += look(program, text, is_apart)
         except Differs as what:
-            (TOP / "out/soak.script").write_text(text)
-            print(f"script {scripts} of seed {seed} differs in {what}; it is at {TOP / 'out/soak.script'}")
+            left = TOP / "out/soak.script"
+            left.parent.mkdir(exist_ok=True)
+            left.write_text(text)
+            print(f"script {scripts} of seed {seed} differs in {what}; it is at {left}")
+            print(f"{scripts} passed, 1 failed")
             return 1
         scripts += 1
     print(f"{scripts} scripts, {requests} requests, {4 * scripts} runs of the program besides: no difference")
+    print(f"{scripts} passed, 0 failed")
     return 0
 
 
 if __name__ == "__main__":
-    sys.exit(main(*map(float, sys.argv[1:3])))
+    sys.exit(main(*sys.argv[1:4]))

@@ -126,7 +126,8 @@ uint32_t pageshare_free(struct pageshare *machine);
  *
  * A page changes its frame at five verdicts alone: MAPPED and COPIED (a frame that was free), JOINED and PAIRED (the frame of
  * the pages with which it is now shared), and RELEASED (none). Every other page keeps its frame. A monitor that maps pages to
- * frames changes one mapping after each of these, and maps shared frames for reading alone.
+ * frames maps the named page anew after each of these, and maps shared frames for reading alone: at PAIRED also the page that
+ * was the hint, which keeps its frame and was private until then. Every store is a request, to private pages as well.
  */
 
 /* Proposes a page for sharing. */
