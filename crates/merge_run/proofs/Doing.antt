@@ -10,11 +10,12 @@ use Rattle.page_model.specs.declared.request.Request.{Request}
 use Rattle.share_rings.specs.declared.port.Port.{Port}
 use Rattle.share_rings.specs.Closing.{last_closed}
 use Rattle.share_rings.specs.Ends.{closed_name, closed_sent, closed_got, closed_capacity, port_name, port_capacity}
-use Rattle.merge_run.specs.Tasks.{IsDone, AreDone, tasks_of, ports_of, lists_of, task_requests, with_close, all_sent}
+use Rattle.merge_run.specs.Tasks.{IsDone, AreDone, tasks_of, ports_of, lists_of, task_requests, all_sent}
 use Rattle.merge_run.specs.declared.task.Task.{Task}
 use Rattle.merge_run.specs.declared.task.DoneTask.{DoneTask}
 use Rattle.merge_run.specs.declared.task.DoesTask.{DoesTask}
 use Rattle.merge_machine.proofs.Lists.{pushed_alike}
+use Rattle.merge_machine.specs.Scripts.{with_close}
 
 all_of_one : {X : Type 0} (P : X → Type 0) (x : X) → P x → All P (x ∷ [])
 all_of_one P x p zero d low = p

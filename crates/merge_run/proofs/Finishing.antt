@@ -21,9 +21,9 @@ use Rattle.merge_machine.specs.Machines.{opening}
 use Rattle.merge_settle.specs.Settling.{Settles}
 use Rattle.page_model.specs.Limits.{shapes}
 use Rattle.page_model.specs.Replay.{empty_state}
-use Rattle.merge_run.specs.Runs.{IsWholeRun, NotRunFor, entries_of}
+use Rattle.merge_run.specs.Runs.{IsWholeRun, NotRunFor}
 use Rattle.merge_settle.specs.Settling.{is_running, is_undrained}
-use Rattle.merge_run.specs.Tasks.{AreDone, with_close, all_sent}
+use Rattle.merge_run.specs.Tasks.{AreDone, all_sent}
 use Rattle.merge_run.specs.Turns.{HaveEnded}
 use Rattle.merge_settle.specs.View.{settled_ports, settled_journal, settled_core}
 use Rattle.merge_machine.specs.declared.config.Config.{Config}
@@ -33,6 +33,7 @@ use Rattle.merge_run.specs.declared.run_fault.RunFault.TheVariants.{OutOfMemory,
 use Rattle.merge_run.specs.declared.task.Task.{Task}
 use Rattle.merge_run.specs.declared.task.DoneTask.{DoneTask}
 use Rattle.merge_machine.proofs.Lists.{maps_length, maps_at, some_of}
+use Rattle.merge_machine.specs.Scripts.{with_close, entries_needed}
 
 all_pass : {X : Type 0} (p : X → Bool) (xs : List X) → ((i : ℕ) (d : X) → i < length xs → p (get_or xs i d) ≡ false) → prefix_len (λ x. not (p x)) xs ≡ length xs
 all_pass p [] fails = refl
@@ -78,11 +79,11 @@ module _ {A : Type 0} where
   same_got xs ys e = maps_after closed_view (λ v. v.1.1) xs ys e
 
   -- memory or a thread was wanting where there is such a machine, and its journal has room
-  wanting : (config : Config A) (scripts : List (Vec Request A)) (fault : RunFault) → IsMachine config → entries_of scripts ≤ config.journal → (fault ≡ OutOfMemory) ⊎ (fault ≡ NoThread) → NotRunFor config scripts fault
+  wanting : (config : Config A) (scripts : List (Vec Request A)) (fault : RunFault) → IsMachine config → entries_needed scripts ≤ config.journal → (fault ≡ OutOfMemory) ⊎ (fault ≡ NoThread) → NotRunFor config scripts fault
   wanting config scripts fault machine room (inl memory) = subst (λ f. NotRunFor config scripts f) (sym memory) (machine, room)
   wanting config scripts fault machine room (inr thread) = subst (λ f. NotRunFor config scripts f) (sym thread) (machine, room)
 
-  pub wanting_memory : {X : Type 0} (P : X → Type 0) (config : Config A) (scripts : List (Vec Request A)) (result : Result X RunFault) → IsMachine config → entries_of scripts ≤ config.journal → IsErrAnd result (λ fault. fault ≡ OutOfMemory) → MatchResult result P (λ fault. NotRunFor config scripts fault)
+  pub wanting_memory : {X : Type 0} (P : X → Type 0) (config : Config A) (scripts : List (Vec Request A)) (result : Result X RunFault) → IsMachine config → entries_needed scripts ≤ config.journal → IsErrAnd result (λ fault. fault ≡ OutOfMemory) → MatchResult result P (λ fault. NotRunFor config scripts fault)
   wanting_memory P config scripts (Ok x) machine room is = absurd is
   wanting_memory P config scripts (Err fault) machine room is = wanting config scripts fault machine room (inl is)
 
@@ -95,7 +96,7 @@ module _ {A : Type 0} where
 
   -- what is known of a run, taken together: as many ports and lists of verdicts as scripts
   pub whole_run : {H O : Type 0} {ghosts : Ghosts H} (hash : ℕ → List ℕ → ℕ) (c : Config A) (scripts : List (Vec Request A)) (fresh : List (Port A)) (result : Result (Finished H A ghosts × O) RunFault)
-      → IsMachine c → entries_of scripts ≤ c.journal → length scripts ≡ length c.pages.items → All (IsFreshPort c.ring) fresh
+      → IsMachine c → entries_needed scripts ≤ c.journal → length scripts ≡ length c.pages.items → All (IsFreshPort c.ring) fresh
       → IfOk result (λ r. Settles hash (settled_ports r.0.settled) (settled_journal r.0.settled) (settled_core r.0.settled))
       → IfOk result (λ r. opening (state_of (settled_core r.0.settled)) ≡ empty_state c.frames (shapes c.salts.items c.pages.items))
       → IfOk result (λ r. map closed_capacity (settled_ports r.0.settled) ≡ port_capacities fresh)

@@ -1,5 +1,5 @@
 -- What can be run, what a whole run is, and why a machine is not run to its end.
-use Rattle.std.specs.Prelude.{◌≡◌, ℕ, ◌+◌, ◌<◌, ◌≤◌, false, All, List, length, map, sum_by}
+use Rattle.std.specs.Prelude.{◌≡◌, ℕ, ◌<◌, ◌≤◌, false, All, List, length, map}
 use Rattle.std.specs.declared.vec.Vec.{Vec}
 use Rattle.page_model.specs.Limits.{shapes}
 use Rattle.page_model.specs.Replay.{empty_state}
@@ -16,6 +16,7 @@ use Rattle.merge_run.specs.declared.run_fault.RunFault.{RunFault}
 use Rattle.merge_run.specs.declared.run_fault.RunFault.TheVariants.{Frames, Guests, Pages, Ring, Journal, Stopped, OutOfMemory, NoThread}
 use Rattle.merge_machine.specs.Limits.{IsMachine, NoMachineFor}
 use Rattle.merge_machine.specs.Machines.{opening}
+use Rattle.merge_machine.specs.Scripts.{entries_needed}
 use Rattle.merge_settle.specs.Settling.{Settles}
 use Rattle.merge_settle.specs.View.{settled_journal, settled_ports, settled_core}
 use Rattle.merge_settle.specs.declared.settled.Settled.{Settled}
@@ -37,10 +38,6 @@ module _ {A : Type 0} where
     pub each : IsMachine c → length scripts ≡ length c.pages.items
     pub plain : All (λ script. has_close script.items ≡ false) scripts
 
-  -- how many entries a journal gets of these scripts: each request, and a close for each script
-  abbrev pub entries_of : List (Vec Request A) → ℕ
-  entries_of scripts = sum_by (λ script. length script.items + 1) scripts
-
   -- The first cause for which the machine was not run with these scripts. Memory or a thread is wanting only where
   -- there is such a machine, with room in its journal for all that the guests send.
   abbrev pub NotRunFor : Config A → List (Vec Request A) → RunFault → Type 0
@@ -49,9 +46,9 @@ module _ {A : Type 0} where
   NotRunFor c scripts Pages = NoMachineFor c machine.Pages
   NotRunFor c scripts Ring = NoMachineFor c machine.Ring
   NotRunFor c scripts Journal = NoMachineFor c machine.Journal
-  NotRunFor c scripts (Stopped full) = IsMachine c × (c.journal < entries_of scripts)
-  NotRunFor c scripts OutOfMemory = IsMachine c × (entries_of scripts ≤ c.journal)
-  NotRunFor c scripts NoThread = IsMachine c × (entries_of scripts ≤ c.journal)
+  NotRunFor c scripts (Stopped full) = IsMachine c × (c.journal < entries_needed scripts)
+  NotRunFor c scripts OutOfMemory = IsMachine c × (entries_needed scripts ≤ c.journal)
+  NotRunFor c scripts NoThread = IsMachine c × (entries_needed scripts ≤ c.journal)
 
 module _ {H A : Type 0} {ghosts : Ghosts H} where
   -- The run of these scripts on the machine of this configuration: there is such a machine, with room in its journal for all
@@ -59,7 +56,7 @@ module _ {H A : Type 0} {ghosts : Ghosts H} where
   -- and these are the verdicts that it got.
   pub record IsWholeRun (hash : ℕ → List ℕ → ℕ) (c : Config A) (scripts : List (Vec Request A)) (settled : Settled H A ghosts) (verdicts : List (Vec Verdict A)) : Type 0 where
     pub limits : IsMachine c
-    pub room : entries_of scripts ≤ c.journal
+    pub room : entries_needed scripts ≤ c.journal
     pub settles : Settles hash (settled_ports settled) (settled_journal settled) (settled_core settled)
     pub machine : opening (state_of (settled_core settled)) ≡ empty_state c.frames (shapes c.salts.items c.pages.items)
     pub guests : (length (settled_ports settled) ≡ length c.pages.items) × (length verdicts ≡ length c.pages.items)

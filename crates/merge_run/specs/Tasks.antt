@@ -3,20 +3,16 @@ use Rattle.std.specs.Prelude.{◌≡◌, ℕ, ◌<◌, true, false, List, [], �
 use Rattle.std.specs.declared.vec.Vec.{Vec}
 use Rattle.std.specs.declared.thread.PromisedHandle.{PromisedHandle}
 use Rattle.page_model.specs.declared.request.Request.{Request}
-use Rattle.page_model.specs.declared.request.Request.TheVariants.{Close}
 use Rattle.page_model.specs.declared.verdict.Verdict.{Verdict}
 use Rattle.share_rings.specs.Closing.{has_close, last_closed}
 use Rattle.share_rings.specs.Ends.{PairName, port_name, port_sent, port_got, port_capacity, closed_name, closed_sent, closed_got, closed_capacity}
 use Rattle.share_rings.specs.declared.port.Port.{Port}
 use Rattle.share_rings.specs.declared.closed_port.ClosedPort.{ClosedPort}
 use Rattle.merge_machine.specs.Kept.{closed_names}
+use Rattle.merge_machine.specs.Scripts.{with_close}
 use Rattle.merge_run.specs.declared.task.Task.{Task}
 use Rattle.merge_run.specs.declared.task.DoneTask.{DoneTask}
 use Rattle.merge_run.specs.declared.task.DoesTask.{DoesTask}
-
--- all that a guest sends: its script, and a close
-abbrev pub with_close : List Request → List Request
-with_close script = script ++ Close ∷ []
 
 module _ {A : Type 0} where
   -- all that each guest sends

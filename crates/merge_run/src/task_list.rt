@@ -2,7 +2,7 @@
 ghost use Rattle.std.specs.Prelude.{◌≡◌, ◌≤◌, ◌↔◌, false, [], All, IsTrue, IfOk, length, vec_capacity};
 ghost use Rattle.share_rings.specs.Closing.{has_close};
 ghost use Rattle.merge_machine.specs.Kept.{port_names, port_capacities};
-ghost use Rattle.merge_run.specs.Runs.{entries_of};
+ghost use Rattle.merge_machine.specs.Scripts.{entries_needed};
 ghost use Rattle.merge_run.specs.Tasks.{IsUnused, IsReady, task_names, task_capacities, task_requests, ports_of, lists_of, all_sent};
 
 use crate::task::{DoneTask, Task};
@@ -12,7 +12,7 @@ use std::alloc::{AllocError, Allocator};
 
 /// Whether a journal holds that many entries: each request of these scripts, and a close for each.
 pub fn has_room<A: Allocator>(journal: u32, scripts: &[Vec<Request, A>]) -> bool
-    ensures { IsTrue result ↔ (entries_of scripts.now ≤ journal) }
+    ensures { IsTrue result ↔ (entries_needed scripts.now ≤ journal) }
 {
     // What is left of the journal. To count down can't overflow, however long the scripts are.
     let mut left = journal as usize;
@@ -41,7 +41,7 @@ pub(crate) fn new_tasks<A: Allocator + Copy>(
     scripts: Vec<Vec<Request, A>, A>,
 ) -> Result<Vec<Task<A>, A>, AllocError>
     requires each { length ports.items ≡ length scripts.items }
-    requires few { (length scripts.items ≤ 64) × (entries_of scripts.items ≤ 16777216) }
+    requires few { (length scripts.items ≤ 64) × (entries_needed scripts.items ≤ 16777216) }
     requires fresh { All IsUnused ports.items }
     requires plain { All (λ script. has_close script.items ≡ false) scripts.items }
     ensures ready { IfOk result (λ tasks. All IsReady tasks.items) }

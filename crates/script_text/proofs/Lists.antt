@@ -13,7 +13,7 @@ use Rattle.journal_text.specs.declared.fault.TextFault.TheVariants as faults
 use Rattle.journal_text.specs.Texts.{ended, nothing_more}
 use Rattle.script_text.specs.declared.work.Item.{Item}
 use Rattle.script_text.specs.Lines.{IsPlain}
-use Rattle.script_text.specs.Order.{entries_needed}
+use Rattle.merge_machine.specs.Scripts.{entries_needed}
 use Rattle.script_text.specs.Views.{lists_of, Adds, Fills}
 use Rattle.script_text.specs.Works.{requests_of, size_of}
 use Rattle.script_text.proofs.Works.{onto_said, onto_last, plain_both, requests_plain, requests_length}

@@ -6,7 +6,8 @@ use Rattle.std.proofs.lemmas.List.Sums.{sum_by-cons}
 use Rattle.page_model.specs.declared.request.Entry.{Entry}
 use Rattle.page_model.specs.declared.request.Request.{Request}
 use Rattle.page_model.specs.declared.request.Request.TheVariants.{Close}
-use Rattle.script_text.specs.Order.{with_close, entries_needed, rest_of, first_of, firsts, turns, longest, left_of, serial_order}
+use Rattle.merge_machine.specs.Scripts.{with_close, entries_needed}
+use Rattle.script_text.specs.Order.{rest_of, first_of, firsts, turns, longest, left_of, serial_order}
 use Rattle.script_text.specs.Views.{lists_of}
 
 -- after one more turn

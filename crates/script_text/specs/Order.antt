@@ -1,17 +1,8 @@
 -- The serial order of scripts: the guests take turns, guest 0 first, and a guest that has ended is left out.
-use Rattle.std.specs.Prelude.{ℕ, zero, suc, ◌+◌, List, [], ◌∷◌, ◌++◌, length, drop, map, max, sum_by, Option, Some, None}
-use Rattle.std.specs.declared.vec.Vec.{Vec}
+use Rattle.std.specs.Prelude.{ℕ, zero, suc, ◌+◌, List, [], ◌∷◌, ◌++◌, length, drop, map, max, Option, Some, None}
 use Rattle.page_model.specs.declared.request.Entry.{Entry}
 use Rattle.page_model.specs.declared.request.Request.{Request}
-use Rattle.page_model.specs.declared.request.Request.TheVariants.{Close}
-
--- all that a guest asks: its script, and its close
-abbrev pub with_close : List Request → List Request
-with_close script = script ++ Close ∷ []
-
--- how many entries a journal needs for all that the guests ask: one for each request, and one for each close
-abbrev pub entries_needed : {A : Type 0} → List (Vec Request A) → ℕ
-entries_needed scripts = sum_by (λ script. length script.items + 1) scripts
+use Rattle.merge_machine.specs.Scripts.{with_close}
 
 -- the first request of each guest that has one, of the guests from number guest on
 abbrev pub firsts : ℕ → List (List Request) → List Entry

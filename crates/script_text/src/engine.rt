@@ -2,9 +2,10 @@
 ghost use Rattle.std.specs.Prelude.{◌≡◌, ◌+◌, ◌≤◌, [], false, true, length, string_bytes, string_capacity, vec_capacity, IfErr, OnOk, OnErr};
 ghost use Rattle.std.specs.Io.KnownBytes.{Appends};
 ghost use Rattle.merge_core.specs.Shown.{state_of};
+ghost use Rattle.merge_machine.specs.Scripts.{entries_needed};
 ghost use Rattle.journal_replay.specs.Ends.{AppendsFront, tells_read, tells_write};
 ghost use Rattle.journal_replay.specs.Replayed.{NotPrinted, printed_from};
-ghost use Rattle.script_text.specs.Order.{entries_needed, serial_order};
+ghost use Rattle.script_text.specs.Order.{serial_order};
 ghost use Rattle.script_text.specs.Served.{serial_printed, Serves};
 ghost use Rattle.script_text.specs.Views.{lists_of, script_seen};
 

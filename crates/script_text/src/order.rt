@@ -1,7 +1,8 @@
 //! The serial order of scripts, a turn at a time.
+ghost use Rattle.merge_machine.specs.Scripts.{with_close};
 ghost use Rattle.std.specs.Prelude.{◌≡◌, ◌+◌, ◌≤◌, ◌++◌, drop, map, length, vec_capacity};
 ghost use Rattle.journal_text.specs.Texts.{AreBelow};
-ghost use Rattle.script_text.specs.Order.{with_close, first_of, firsts, longest, left_of};
+ghost use Rattle.script_text.specs.Order.{first_of, firsts, longest, left_of};
 ghost use Rattle.script_text.specs.Views.{lists_of};
 
 use page_model::{Entry, Request};

@@ -2,7 +2,7 @@
 ghost use Rattle.std.specs.Prelude.{◌≡◌, ◌+◌, ◌≤◌, ◌<◌, ◌^◌, All, [], false, length, replicate, IfOk, IfErr, OnOk};
 ghost use Rattle.page_model.specs.Closing.{has_close};
 ghost use Rattle.journal_text.specs.Views.{Gives};
-ghost use Rattle.script_text.specs.Order.{entries_needed};
+ghost use Rattle.merge_machine.specs.Scripts.{entries_needed};
 ghost use Rattle.script_text.specs.Texts.{scripts_in, script_in, script_of};
 ghost use Rattle.script_text.specs.Views.{lists_of, script_seen, Fills, Adds};
 ghost use Rattle.journal_text.specs.declared.fault.TextFault.TheVariants.{OutOfMemory};

@@ -2,7 +2,7 @@
 ghost use Rattle.std.specs.Prelude.{◌≡◌, ◌≤◌, All, false, length};
 ghost use Rattle.page_model.specs.Closing.{has_close};
 ghost use Rattle.merge_machine.specs.Limits.{IsMachine};
-ghost use Rattle.script_text.specs.Order.{entries_needed};
+ghost use Rattle.merge_machine.specs.Scripts.{entries_needed};
 
 use merge_machine::Config;
 use page_model::{MachineShape, Request, ShapeFault};

@@ -11,8 +11,9 @@ use Rattle.page_model.specs.declared.verdict.Verdict.{Verdict}
 use Rattle.share_rings.specs.Ends.{closed_sent, closed_got}
 use Rattle.share_rings.specs.declared.closed_port.ClosedPort.{ClosedPort}
 use Rattle.merge_core.specs.Shown.{state_of}
+use Rattle.merge_machine.specs.Scripts.{with_close}
 use Rattle.merge_settle.specs.Settling.{Settles}
-use Rattle.merge_run.specs.Tasks.{with_close, all_sent}
+use Rattle.merge_run.specs.Tasks.{all_sent}
 use Rattle.merge_run.specs.View.{opening, settled_journal, settled_ports, settled_core}
 use Rattle.merge_run.specs.declared.finished.Finished.{Finished}
 use Rattle.std.specs.Prelude.{OnErr, IfErr}

@@ -18,7 +18,7 @@ use Rattle.journal_text.specs.Words.{◌>>=◌}
 use Rattle.journal_text.specs.declared.fault.TextFault.{TextFault}
 use Rattle.journal_text.specs.declared.fault.TextFault.TheVariants as faults
 use Rattle.journal_replay.proofs.Refusals.{KnowsLong, on_input, unread, prints, refused}
-use Rattle.script_text.specs.Order.{entries_needed}
+use Rattle.merge_machine.specs.Scripts.{entries_needed}
 use Rattle.script_text.specs.Texts.{Script, script_of}
 use Rattle.share_text.specs.Runs.{IsRunOf, run_text}
 use Rattle.share_text.specs.Threads.{Outcome, Ran, NoThread, CanEnd, no_thread_text, outcome_text, run_answer, of_text, as_written, Threads, IsLeft, EndsAs, Serves}

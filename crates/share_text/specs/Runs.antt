@@ -6,7 +6,7 @@ use Rattle.page_model.specs.Pages.{State}
 use Rattle.page_model.specs.Replay.{empty_state, state_after}
 use Rattle.page_model.specs.declared.request.Entry.{Entry}
 use Rattle.page_model.specs.declared.verdict.Verdict.{Verdict}
-use Rattle.merge_run.specs.Tasks.{with_close}
+use Rattle.merge_machine.specs.Scripts.{with_close}
 use Rattle.journal_text.specs.Printed.{verdict_line}
 use Rattle.journal_replay.specs.Replayed.{report_text}
 use Rattle.journal_text.specs.Texts.{AreBelow}

@@ -7,7 +7,7 @@ use Rattle.std.specs.Vec.Iter.{into_iter_items}
 use Rattle.share_rings.specs.Closing.{has_close}
 use Rattle.share_rings.specs.Ends.{port_name, port_capacity}
 use Rattle.merge_machine.specs.Kept.{port_names, port_capacities}
-use Rattle.merge_run.specs.Runs.{entries_of}
+use Rattle.merge_machine.specs.Scripts.{entries_needed}
 use Rattle.merge_run.specs.Tasks.{IsUnused, IsReady, task_names, task_capacities, all_sent}
 use Rattle.merge_run.specs.declared.task.Task.{Task}
 use Rattle.merge_run.proofs.Doing.{nothing_in, first_of, rest_of, all_more, ports_more, requests_more}
@@ -47,7 +47,7 @@ loop-script-preserved g c =
     let unused = subst (All IsUnused) split_ports before.unused in
     let capacities = subst (λ ps. task_capacities c.loop-script.tasks.items ++ port_capacities ps ≡ port_capacities c.args.ports.items) split_ports before.capacities in
     let names = subst (λ ps. task_names c.loop-script.tasks.items ++ port_names ps ≡ port_names c.args.ports.items) split_ports before.names in
-    let few : length script.items + 1 + entries_of scripts ≤ 16777216 = omega (arith, before.few, ap entries_of split, sum_by-cons (λ s. length s.items + 1) script scripts) in
+    let few : length script.items + 1 + entries_needed scripts ≤ 16777216 = omega (arith, before.few, ap entries_needed split, sum_by-cons (λ s. length s.items + 1) script scripts) in
     let task : Task _ = record { guest = c.len-in-loop-script-2.result; port = port; script = script; verdicts = verdicts } in
     let push = c.push_reserved.ensures in
     let ready : IsReady task = record {

@@ -3,7 +3,7 @@ use Rattle.std.specs.Prelude.{All}
 use Rattle.std.specs.Vec.Iter.{into_iter_items, into_iter_len}
 use Rattle.share_rings.specs.Closing.{has_close}
 use Rattle.merge_machine.specs.Kept.{port_names, port_capacities}
-use Rattle.merge_run.specs.Runs.{entries_of}
+use Rattle.merge_machine.specs.Scripts.{entries_needed}
 use Rattle.merge_run.specs.Tasks.{IsUnused, IsReady, task_names, task_capacities, task_requests, all_sent}
 use Rattle.merge_run.proofs.task_list.new_tasks.Given as goal
 
@@ -19,6 +19,6 @@ invariant-loop-script g l = record {
   each : length (into_iter_items l.ports) ≡ length (into_iter_items l.script-iterator);
   unused : All IsUnused (into_iter_items l.ports);
   plain : All (λ script. has_close script.items ≡ false) (into_iter_items l.script-iterator);
-  few : entries_of (into_iter_items l.script-iterator) ≤ 16777216;
+  few : entries_needed (into_iter_items l.script-iterator) ≤ 16777216;
   whole : l.yielded ++ into_iter_items l.script-iterator ≡ l.fn.scripts.items;
 }

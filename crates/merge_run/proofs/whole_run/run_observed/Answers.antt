@@ -1,7 +1,7 @@
 use Rattle.std.proofs.Common.{◌≡◌, ◌≤◌, ◌∙◌, All, map, refl, ap, subst, arith}
 use Rattle.std.specs.Prelude.{IfOk}
 use Rattle.share_rings.specs.Ends.{closed_sent, closed_capacity}
-use Rattle.merge_run.specs.Runs.{entries_of}
+use Rattle.merge_machine.specs.Scripts.{entries_needed}
 use Rattle.merge_core.specs.Shown.{state_of}
 use Rattle.page_model.specs.Limits.{shapes}
 use Rattle.page_model.specs.Replay.{empty_state}
@@ -20,7 +20,7 @@ new_tasks-requires-clause-fresh g c = λ k d low. let fresh = c.in_ok-merger.ens
 pub returns-in_err-tasks-clause-run : goal.returns-in_err-tasks-clause-run
 returns-in_err-tasks-clause-run g c =
     let scripts = c.args.scripts.items in
-    let room : entries_of scripts ≤ c.args.config.now.journal = omega (arith, c.if-not-has_room.ensures.0 refl, ap entries_of c.deref.ensures.value) in
+    let room : entries_needed scripts ≤ c.args.config.now.journal = omega (arith, c.if-not-has_room.ensures.0 refl, ap entries_needed c.deref.ensures.value) in
     wanting_memory _ c.args.config.now scripts c.from_residual-in_err-tasks.result c.in_ok-checked.ensures.fault room c.from_residual-in_err-tasks.ensures.1
 
 pub run_tasks-requires-clause-fronts : goal.run_tasks-requires-clause-fronts
@@ -35,7 +35,7 @@ returns-clause-run g c =
     let tasks = c.in_ok-tasks.ensures in
     let ran = c.run_tasks.ensures in
     let fresh = subst (λ (n : Numbers). All (IsFreshPort n.ring) c.in_ok-merger.ports.items) c.in_ok-checked.ensures.checked c.in_ok-merger.ensures.unused_ports in
-    let room : entries_of scripts ≤ config.journal = omega (arith, c.if-not-has_room.ensures.0 refl, ap entries_of c.deref.ensures.value) in
+    let room : entries_needed scripts ≤ config.journal = omega (arith, c.if-not-has_room.ensures.0 refl, ap entries_needed c.deref.ensures.value) in
     let made = c.in_ok-merger.ensures.machine ∙ ap (λ (n : Numbers). empty_state n.frames (shapes n.salts n.pages)) c.in_ok-checked.ensures.checked in
     whole_run g.H.HashFunction.hash_of config scripts c.in_ok-merger.ports.items c.run_tasks.result c.in_ok-checked.ensures.fault room (c.requires.scripts.each c.in_ok-checked.ensures.fault) fresh
     ran.settles

@@ -5,10 +5,11 @@ use Rattle.page_model.specs.Replay.{state_after}
 use Rattle.page_model.specs.declared.request.Entry.{Entry}
 use Rattle.page_model.specs.declared.request.Request.{Request}
 use Rattle.merge_core.specs.Shown.{state_of}
+use Rattle.merge_machine.specs.Scripts.{with_close}
 use Rattle.journal_replay.specs.Ends.{AppendsFront, Sends}
 use Rattle.journal_replay.specs.Replayed.{lines_from, printed_from, report_text}
 use Rattle.journal_replay.proofs.Sent.{on_err, on_err_map, on_ok_map, sends_none, sends_all, sends_front}
-use Rattle.script_text.specs.Order.{with_close, turns, longest, left_of, serial_order}
+use Rattle.script_text.specs.Order.{turns, longest, left_of, serial_order}
 use Rattle.script_text.specs.Views.{lists_of}
 use Rattle.script_text.proofs.Turns.{turn_more, turn_none, left_first, serial_few}
 use Rattle.script_text.proofs.Runs.{run_sent, run_cut, last_sent, last_cut}

@@ -1,9 +1,10 @@
 use Rattle.std.proofs.Common.{◌≡◌, ◌+◌, ◌-◌, ◌++◌, ◌<◌, ◌≤◌, false, length, map, string_bytes, string_capacity, vec_capacity}
 use Rattle.merge_core.specs.Shown.{state_of}
+use Rattle.merge_machine.specs.Scripts.{with_close}
 use Rattle.journal_replay.specs.Ends.{Sends}
 use Rattle.journal_replay.specs.Replayed.{printed_from}
 use Rattle.journal_text.specs.Texts.{AreBelow}
-use Rattle.script_text.specs.Order.{with_close, longest, turns, left_of, serial_order}
+use Rattle.script_text.specs.Order.{longest, turns, left_of, serial_order}
 use Rattle.script_text.specs.Views.{lists_of}
 use Rattle.script_text.proofs.engine.print_turns.Given as goal
 

@@ -1,7 +1,8 @@
 use Rattle.std.proofs.Common.{◌≡◌, ◌++◌, ◌+◌, ◌<◌, drop, length, slice_index_or, ℕ, List, [], ◌∷◌, Some, None, sym, ap, ◌∙◌, arith, append_assoc, length-append, vec_capacity}
 use Rattle.page_model.specs.declared.request.Entry.{Entry}
+use Rattle.merge_machine.specs.Scripts.{with_close}
 use Rattle.journal_text.proofs.Lines.{below_push}
-use Rattle.script_text.specs.Order.{with_close, first_of, firsts, left_of}
+use Rattle.script_text.specs.Order.{first_of, firsts, left_of}
 use Rattle.script_text.specs.Views.{lists_of}
 use Rattle.script_text.proofs.Turns.{guest_step}
 use Rattle.script_text.proofs.order.push_turn.Goals.{in-Some, in_default}

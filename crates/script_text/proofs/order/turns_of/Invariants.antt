@@ -1,5 +1,6 @@
+use Rattle.merge_machine.specs.Scripts.{with_close}
 use Rattle.std.proofs.Common.{◌≡◌, drop, map, max}
-use Rattle.script_text.specs.Order.{with_close, longest}
+use Rattle.script_text.specs.Order.{longest}
 use Rattle.script_text.specs.Views.{lists_of}
 use Rattle.script_text.proofs.order.turns_of.Given as goal
 

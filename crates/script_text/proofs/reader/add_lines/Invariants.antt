@@ -1,6 +1,6 @@
 use Rattle.std.proofs.Common.{◌≡◌, ◌+◌, ◌≤◌, All, false, length}
 use Rattle.page_model.specs.Closing.{has_close}
-use Rattle.script_text.specs.Order.{entries_needed}
+use Rattle.merge_machine.specs.Scripts.{entries_needed}
 use Rattle.script_text.specs.Texts.{items_in, scripts_in}
 use Rattle.script_text.specs.Views.{lists_of}
 use Rattle.script_text.proofs.Works.{onto_said}
