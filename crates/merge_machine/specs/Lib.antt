@@ -9,4 +9,5 @@ pub mod Ahead
 pub mod Steps
 pub mod Meets
 pub mod Rounds
+pub mod Scripts
 pub mod Taking
