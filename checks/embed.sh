@@ -5,7 +5,8 @@
 #
 # LIBRARY is libpageshare.a, by default out/libpageshare.a at the repository's top, which `make embed` builds. All that is built
 # here goes to out/embed. CC, CXX and CARGO name other programs than cc, c++ and cargo. The C programs run under valgrind, or
-# with the address sanitizer where there is no valgrind.
+# with the address sanitizer where there is no valgrind. With FULL=1 one more test serves 4,294,967,295 requests, which takes a
+# minute or two.
 #
 # Prints a line for each part, and what was left out; the last line is "ok" (status 0) or says what failed (status 1).
 
@@ -59,6 +60,12 @@ else
     run three_share "$(cat "$top/checks/embed/three_share.out")"
     run calls ok
     run refused_memory ok
+    if [ -n "${FULL:-}" ]; then
+        # shellcheck disable=SC2086
+        ${CC:-cc} -std=c11 -O2 -I"$top/include" -o "$built/full_count" "$top/checks/embed/full_count.c" "$library" || fail 'full_count.c does not compile'
+        [ "$("$built/full_count")" = ok ] || fail 'full_count failed'
+        echo 'full_count: as it should be'
+    fi
     if has "${CXX:-c++}"; then
         # shellcheck disable=SC2086
         ${CXX:-c++} -std=c++11 $flags -I"$top/include" -o "$built/cpp" "$top/checks/embed/cpp.cpp" "$library" ||

@@ -109,7 +109,7 @@ static void check_refusals(struct pageshare *m) {
     struct pageshare_totals totals = {9, 9, 9, 9, 9, 9};
     uint8_t room[65], page[PAGESHARE_PAGE_BYTES];
     uint32_t mpn = 77;
-    const uint8_t *at = NULL;
+    const uint8_t *at = room;
     memset(room, 0xee, sizeof room);
     memset(page, 0xee, sizeof page);
     CHECK(refused(pageshare_propose(m, 2, 0), PAGESHARE_ERROR_NO_GUEST));
@@ -131,8 +131,8 @@ static void check_refusals(struct pageshare *m) {
     CHECK(pageshare_read(m, 0, 0, page) == PAGESHARE_OK && page[0] == 0 && page[4095] == 0);
     CHECK(pageshare_frame(m, 1, 1, &mpn) == PAGESHARE_ERROR_NO_PAGE && mpn == 77);
     CHECK(pageshare_frame(m, 0, 0, &mpn) == PAGESHARE_ERROR_UNMAPPED && mpn == 77);
-    CHECK(pageshare_page(m, 256, 0, &at) == PAGESHARE_ERROR_NO_PAGE && at == NULL);
-    CHECK(pageshare_page(m, 0, 1, &at) == PAGESHARE_ERROR_UNMAPPED && at == NULL);
+    CHECK(pageshare_page(m, 256, 0, &at) == PAGESHARE_ERROR_NO_PAGE && at == room);
+    CHECK(pageshare_page(m, 0, 1, &at) == PAGESHARE_ERROR_UNMAPPED && at == room);
     CHECK(pageshare_report(m, &totals) == PAGESHARE_OK && totals.entries == 3);
 }
 
@@ -141,7 +141,7 @@ static void check_none(struct pageshare *m) {
     struct pageshare_totals totals = {9, 9, 9, 9, 9, 9};
     uint8_t page[PAGESHARE_PAGE_BYTES] = {0};
     uint32_t mpn = 77;
-    const uint8_t *at = NULL;
+    const uint8_t *at = page;
     CHECK(refused(pageshare_propose(m, 0, 0), PAGESHARE_ERROR_NO_MACHINE));
     CHECK(refused(pageshare_store(m, 0, 0, 0, page, 65), PAGESHARE_ERROR_NO_MACHINE));
     CHECK(refused(pageshare_load(m, 0, 0, 0, page, 1), PAGESHARE_ERROR_NO_MACHINE));
@@ -153,7 +153,7 @@ static void check_none(struct pageshare *m) {
     CHECK(pageshare_report(m, &totals) == PAGESHARE_ERROR_NO_MACHINE && totals.entries == 9);
     CHECK(pageshare_read(m, 0, 0, page) == PAGESHARE_ERROR_NO_MACHINE);
     CHECK(pageshare_frame(m, 0, 0, &mpn) == PAGESHARE_ERROR_NO_MACHINE && mpn == 77);
-    CHECK(pageshare_page(m, 0, 0, &at) == PAGESHARE_ERROR_NO_MACHINE && at == NULL);
+    CHECK(pageshare_page(m, 0, 0, &at) == PAGESHARE_ERROR_NO_MACHINE && at == page);
     CHECK(pageshare_free(m) == PAGESHARE_ERROR_NO_MACHINE);
 }
 

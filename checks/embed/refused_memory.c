@@ -44,19 +44,34 @@ void rattle_dealloc(void *at) {
     free(at);
 }
 
+/* Whether the calls that are no requests answer with no memory to be had. */
+static bool looks(struct pageshare *machine) {
+    static uint8_t page[PAGESHARE_PAGE_BYTES];
+    struct pageshare_totals totals;
+    const uint8_t *at = page;
+    uint32_t mpn = 0;
+    if (pageshare_report(machine, &totals) != PAGESHARE_OK || totals.mapped != 2) return false;
+    if (pageshare_read(machine, 0, 1, page) != PAGESHARE_OK || page[0] != 0x41) return false;
+    if (pageshare_frame(machine, 1, 0, &mpn) != PAGESHARE_OK || mpn >= 3) return false;
+    if (pageshare_page(machine, 1, 0, &at) != PAGESHARE_OK || at[0] != 0x41) return false;
+    return pageshare_restart_count(machine) == PAGESHARE_OK;
+}
+
 /* Whether the machine serves with no memory to be had. */
 static bool serves(struct pageshare *machine) {
     const uint8_t letter = 0x41;
+    const struct pageshare_page_name names[] = {{0, 0}, {0, 1}, {1, 0}};
     struct pageshare_totals totals;
     uint8_t room[64];
     for (uint32_t i = 0; i < 3; i++)
         if (pageshare_store(machine, i / 2, i % 2, 0, &letter, 1).verdict != PAGESHARE_VERDICT_MAPPED) return false;
+    if (pageshare_hash(machine, names, 3) != PAGESHARE_OK) return false;
     for (uint32_t i = 0; i < 3; i++)
         if (pageshare_propose(machine, i / 2, i % 2).status != PAGESHARE_OK) return false;
     if (pageshare_store(machine, 0, 0, 1, &letter, 1).verdict != PAGESHARE_VERDICT_COPIED) return false;
     if (pageshare_load(machine, 0, 0, 0, room, 64).count != 64) return false;
     if (pageshare_release(machine, 0, 0).count != 1) return false;
-    return pageshare_count(machine, 0, &totals).verdict == PAGESHARE_VERDICT_TOTALS && totals.shared == 2;
+    return pageshare_count(machine, 0, &totals).verdict == PAGESHARE_VERDICT_TOTALS && totals.shared == 2 && looks(machine);
 }
 
 static int fail(long allowed, const char *what) {

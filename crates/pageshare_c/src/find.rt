@@ -1,5 +1,5 @@
 //! A page of the machine of a handle: its frame and its bytes.
-ghost use Rattle.std.specs.Prelude.{◌≡◌, ◌<◌, Some, IsSome, IfOk, IsTrue, ◌↔◌};
+ghost use Rattle.std.specs.Prelude.{◌≡◌, ◌<◌, Some, IsSome, IfOk, IfErr, IsTrue, ◌↔◌};
 ghost use Rattle.page_model.specs.Pages.{page_at};
 ghost use Rattle.page_model.specs.Stored.{text_at};
 ghost use Rattle.machine_frames.specs.FrameMap.{frame};
@@ -51,14 +51,15 @@ pub(crate) fn copy_page(core: &Core<Sha256Hash>, guest: u32, ppn: u32, room: &mu
     true
 }
 
-/// Tells where a page's bytes stand.
+/// Tells where a page's bytes stand. Where it can't, the room stays as it is.
 pub(crate) fn put_address(
     core: &Core<Sha256Hash>,
     guest: u32,
     ppn: u32,
     at: &mut *const u8,
 ) -> Result<u32, Refusal>
-    ensures { result ≡ found_in core.now guest ppn }
+    ensures found { result ≡ found_in core.now guest ppn }
+    ensures room { IfErr result (λ _. at.new ≡ at.old) }
 {
     let mpn = find_frame(core, guest, ppn)?;
     *at = address(core.frames().bytes(mpn));

@@ -264,7 +264,8 @@ pub extern "C" fn pageshare_frame(
 /// Tells where a page's 4,096 bytes stand, to be read until the next call with this handle. The status is 6 where the handle
 /// holds no machine, 11 where there is no such page, and 12 where it is unmapped.
 ///
-/// No contract says what stands at the address. [`pageshare_read`] copies the bytes.
+/// Where the status is above 0, `at` is as it was. No contract says what stands at the address: [`pageshare_read`] copies the
+/// bytes.
 #[unsafe(no_mangle)]
 pub extern "C" fn pageshare_page(
     alloc: Global,
@@ -275,6 +276,7 @@ pub extern "C" fn pageshare_page(
 ) -> u32
     ensures same { machine.new.slot.core ≡ machine.old.slot.core }
     ensures status { result ≡ status_told (frame_found machine.old.slot.core guest ppn) }
+    ensures room { result ≢ 0 → at.new ≡ at.old }
 {
     match machine.take(alloc) {
         None => 6,
