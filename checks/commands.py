@@ -266,6 +266,27 @@ def estimates(folder):
         expect(f"estimate, {cause}", ["estimate", str(raw), str(path)], "", 1, "", f"{path}: {cause}\n")
 
 
+# The pages of two images, for a picture: zeros, copies of one page of its own, pages that both have, and pages that are alone.
+PICTURES = [("kib.svg", (100, 50, 150, 100), (7, 13, 40, 0)), ("mib.svg", (3000, 40, 1000, 60), (500, 1500, 250, 10))]
+# (characters that break a line, that steer a terminal, or that XML can't hold)
+PICTURE_NAMES = ["web\u2028.raw", "<db>\u2029\uffff\x1b.raw"]
+
+
+def image(guest, zeros, own, both, alone):
+    firsts = [0] * zeros + [1 + guest] * own + list(range(100, 100 + both)) + list(range(10**6 * (1 + guest), 10**6 * (1 + guest) + alone))
+    return b"".join(first.to_bytes(4096, "little") for first in firsts)
+
+
+def pictures(folder):
+    """Pictures of two guests, letter by letter: one whose axis is in KiB and one in MiB."""
+    for name, *parts in PICTURES:
+        for guest, (file, pages) in enumerate(zip(PICTURE_NAMES, parts)):
+            (folder / file).write_bytes(image(guest, *pages))
+        expect(f"the picture {name}", ["estimate", "--svg", name, *PICTURE_NAMES], "", 0, True, "", folder=folder)
+        is_so = (folder / name).read_text() == (ROWS / name).read_text()
+        case(f"the picture {name}", [] if is_so else [f"it differs from examples/rows/{name}"])
+
+
 def estimate_ends(folder):
     raw, none, svg = str(folder / "a.raw"), str(folder / "none"), folder / "a.svg"
     missing = "No such file or directory (os error 2)"
@@ -343,6 +364,7 @@ def main():
         command_lines()
         terminals(folder)
         estimates(folder)
+        pictures(folder)
         estimate_ends(folder)
         progress_of_runs()
     print(f"{passed} passed, {failed} failed")
