@@ -10,10 +10,13 @@ check took, and last 'N passed, M failed' (status 0 where M is 0, else 1).
 A function is proved from the contracts of what it calls and never from their bodies. So edits of different functions can stand in
 one copy of the crate, which is checked once, and each edited function must be refused by itself: an error in its own proof, or a
 goal of its own that isn't proved. That it calls a function that isn't proved is no refusal. An edit that isn't refused so is
-tried once more among others, and then alone, and one that stands outside of all functions is tried alone at once. Where a
-function that nobody edited is refused by itself, the edits of that check are tried again in two halves, down to one. An edit that
-is known to bring that about has a line 'alone: WHY', and is tried alone at once. Of an edit that is tried alone it is enough that any
-function is refused by itself, as the kit's own gate has it.
+tried once more among others, and then alone, and one that stands outside of all functions is tried alone. Where a function that
+nobody edited is refused by itself, the edits of that check are tried again in two halves, down to one. An edit that is known to
+bring that about has a line 'alone: WHY', and is tried alone. Of an edit that is tried alone it is enough that any function is
+refused by itself, as the kit's own gate has it.
+
+A crate's first check is of the whole crate. Later ones (of a function's second edit, and of edits that are tried alone) are of the
+edited functions and what they call, over what earlier checks kept; nobody is told NOT REFUSED by them, but only by a whole check.
 """
 import dataclasses
 import importlib.machinery
@@ -162,6 +165,8 @@ class Trial:
     def __init__(self, kit, crate, folder):
         self.kit, self.crate, self.told, self.lines, self.plain = kit, crate, {}, [], {}
         self.waiting, self.alone, self.homes = [], [], homes_of(crate)
+        # the functions that a whole check has named
+        self.paths = []
         for name in sorted(os.listdir(folder)):
             if name.endswith(".edit"):
                 self.read(f"{folder}/{name}", name)
@@ -205,13 +210,22 @@ class Trial:
                 self.try_alone(edit)
         return self
 
-    def check(self, texts, what):
+    def check(self, texts, what, only=()):
+        """What the prover says of the crate with these texts: of all of it, or of these functions and what they call."""
         begun = time.time()
-        ran = self.kit.checked(self.crate, texts, FLAGS, self.kept)
+        flags = [*FLAGS, *(word for path in only for word in ("--only", "::".join(path)))]
+        ran = self.kit.checked(self.crate, texts, flags, self.kept)
         self.lines.append(f"{self.crate.name}: {what}, {time.time() - begun:.0f} s")
         if self.kit.rtlib.STALE.search(ran.stdout):
             raise RuntimeError(f"{self.crate.name}: the libraries in out/ can't be used: run rt ci first")
-        return ran
+        said = Said(self.kit, ran, texts)
+        self.paths = self.paths or said.paths
+        return said
+
+    def paths_of(self, functions):
+        """These functions by their paths; none where a path isn't known."""
+        found = [next(iter(sorted((it for it in self.paths if function and function.is_named(it)), key=len)), ()) for function in functions]
+        return found if all(found) else []
 
     def merged(self, batch):
         """The texts with all changes of the batch, each put in at its place in the unedited text."""
@@ -225,10 +239,8 @@ class Trial:
         return texts
 
     def try_batch(self, batch):
-        texts = self.merged(batch)
-        ran = self.check(texts, f"{len(batch)} edits in one check")
-        said = Said(self.kit, ran, texts)
         edited = {it for edit in batch for it in edit.functions}
+        said = self.check(self.merged(batch), f"{len(batch)} edits in one check", self.paths_of(edited))
         strays = [it for it in said.refused if not any(function.is_named(it) for function in edited)]
         if not said.was_judged or strays:
             self.split(batch)
@@ -249,14 +261,16 @@ class Trial:
         self.try_batch(batch[len(batch) // 2 :])
 
     def try_alone(self, edit):
-        ran = self.check(edit.texts, f"{edit.name} alone")
-        said = Said(self.kit, ran, edit.texts)
+        only = [] if edit.tries else self.paths_of(edit.functions)
+        said = self.check(edit.texts, f"{edit.name} alone", only)
+        if only and not (said.was_judged and said.refused):
+            said = self.check(edit.texts, f"{edit.name} alone, the whole crate")
         if said.unread:
             self.tell(edit.name, False, f"BAD EDIT: the prover cannot read the edited text, so no contract was tried: {said.unread[:200]}")
-        elif not said.was_judged and ran.returncode == 0:
+        elif not said.was_judged and said.is_proved:
             self.tell(edit.name, False, "NOT REFUSED: the crate is still proved with this edit")
         elif not said.was_judged:
-            self.tell(edit.name, False, f"BAD EDIT: it did not reach the prover: {ran.stdout[:300]}")
+            self.tell(edit.name, False, f"BAD EDIT: it did not reach the prover: {said.lines[:3]}")
         elif said.refused:
             self.tell(edit.name, True, said.reason(said.refused))
         else:
@@ -268,12 +282,15 @@ class Said:
 
     def __init__(self, kit, ran, texts):
         self.lines = ran.stdout.rstrip("\n").split("\n")
+        self.is_proved = ran.returncode == 0
         self.unread = next((it for it in self.lines if kit.unread(it, texts)), "")
-        self.was_judged = not self.unread and ran.returncode == 1 and self.lines[-1].startswith("logic=not-proved")
-        self.refused = {}
+        self.was_judged = not self.unread and ran.returncode == 1 and self.lines[-1].startswith(("logic=not-proved", "only="))
+        self.refused, self.paths = {}, []
         for line in self.lines:
-            found = re.match(r"fn (\S+?): (not proved|no proof:)(.*)", line)
+            found = re.match(r"fn (\S+?): (proved|not proved|no proof:)(.*)", line)
             if found:
+                self.paths.append(tuple(found[1].split("::")[1:]))
+            if found and found[2] != "proved":
                 path = tuple(found[1].split("::")[1:])
                 why = OF_A_CALL.sub("", found[3])
                 calls_one, has_more = why != found[3], bool(why.strip(" ;,"))
