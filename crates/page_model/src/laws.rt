@@ -1,5 +1,6 @@
 //! Laws of the definitions, for every journal, machine and hash. Their bodies are empty: the proof is all.
 ghost use Rattle.std.specs.Prelude.{◌≡◌, ℕ, [], ◌∷◌};
+ghost use Rattle.page_model.specs.declared.limits.TheConstants.{PAGE_BYTES, MAX_ACCESS_BYTES, MAX_GUESTS, MAX_PAGES, MAX_FRAMES, MAX_RING_CAPACITY, MAX_ENTRIES, MAX_WORKERS, MAX_WATCHES, MAX_TEXT_BYTES};
 ghost use Rattle.page_model.specs.Stored.{ReadsLastStored};
 ghost use Rattle.page_model.specs.Journal.{places, asked};
 ghost use Rattle.page_model.specs.Growth.{EntriesNeverFall, OneVerdictEach, VerdictsStay};
@@ -103,4 +104,18 @@ pub fn schedule_law(events: &[Event])
 pub fn events_out_of_order()
     ensures traffic { (world_after out_of_order).traffic 0 ≡ record { sent = Request.Count ∷ []; taken = Request.Count ∷ []; given = 0 ∷ []; got = 0 ∷ [] } }
     ensures journal { (world_after out_of_order).journal ≡ record { guest = 0; request = Request.Count } ∷ [] }
+{}
+
+/// Each limit is its number.
+pub fn limits_law()
+    ensures page { PAGE_BYTES ≡ 4096 }
+    ensures access { MAX_ACCESS_BYTES ≡ 64 }
+    ensures guests { MAX_GUESTS ≡ 64 }
+    ensures pages { MAX_PAGES ≡ 1048576 }
+    ensures frames { MAX_FRAMES ≡ 1048576 }
+    ensures ring { MAX_RING_CAPACITY ≡ 65536 }
+    ensures entries { MAX_ENTRIES ≡ 16777216 }
+    ensures workers { MAX_WORKERS ≡ 64 }
+    ensures watches { MAX_WATCHES ≡ 8 }
+    ensures text { MAX_TEXT_BYTES ≡ 67108864 }
 {}
