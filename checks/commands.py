@@ -283,7 +283,7 @@ def pictures(folder):
         for guest, (file, pages) in enumerate(zip(PICTURE_NAMES, parts)):
             (folder / file).write_bytes(image(guest, *pages))
         expect(f"the picture {name}", ["estimate", "--svg", name, *PICTURE_NAMES], "", 0, True, "", folder=folder)
-        is_so = (folder / name).read_text() == (ROWS / name).read_text()
+        is_so = (folder / name).read_bytes() == (ROWS / name).read_bytes()
         case(f"the picture {name}", [] if is_so else [f"it differs from examples/rows/{name}"])
 
 
