@@ -1,9 +1,9 @@
 /*
  * Content-based page sharing for virtual machine monitors, in C11 or C++11: the functions of libpageshare.a.
  *
- * A machine has guests with pages of 4,096 bytes, and frames that these pages are kept in. Pages that are proposed and hold
- * the same bytes come to share one frame; a store to a shared page gives the writer a copy. docs/MODEL.md tells the rules,
- * and docs/EMBEDDING.md what is proved of each call.
+ * A machine has guests with pages of 4,096 bytes, and frames that hold these pages. Pages that are proposed and hold the same
+ * bytes come to share one frame; a store to a shared page gives the writer a copy. docs/MODEL.md has the rules, and
+ * docs/EMBEDDING.md what is proved of each call.
  *
  *     struct pageshare machine = PAGESHARE_NONE;
  *     const uint32_t pages[] = {512, 512}, salts[] = {0, 0};
@@ -13,7 +13,7 @@
  *     pageshare_free(&machine);
  *
  * No call has a condition on its numbers: a wrong one is answered by a status above 0, and then nothing has changed. A status
- * is the first cause that holds, in the order of the numbers; only pageshare_make looks at PAGESHARE_ERROR_IN_USE first.
+ * is the first cause that holds, in the order of the numbers; only pageshare_make checks PAGESHARE_ERROR_IN_USE first.
  *
  * What the caller owes, and nothing checks:
  *
@@ -25,8 +25,8 @@
  *   beside it, for as long as the call runs. What a call writes to (the handle, room, totals, mpn, at) overlaps no other
  *   argument of it, and nobody else reads or writes it meanwhile; what it only reads, nobody writes meanwhile.
  * - A count of elements makes less than 2^63 bytes.
- * - malloc, realloc and free are one allocator's, may be called on any thread, and align a block to 16 bytes. No call is made from a signal handler, nor in the
- *   child of a fork of a process with threads.
+ * - malloc, realloc and free are one allocator's, may be called on any thread, and align a block to 16 bytes. No call is made
+ *   from a signal handler, nor in the child of a fork of a process with threads.
  *
  * pageshare_make takes all memory that a machine needs; no other call asks for any.
  */
@@ -137,17 +137,17 @@ struct pageshare_answer pageshare_propose(struct pageshare *machine, uint32_t gu
 struct pageshare_answer pageshare_store(struct pageshare *machine, uint32_t guest, uint32_t ppn, uint32_t at,
                                         const uint8_t *bytes, size_t length);
 
-/* Loads 1 to 64 bytes of a page, from place `at` on. The room stays as it is but at verdict BYTES. */
+/* Loads 1 to 64 bytes of a page, from place `at` on. The room stays as it is unless the verdict is BYTES. */
 struct pageshare_answer pageshare_load(struct pageshare *machine, uint32_t guest, uint32_t ppn, uint32_t at,
                                        uint8_t *room, size_t length);
 
 /* Releases a page: it has no frame then, and reads as zeros. */
 struct pageshare_answer pageshare_release(struct pageshare *machine, uint32_t guest, uint32_t ppn);
 
-/* Tells what the machine counts, this request among the entries. totals stays as it is but at verdict TOTALS. */
+/* Gets the machine's totals, this request among the entries. totals stays as it is unless the verdict is TOTALS. */
 struct pageshare_answer pageshare_count(struct pageshare *machine, uint32_t guest, struct pageshare_totals *totals);
 
-/* What follows is no request: it counts as none, and changes no page. */
+/* The calls below are no requests: they aren't counted, and change no page. */
 
 /* Begins the count of requests anew, for a machine that serves more than 4,294,967,295. Answers 0 or 6. */
 uint32_t pageshare_restart_count(struct pageshare *machine);
@@ -159,25 +159,26 @@ struct pageshare_page_name {
 };
 
 /*
- * Computes the hashes of `count` pages ahead of their proposals, four at a time, which takes less than half the time; of those
- * pages that are private and whose hash isn't known. It is no request and changes no answer, and a store to a page makes its
- * hash unknown again. Pages that there aren't are passed over. Answers PAGESHARE_OK or PAGESHARE_ERROR_NO_MACHINE.
+ * Computes the hashes of `count` pages ahead of their proposals, four at a time, which takes less than half the time. It skips
+ * pages that don't exist, aren't private, or whose hash is known. It is no request and changes no answer, and a store to a page
+ * makes its hash unknown again. Answers PAGESHARE_OK or PAGESHARE_ERROR_NO_MACHINE.
  */
 uint32_t pageshare_hash(struct pageshare *machine, const struct pageshare_page_name *pages, size_t count);
 
-/* Tells what the machine counts. Answers 0 or 6. */
+/* Gets the machine's totals. Answers 0 or 6. */
 uint32_t pageshare_report(struct pageshare *machine, struct pageshare_totals *totals);
 
 /* Copies a page to the room; an unmapped page reads as zeros. Answers 0, 6 or 11. */
 uint32_t pageshare_read(struct pageshare *machine, uint32_t guest, uint32_t ppn,
                         uint8_t room[PAGESHARE_PAGE_BYTES]);
 
-/* Tells the number of a page's frame (its machine page number, MPN), 0 to frames - 1. Answers 0, 6, 11 or 12. */
+/* Gets the number of a page's frame (its machine page number, MPN), 0 to frames - 1. Answers 0, 6, 11 or 12. */
 uint32_t pageshare_frame(struct pageshare *machine, uint32_t guest, uint32_t ppn, uint32_t *mpn);
 
 /*
- * Tells where a page's 4,096 bytes stand: to be read, never written, and only until the next call with this handle. Answers 0,
- * 6, 11 or 12. No proof says what stands there; pageshare_read copies the bytes.
+ * Gets the address of a page's 4,096 bytes, which may be read, never written, and only until the next call with this handle.
+ * Answers 0, 6, 11 or 12; unless it is 0, *at stays as it is. No proof says what is at the address; pageshare_read copies the
+ * bytes.
  */
 uint32_t pageshare_page(struct pageshare *machine, uint32_t guest, uint32_t ppn, const uint8_t **at);
 
