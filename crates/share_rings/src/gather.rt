@@ -11,7 +11,7 @@ use std::alloc::Allocator;
 /// How far a pair has come.
 #[derive(Clone, Copy, Debug, PartialEq, Eq)]
 pub enum Meeting {
-    /// The merger's end has not sent `Closed`.
+    /// The merger's end has not given `Closed`.
     Running,
     /// The port has not received its `Closed`.
     Undrained,

@@ -63,7 +63,7 @@ impl<A: Allocator> MergerEnd<A> {
         Some(request)
     }
 
-    /// Sends the verdict on the first request without one.
+    /// Gives the verdict on the first request that has none.
     pub fn give(&mut self, verdict: Verdict)
         requires free { 0 < end_free self.old }
         requires unanswered { IsUnanswered self.old (closing.is_closed verdict) }
