@@ -1,4 +1,4 @@
--- Which page a request moves to another frame, and to which. All other pages keep their frames.
+-- Which page's frame a request changes, and to what. All other pages keep their frames.
 use Rattle.std.specs.Prelude.{◌≡◌, ℕ, Option, Some, None}
 use Rattle.std.specs.Option.{option_and_then}
 use Rattle.page_model.specs.Pages.{page_at}

@@ -44,8 +44,8 @@ pub fn foresee<H: PageHash, A: Allocator>(
     hash_together(held, forecasts, private, &next[..next.len().min(REACH)]);
 }
 
-/// Computes and notes the hash of a private page together with those of pages that these requests propose: of four pages whose
-/// bytes they leave as they are, or else of pages as these requests will leave them.
+/// Computes and notes the hash of a private page together with those of pages that these requests propose: of three whose
+/// bytes they leave as they are, if there are three, or else of pages as these requests will leave them.
 fn hash_together<H: PageHash, A: Allocator>(
     held: &mut Held<H, A>,
     forecasts: &mut Forecasts<H>,
@@ -97,7 +97,7 @@ fn hash_beside<H: PageHash, A: Allocator>(
 }
 
 /// Returns a private page and others that these requests propose, at most four in all. Each of the others needs a hash,
-/// and will hold then what it holds now.
+/// and when it is proposed it will still hold what it holds now.
 fn at_rest<H: PageHash, A: Allocator>(
     held: &Held<H, A>,
     private: PrivatePage,

@@ -283,9 +283,9 @@ impl<H: PageHash, A: Allocator + Sync> Core<H, A> {
     /// Returns the hash of each of these pages, each named by its guest and number: the hash of its salt and present bytes,
     /// `None` if the page is unmapped or doesn't exist.
     ///
-    /// `workers` workers, at most [`page_model::MAX_WORKERS`], compute the hashes that aren't known; the calling thread is one
-    /// of them. The hashes are noted too, and a noted hash isn't computed again as long as its page's bytes stay the same.
-    /// Nothing that the core shows changes.
+    /// Up to `workers` workers, at most [`page_model::MAX_WORKERS`], compute the hashes that aren't known; the calling thread
+    /// is one of them. The hashes are noted too, and a noted hash isn't computed again as long as its page's bytes stay the
+    /// same. Nothing that the core shows changes.
     ///
     /// # Errors
     ///

@@ -32,8 +32,8 @@ run_fault_of machine.Journal = Journal
 run_fault_of machine.OutOfMemory = OutOfMemory
 
 module _ {A : Type 0} where
-  -- These scripts can be run on the machine of this configuration: if there is such a machine, there is one script for each of
-  -- its guests, and no script contains a close.
+  -- These scripts can be run on the machine of this configuration: no script contains a close, and there is one script for
+  -- each of its guests if there is such a machine.
   pub record CanBeRun (c : Config A) (scripts : List (Vec Request A)) : Type 0 where
     pub each : IsMachine c → length scripts ≡ length c.pages.items
     pub plain : All (λ script. has_close script.items ≡ false) scripts

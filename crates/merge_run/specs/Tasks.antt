@@ -25,7 +25,7 @@ module _ {A : Type 0} where
     pub got : port_got port ≡ []
 
   -- nothing was sent or received yet; the script has no close, and is short enough to be counted; the list of verdicts is
-  -- empty, with room for one for each request and one for the close
+  -- empty, with room for a verdict on each request and on the close
   pub record IsReady (task : Task A) : Type 0 where
     pub unused : IsUnused task.port
     pub plain : has_close task.script.items ≡ false

@@ -42,7 +42,7 @@ impl Patience {
         }
     }
 
-    /// Adds `looks` failed looks to those left, at most to the full number, since a look succeeded.
+    /// Allows `looks` more failed looks, since one succeeded, but never more than `most` in a row.
     pub(crate) fn regain(&mut self, looks: u32) {
         self.looks = self.looks.saturating_add(looks).min(self.most);
     }

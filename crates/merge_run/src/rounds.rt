@@ -22,10 +22,10 @@ const WORKERS: u32 = 2;
 /// How many requests a round serves at most.
 const LIMIT: u32 = 64;
 
-/// How many failed looks the merger makes before it sleeps: some 100 microseconds.
+/// How many failed looks the merger makes before it sleeps: they take some 100 microseconds.
 const MOST_LOOKS: u32 = 2_000;
 
-/// How many failed looks a round that served something offsets.
+/// How many failed looks are offset by a round that served something.
 const LOOKS_A_ROUND: u32 = 1_000;
 
 /// How long the merger sleeps after waiting without success, in microseconds.
@@ -34,7 +34,7 @@ const NAP: u64 = 20;
 /// Serves by rounds until each of the first `guests` guests has ended, and waits after a round that served nothing. The
 /// observer sees the report after each round.
 ///
-/// The other guests, whose threads were not started, send nothing: visiting them has no effect.
+/// The other guests, whose threads were not started, send nothing: a visit to them finds no request.
 pub(crate) fn serve_all<
     R: Threads + Wait + Sync,
     H: PageHash,

@@ -11,7 +11,7 @@ pub enum RunFault {
     /// 0 frames, or more than 1,048,576.
     #[error("a machine has 1 to 1,048,576 frames")]
     Frames,
-    /// No guest, more than 64, or a number of salts other than that of guests.
+    /// No guest, more than 64, or not exactly one salt per guest.
     #[error("a machine has 1 to 64 guests, with a salt each")]
     Guests,
     /// A guest with no page, or more than 1,048,576 pages in total.

@@ -15,7 +15,7 @@ pub(crate) struct Task<A: Allocator = Global> {
     pub(crate) port: Port<A>,
     /// What the guest sends before its close.
     pub(crate) script: Vec<Request, A>,
-    /// An empty list, with room for a verdict to each request and to the close.
+    /// An empty list, with room for a verdict on each request and on the close.
     pub(crate) verdicts: Vec<Verdict, A>,
 }
 

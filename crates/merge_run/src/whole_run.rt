@@ -44,7 +44,8 @@ use std::thread::{Scope, Threads};
 ///
 /// # Errors
 ///
-/// The first cause that holds, in the order of [`RunFault`]. All memory is allocated before the first thread is started.
+/// The first cause that holds, in the order of [`RunFault`]. All memory that the run can't do without is allocated before
+/// the first thread is started.
 ///
 /// Once the start of a thread is refused, no more are started. The guests whose threads were started are served to
 /// their end, their threads are joined, and the machine is dropped.

@@ -2,7 +2,7 @@
 //!
 //! A guest has two rings, one for its requests and one for its verdicts. The guest keeps the [`Port`], which moves to the
 //! guest's thread, and the merger keeps the [`MergerEnd`]. No call waits for the other end. Each end knows what passed
-//! through it; that the two lists of a ring agree is known only from [`meet`], which takes both ends.
+//! through it; it takes [`meet`], with both ends, to know that the two lists of a ring agree.
 #![tactic(auto, unfolding(crate::specs::Ends::producer_name, crate::specs::Ends::consumer_name))]
 
 mod closed_port;

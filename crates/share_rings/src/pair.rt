@@ -16,7 +16,7 @@ pub enum RingFault {
     /// A capacity of 0, or above 65,536.
     #[error("give a ring room for 1 to 65,536 items")]
     Ring,
-    /// Memory ran out.
+    /// The memory for the rings was refused.
     #[error("the rings' memory was refused: free some, or make smaller rings")]
     OutOfMemory,
 }
