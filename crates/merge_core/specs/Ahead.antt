@@ -5,7 +5,7 @@ use Rattle.merge_core.specs.Names.{Names, bytes_in}
 use Rattle.machine_frames.specs.FrameMap.{FrameMap}
 use Rattle.merge_core.specs.declared.ahead.PrivatePage.{PrivatePage}
 
--- the page is private, and has this frame and this hint
+-- the page is private, with this frame and this hint
 pub record IsPrivate (names : Names) (p : PrivatePage) : Type 0 where
   pub page : page_at names p.page.guest p.page.ppn ≡ Some (p.page.salt, Private p.mpn p.hint)
 

@@ -1,4 +1,4 @@
--- The guests with an MPN in place of each page's bytes, and the bytes that they stand for.
+-- The guests with an MPN instead of each page's bytes, and the bytes that the MPNs stand for.
 use Rattle.std.specs.Prelude.{ℕ, List, [], map, replicate, Option, Some, None, unwrap_or, slice_index_or}
 use Rattle.page_model.specs.Pages.{SlotOf, Slot, Unmapped, Private, Shared, GuestOf, Guest}
 use Rattle.page_model.specs.Replay.{Shape}

@@ -14,6 +14,6 @@ known_of n = record { salt = n.salt; hash = code_of n.hash }
 abbrev pub notes_in : List Note → List Known
 notes_in notes = map known_of notes
 
--- the notes on so many frames: of those past the list nothing is known
+-- the notes on this many frames: nothing is known of those past the list
 abbrev pub notes_on : ℕ → List Note → List Known
 notes_on frames notes = notes_in notes ++ replicate (frames - length notes) unknown

@@ -1,4 +1,4 @@
--- Why no core is made.
+-- Why no core was made.
 use Rattle.std.specs.Prelude.{ℕ, List}
 pub use Rattle.page_model.specs.Limits.{AreLimits}
 use Rattle.page_model.specs.Limits.{AreFrames, AreGuests, ArePages}
@@ -7,7 +7,8 @@ use Rattle.page_model.specs.declared.machine_shape.ShapeFault.TheVariants as sha
 use Rattle.merge_core.specs.declared.fault.CoreFault.{CoreFault}
 use Rattle.merge_core.specs.declared.fault.CoreFault.TheVariants.{Frames, Guests, Pages, OutOfMemory}
 
--- the first cause for which there is no core of these frames, pages and salts; memory is wanting only where there is none
+-- the first cause for which there is no core of these frames, pages and salts; lack of memory is the cause only if there is
+-- no other
 abbrev pub NoCoreFor : ℕ → List ℕ → List ℕ → CoreFault → Type 0
 NoCoreFor frames pages salts Frames = ¬ AreFrames frames
 NoCoreFor frames pages salts Guests = AreFrames frames × ¬ AreGuests salts pages

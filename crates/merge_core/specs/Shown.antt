@@ -8,7 +8,7 @@ use Rattle.share_table.specs.declared.entries.HintFrame.{HintFrame}
 use Rattle.merge_core.specs.Names.{Names, guests_in, bytes_in, frame_of}
 use Rattle.merge_core.specs.Ties.{Owner}
 
--- how many requests were served, the guests with each mapped page's MPN, the frames, and the table
+-- the number of requests served, the guests with each mapped page's MPN, the frames, and the table
 pub record Shown : Type 0 where
   pub entries : ℕ
   pub names : Names
@@ -19,9 +19,9 @@ pub record Shown : Type 0 where
 abbrev pub state_of : Shown → State
 state_of c = record { total = length c.frames; guests = guests_in c.frames c.names; entries = c.entries }
 
--- Which page has which frame: each mapped page's frame is taken, each taken frame is some page's, and two pages have one
--- frame exactly where both are shared with the same content. So the frames in use are those that the pages name, and the
--- model counts as many.
+-- Which page has which frame: each mapped page's frame is taken, each taken frame is some page's, and two pages have the same
+-- frame exactly when both are shared with the same content. So the frames in use are those that the pages name, and their
+-- number is the one that the model counts.
 pub record FramesOfPages (c : Shown) : Type 0 where
   pub taken : (a b salt : ℕ) (slot : SlotOf ℕ) (m : ℕ) → page_at c.names a b ≡ Some (salt, slot) → frame_of slot ≡ Some m → IsTaken c.frames m
   pub owned : (m : ℕ) → IsTaken c.frames m → Owner c.names m
@@ -29,7 +29,7 @@ pub record FramesOfPages (c : Shown) : Type 0 where
   pub joint : (a b x y salt m n : ℕ) → page_at c.names a b ≡ Some (salt, Shared m) → page_at c.names x y ≡ Some (salt, Shared n) → bytes_in c.frames m ≡ bytes_in c.frames n → m ≡ n
   pub count : frames_used c.frames ≡ used (state_of c).guests
 
--- a shared page of the frame that stands under a hash
+-- a shared page of the frame that the table has under a hash
 pub record Sharer (hash : ℕ → List ℕ → ℕ) (c : Shown) (code m : ℕ) : Type 0 where
   pub guest : ℕ
   pub ppn : ℕ
@@ -43,7 +43,7 @@ pub record Hinter (c : Shown) (key : ℕ) (h : HintFrame) : Type 0 where
   pub at : page_at c.names h.guest h.ppn ≡ Some (salt, Private h.mpn (Some key))
 
 -- What the table holds: for each shared page, under its hash, its frame, counted once for each page with its content; for
--- each hint, under its key, its page and that page's frame; and nothing else. So it has no more entries than frames are in use.
+-- each hint, under its key, its page and that page's frame; and nothing else. So its entries are at most the frames in use.
 pub record TableOfPages (hash : ℕ → List ℕ → ℕ) (c : Shown) : Type 0 where
   pub shared : (a b salt m : ℕ) → page_at c.names a b ≡ Some (salt, Shared m) → shared_at c.table (hash salt (bytes_in c.frames m)) ≡ Some (record { mpn = m; count = peers salt (bytes_in c.frames m) (state_of c).guests })
   pub sharers : (code : ℕ) (f : SharedFrame) → shared_at c.table code ≡ Some f → Sharer hash c code f.mpn

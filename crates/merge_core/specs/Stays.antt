@@ -1,4 +1,4 @@
--- Which page a request gives another frame, and which frame. All other pages keep the frames that they have.
+-- Which page's frame a request changes, and to what. All other pages keep their frames.
 use Rattle.std.specs.Prelude.{◌≡◌, ℕ, Option, Some, None}
 use Rattle.std.specs.Option.{option_and_then}
 use Rattle.page_model.specs.Pages.{page_at}
@@ -10,7 +10,7 @@ use Rattle.machine_frames.specs.FrameMap.{FrameMap, frame}
 use Rattle.merge_core.specs.Names.{Names, frame_of}
 use Rattle.merge_core.specs.Shown.{Shown}
 
--- the frame of a page, none where the page is unmapped
+-- the frame of a page, none if the page is unmapped
 abbrev pub frame_at : Names → ℕ → ℕ → Option ℕ
 frame_at names guest ppn = option_and_then (λ x. frame_of x.1) (page_at names guest ppn)
 
@@ -21,7 +21,7 @@ pub data Change : Type 0 where
   JoinsAnother : Change
   GivesUp : Change
 
--- what each verdict says of the named page's frame
+-- what each verdict says about the named page's frame
 abbrev pub change_at : Verdict → Change
 change_at v.NoPage = Keeps
 change_at v.Unmapped = Keeps
@@ -57,7 +57,7 @@ pub record HasTheirs (guest ppn : ℕ) (old new : Names) : Type 0 where
   pub theirs : frame_at old other place ≡ Some mpn
   pub has : frame_at new guest ppn ≡ Some mpn
 
--- the named page's frame after such a change, where frames were free as they are in free
+-- the named page's frame after such a change, if the frames free before were those free in `free`
 abbrev pub NamedFrame : Change → FrameMap → ℕ → ℕ → Names → Names → Type 0
 NamedFrame Keeps free guest ppn old new = frame_at new guest ppn ≡ frame_at old guest ppn
 NamedFrame TakesFree free guest ppn old new = HasFree free (frame_at new guest ppn)
@@ -75,7 +75,7 @@ pub record OthersKeep (free : FrameMap) (guest ppn : ℕ) (verdict : Verdict) (o
   pub named : NamedFrame (change_at verdict) free guest ppn old new
   pub others : (other place : ℕ) → (other ≡ guest → place ≡ ppn → ⊥) → frame_at new other place ≡ frame_at old other place
 
--- the frames of all pages after a request of a guest, which was answered with a verdict
+-- the frames of all pages after a guest's request, answered with this verdict
 abbrev pub FramesStay : ℕ → Request → Verdict → Shown → Shown → Type 0
 FramesStay guest (Propose ppn) verdict old new = OthersKeep old.frames guest ppn verdict old.names new.names
 FramesStay guest (Store r) verdict old new = OthersKeep old.frames guest r.ppn verdict old.names new.names

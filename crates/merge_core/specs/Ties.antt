@@ -1,4 +1,4 @@
--- How the pages, the frames, the table and the notes of a core hang together.
+-- How the pages, frames, table and notes of a core fit together.
 use Rattle.std.specs.Prelude.{◌≡◌, ℕ, ◌≤◌, List, length, Option, Some, sum_by}
 use Rattle.std.specs.FinMap as map
 use Rattle.page_model.specs.Pages.{SlotOf, Private, Shared, Guest, GuestOf, page_at, peers, used, distinct, count_pages, is_shared, is_hinted}
@@ -13,13 +13,13 @@ pub record Placed (names : Names) (frames : FrameMap) : Type 0 where
   pub taken : (a b salt : ℕ) (slot : SlotOf ℕ) (m : ℕ) → page_at names a b ≡ Some (salt, slot) → frame_of slot ≡ Some m → IsTaken frames m
   pub alone : (a b salt m : ℕ) (hint : Option ℕ) (c d other : ℕ) (slot : SlotOf ℕ) → page_at names a b ≡ Some (salt, Private m hint) → page_at names c d ≡ Some (other, slot) → frame_of slot ≡ Some m → (c ≡ a) × (d ≡ b)
 
--- each page's salt is noted at its frame, and each noted hash is right
+-- each page's salt is noted at its frame, and each noted hash is correct
 pub record Noted (hash : ℕ → List ℕ → ℕ) (names : Names) (frames : FrameMap) (notes : List Known) : Type 0 where
   pub len : length notes ≡ length frames
   pub salts : (a b salt : ℕ) (slot : SlotOf ℕ) (m : ℕ) → page_at names a b ≡ Some (salt, slot) → frame_of slot ≡ Some m → (known_at notes m).salt ≡ salt
   pub hashes : (m code : ℕ) → IsTaken frames m → (known_at notes m).hash ≡ Some code → code ≡ hash (known_at notes m).salt (bytes_in frames m)
 
--- what the table holds of a shared frame
+-- what the table holds about a shared frame
 pub record SharedWell (hash : ℕ → List ℕ → ℕ) (guests : List Guest) (frames : FrameMap) (notes : List Known) (code : ℕ) (f : SharedFrame) : Type 0 where
   pub taken : IsTaken frames f.mpn
   pub code_is : hash (known_at notes f.mpn).salt (bytes_in frames f.mpn) ≡ code
@@ -67,7 +67,7 @@ pub record Owner (names : Names) (m : ℕ) : Type 0 where
 abbrev pub Owned : Names → FrameMap → Type 0
 Owned names frames = (m : ℕ) → IsTaken frames m → Owner names m
 
--- how many pages all guests have
+-- the number of pages of all guests
 abbrev pub page_total : {X : Type 0} → List (GuestOf X) → ℕ
 page_total {X} guests = sum_by (λ (g : GuestOf X). length g.slots) guests
 

@@ -34,7 +34,7 @@ notes_of held = held.notes
 abbrev pub guests_of : {H A : Type 0} → Held H A → List Guest
 guests_of held = guests_in held.frames (names_of held)
 
--- What a core keeps is sound: its parts hang together, the machine is within its limits, and the hints are counted.
+-- What a core keeps is sound: its parts fit together, the machine is within its limits, and the hints are counted.
 pub record Whole {H A : Type 0} (hash : ℕ → List ℕ → ℕ) (held : Held H A) : Type 0 where
   pub ties : Ties hash (names_of held) held.frames held.table (notes_of held)
   pub few : Few (names_of held)

@@ -18,7 +18,7 @@ pub struct PrivatePage {
     pub hint: Option<u32>,
 }
 
-/// Notes the hashes of these pages, as far as they are private and their hashes aren't known.
+/// Notes the hashes of those of these pages that are private and whose hashes aren't known.
 pub fn note_hashes<H: PageHash, A: Allocator>(held: &mut Held<H, A>, pages: &[(u8, u32)])
     requires whole { Whole H.hash_of held.old }
     ensures whole { Whole H.hash_of held.new }
@@ -38,7 +38,7 @@ pub fn note_hashes<H: PageHash, A: Allocator>(held: &mut Held<H, A>, pages: &[(u
     }
 }
 
-/// The pages that wait to be hashed, with one more: where four do, they are hashed before.
+/// Adds a page to those that wait to be hashed, and returns them. If four already wait, they are hashed first.
 fn with_page<H: PageHash, A: Allocator>(
     held: &mut Held<H, A>,
     waiting: ArrayVec<PrivatePage, 4>,
@@ -64,7 +64,7 @@ fn with_page<H: PageHash, A: Allocator>(
     waiting
 }
 
-/// The page, where it is private and its hash isn't known.
+/// Returns the page if it is private and its hash isn't known.
 pub fn unhashed<H: PageHash, A: Allocator>(
     held: &Held<H, A>,
     guest: usize,
@@ -120,7 +120,7 @@ pub fn note_four<H: PageHash, A: Allocator>(held: &mut Held<H, A>, pages: [Priva
     note(held, d, codes[3]);
 }
 
-/// The hashes of four pages.
+/// Returns the hashes of four pages.
 fn hash_four<H: PageHash, A: Allocator>(
     held: &Held<H, A>,
     a: PrivatePage,
@@ -157,7 +157,7 @@ pub fn note<H: PageHash, A: Allocator>(held: &mut Held<H, A>, private: PrivatePa
     learn(held, private.mpn, private.page.salt, code);
 }
 
-/// Computes the hash of a page, and notes it.
+/// Computes the hash of a page and notes it.
 fn note_one<H: PageHash, A: Allocator>(held: &mut Held<H, A>, private: PrivatePage)
     requires whole { Whole H.hash_of held.old }
     requires private { IsPrivate (names_of held.old) private }
@@ -169,7 +169,7 @@ fn note_one<H: PageHash, A: Allocator>(held: &mut Held<H, A>, private: PrivatePa
     hash_frame(held, private.mpn, private.page.salt);
 }
 
-/// Computes the hashes of these pages one by one, and notes them.
+/// Computes the hashes of these pages one by one and notes them.
 fn note_each<H: PageHash, A: Allocator>(held: &mut Held<H, A>, pages: &[PrivatePage])
     requires whole { Whole H.hash_of held.old }
     requires private { All (IsPrivate (names_of held.old)) pages.now }

@@ -1,4 +1,4 @@
-//! Hashes that several workers compute, and that are noted.
+//! Hashes that several workers compute and that are then noted.
 ghost use Rattle.std.specs.Prelude.{◌≡◌, ◌≤◌, [], All, IfOk, IfSome, length, vec_capacity};
 ghost use Rattle.std.specs.Option.{option_map};
 ghost use Rattle.page_digest.specs.Many.{frame_hashes};
@@ -14,8 +14,8 @@ use std::alloc::{AllocError, Allocator};
 use std::sync::Wait;
 use std::thread::Threads;
 
-/// Notes the hashes of these pages, as far as they are mapped and their hashes aren't known. At most so many workers compute
-/// them, so that each has `least` of them or more.
+/// Notes the hashes of those of these pages that are mapped and whose hashes aren't known. At most `workers` workers
+/// compute them, and more than one only if there are at least `least` pages for each.
 pub fn note_by_workers<
     R: Threads + Wait + Sync,
     H: PageHash,
@@ -44,7 +44,7 @@ pub fn note_by_workers<
     Ok(())
 }
 
-/// The lesser of two numbers of workers, but at least one.
+/// Returns the lesser of two numbers of workers, but at least one.
 fn paying_workers(workers: u32, most: usize) -> u32
     requires { (1 ≤ workers) × (workers ≤ 64) }
     ensures { (1 ≤ result) × (result ≤ workers) }
@@ -59,7 +59,7 @@ fn paying_workers(workers: u32, most: usize) -> u32
     }
 }
 
-/// The frames of these pages whose hashes aren't known, as pairs of a salt and an MPN.
+/// Returns the frames of those of these pages whose hashes aren't known, as pairs of a salt and an MPN.
 fn unknown_frames<H: PageHash, A: Allocator, B: Allocator>(
     held: &Held<H, A>,
     alloc: B,
@@ -77,7 +77,7 @@ fn unknown_frames<H: PageHash, A: Allocator, B: Allocator>(
     Ok(pairs)
 }
 
-/// The salt and frame of a page, where it is mapped and its hash isn't known.
+/// Returns the salt and frame of a page, if it is mapped and its hash isn't known.
 fn unknown_frame<H: PageHash, A: Allocator>(
     held: &Held<H, A>,
     guest: usize,
@@ -93,7 +93,7 @@ fn unknown_frame<H: PageHash, A: Allocator>(
     Some((salt, mpn))
 }
 
-/// The salt and frame of a page, where it is mapped.
+/// Returns the salt and frame of a page, if it is mapped.
 pub fn frame_of<H: PageHash, A: Allocator>(
     held: &Held<H, A>,
     guest: usize,
@@ -152,7 +152,7 @@ fn note_frame<H: PageHash, A: Allocator>(held: &mut Held<H, A>, salt: u32, mpn: 
     learn(held, mpn, salt, code);
 }
 
-/// Notes a page's hash, where the page is mapped.
+/// Notes a page's hash, if the page is mapped.
 pub fn note_page<H: PageHash, A: Allocator>(
     held: &mut Held<H, A>,
     guest: usize,
@@ -171,7 +171,8 @@ pub fn note_page<H: PageHash, A: Allocator>(
     }
 }
 
-/// The hashes of these pages, in order: what isn't known is computed here. The list is empty, and has room for them.
+/// Pushes the hashes of these pages, in order, to an empty list with room for them. Those that aren't known are computed
+/// here.
 pub fn push_hashes<H: PageHash, A: Allocator, B: Allocator>(
     held: &mut Held<H, A>,
     pages: &[(u8, u32)],
@@ -191,7 +192,7 @@ pub fn push_hashes<H: PageHash, A: Allocator, B: Allocator>(
     }
 }
 
-/// The hash of a page, where it is mapped.
+/// Returns the hash of a page, if it is mapped.
 fn hash_page<H: PageHash, A: Allocator>(
     held: &mut Held<H, A>,
     guest: usize,
@@ -210,7 +211,7 @@ fn hash_page<H: PageHash, A: Allocator>(
     }
 }
 
-/// The hash of a page's frame.
+/// Returns the hash of a page's frame.
 fn hash_paged<H: PageHash, A: Allocator>(held: &mut Held<H, A>, salt: u32, mpn: u32) -> u64
     requires whole { Whole H.hash_of held.old }
     requires paged { IsPaged (names_of held.old) salt mpn }

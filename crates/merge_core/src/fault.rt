@@ -1,17 +1,17 @@
-//! Why no core is made.
+//! Why no core was made.
 ghost use Rattle.std.specs.Prelude.{◌≡◌};
 
 use page_model::ShapeFault;
 use std::alloc::AllocError;
 use thiserror::Error;
 
-/// Why no core is made, in the order in which the causes are looked at.
+/// Why no core was made, in the order in which the causes are checked.
 #[derive(Clone, Copy, Debug, PartialEq, Eq, Error)]
 pub enum CoreFault {
     /// 0 frames, or more than 1,048,576.
     #[error("give the machine 1 to 1,048,576 frames")]
     Frames,
-    /// No guest, more than 64, or not as many salts as guests.
+    /// No guest, more than 64, or not exactly one salt per guest.
     #[error("give the machine 1 to 64 guests, with a salt each")]
     Guests,
     /// A guest with no page, or more than 1,048,576 pages in total.

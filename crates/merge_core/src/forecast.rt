@@ -1,4 +1,4 @@
-//! The hash of a page that is proposed, computed with those of pages that the next requests propose: four pages at once.
+//! The hash of a proposed page, computed together with those of pages that the next requests propose: four pages at once.
 ghost use Rattle.std.specs.Prelude.{◌≡◌, ◌<◌, All, IfSome};
 ghost use Rattle.merge_core.specs.Ahead.{IsPrivate, hash_in};
 ghost use Rattle.merge_core.specs.Hashing.{IsPaged};
@@ -16,11 +16,11 @@ use page_forecasts::{FORECASTS, Forecasts, is_changed, is_proposed};
 use page_model::{Entry, Page, Request};
 use std::alloc::Allocator;
 
-/// How many of the next requests are looked at.
+/// How many of the next requests are considered.
 const REACH: usize = 64;
 
-/// Notes the hash of a private page that is proposed, where it isn't known: the one that was foreseen, or one that is computed
-/// with those of other pages that the next requests propose. Where they propose none that needs a hash, it notes nothing.
+/// Notes the hash of a proposed private page if it isn't known: the one that was foreseen, or one computed together with
+/// those of other pages that the next requests propose. If they propose none that needs a hash, it notes nothing.
 pub fn foresee<H: PageHash, A: Allocator>(
     held: &mut Held<H, A>,
     forecasts: &mut Forecasts<H>,
@@ -44,8 +44,8 @@ pub fn foresee<H: PageHash, A: Allocator>(
     hash_together(held, forecasts, private, &next[..next.len().min(REACH)]);
 }
 
-/// Computes and notes the hash of a private page together with those of pages that these requests propose: of four pages whose
-/// bytes they leave as they are, or else of pages as these requests will leave them.
+/// Computes and notes the hash of a private page together with those of pages that these requests propose: of three whose
+/// bytes they leave as they are, if there are three, or else of pages as these requests will leave them.
 fn hash_together<H: PageHash, A: Allocator>(
     held: &mut Held<H, A>,
     forecasts: &mut Forecasts<H>,
@@ -69,7 +69,7 @@ fn hash_together<H: PageHash, A: Allocator>(
     }
 }
 
-/// The hash of a private page, where what it holds was foreseen.
+/// Returns the hash of a private page, if what it holds was foreseen.
 fn hash_foreseen<H: PageHash, A: Allocator>(
     held: &Held<H, A>,
     forecasts: &Forecasts<H>,
@@ -82,7 +82,7 @@ fn hash_foreseen<H: PageHash, A: Allocator>(
     forecasts.hash_of(private.page.salt, bytes_at(&held.frames, private.mpn))
 }
 
-/// The hash of a private page, which is computed together with those of all that is foreseen.
+/// Returns the hash of a private page, computed together with those of all that is foreseen.
 fn hash_beside<H: PageHash, A: Allocator>(
     held: &Held<H, A>,
     forecasts: &mut Forecasts<H>,
@@ -96,7 +96,8 @@ fn hash_beside<H: PageHash, A: Allocator>(
     forecasts.hash_beside(&held.hash, private.page.salt, bytes)
 }
 
-/// A private page and others that these requests propose, four at most, which need a hash and hold then what they hold now.
+/// Returns a private page and others that these requests propose, at most four in all. Each of the others needs a hash,
+/// and when it is proposed it will still hold what it holds now.
 fn at_rest<H: PageHash, A: Allocator>(
     held: &Held<H, A>,
     private: PrivatePage,
@@ -119,7 +120,8 @@ fn at_rest<H: PageHash, A: Allocator>(
     pages
 }
 
-/// The page that a request proposes, where that is another, needs a hash and isn't named by the requests before.
+/// Returns the page that a request proposes, if it isn't the first page, needs a hash, and the requests before neither
+/// propose nor change it.
 fn resting<H: PageHash, A: Allocator>(
     held: &Held<H, A>,
     first: Place,
@@ -136,7 +138,7 @@ fn resting<H: PageHash, A: Allocator>(
     unhashed(held, entry.guest as usize, ppn as usize)
 }
 
-/// Foresees pages that these requests propose, as many as are hashed with this one, and tells how many.
+/// Foresees pages that these requests propose, at most the number that are hashed with this one. Returns how many.
 fn gather<H: PageHash, A: Allocator>(
     held: &Held<H, A>,
     forecasts: &mut Forecasts<H>,
@@ -159,8 +161,8 @@ fn gather<H: PageHash, A: Allocator>(
     count
 }
 
-/// Foresees a page, at this place, by what it holds and what these requests do to it. Tells whether its proposal will need a
-/// hash.
+/// Foresees a page, at this place, from what it holds and what these requests do to it. Returns whether its proposal will
+/// need a hash.
 fn foresee_page<H: PageHash, A: Allocator>(
     held: &Held<H, A>,
     forecasts: &mut Forecasts<H>,
@@ -187,7 +189,7 @@ fn foresee_page<H: PageHash, A: Allocator>(
     }
 }
 
-/// The bytes of a page's frame.
+/// Returns the bytes of a page's frame.
 fn paged_bytes<H: PageHash, A: Allocator>(held: &Held<H, A>, _salt: u32, mpn: u32) -> &Page
     requires whole { Whole H.hash_of held.now }
     requires paged { IsPaged (names_of held.now) _salt mpn }
@@ -195,7 +197,7 @@ fn paged_bytes<H: PageHash, A: Allocator>(held: &Held<H, A>, _salt: u32, mpn: u3
     bytes_at(&held.frames, mpn)
 }
 
-/// The number of the page that a request proposes, where that is another than the first and isn't proposed before.
+/// Returns the number of the page that a request proposes, if it isn't the first page and isn't proposed before.
 fn proposed_anew(first: Place, before: &[Entry], entry: &Entry) -> Option<u32> {
     let ppn = match entry.request {
         Request::Propose(ppn) => ppn,

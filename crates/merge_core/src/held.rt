@@ -12,7 +12,7 @@ pub enum PageEntry {
     Shared(u32),
 }
 
-/// Where a page is: its guest, its number, and its guest's salt.
+/// A page's guest, its number, and its guest's salt.
 #[derive(Clone, Copy, Default)]
 pub struct Place {
     pub guest: usize,

@@ -1,7 +1,7 @@
 //! The core of a page sharing machine: which frame each page has, and what each request does to it.
 //!
 //! A core keeps its guests' pages in frames, and shared frames and hints in a table. It answers as the model does, which
-//! knows page contents alone.
+//! knows only page contents.
 #![tactic(auto)]
 
 mod ahead;

@@ -33,7 +33,7 @@ use std::marker::Model;
 use std::sync::Wait;
 use std::thread::Threads;
 
-/// A worker has at least so many pages to hash: to start its thread costs as much as to hash a few.
+/// Another worker is started only if there are this many pages for each: starting a thread costs as much as hashing a few.
 pub const PAGES_A_WORKER: usize = 16;
 
 /// A machine: its guests' pages in frames, and the number of requests so far.
@@ -59,9 +59,9 @@ impl<H: PageHash, A: Allocator> Model for Core<H, A> {
 }
 
 impl<H: PageHash + Drop, A: Allocator + Clone> Core<H, A> {
-    /// A machine before its first request: guest i has `pages[i]` pages and the salt `salts[i]`.
+    /// Makes a machine before its first request: guest i has `pages[i]` pages and the salt `salts[i]`.
     ///
-    /// All memory of the machine is taken here.
+    /// All memory of the machine is allocated here.
     pub fn new(
         alloc: A,
         frames: u32,
@@ -79,7 +79,7 @@ impl<H: PageHash + Drop, A: Allocator + Clone> Core<H, A> {
         Ok(Core::with_shape(alloc, &shape, hash)?)
     }
 
-    /// The same for a shape, which is known to be within the limits.
+    /// Makes a machine of a shape, which is known to be within the limits. Otherwise the same as [`new`](Core::new).
     pub fn with_shape(alloc: A, shape: &MachineShape<'_>, hash: H) -> Result<Core<H, A>, AllocError>
         ensures empty { IfOk result (λ core. state_of core ≡ empty_state shape.now.frames (shapes shape.now.salts shape.now.pages)) }
         ensures guests { IfOk result (λ core. length (state_of core).guests ≡ length shape.now.pages) }
@@ -96,10 +96,11 @@ impl<H: PageHash + Drop, A: Allocator + Clone> Core<H, A> {
 }
 
 impl<H: PageHash, A: Allocator> Core<H, A> {
-    /// Serves one request of a guest, and tells the verdict. It takes no memory.
+    /// Serves one request of a guest, and returns the verdict. It allocates no memory.
     ///
-    /// Every page but the named one keeps its frame. So does the named one, but at `Mapped` and `Copied` (it gets a frame
-    /// that was free), at `Joined` and `Paired` (that of the pages with which it is now shared) and at `Released` (none).
+    /// Every page but the named one keeps its frame. So does the named one, except at `Mapped` and `Copied` (it gets a frame
+    /// that was free), at `Joined` and `Paired` (it gets the frame of the pages it now shares with) and at `Released` (it has
+    /// none).
     #[tactic(auto, unfolding(page_model::specs::Steps::step, page_model::specs::Steps::answered))]
     pub fn apply(&mut self, guest: u8, request: &Request) -> Verdict
         requires guest { guest < length (state_of self.old).guests }
@@ -118,11 +119,11 @@ impl<H: PageHash, A: Allocator> Core<H, A> {
         }
     }
 
-    /// Serves one request of a guest as [`apply`](Core::apply) does, where the caller knows which requests come `next`.
+    /// Serves one request of a guest as [`apply`](Core::apply) does, for a caller who knows which requests come `next`.
     ///
-    /// Where the request proposes a page whose hash isn't known, that is computed together with those of up to three pages that
-    /// the next 64 requests propose, as they will be after the stores and releases before their proposals: four at once. Where
-    /// other requests come, the answers are the same.
+    /// If the request proposes a page whose hash isn't known, that hash is computed together with those of up to three pages
+    /// that the next 64 requests propose, as they will be after the stores and releases before their proposals: four at once.
+    /// If other requests come instead, the answers are the same.
     pub fn apply_ahead(&mut self, guest: u8, request: &Request, next: &[Entry]) -> Verdict
         requires guest { guest < length (state_of self.old).guests }
         requires room { self.old.entries < 4294967295 }
@@ -132,7 +133,7 @@ impl<H: PageHash, A: Allocator> Core<H, A> {
         self.apply(guest, request)
     }
 
-    /// Notes the hash of the page that a request proposes, where it pays to compute it with those that come next.
+    /// Notes the hash of the page that a request proposes, if it pays to compute it together with those that come next.
     fn foresee(&mut self, guest: u8, request: &Request, next: &[Entry])
         ensures { self.new ≡ self.old }
     {
@@ -148,10 +149,10 @@ impl<H: PageHash, A: Allocator> Core<H, A> {
         }
     }
 
-    /// Serves one request of a guest as [`apply`](Core::apply) does, where the caller knows the hash of the page that it
+    /// Serves one request of a guest as [`apply`](Core::apply) does, for a caller who knows the hash of the page that it
     /// proposes (see [`hash_ahead`](Core::hash_ahead)): no page is hashed for it.
     ///
-    /// At a request that doesn't propose a mapped page, the hash isn't looked at.
+    /// If the request doesn't propose a mapped page, the hash is ignored.
     pub fn apply_hashed(&mut self, guest: u8, request: &Request, hash: u64) -> Verdict
         requires guest { guest < length (state_of self.old).guests }
         requires room { self.old.entries < 4294967295 }
@@ -162,7 +163,7 @@ impl<H: PageHash, A: Allocator> Core<H, A> {
         self.apply(guest, request)
     }
 
-    /// Notes the hash of the page that a request proposes, where that is mapped.
+    /// Notes the hash of the page that a request proposes, if that page is mapped.
     fn note_proposed(&mut self, guest: u8, request: &Request, hash: u64)
         requires { IsHashFor H.hash_of (state_of self.old).guests guest request.now hash }
         ensures { self.new ≡ self.old }
@@ -177,7 +178,7 @@ impl<H: PageHash, A: Allocator> Core<H, A> {
         }
     }
 
-    /// Notes a page's hash, where the page is mapped.
+    /// Notes a page's hash, if the page is mapped.
     fn note_hash(&mut self, guest: u8, ppn: u32, hash: u64)
         requires { IfSome (page_hash H.hash_of (state_of self.old).guests guest ppn) (λ h. hash ≡ h) }
         ensures { self.new ≡ self.old }
@@ -185,17 +186,17 @@ impl<H: PageHash, A: Allocator> Core<H, A> {
         note_page(&mut self.held, guest as usize, ppn as usize, hash);
     }
 
-    /// Computes the hashes of these pages, each given by its guest and number, and notes them, so that proposals find them.
+    /// Computes the hashes of these pages, each named by its guest and number, and notes them for later proposals.
     ///
-    /// Only private pages whose hash isn't known are hashed, four at once; pages that there aren't are passed over. Nothing
-    /// that the core shows changes, and a hash that was noted is forgotten at the next store to its page. It takes no memory.
+    /// Only private pages whose hash isn't known are hashed, four at once; pages that don't exist are skipped. Nothing that
+    /// the core shows changes, and a noted hash is forgotten at the next store to its page. It allocates no memory.
     pub fn note_hashes(&mut self, pages: &[(u8, u32)])
         ensures { self.new ≡ self.old }
     {
         note_hashes(&mut self.held, pages);
     }
 
-    /// Begins the count of requests anew, for a machine that serves more than the count can hold.
+    /// Restarts the count of requests at 0, for a machine that serves more than the count can hold.
     ///
     /// Its pages, frames and table stay as they are.
     pub fn restart_count(&mut self)
@@ -204,14 +205,14 @@ impl<H: PageHash, A: Allocator> Core<H, A> {
         self.entries = 0;
     }
 
-    /// What the machine counts.
+    /// Returns what the machine counts.
     pub fn report(&self) -> Report
         ensures { result ≡ totals self.now.entries (state_of self.now).guests }
     {
         report(&self.held, self.entries)
     }
 
-    /// The byte of a page at a place, 0 where the page is unmapped.
+    /// Returns the byte of a page at a place, 0 if the page is unmapped.
     pub fn read(&self, guest: u8, ppn: u32, at: u32) -> u8
         requires page { IsSome (page_at (state_of self.now).guests guest ppn) }
         requires at { at < 4096 }
@@ -223,21 +224,21 @@ impl<H: PageHash, A: Allocator> Core<H, A> {
         }
     }
 
-    /// The requests so far.
+    /// Returns the number of requests so far.
     pub fn entries(&self) -> u32
         ensures { result ≡ self.now.entries }
     {
         self.entries
     }
 
-    /// How many guests there are.
+    /// Returns the number of guests.
     pub fn guests(&self) -> u8
         ensures { result ≡ length (state_of self.now).guests }
     {
         self.held.guests.len() as u8
     }
 
-    /// How many pages a guest has.
+    /// Returns how many pages a guest has.
     pub fn pages(&self, guest: u8) -> u32
         requires { guest < length (state_of self.now).guests }
         ensures { Some result ≡ option_map (λ g. length g.slots) (slice_get (state_of self.now).guests guest) }
@@ -246,7 +247,7 @@ impl<H: PageHash, A: Allocator> Core<H, A> {
         g.pages.len() as u32
     }
 
-    /// The machine page number (MPN) of a page's frame, `None` where the page is unmapped.
+    /// Returns the machine page number (MPN) of a page's frame, `None` if the page is unmapped.
     pub fn frame(&self, guest: u8, ppn: u32) -> Option<u32>
         requires { IsSome (page_at (state_of self.now).guests guest ppn) }
         ensures name { result ≡ frame_at self.now.names guest ppn }
@@ -261,7 +262,7 @@ impl<H: PageHash, A: Allocator> Core<H, A> {
         }
     }
 
-    /// The frames. Each mapped page's frame is taken, and each taken frame is some page's.
+    /// Returns the frames. Each mapped page's frame is taken, and each taken frame is some page's.
     pub fn frames(&self) -> &Frames<A>
         ensures value { result.now ≡ self.now.frames }
         ensures pages { FramesOfPages self.now }
@@ -269,7 +270,7 @@ impl<H: PageHash, A: Allocator> Core<H, A> {
         &self.held.frames
     }
 
-    /// The table of shared frames and hints.
+    /// Returns the table of shared frames and hints.
     pub fn table(&self) -> &Table<A>
         ensures value { result.now ≡ self.now.table }
         ensures pages { TableOfPages H.hash_of self.now }
@@ -279,12 +280,12 @@ impl<H: PageHash, A: Allocator> Core<H, A> {
 }
 
 impl<H: PageHash, A: Allocator + Sync> Core<H, A> {
-    /// The hash of each of these pages, given by its guest and number: of its salt and present bytes, `None` where it is
-    /// unmapped or where there is no such page.
+    /// Returns the hash of each of these pages, each named by its guest and number: the hash of its salt and present bytes,
+    /// `None` if the page is unmapped or doesn't exist.
     ///
-    /// As many workers as `workers` says, at most [`page_model::MAX_WORKERS`], compute those that aren't known; the calling
-    /// thread is one of them. They are noted too, and a hash that is noted isn't computed again as long as its page's bytes
-    /// stay. Nothing that the core shows changes.
+    /// Up to `workers` workers, at most [`page_model::MAX_WORKERS`], compute the hashes that aren't known; the calling thread
+    /// is one of them. The hashes are noted too, and a noted hash isn't computed again as long as its page's bytes stay the
+    /// same. Nothing that the core shows changes.
     ///
     /// # Errors
     ///
@@ -306,11 +307,11 @@ impl<H: PageHash, A: Allocator + Sync> Core<H, A> {
         Ok(hashes)
     }
 
-    /// Notes hashes as [`note_hashes`](Core::note_hashes) does, by as many workers as `workers` says, at most
-    /// [`page_model::MAX_WORKERS`]. The calling thread is one of them, and another is started only where it has pages enough
-    /// to be worth its start.
+    /// Notes hashes as [`note_hashes`](Core::note_hashes) does, with up to `workers` workers, at most
+    /// [`page_model::MAX_WORKERS`]. The calling thread is one of them, and another is started only if it has enough pages to
+    /// be worth starting.
     ///
-    /// Where memory or a thread is refused, the calling thread computes the hashes alone.
+    /// If memory or a thread is refused, the calling thread computes the hashes alone.
     pub fn note_hashes_by<R: Threads + Wait + Sync, B: Allocator + Clone + Send>(
         &mut self,
         rt: &R,

@@ -14,7 +14,7 @@ use page_model::MachineShape;
 use share_table::Table;
 use std::alloc::{AllocError, Allocator};
 
-/// A guest with no page mapped.
+/// Makes a guest with no page mapped.
 fn new_guest<A: Allocator>(alloc: A, salt: u32, pages: u32) -> Result<GuestPages<A>, AllocError>
     ensures { IfOk result (λ g. guest_of g ≡ empty_name (record { salt = salt; pages = pages })) }
 {
@@ -28,7 +28,7 @@ fn new_guest<A: Allocator>(alloc: A, salt: u32, pages: u32) -> Result<GuestPages
     })
 }
 
-/// The guests of these salts and numbers of pages, with no page mapped.
+/// Makes guests with these salts and numbers of pages, and no page mapped.
 fn new_guests<A: Allocator + Clone>(
     alloc: A,
     salts: &[u32],
@@ -44,7 +44,7 @@ fn new_guests<A: Allocator + Clone>(
     Ok(guests)
 }
 
-/// The parts of a core with no page mapped, and all the room that they ever need.
+/// Makes the parts of a core with no page mapped, and with all the room that they ever need.
 pub fn new_held<H: PageHash + Drop, A: Allocator + Clone>(
     alloc: A,
     shape: &MachineShape<'_>,

@@ -1,4 +1,4 @@
-//! The single changes of a page.
+//! The single changes to a page.
 ghost use Rattle.std.specs.Prelude.{◌≡◌, ◌+◌, ◌<◌, ◌≤◌, ◌==◌, length, false, None, Some, option_map, slice_set, IfSome, IsSome};
 ghost use Rattle.page_model.specs.Pages.{blank, written, with_slot, page_at, used, peers};
 ghost use Rattle.page_model.specs.Pages as s;
@@ -12,7 +12,7 @@ use machine_frames::Frames;
 use page_digest::PageHash;
 use std::alloc::Allocator;
 
-/// A page's entry, after its guest's salt.
+/// Returns the salt of a page's guest, and the page's entry.
 fn find_entry<A: Allocator>(
     guests: &[GuestPages<A>],
     guest: usize,
@@ -31,7 +31,7 @@ fn find_entry<A: Allocator>(
     Some((g.salt, g.pages[ppn]))
 }
 
-/// A page, after its guest's salt.
+/// Returns the salt of a page's guest, and the page.
 pub fn find<H, A: Allocator>(
     held: &Held<H, A>,
     guest: usize,
@@ -95,7 +95,7 @@ fn set_page<A: Allocator>(guests: &mut Vec<GuestPages<A>, A>, page: Place, entry
     g.pages[page.ppn] = entry;
 }
 
-/// Writes bytes into a private page.
+/// Writes bytes to a private page.
 pub fn write<H: PageHash, A: Allocator>(
     held: &mut Held<H, A>,
     page: Place,
@@ -184,7 +184,7 @@ pub fn drop_hint<H: PageHash, A: Allocator>(held: &mut Held<H, A>, page: Place, 
     set_page(&mut held.guests, page, PageEntry::Private(mpn, None));
 }
 
-/// The hash of a page's frame, computed only where it isn't known.
+/// Returns the hash of a page's frame, computed only if it isn't known.
 pub fn hash_frame<H: PageHash, A: Allocator>(held: &mut Held<H, A>, mpn: u32, salt: u32) -> u64
     requires whole { Whole H.hash_of held.old }
     requires taken { fm.IsTaken held.old.frames mpn }
@@ -220,7 +220,7 @@ pub fn learn<H: PageHash, A: Allocator>(held: &mut Held<H, A>, mpn: u32, salt: u
     held.notes.learn(mpn, salt, code);
 }
 
-/// How many pages share a page's frame.
+/// Returns how many pages share a page's frame.
 pub fn peers_of<H: PageHash, A: Allocator>(
     held: &Held<H, A>,
     page: Place,
@@ -237,7 +237,7 @@ pub fn peers_of<H: PageHash, A: Allocator>(
     held.table.count(code)
 }
 
-/// The last page of a shared frame keeps it for itself.
+/// Makes the last page of a shared frame private: it keeps the frame.
 pub fn keep<H: PageHash, A: Allocator>(held: &mut Held<H, A>, page: Place, mpn: u32, code: u64)
     requires whole { Whole H.hash_of held.old }
     requires page { page_at (names_of held.old) page.guest page.ppn ≡ Some (page.salt, s.Shared mpn) }
@@ -252,7 +252,7 @@ pub fn keep<H: PageHash, A: Allocator>(held: &mut Held<H, A>, page: Place, mpn: 
     set_page(&mut held.guests, page, PageEntry::Private(mpn, None));
 }
 
-/// A page leaves a shared frame that others keep.
+/// Unmaps a page from a shared frame that others keep.
 pub fn leave<H: PageHash, A: Allocator>(
     held: &mut Held<H, A>,
     page: Place,
@@ -291,7 +291,7 @@ pub fn put_hint<H: PageHash, A: Allocator>(held: &mut Held<H, A>, page: Place, m
     set_page(&mut held.guests, page, PageEntry::Private(mpn, Some(key)));
 }
 
-/// A page without a frame joins the shared frame under a hash: how many pages then share it.
+/// Maps a page without a frame to the shared frame under a hash. Returns how many pages then share it.
 pub fn join<H: PageHash, A: Allocator>(
     held: &mut Held<H, A>,
     page: Place,
@@ -313,7 +313,7 @@ pub fn join<H: PageHash, A: Allocator>(
     count
 }
 
-/// A private page and a page without a frame become the first two pages of a shared frame, the private page's.
+/// Makes a private page and a page without a frame the first two pages of a shared frame, the private page's.
 pub fn share<H: PageHash, A: Allocator>(
     held: &mut Held<H, A>,
     first: Place,

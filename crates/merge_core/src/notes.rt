@@ -1,4 +1,4 @@
-//! What is known of frames, beside their bytes.
+//! What is known of frames besides their bytes.
 ghost use Rattle.std.specs.Prelude.{◌≡◌, ◌+◌, ◌-◌, ◌<◌, ◌≤◌, ◌++◌, length, replicate, slice_set, vec_capacity, Some, None, IfOk};
 ghost use Rattle.merge_core.specs.Names.{known_at, unknown};
 ghost use Rattle.merge_core.specs.Noted.{known_of, notes_in};
@@ -6,7 +6,7 @@ ghost use Rattle.merge_core.specs.Noted.{known_of, notes_in};
 use std::alloc::{AllocError, Allocator, Global};
 use std::marker::Model;
 
-/// What is known of a frame: the salt of its pages, and its hash, where that was computed since the last store.
+/// What is known of a frame: the salt of its pages, and its hash if that was computed since the last store.
 ///
 /// The hash is kept as its little-endian bytes, so that a note takes 16 bytes and not 24.
 #[derive(Clone, Copy)]
@@ -21,8 +21,8 @@ const UNKNOWN: Note = Note {
     hash: None,
 };
 
-/// A note on each frame. The list has room for all of them and goes as far as the last frame that was noted: so to make it
-/// touches no memory.
+/// A note on each frame. The list has room for all of them but reaches only as far as the last frame that was noted, so
+/// that making it touches no memory.
 #[derive(Drop)]
 pub struct Notes<A: Allocator = Global> {
     notes: Vec<Note, A>,
@@ -44,7 +44,7 @@ impl<A: Allocator> Model for Notes<A> {
 }
 
 impl<A: Allocator> Notes<A> {
-    /// Notes on this many frames, of which nothing is known.
+    /// Makes the notes on this many frames: nothing is known of any.
     pub fn new(alloc: A, frames: u32) -> Result<Notes<A>, AllocError>
         ensures { IfOk result (λ notes. notes ≡ replicate frames unknown) }
     {
@@ -52,7 +52,7 @@ impl<A: Allocator> Notes<A> {
         Ok(Notes { notes, frames })
     }
 
-    /// The salt of a frame's pages.
+    /// Returns the salt of a frame's pages.
     pub fn salt(&self, mpn: u32) -> u32
         requires mpn { mpn < length self.now }
         ensures salt { result ≡ (known_at self.now mpn).salt }
@@ -60,7 +60,7 @@ impl<A: Allocator> Notes<A> {
         note_at(&self.notes, mpn).salt
     }
 
-    /// A frame's hash, where it is known.
+    /// Returns a frame's hash, if it is known.
     pub fn known_hash(&self, mpn: u32) -> Option<u64>
         requires mpn { mpn < length self.now }
         ensures hash { result ≡ (known_at self.now mpn).hash }
@@ -92,7 +92,7 @@ impl<A: Allocator> Notes<A> {
     }
 }
 
-/// The note on a frame, which may stand past the list's end.
+/// Returns the note on a frame, which may be past the list's end.
 fn note_at(notes: &[Note], mpn: u32) -> Note
     ensures { known_of result ≡ known_at (notes_in notes.now) mpn }
 {
@@ -102,7 +102,7 @@ fn note_at(notes: &[Note], mpn: u32) -> Note
     notes[mpn as usize]
 }
 
-/// Sets the note on a frame, which may stand past the list's end.
+/// Sets the note on a frame, which may be past the list's end.
 fn set_note<A: Allocator>(notes: &mut Vec<Note, A>, mpn: u32, note: Note)
     requires room { mpn < vec_capacity notes.old }
     ensures notes { notes_in notes.new.items ≡ slice_set (notes_in notes.old.items ++ replicate (mpn + 1 - length notes.old.items) unknown) mpn (known_of note) }
@@ -113,7 +113,7 @@ fn set_note<A: Allocator>(notes: &mut Vec<Note, A>, mpn: u32, note: Note)
     notes[mpn as usize] = note;
 }
 
-/// Puts notes of which nothing is known behind the list, until it has so many.
+/// Appends notes that know nothing, until the list has at least this many.
 fn lengthen<A: Allocator>(notes: &mut Vec<Note, A>, least: usize)
     requires room { least ≤ vec_capacity notes.old }
     ensures notes { notes_in notes.new.items ≡ notes_in notes.old.items ++ replicate (least - length notes.old.items) unknown }

@@ -1,4 +1,4 @@
-//! A proposal.
+//! Proposals.
 ghost use Rattle.std.specs.Prelude.{◌≡◌, ◌<◌, ◌==◌, ◌&&◌, length, Some, None};
 ghost use Rattle.page_model.specs.Steps.{proposed, matched, offered, at_page, key_of, kept_hint};
 ghost use Rattle.page_model.specs.Pages.{page_at, with_slot};
@@ -20,14 +20,14 @@ use page_model::Verdict;
 use share_table::HintFrame;
 use std::alloc::Allocator;
 
-/// The low 32 bits of a hash.
+/// Returns the low 32 bits of a hash.
 fn key_of(code: u64) -> u32
     ensures { result ≡ key_of code }
 {
     (code % 4_294_967_296) as u32
 }
 
-/// A proposal.
+/// Serves a proposal.
 #[tactic(auto, unfolding(page_model::specs::Steps::proposed))]
 pub fn propose<H: PageHash, A: Allocator>(held: &mut Held<H, A>, guest: usize, ppn: u32) -> Verdict
     requires whole { Whole H.hash_of held.old }
@@ -49,7 +49,7 @@ pub fn propose<H: PageHash, A: Allocator>(held: &mut Held<H, A>, guest: usize, p
     }
 }
 
-/// A proposal of a private page.
+/// Serves a proposal of a private page.
 fn propose_private<H: PageHash, A: Allocator>(
     held: &mut Held<H, A>,
     page: Place,
@@ -69,7 +69,7 @@ fn propose_private<H: PageHash, A: Allocator>(
     find_match(held, page, mpn, kept, code)
 }
 
-/// A page's own hint stays only under the key of the present bytes.
+/// Drops the page's own hint unless it is under the key of the present bytes. Returns the hint that it still has.
 #[tactic(auto, using(page_model::proofs::Places::unchanged))]
 fn settle_hint<H: PageHash, A: Allocator>(
     held: &mut Held<H, A>,
@@ -152,7 +152,7 @@ fn same_bytes<A: Allocator>(frames: &Frames<A>, one: u32, other: u32) -> bool
     bytes_at(frames, one) == bytes_at(frames, other)
 }
 
-/// A private page leaves its frame for a shared one of the same content.
+/// Moves a private page from its frame to a shared one with the same content.
 fn join_match<H: PageHash, A: Allocator>(
     held: &mut Held<H, A>,
     page: Place,
@@ -177,7 +177,7 @@ fn join_match<H: PageHash, A: Allocator>(
     Verdict::Joined(join(held, page, theirs, code))
 }
 
-/// No shared page has the hash of the page, which becomes a hint unless there is one under its key.
+/// Makes the page a hint unless there is one under its key. No shared page has the page's hash.
 fn offer<H: PageHash, A: Allocator>(
     held: &mut Held<H, A>,
     page: Place,
@@ -209,7 +209,7 @@ fn offer<H: PageHash, A: Allocator>(
     }
 }
 
-/// Another page holds the hint under the page's key. Their contents are compared first: equal ones need no hash.
+/// Compares the page with the one that holds the hint under its key: contents first, since equal ones need no hash.
 fn weigh<H: PageHash, A: Allocator>(
     held: &mut Held<H, A>,
     page: Place,
@@ -264,7 +264,7 @@ fn has_key<H: PageHash, A: Allocator>(held: &mut Held<H, A>, mpn: u32, salt: u32
     key_of(code) == key
 }
 
-/// A private page leaves its frame, and shares that of the hint page under its key, which is equal.
+/// Moves a private page from its frame to that of the hint page under its key, which has the same content.
 fn pair<H: PageHash, A: Allocator>(
     held: &mut Held<H, A>,
     first: Place,

@@ -1,4 +1,4 @@
-//! Each request on the pages of all guests.
+//! How each request is served on the pages of all guests.
 ghost use Rattle.std.specs.Prelude.{◌≡◌, ◌+◌, ◌<◌, ◌≤◌, ◌-◌, length, take, drop, Some, None};
 ghost use Rattle.page_model.specs.Steps.{stored, released, loaded, at_page};
 ghost use Rattle.page_model.specs.Pages.{page_at, with_slot, blank};
@@ -55,7 +55,7 @@ pub fn store<H: PageHash, A: Allocator>(
     }
 }
 
-/// A store to a shared page.
+/// Serves a store to a shared page.
 #[tactic(auto, using(page_model::proofs::Places::again), unfolding(page_model::specs::Steps::stored))]
 fn store_shared<H: PageHash, A: Allocator>(
     held: &mut Held<H, A>,
@@ -113,7 +113,7 @@ pub fn clear_hint<H: PageHash, A: Allocator>(
     }
 }
 
-/// A release of a shared page.
+/// Serves a release of a shared page.
 #[tactic(auto, using(page_model::proofs::Places::again), unfolding(page_model::specs::Steps::released))]
 fn release_shared<H: PageHash, A: Allocator>(
     held: &mut Held<H, A>,
@@ -139,7 +139,7 @@ fn release_shared<H: PageHash, A: Allocator>(
     Verdict::Released(false)
 }
 
-/// A release.
+/// Serves a release.
 #[tactic(auto, using(page_model::proofs::Places::again), unfolding(page_model::specs::Steps::released))]
 pub fn release<H: PageHash, A: Allocator>(held: &mut Held<H, A>, guest: usize, ppn: u32) -> Verdict
     requires whole { Whole H.hash_of held.old }
@@ -165,7 +165,7 @@ pub fn release<H: PageHash, A: Allocator>(held: &mut Held<H, A>, guest: usize, p
     }
 }
 
-/// A load.
+/// Serves a load.
 pub fn load<H: PageHash, A: Allocator>(
     held: &Held<H, A>,
     guest: usize,
@@ -187,7 +187,7 @@ pub fn load<H: PageHash, A: Allocator>(
     }
 }
 
-/// The bytes of a taken frame.
+/// Returns the bytes of a taken frame.
 pub fn bytes_at<A: Allocator>(frames: &Frames<A>, mpn: u32) -> &[u8; 4096]
     requires taken { fm.IsTaken frames.now mpn }
     ensures bytes { result.now ≡ bytes_in frames.now mpn }

@@ -8,7 +8,7 @@ use page_digest::PageHash;
 use page_model::Report;
 use std::alloc::Allocator;
 
-/// What a core counts, from the counters of the frames and of the table alone.
+/// Returns what a core counts, from the counters of the frames and the table alone.
 pub fn report<H: PageHash, A: Allocator>(held: &Held<H, A>, entries: u32) -> Report
     requires { Whole H.hash_of held.now }
     ensures { result ≡ totals entries (guests_of held.now) }

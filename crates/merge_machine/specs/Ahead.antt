@@ -1,4 +1,4 @@
--- What a look at a guest's end finds, and what serving a request does to the end.
+-- What a step finds at a guest's end, and what serving a request does to the end.
 use Rattle.std.specs.Prelude.{◌≡◌, ◌+◌, ◌<◌, ◌≤◌, Bool, true, false, [], ◌∷◌, ◌++◌, length}
 use mathlib.Core.List.{IsPrefix}
 use Rattle.page_model.specs.declared.request.Request.{Request}
@@ -10,7 +10,7 @@ use Rattle.merge_machine.specs.declared.ahead.Ahead.{Ahead}
 use Rattle.merge_machine.specs.declared.ahead.Ahead.TheVariants.{Ended, Full, Blocked, Idle, Next}
 
 module _ {A : Type 0} where
-  -- nothing went through the end, which may have looked at its rings
+  -- nothing went through the end, which may have checked its rings
   abbrev pub Looked : MergerEnd A → MergerEnd A → Type 0
   Looked before after = (end_view after ≡ end_view before) × (end_free before ≤ end_free after)
 
@@ -18,7 +18,7 @@ module _ {A : Type 0} where
   abbrev pub IsOpen : MergerEnd A → Type 0
   IsOpen before = has_closed (end_given before) ≡ false
 
-  -- one request was taken, the first of those that were known, and a slot for its verdict is known to be free
+  -- one request was taken, the first of those known, and a slot for its verdict is known to be free
   pub record TookOne (request : Request) (before after : MergerEnd A) : Type 0 where
     pub name : end_name after ≡ end_name before
     pub capacity : end_capacity after ≡ end_capacity before
@@ -37,7 +37,7 @@ module _ {A : Type 0} where
     pub known : end_known after ≡ end_known before
     pub free : end_free before ≤ end_free after + 1
 
-  -- the first of the causes that fits, in the order in which they are looked at; full is whether the journal has no room
+  -- the first of the causes that fits, in the order in which they are checked; full is whether the journal has no room
   abbrev pub Finds : Bool → MergerEnd A → MergerEnd A → Ahead → Type 0
   Finds full before after Ended = (has_closed (end_given before) ≡ true) × (after ≡ before)
   Finds full before after Full = IsOpen before × (full ≡ true) × (after ≡ before)

@@ -11,26 +11,26 @@ use Rattle.share_rings.specs.declared.port.Port.{Port}
 use Rattle.share_rings.specs.Ends.{PairName, port_name, port_capacity, end_taken, end_given, end_name, end_view, closed_name, closed_view}
 
 module _ {A : Type 0} where
-  -- what was taken at each end are its guest's requests in the journal, and what was given are the verdicts of the
-  -- journal's replay on this machine at that guest's places
+  -- the requests taken at each end are its guest's requests in the journal, and the verdicts given are those of the journal's
+  -- replay on this machine at that guest's places
   abbrev pub Keeps : (ℕ → List ℕ → ℕ) → State → List (MergerEnd A) → List Entry → Type 0
   Keeps hash machine ends journal =
       (i : ℕ) (d : MergerEnd A) → i < length ends →
       (end_taken (slice_index_or ends i d) ≡ asked i journal) × (end_given (slice_index_or ends i d) ≡ answers hash machine i journal)
 
-  -- which rings the merger's ends are of
+  -- which rings the merger's ends belong to
   abbrev pub end_names : List (MergerEnd A) → List (PairName A)
   end_names ends = map end_name ends
 
-  -- which rings the guests' ports are of
+  -- which rings the guests' ports belong to
   abbrev pub port_names : List (Port A) → List (PairName A)
   port_names ports = map port_name ports
 
-  -- how much the rings of the guests' ports hold
+  -- the capacities of the rings of the guests' ports
   abbrev pub port_capacities : List (Port A) → List ℕ
   port_capacities ports = map port_capacity ports
 
-  -- which rings the guests' closed ports are of
+  -- which rings the guests' closed ports belong to
   abbrev pub closed_names : List (ClosedPort A) → List (PairName A)
   closed_names ports = map closed_name ports
 

@@ -8,7 +8,7 @@ use Rattle.merge_machine.specs.declared.config.Config.{Config}
 use Rattle.merge_machine.specs.declared.config.Fault.{Fault}
 use Rattle.merge_machine.specs.declared.config.Fault.TheVariants.{Frames, Guests, Pages, Ring, Journal, OutOfMemory}
 
--- a machine's numbers: its frames, each guest's number of pages and salt, what a ring holds, and what the journal holds
+-- a machine's numbers: its frames, each guest's number of pages and salt, and how much a ring and the journal hold
 pub record Numbers : Type 0 where
   pub frames : ℕ
   pub pages : List ℕ
@@ -28,7 +28,7 @@ IsJournal entries = (1 ≤ entries) × (entries ≤ 16777216)
 abbrev pub IsMachine : {A : Type 0} → Config A → Type 0
 IsMachine c = AreLimits c.frames c.pages.items c.salts.items × IsCapacity c.ring × IsJournal c.journal
 
--- the first cause for which there is no such machine; memory is wanting only where there is none
+-- the first cause for which there is no such machine; lack of memory is the cause only if there is no other
 abbrev pub NoMachineFor : {A : Type 0} → Config A → Fault → Type 0
 NoMachineFor c Frames = ¬ AreFrames c.frames
 NoMachineFor c Guests = AreFrames c.frames × ¬ AreGuests c.salts.items c.pages.items

@@ -1,4 +1,4 @@
--- What the meetings of all pairs tell.
+-- What the meetings of all pairs show.
 use Rattle.std.specs.Prelude.{◌≡◌, ℕ, ◌<◌, ◌≤◌, Bool, true, not, List, ◌++◌, length, slice_index_or}
 use Rattle.share_rings.specs.declared.merger_end.MergerEnd.{MergerEnd}
 use Rattle.share_rings.specs.declared.closed_port.ClosedPort.{ClosedPort}
@@ -6,7 +6,7 @@ use Rattle.share_rings.specs.Closing.{has_closed, last_closed}
 use Rattle.share_rings.specs.Ends.{closed_sent, closed_got, closed_known, end_taken, end_given, end_known, end_free}
 
 module _ {A : Type 0} where
-  -- `Closed` stands last in what was got; and where it was given and got, both rings are empty for good
+  -- `Closed`, if received, is the last verdict received; and if it was given and received, both rings are empty for good
   abbrev pub MeetWhereClosedAt : ClosedPort A → MergerEnd A → Type 0
   MeetWhereClosedAt p e =
       (has_closed (closed_got p) ≡ last_closed (closed_got p))
@@ -16,15 +16,15 @@ module _ {A : Type 0} where
   abbrev pub MeetWhereClosed : List (ClosedPort A) → List (MergerEnd A) → ℕ → Type 0
   MeetWhereClosed ports ends n = (i : ℕ) (p : ClosedPort A) (e : MergerEnd A) → i < n → MeetWhereClosedAt (slice_index_or ports i p) (slice_index_or ends i e)
 
-  -- `Closed` does not stand last in what was got
+  -- `Closed` is not the last verdict received
   abbrev pub is_unclosed : ClosedPort A → Bool
   is_unclosed p = not (last_closed (closed_got p))
 
-  -- no end knows fewer free slots than it did
+  -- no end knows of fewer free slots than before
   abbrev pub NoFewerFree : List (MergerEnd A) → List (MergerEnd A) → Type 0
   NoFewerFree ends ends' = (i : ℕ) (e : MergerEnd A) → i < length ends → end_free (slice_index_or ends i e) ≤ end_free (slice_index_or ends' i e)
 
-  -- all items in the two rings of a pair are known to their ends
+  -- all items in the two rings of a pair are known to the ends that take them
   abbrev pub KnownAt : ClosedPort A → MergerEnd A → Type 0
   KnownAt p e = (end_taken e ++ end_known e ≡ closed_sent p) × (closed_got p ++ closed_known p ≡ end_given e)
 

@@ -17,7 +17,7 @@ use Rattle.merge_machine.specs.Steps.{Same, HasRoom}
 use Rattle.merge_machine.specs.View.{ends_of, journal_of, limit_of, memory_of, guest_count}
 
 module _ {A : Type 0} where
-  -- These requests were taken at an end, those that were known before the others, and these verdicts were given.
+  -- These requests were taken at an end, the known ones before the others, and these verdicts were given.
   pub record Passed (requests : List Request) (verdicts : List Verdict) (before after : MergerEnd A) : Type 0 where
     pub name : end_name after ≡ end_name before
     pub capacity : end_capacity after ≡ end_capacity before
@@ -26,8 +26,8 @@ module _ {A : Type 0} where
     pub known : IsPrefix (end_known before) (requests ++ end_known after)
     pub free : end_free before ≤ end_free after + length verdicts
 
-  -- At each end its guest's requests among the entries were taken, and the verdicts of the first of the entries were
-  -- given: those of a replay from the state s on.
+  -- At each end, its guest's requests among the entries were taken, and its verdicts on the entries in `first` were given:
+  -- those of a replay from the state s on.
   abbrev pub EachPassed : (ℕ → List ℕ → ℕ) → State → List Entry → List Entry → List (MergerEnd A) → List (MergerEnd A) → Type 0
   EachPassed hash s entries first ends ends' =
       (i : ℕ) (d : MergerEnd A) → i < length ends → Passed (asked i entries) (answers hash s i first) (slice_index_or ends i d) (slice_index_or ends' i d)
@@ -41,8 +41,8 @@ module _ {A : Type 0} where
   has_open ends = list_any is_open ends
 
 module _ {H A : Type 0} {ghosts : Ghosts H} where
-  -- A round that did so many requests, at most as many as its limit: they are the journal's new entries. Each was applied
-  -- and answered as by the replay of these entries, one after the other, and no other was taken.
+  -- A round that did `done` requests, at most its limit: they are the journal's new entries. Each was applied and answered
+  -- as by the replay of these entries, one after the other, and no other was taken.
   pub record Rounds (hash : ℕ → List ℕ → ℕ) (limit done : ℕ) (old new : Merger H A ghosts) : Type 0 where
     pub entries : List Entry
     pub count : length entries ≡ done

@@ -21,7 +21,7 @@ pub record AtGuest {A : Type 0} (guest : ℕ) (ends ends' : List (MergerEnd A)) 
   pub others : ends' ≡ slice_set ends guest after
 
 module _ {H A : Type 0} {ghosts : Ghosts H} where
-  -- journal and core are as they were
+  -- the journal and the core are as they were
   abbrev pub Same : Merger H A ghosts → Merger H A ghosts → Type 0
   Same old new = (journal_of new ≡ journal_of old) × (core_of new ≡ core_of old)
 
@@ -29,7 +29,7 @@ module _ {H A : Type 0} {ghosts : Ghosts H} where
   abbrev pub HasRoom : Merger H A ghosts → Type 0
   HasRoom old = length (journal_of old) < limit_of old
 
-  -- one request, the first of those that were known, was taken, put in the journal, applied and answered
+  -- one request, the first of those known, was taken, put in the journal, applied and answered
   pub record ServedOne (hash : ℕ → List ℕ → ℕ) (guest : ℕ) (before after : MergerEnd A) (old new : Merger H A ghosts) : Type 0 where
     pub request : Request
     pub name : end_name after ≡ end_name before
@@ -41,7 +41,7 @@ module _ {H A : Type 0} {ghosts : Ghosts H} where
     pub journal : journal_of new ≡ journal_of old ++ record { guest = guest; request = request } ∷ []
     pub memory : memory_of new ≡ (step hash (memory_of old) guest request).state
 
-  -- what an answer says of the guest's end, the journal and the core, in the order in which the causes are looked at
+  -- what an answer says about the guest's end, the journal and the core, in the order in which the causes are checked
   abbrev pub Does : (ℕ → List ℕ → ℕ) → ℕ → MergerEnd A → MergerEnd A → Merger H A ghosts → Merger H A ghosts → Step → Type 0
   Does hash guest before after old new Ended = (has_closed (end_given before) ≡ true) × (after ≡ before) × Same old new
   Does hash guest before after old new Blocked =
@@ -49,7 +49,7 @@ module _ {H A : Type 0} {ghosts : Ghosts H} where
   Does hash guest before after old new Idle = IsOpen before × HasRoom old × (0 < end_free after) × (end_known before ≡ []) × Looked before after × Same old new
   Does hash guest before after old new Done = IsOpen before × HasRoom old × ServedOne hash guest before after old new
 
-  -- a step that gives this answer
+  -- a step that returns this answer
   pub record Steps (hash : ℕ → List ℕ → ℕ) (guest : ℕ) (old new : Merger H A ghosts) (answer : Step) : Type 0 where
     pub end : AtGuest guest (ends_of old) (ends_of new)
     pub does : Does hash guest end.before end.after old new answer

@@ -10,13 +10,13 @@ use Rattle.share_rings.specs.Ends.{end_taken, end_given, end_free}
 use Rattle.merge_core.specs.Shown.{Shown, state_of}
 use Rattle.merge_machine.specs.Rounds.{Passed, EachPassed}
 
--- these requests as entries of a guest
+-- these requests as a guest's entries
 abbrev pub entries_of : ℕ → List Request → List Entry
 entries_of guest requests = map (λ r. record { guest = guest; request = r }) requests
 
 module _ {A : Type 0} where
-  -- A visit to an end whose guest is owed so many verdicts: so many requests were taken and put in the journal, one or
-  -- none, and a slot for the verdict of each is known to be free beyond those owed.
+  -- A visit to an end whose guest is owed `owed` verdicts: `count` requests, one or none, were taken and put in the journal,
+  -- and a slot for the verdict of each is known to be free beyond those owed.
   pub record Visits (guest owed count : ℕ) (before after : MergerEnd A) (journal journal' : List Entry) : Type 0 where
     pub more : List Request
     pub is : count ≡ length more
@@ -26,7 +26,7 @@ module _ {A : Type 0} where
     pub small : owed + count < 4294967296
     pub grew : journal' ≡ journal ++ entries_of guest more
 
-  -- So far requests were taken and put in the journal, for which verdicts are owed.
+  -- The requests taken and put in the journal so far. Their verdicts are owed.
   pub record TookSo (ends ends' : List (MergerEnd A)) (journal journal' : List Entry) (owed : List ℕ) : Type 0 where
     pub entries : List Entry
     pub grew : journal' ≡ journal ++ entries
@@ -36,7 +36,7 @@ module _ {A : Type 0} where
     pub owed_is : (i : ℕ) → i < length ends → slice_index_or owed i 0 ≡ length (asked i entries)
     pub slots : (i : ℕ) (d : MergerEnd A) → i < length ends → length (asked i entries) ≤ end_free (slice_index_or ends' i d)
 
-  -- Requests, so many at most, were taken and put in the journal, and a slot is known to be free for each one's verdict.
+  -- At most `most` requests were taken and put in the journal, and a slot is known to be free for the verdict of each.
   pub record Took (most : ℕ) (ends ends' : List (MergerEnd A)) (journal journal' : List Entry) : Type 0 where
     pub entries : List Entry
     pub grew : journal' ≡ journal ++ entries
@@ -46,7 +46,7 @@ module _ {A : Type 0} where
     pub each : (i : ℕ) (d : MergerEnd A) → i < length ends → Passed (asked i entries) [] (slice_index_or ends i d) (slice_index_or ends' i d)
     pub slots : (i : ℕ) (d : MergerEnd A) → i < length ends → length (asked i entries) ≤ end_free (slice_index_or ends' i d)
 
-  -- the requests taken last are these, no other lacks a verdict, and a slot is known to be free for the verdict of each
+  -- these are the requests taken last, no other lacks a verdict, and a slot is known to be free for the verdict of each
   pub record Owes (requests : List Request) (e : MergerEnd A) : Type 0 where
     pub earlier : List Request
     pub taken : end_taken e ≡ earlier ++ requests
@@ -57,17 +57,17 @@ module _ {A : Type 0} where
   abbrev pub EachOwes : List Entry → List (MergerEnd A) → Type 0
   EachOwes entries ends = (i : ℕ) (d : MergerEnd A) → i < length ends → Owes (asked i entries) (slice_index_or ends i d)
 
-  -- the first n of these entries were answered, and the others are owed
+  -- the first n of these entries were answered, and the verdicts of the others are owed
   pub record ServedSo (hash : ℕ → List ℕ → ℕ) (s : State) (entries : List Entry) (n : ℕ) (ends ends' : List (MergerEnd A)) : Type 0 where
     pub size : length ends' ≡ length ends
     pub each : (i : ℕ) (d : MergerEnd A) → i < length ends → Passed [] (answers hash s i (take n entries)) (slice_index_or ends i d) (slice_index_or ends' i d)
     pub owes : (i : ℕ) (d : MergerEnd A) → i < length ends → Owes (asked i (drop n entries)) (slice_index_or ends' i d)
 
-  -- as many verdicts were given as requests were taken
+  -- at each end, the number of verdicts given is that of requests taken
   abbrev pub AllAnswered : List (MergerEnd A) → Type 0
   AllAnswered ends = (i : ℕ) (d : MergerEnd A) → i < length ends → length (end_given (slice_index_or ends i d)) ≡ length (end_taken (slice_index_or ends i d))
 
-  -- what a round did to ends, journal and core
+  -- what a round did to the ends, the journal and the core
   pub record Done (hash : ℕ → List ℕ → ℕ) (most done : ℕ) (ends ends' : List (MergerEnd A)) (journal journal' : List Entry) (core core' : Shown) : Type 0 where
     pub entries : List Entry
     pub count : length entries ≡ done

@@ -8,7 +8,7 @@ use page_model::Request;
 use share_rings::MergerEnd;
 use std::alloc::Allocator;
 
-/// What a look at a guest's end finds, in the order in which the causes are looked at.
+/// What a step finds at a guest's end, in the order in which the causes are checked.
 pub(crate) enum Ahead {
     /// The guest's `Closed` was given.
     Ended,
@@ -22,7 +22,7 @@ pub(crate) enum Ahead {
     Next(Request),
 }
 
-/// Takes a guest's next request, unless there is a cause not to serve one. All that was taken before is answered.
+/// Takes a guest's next request, unless there is a cause not to serve one. All those taken before are answered.
 pub(crate) fn look_ahead<A: Allocator>(end: &mut MergerEnd<A>, is_full: bool) -> Ahead
     requires { has_closed (end_given end.old) ≡ false → has_close (end_taken end.old) ≡ false }
     ensures { Finds is_full end.old end.new result }

@@ -1,4 +1,4 @@
-//! Which machine is to be made, and why there may be none.
+//! Which machine to make, and why there may be none.
 ghost use Rattle.std.specs.Prelude.{◌≡◌, ◌≢◌, IfOk, MatchResult};
 ghost use Rattle.share_rings.specs.Faults.{IsCapacity};
 ghost use Rattle.merge_machine.specs.Limits.{IsJournal, IsMachine, NoMachineFor, numbers_of};
@@ -12,11 +12,11 @@ use thiserror::Error;
 /// A machine's numbers: guest i has `pages[i]` pages and the salt `salts[i]`.
 #[derive(Drop)]
 pub struct Config<A: Allocator = Global> {
-    /// The frames of machine memory, from 1 to 1,048,576.
+    /// The number of frames of machine memory, from 1 to 1,048,576.
     pub frames: u32,
-    /// Each guest's number of pages: 1 to 64 guests, of 1 page at least, and 1,048,576 pages in total at most.
+    /// Each guest's number of pages: 1 to 64 guests, with at least 1 page each and at most 1,048,576 pages in total.
     pub pages: Vec<u32, A>,
-    /// Each guest's salt. Pages are shared between guests of equal salt only.
+    /// Each guest's salt. Pages are shared only between guests with equal salts.
     pub salts: Vec<u32, A>,
     /// How many items each of a guest's two rings holds, from 1 to 65,536.
     pub ring: u32,
@@ -24,13 +24,13 @@ pub struct Config<A: Allocator = Global> {
     pub journal: u32,
 }
 
-/// Why no machine is made, in the order in which the causes are looked at.
+/// Why no machine was made, in the order in which the causes are checked.
 #[derive(Clone, Copy, Debug, PartialEq, Eq, Error)]
 pub enum Fault {
     /// 0 frames, or more than 1,048,576.
     #[error("a machine has 1 to 1,048,576 frames")]
     Frames,
-    /// No guest, more than 64, or not as many salts as guests.
+    /// No guest, more than 64, or not exactly one salt per guest.
     #[error("a machine has 1 to 64 guests, with a salt each")]
     Guests,
     /// A guest with no page, or more than 1,048,576 pages in total.
@@ -71,7 +71,7 @@ impl From<ShapeFault> for Fault {
     }
 }
 
-/// A configuration that is known to be within the limits. Whoever holds one need not look at them again.
+/// A configuration that is known to be within the limits, so that they needn't be checked again.
 #[derive(Drop)]
 pub struct CheckedConfig<'a> {
     shape: MachineShape<'a>,
@@ -93,7 +93,7 @@ impl<'a> Model for CheckedConfig<'a> {
 }
 
 impl<A: Allocator> Config<A> {
-    /// The configuration, once its limits were looked at, or the first cause for which there is no such machine.
+    /// Checks the limits. Returns the checked configuration, or the first cause for which there is no such machine.
     pub fn check(&self) -> Result<CheckedConfig<'_>, Fault>
         ensures checked { IfOk result (λ checked. checked ≡ numbers_of self.now) }
         ensures fault { MatchResult result (λ _. IsMachine self.now) (λ fault. NoMachineFor self.now fault × (fault ≢ OutOfMemory)) }
@@ -114,14 +114,14 @@ impl<A: Allocator> Config<A> {
 }
 
 impl<'a> CheckedConfig<'a> {
-    /// The machine's frames, pages and salts.
+    /// Returns the machine's frames, pages and salts.
     pub(crate) fn shape(&self) -> &MachineShape<'a>
         ensures { (result.now.frames ≡ self.now.frames) × (result.now.pages ≡ self.now.pages) × (result.now.salts ≡ self.now.salts) }
     {
         &self.shape
     }
 
-    /// How many items each ring holds.
+    /// Returns how many items each ring holds.
     pub(crate) fn ring(&self) -> u32
         ensures ring { result ≡ self.now.ring }
         ensures limits { IsCapacity self.now.ring }
@@ -129,7 +129,7 @@ impl<'a> CheckedConfig<'a> {
         self.ring
     }
 
-    /// How many entries the journal holds.
+    /// Returns how many entries the journal holds.
     pub(crate) fn journal(&self) -> u32
         ensures journal { result ≡ self.now.journal }
         ensures limits { IsJournal self.now.journal }

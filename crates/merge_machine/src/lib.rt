@@ -1,8 +1,8 @@
 //! A machine over its guests' rings, while it runs: its merger takes the guests' requests into one journal, applies them
 //! to the core and answers each.
 //!
-//! [`Machine::new`] makes a [`Merger`] and one port for each guest. Each [`Merger::step`] serves one request of one
-//! guest. `merge_settle` has what is known once all guests have ended, and `merge_run` a thread for each guest.
+//! [`Machine::new`] makes a [`Merger`] and one port for each guest. Each [`Merger::step`] serves one request of one guest.
+//! `merge_settle` says what is known once all guests have ended, and `merge_run` runs a thread for each guest.
 #![tactic(auto)]
 
 mod ahead;

@@ -13,13 +13,13 @@ use page_digest::PageHash;
 use share_rings::{MergerEnd, Port, open_pair};
 use std::alloc::{AllocError, Allocator};
 
-/// What makes machines.
+/// Makes machines.
 pub struct Machine;
 
 impl Machine {
-    /// A machine before its first request: its merger, and guest i's port as item i of the list.
+    /// Makes a machine before its first request: its merger, and a list of ports in which item i is guest i's.
     ///
-    /// All memory of the machine is taken here.
+    /// All memory of the machine is allocated here.
     pub fn new<H: PageHash + Drop, A: Allocator + Copy>(
         alloc: A,
         config: &Config<A>,
@@ -35,7 +35,7 @@ impl Machine {
         }
     }
 
-    /// The same for a configuration whose limits were looked at (see [`Config::check`]).
+    /// Makes a machine as [`new`](Machine::new) does, for a configuration whose limits were checked (see [`Config::check`]).
     pub fn open<H: PageHash + Drop, A: Allocator + Copy>(
         alloc: A,
         config: &CheckedConfig<'_>,
@@ -58,7 +58,7 @@ impl Machine {
     }
 }
 
-/// So many pairs of rings of this capacity.
+/// Makes a pair of rings of this capacity for each guest.
 fn new_pairs<A: Allocator + Copy>(
     alloc: A,
     guests: usize,

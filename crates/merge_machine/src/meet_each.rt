@@ -1,4 +1,4 @@
-//! The two ends of each pair, once more in one thread.
+//! The two ends of each pair, in one thread again.
 ghost use Rattle.std.specs.Prelude.{◌≡◌, length};
 ghost use Rattle.merge_machine.specs.Kept.{end_names, closed_names, end_views, closed_views};
 ghost use Rattle.merge_machine.specs.Meets.{MeetWhereClosed, AllKnown, NoFewerFree};
@@ -6,7 +6,7 @@ ghost use Rattle.merge_machine.specs.Meets.{MeetWhereClosed, AllKnown, NoFewerFr
 use share_rings::{ClosedPort, MergerEnd, meet};
 use std::alloc::Allocator;
 
-/// Looks at the rings of each pair.
+/// Checks the rings of each pair.
 pub(crate) fn meet_each<A: Allocator>(
     ports: &mut Vec<ClosedPort<A>, A>,
     ends: &mut Vec<MergerEnd<A>, A>,

@@ -23,19 +23,19 @@ pub enum Step {
     Blocked,
     /// Nothing: a slot is free, and no request is seen.
     Idle,
-    /// One request was taken, put in the journal, applied and answered.
+    /// It took one request, put it in the journal, applied it and answered it.
     Done,
 }
 
-/// The journal has its full number of entries.
+/// The journal is full: it has all the entries that it may have.
 #[derive(Clone, Copy, Debug, PartialEq, Eq, Error)]
 #[error("the journal is full")]
 pub struct JournalFull;
 
 /// A machine's merger: its end of each guest's rings, the journal and the core.
 ///
-/// Between its calls each guest's taken requests are its entries of the journal, the verdicts that it was given are
-/// those of the journal's replay, and the core shows the state of that replay.
+/// Between calls, each guest's taken requests are its entries in the journal, the verdicts given to it are those of the
+/// journal's replay, and the core shows the state of that replay.
 #[derive(Drop)]
 pub struct Merger<H: PageHash, A: Allocator = Global> {
     pub(crate) ends: Vec<MergerEnd<A>, A>,
@@ -64,7 +64,7 @@ impl<H: PageHash, A: Allocator> Merger<H, A> {
     ghost use Rattle.merge_machine.specs.Steps.{Steps, IsFull};
     ghost use Rattle.merge_machine.specs.View.{ends_of, journal_of, limit_of, core_of, memory_of, machine_of};
 
-    /// Serves one request of a guest: it is taken, put in the journal, applied and answered. It takes no memory.
+    /// Serves one request of a guest: takes it, puts it in the journal, applies it and answers it. It allocates no memory.
     pub fn step(&mut self, guest: u8) -> Result<Step, JournalFull>
         requires { guest < length (ends_of self.old) }
         ensures step { MatchResult result (λ answer. Steps H.hash_of guest self.old self.new answer) (λ _. IsFull guest self.old self.new) }
@@ -90,7 +90,7 @@ impl<H: PageHash, A: Allocator> Merger<H, A> {
         }
     }
 
-    /// Whether the journal has its full number of entries.
+    /// Whether the journal has all the entries that it may have.
     fn is_full(&self) -> bool
         ensures full { result ≡ true → length (journal_of self.now) ≡ limit_of self.now }
         ensures room { result ≡ false → length (journal_of self.now) < limit_of self.now }
@@ -98,7 +98,7 @@ impl<H: PageHash, A: Allocator> Merger<H, A> {
         self.journal.len() >= self.limit as usize
     }
 
-    /// Takes each closed port and its end together, so that both know all that is left in their rings.
+    /// Brings each closed port together with its end, so that both know all that is left in their rings.
     ///
     /// The ports are all those of this machine, guest 0's first.
     pub fn meet_all(&mut self, ports: &mut Vec<ClosedPort<A>, A>)
@@ -115,14 +115,14 @@ impl<H: PageHash, A: Allocator> Merger<H, A> {
         meet_each(ports, &mut self.ends);
     }
 
-    /// What the machine counts.
+    /// Returns what the machine counts.
     pub fn report(&self) -> Report
         ensures { result ≡ totals (memory_of self.now).entries (memory_of self.now).guests }
     {
         self.core.report()
     }
 
-    /// The byte of a page at a place, 0 where the page is unmapped: it is the one last stored there.
+    /// Returns the byte of a page at a place, 0 if the page is unmapped: the byte last stored there.
     pub fn read(&self, guest: u8, ppn: u32, at: u32) -> u8
         requires page { IsSome (page_at (memory_of self.now).guests guest ppn) }
         requires at { at < 4096 }
@@ -132,21 +132,21 @@ impl<H: PageHash, A: Allocator> Merger<H, A> {
         self.core.read(guest, ppn, at)
     }
 
-    /// The entries so far, oldest first.
+    /// Returns the entries so far, oldest first.
     pub fn journal(&self) -> &[Entry]
         ensures { result.now ≡ journal_of self.now }
     {
         &self.journal
     }
 
-    /// The merger's end of each guest's rings, guest 0's first.
+    /// Returns the merger's end of each guest's rings, guest 0's first.
     pub fn ends(&self) -> &[MergerEnd<A>]
         ensures { result.now ≡ ends_of self.now }
     {
         &self.ends
     }
 
-    /// The core.
+    /// Returns the core.
     pub fn core(&self) -> &Core<H, A>
         ensures { result.now ≡ core_of self.now }
     {

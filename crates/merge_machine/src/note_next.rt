@@ -1,4 +1,4 @@
-//! The hashes of the pages that a round's requests propose, by several workers.
+//! Hashing the pages that a round's requests propose, with several workers.
 ghost use Rattle.std.specs.Prelude.{◌≡◌, ◌<◌, ◌≤◌, length};
 
 use crate::workers::Workers;
@@ -11,11 +11,11 @@ use std::alloc::Allocator;
 use std::sync::Wait;
 use std::thread::Threads;
 
-/// How many requests are looked at together.
+/// How many requests are considered together.
 const WINDOW: usize = 64;
 
-/// At each 64th of these requests, notes the hashes of the pages that it and the next 63 propose, where they are enough for two
-/// workers: fewer are hashed as they are proposed. It changes nothing that the core shows.
+/// At each 64th of these requests, the first included, notes the hashes of the pages that it and the next 63 propose, if
+/// they are enough for two workers: fewer are hashed as they are proposed. It changes nothing that the core shows.
 pub(crate) fn note_ahead<
     R: Threads + Wait + Sync,
     H: PageHash,
@@ -40,8 +40,8 @@ pub(crate) fn note_ahead<
     core.note_hashes_by(workers.rt, alloc, workers.count, pages.as_slice());
 }
 
-/// The pages that these requests propose. One that they store to or release before is left out, since its bytes are others
-/// then.
+/// Returns the pages that these requests propose, except those that they store to or release before: their bytes may be
+/// different by then.
 fn proposed(window: &[Entry]) -> ArrayVec<(u8, u32), WINDOW>
     requires { length window.now ≤ 64 }
 {

@@ -22,18 +22,18 @@ impl<H: PageHash, A: Allocator + Sync> Merger<H, A> {
     ghost use Rattle.merge_machine.specs.Rounds.{Rounds, IsFullForAll};
     ghost use Rattle.merge_machine.specs.View.{journal_of, limit_of};
 
-    /// Serves several requests: visits guests 0, 1, .. in turn, ended ones skipped, and takes one request at each visit, as
-    /// [`step`](Merger::step) does, until `limit` requests are taken, a whole turn gives none, or the journal has no room for
-    /// more; then applies and answers them in that order. Tells how many there were.
+    /// Serves several requests: visits guests 0, 1, .. in turn, skipping those that have ended, and takes one request at each
+    /// visit, as [`step`](Merger::step) does, until `limit` requests are taken, a whole turn finds none, or the journal has no
+    /// room for more; then applies and answers them in that order. Returns how many there were.
     ///
-    /// A request is taken only where a slot for its verdict is free beyond those for the verdicts that its guest is owed. The
-    /// hashes of proposed pages are made ahead, four at a time and, where there are enough of them, by several workers: at most
-    /// `workers`, 1 to 64, one of which is the calling thread. Where memory or a thread is refused, it computes them alone.
-    /// `limit` is 1 to 1,024.
+    /// A request is taken only if a slot for its verdict is free beyond those for the verdicts that its guest is owed. The
+    /// hashes of proposed pages are computed ahead, four at a time and, if there are enough of them, by several workers: at
+    /// most `workers`, 1 to 64, one of which is the calling thread. If memory or a thread is refused, the calling thread
+    /// computes them alone. `limit` is 1 to 1,024.
     ///
     /// # Errors
     ///
-    /// The journal had its full number of entries at the call, and some guest hasn't ended.
+    /// The journal was full at the call, and some guest hasn't ended.
     pub fn round<R: Threads + Wait + Sync, B: Allocator + Clone + Send>(
         &mut self,
         rt: &R,
@@ -64,7 +64,7 @@ impl<H: PageHash, A: Allocator + Sync> Merger<H, A> {
         Ok(take_and_serve(&workers, ends, journal, core, lesser(limit, room)))
     }
 
-    /// How many entries the journal has room for.
+    /// Returns how many more entries the journal has room for.
     fn room(&self) -> u32
         ensures { result + length (journal_of self.now) ≡ limit_of self.now }
     {
@@ -72,7 +72,7 @@ impl<H: PageHash, A: Allocator + Sync> Merger<H, A> {
     }
 }
 
-/// Takes at most so many requests, and serves them in the order in which they were taken. Tells how many.
+/// Takes at most `most` requests, and serves them in the order in which they were taken. Returns how many.
 pub(crate) fn take_and_serve<
     R: Threads + Wait + Sync,
     H: PageHash,
@@ -109,7 +109,7 @@ pub(crate) fn is_any_open<A: Allocator>(ends: &[MergerEnd<A>]) -> bool
     ends.iter().any(|end| !end.ended())
 }
 
-/// The lesser of two numbers.
+/// Returns the lesser of two numbers.
 fn lesser(a: u32, b: u32) -> u32
     ensures { (result ≤ a) × (result ≤ b) }
 {

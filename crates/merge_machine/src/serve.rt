@@ -12,7 +12,7 @@ use page_model::{Entry, Request};
 use share_rings::MergerEnd;
 use std::alloc::Allocator;
 
-/// Applies a request that was taken from this end, answers it and puts it in the journal.
+/// Applies a request taken from this end, answers it and puts it in the journal.
 pub(crate) fn serve_one<H: PageHash, A: Allocator>(
     end: &mut MergerEnd<A>,
     journal: &mut Vec<Entry, A>,
@@ -36,8 +36,8 @@ pub(crate) fn serve_one<H: PageHash, A: Allocator>(
     journal.push_reserved(Entry { guest, request });
 }
 
-/// Applies a request that was taken from this end, and answers it. Those that come next are looked at for pages to hash with
-/// the one that it proposes.
+/// Applies a request taken from this end, and answers it. The requests that come next are searched for pages to hash
+/// together with the one that it proposes.
 pub(crate) fn answer_one<H: PageHash, A: Allocator>(
     end: &mut MergerEnd<A>,
     core: &mut Core<H, A>,

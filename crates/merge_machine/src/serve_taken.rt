@@ -1,4 +1,4 @@
-//! Serving a round's requests, once they are taken.
+//! Serving a round's requests once they are taken.
 ghost use Rattle.std.specs.Prelude.{◌≡◌, ◌+◌, ◌<◌, ◌≤◌, All, length};
 ghost use Rattle.page_model.specs.Replay.{state_after};
 ghost use Rattle.merge_core.specs.Shown.{state_of};
@@ -15,7 +15,7 @@ use std::alloc::Allocator;
 use std::sync::Wait;
 use std::thread::Threads;
 
-/// Serves requests that were taken, in the order in which they were taken. Pages are hashed ahead of their proposals.
+/// Serves the taken requests in the order in which they were taken. Pages are hashed ahead of their proposals.
 pub(crate) fn serve_taken<
     R: Threads + Wait + Sync,
     H: PageHash,

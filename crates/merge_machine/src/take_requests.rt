@@ -6,8 +6,8 @@ use page_model::Entry;
 use share_rings::MergerEnd;
 use std::alloc::Allocator;
 
-/// Takes requests into the journal, one at each visit to a guest, guest by guest in turn, until there are so many or a turn
-/// gives none. For the verdict of each a slot is known to be free.
+/// Takes requests into the journal, one at each visit to a guest, guest by guest in turn, until there are `most` of them or
+/// a turn finds none. A slot is known to be free for the verdict of each.
 pub(crate) fn take_requests<A: Allocator>(
     ends: &mut Vec<MergerEnd<A>, A>,
     journal: &mut Vec<Entry, A>,
@@ -39,8 +39,8 @@ pub(crate) fn take_requests<A: Allocator>(
     }
 }
 
-/// Takes a guest's next request into the journal, where a slot is free beyond those for the verdicts that it is owed. Tells
-/// how many it took.
+/// Takes a guest's next request into the journal, if a slot is free beyond those for the verdicts that the guest is owed.
+/// Returns how many it took.
 fn visit_guest<A: Allocator>(
     end: &mut MergerEnd<A>,
     journal: &mut Vec<Entry, A>,
@@ -63,7 +63,7 @@ fn visit_guest<A: Allocator>(
     }
 }
 
-/// Nothing is owed to anybody.
+/// Returns the verdicts owed at first: none to any guest.
 fn no_debts() -> [u32; 64]
     ensures { result ≡ replicate 64 0 }
 {

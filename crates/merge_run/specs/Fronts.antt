@@ -9,7 +9,7 @@ use Rattle.page_model.specs.declared.request.Entry.{Entry}
 abbrev pub report_after : (ℕ → List ℕ → ℕ) → State → List Entry → Totals
 report_after hash machine journal = totals (state_after hash machine journal).entries (state_after hash machine journal).guests
 
--- the report is that of a front of the journal: of as many entries as it counts
+-- the report is that of a front of the journal: the one with the number of entries that the report counts
 abbrev pub IsOfFront : (ℕ → List ℕ → ℕ) → State → List Entry → Totals → Type 0
 IsOfFront hash machine journal r = (r.entries ≤ length journal) × (r ≡ report_after hash machine (take r.entries journal))
 

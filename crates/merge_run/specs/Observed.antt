@@ -1,4 +1,4 @@
--- What an observer of a run comes to.
+-- What becomes of an observer of a run.
 use Rattle.std.specs.Prelude.{◌≡◌, ℕ, List}
 use Rattle.page_model.specs.Pages.{State}
 use Rattle.page_model.specs.Parts.{Totals}

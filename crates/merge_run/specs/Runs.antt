@@ -32,13 +32,13 @@ run_fault_of machine.Journal = Journal
 run_fault_of machine.OutOfMemory = OutOfMemory
 
 module _ {A : Type 0} where
-  -- These scripts can be run on the machine of this configuration: there is one for each of its guests, where there is such a
-  -- machine, and no script holds a close.
+  -- These scripts can be run on the machine of this configuration: no script contains a close, and there is one script for
+  -- each of its guests if there is such a machine.
   pub record CanBeRun (c : Config A) (scripts : List (Vec Request A)) : Type 0 where
     pub each : IsMachine c → length scripts ≡ length c.pages.items
     pub plain : All (λ script. has_close script.items ≡ false) scripts
 
-  -- The first cause for which the machine was not run with these scripts. Memory or a thread is wanting only where
+  -- The first cause for which the machine was not run with these scripts. Lack of memory or of a thread is the cause only if
   -- there is such a machine, with room in its journal for all that the guests send.
   abbrev pub NotRunFor : Config A → List (Vec Request A) → RunFault → Type 0
   NotRunFor c scripts Frames = NoMachineFor c machine.Frames
@@ -53,7 +53,7 @@ module _ {A : Type 0} where
 module _ {H A : Type 0} {ghosts : Ghosts H} where
   -- The run of these scripts on the machine of this configuration: there is such a machine, with room in its journal for all
   -- that the guests send. It is settled. Each guest sent its script and a close over rings of the configuration's capacity,
-  -- and these are the verdicts that it got.
+  -- and these are the verdicts that it received.
   pub record IsWholeRun (hash : ℕ → List ℕ → ℕ) (c : Config A) (scripts : List (Vec Request A)) (settled : Settled H A ghosts) (verdicts : List (Vec Verdict A)) : Type 0 where
     pub limits : IsMachine c
     pub room : entries_needed scripts ≤ c.journal

@@ -1,4 +1,4 @@
--- What the thread of a guest is given, and what it owes.
+-- What a guest's thread gets, and what it owes.
 use Rattle.std.specs.Prelude.{◌≡◌, ℕ, ◌<◌, true, false, List, [], ◌∷◌, ◌++◌, length, map, All, vec_capacity}
 use Rattle.std.specs.declared.vec.Vec.{Vec}
 use Rattle.std.specs.declared.thread.PromisedHandle.{PromisedHandle}
@@ -19,13 +19,13 @@ module _ {A : Type 0} where
   abbrev pub all_sent : List (Vec Request A) → List (List Request)
   all_sent scripts = map (λ script. with_close script.items) scripts
 
-  -- nothing was sent or got yet
+  -- nothing was sent or received yet
   pub record IsUnused (port : Port A) : Type 0 where
     pub sent : port_sent port ≡ []
     pub got : port_got port ≡ []
 
-  -- nothing was sent or got yet; no close stands in the script, which is short enough to be counted; the list of
-  -- verdicts is empty, with room for one to each request and to the close
+  -- nothing was sent or received yet; the script has no close, and is short enough to be counted; the list of verdicts is
+  -- empty, with room for a verdict on each request and on the close
   pub record IsReady (task : Task A) : Type 0 where
     pub unused : IsUnused task.port
     pub plain : has_close task.script.items ≡ false
@@ -33,8 +33,8 @@ module _ {A : Type 0} where
     pub empty : task.verdicts.items ≡ []
     pub room : length task.script.items < vec_capacity task.verdicts
 
-  -- the port is the one that was given, it sent the script and a close last, and it got its `Closed`; the list of
-  -- verdicts is what it got
+  -- the port is the task's, it sent the script and a close last, and it received its `Closed`; the list of verdicts is what
+  -- it received
   pub record IsDone (task : Task A) (done : DoneTask A) : Type 0 where
     pub ends : closed_name done.port ≡ port_name task.port
     pub capacity : closed_capacity done.port ≡ port_capacity task.port
@@ -54,11 +54,11 @@ module _ {A : Type 0} where
   abbrev pub lists_of : List (DoneTask A) → List (Vec Verdict A)
   lists_of done = map (λ d. d.verdicts) done
 
-  -- which rings the tasks' ports are of
+  -- which rings the tasks' ports belong to
   abbrev pub task_names : List (Task A) → List (PairName A)
   task_names tasks = map (λ t. port_name t.port) tasks
 
-  -- how much the rings of the tasks' ports hold
+  -- the capacities of the rings of the tasks' ports
   abbrev pub task_capacities : List (Task A) → List ℕ
   task_capacities tasks = map (λ t. port_capacity t.port) tasks
 

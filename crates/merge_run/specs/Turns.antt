@@ -19,7 +19,7 @@ abbrev pub HaveEnded : {A : Type 0} → ℕ → List (MergerEnd A) → Type 0
 HaveEnded n ends = (i : ℕ) (e : MergerEnd _) → i < n → has_closed (end_given (slice_index_or ends i e)) ≡ true
 
 module _ {H A : Type 0} {ghosts : Ghosts H} where
-  -- the tasks can be run beside this merger: no guest has begun, and the two lists are empty, with room for all
+  -- the tasks can be run alongside this merger: no guest has begun, and the two lists are empty, with room for all
   pub record CanRun (tasks : List (Task A)) (merger : Merger H A ghosts) (handles : Vec (PromisedHandle (DoneTask A) (DoesTask A)) A) (done : Vec (DoneTask A) A) : Type 0 where
     pub ready : All IsReady tasks
     pub few : length tasks ≤ guest_count merger
@@ -28,7 +28,7 @@ module _ {H A : Type 0} {ghosts : Ghosts H} where
     pub none_done : done.items ≡ []
     pub done_room : length tasks ≤ vec_capacity done
 
-  -- the merger of the same machine and rings, after the first of these tasks were done and their guests have ended
+  -- a merger of the same machine and rings, after the first of these tasks were done and their guests have ended
   pub record HasRun (tasks : List (Task A)) (merger merger' : Merger H A ghosts) (done : List (DoneTask A)) : Type 0 where
     pub same : SameMachine merger merger'
     pub most : length done ≤ length tasks

@@ -1,4 +1,4 @@
--- What a contract sees of mergers and settled machines, whichever crate they are of.
+-- What a contract sees of mergers and settled machines, whichever crate they come from.
 pub use Rattle.merge_machine.specs.Kept.{end_names, port_names, closed_names, end_views, closed_views}
 pub use Rattle.merge_machine.specs.Machines.{shape_of}
 unfoldable pub use Rattle.merge_machine.specs.Machines.{opening}

@@ -1,4 +1,4 @@
-//! What a run gives back.
+//! What a run returns.
 use merge_settle::Settled;
 use page_digest::PageHash;
 use page_model::Verdict;

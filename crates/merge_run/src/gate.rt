@@ -1,18 +1,19 @@
 //! What a guest's thread calls around its sends and verdicts.
 
-/// Called in the threads of [`run`](crate::run), which share it. It answers nothing and takes no memory.
+/// Called in the threads of [`run`](crate::run), which share it. It returns nothing and allocates no memory.
 ///
-/// A gate may hold a thread up, so that a test can have the guests meet, or know how much is to come. No contract
-/// says what one does.
+/// A gate may hold a thread up, so that a test can make the guests meet or know how much is to come. No contract says
+/// what a gate does.
 pub trait Gate {
-    /// Before the first thread is started, on the calling thread: so many requests will be served, the closes among them.
+    /// Called before the first thread is started, on the calling thread, with the number of requests that will be served,
+    /// closes included.
     fn starting(&self, _requests: u64) {}
 
-    /// Before the guest's send number `nth`, counted from 0, its close among them. It is called once for each send,
-    /// however often that is tried.
+    /// Called before the guest's send number `nth`, counted from 0, its close included. It is called once for each send,
+    /// however often the send is tried.
     fn before(&self, guest: u8, nth: u32);
 
-    /// After the guest got its verdict number `nth`, counted from 0.
+    /// Called after the guest received its verdict number `nth`, counted from 0.
     fn after(&self, guest: u8, nth: u32);
 }
 

@@ -1,4 +1,4 @@
-//! What the thread of a guest does.
+//! What a guest's thread does.
 ghost use Rattle.std.specs.Prelude.{◌≡◌, true, false, [], ◌∷◌, ◌++◌};
 ghost use Rattle.page_model.specs.declared.request.Request.TheVariants.{Close};
 ghost use Rattle.share_rings.specs.Closing.{is_close, last_closed};
@@ -14,14 +14,15 @@ use share_rings::{ClosedPort, Port};
 use std::alloc::Allocator;
 use std::sync::Wait;
 
-/// How long a guest sleeps where it waited in vain, in microseconds: about as long as the merger takes for a round.
+/// How long a guest sleeps after waiting without success, in microseconds: about as long as the merger takes for a round.
 const NAP: u64 = 100;
 
-/// So many guests have a processor each, or nearly so. They look on for longer than a round of hashes takes, since one that
-/// sleeps then leaves the merger without work; more guests would take the merger's processor.
+/// The number of guests up to which each has a processor, or nearly so. So few guests keep looking for longer than a round
+/// of hashes takes, since a guest that sleeps then leaves the merger without work; more guests would take the merger's
+/// processor.
 const FEW: usize = 4;
 
-/// How many looks in vain a verdict makes up for, and how many there may be before a guest sleeps, one after the other.
+/// Returns how many failed looks a verdict offsets, and how many a guest may make in a row before it sleeps.
 fn looks(guests: usize) -> (u32, u32) {
     if guests <= FEW {
         (96, 8_000)
@@ -30,7 +31,7 @@ fn looks(guests: usize) -> (u32, u32) {
     }
 }
 
-/// Sends the script and then a close, and takes the verdicts up to `Closed`, as one of so many guests.
+/// Sends the script and then a close, and takes the verdicts up to `Closed`, as one of `guests` guests.
 pub(crate) fn do_task<R: Wait, A: Allocator, G: Gate>(
     rt: &R,
     gate: &G,
@@ -70,7 +71,7 @@ pub(crate) fn do_task<R: Wait, A: Allocator, G: Gate>(
     }
 }
 
-/// Sends a request. While the ring is full, it takes verdicts, or waits where none is seen.
+/// Sends a request. While the ring is full, it takes verdicts, or waits if none is seen.
 fn send<R: Wait, A: Allocator, G: Gate>(
     rt: &R,
     port: &mut Port<A>,
@@ -97,7 +98,7 @@ fn send<R: Wait, A: Allocator, G: Gate>(
     unreachable!()
 }
 
-/// Sends the close, in the same way.
+/// Sends the close in the same way.
 fn close<R: Wait, A: Allocator, G: Gate>(
     rt: &R,
     port: Port<A>,
@@ -122,7 +123,7 @@ fn close<R: Wait, A: Allocator, G: Gate>(
     unreachable!()
 }
 
-/// Takes the verdicts up to `Closed`, and waits where none is seen.
+/// Takes the verdicts up to `Closed`, and waits whenever none is seen.
 fn drain<R: Wait, A: Allocator, G: Gate>(
     rt: &R,
     port: &mut ClosedPort<A>,
@@ -146,7 +147,7 @@ fn drain<R: Wait, A: Allocator, G: Gate>(
     unreachable!()
 }
 
-/// Takes a verdict, if one is seen, and says whether it did.
+/// Takes a verdict, if one is seen, and returns whether it did.
 fn collect<A: Allocator, G: Gate>(port: &mut Port<A>, inbox: &mut Inbox<'_, A, G>) -> bool
     requires { inbox.old.verdicts.items ≡ port_got port.old }
     ensures sent { port_sent port.new ≡ port_sent port.old }
@@ -164,7 +165,7 @@ fn collect<A: Allocator, G: Gate>(port: &mut Port<A>, inbox: &mut Inbox<'_, A, G
     true
 }
 
-/// The same after the close.
+/// Does the same after the close.
 fn collect_closed<A: Allocator, G: Gate>(
     port: &mut ClosedPort<A>,
     inbox: &mut Inbox<'_, A, G>,

@@ -8,7 +8,7 @@ use std::alloc::Allocator;
 
 /// Where a guest's verdicts go as they come.
 ///
-/// A port alone knows nothing of how many come, so no more are taken than there is room for: one for each request.
+/// A port alone doesn't know how many will come, so no more are taken than there is room for: one for each request.
 #[derive(Drop)]
 pub(crate) struct Inbox<'g, A: Allocator, G: Gate> {
     pub(crate) gate: &'g G,
@@ -16,10 +16,10 @@ pub(crate) struct Inbox<'g, A: Allocator, G: Gate> {
     pub(crate) most: usize,
     pub(crate) verdicts: Vec<Verdict, A>,
     pub(crate) patience: Patience,
-    /// How many looks in vain a verdict makes up for.
+    /// How many failed looks a verdict offsets.
     pub(crate) looks: u32,
     ghost room: { most ≤ vec_capacity verdicts },
-    // As many as a journal holds at most, so that they can be numbered.
+    // At most the entries of a journal, so that they can be numbered.
     ghost few: { most ≤ 16777216 },
 }
 
@@ -33,7 +33,7 @@ impl<'g, A: Allocator, G: Gate> Inbox<'g, A, G> {
         self.verdicts.len() < self.most
     }
 
-    /// Keeps a verdict, and lets the gate know of it.
+    /// Keeps a verdict, and calls the gate.
     pub(crate) fn keep(&mut self, verdict: Verdict)
         requires { vec_len self.old.verdicts < self.old.most }
         ensures { self.new.verdicts.items ≡ self.old.verdicts.items ++ verdict ∷ [] }

@@ -1,28 +1,30 @@
-//! What looks at a run between its rounds.
+//! Observing a run between its rounds.
 ghost use Rattle.std.specs.Prelude.{◌≡◌, ◌≤◌, ◌⊎◌, ◌∷◌, ◌++◌, [], ℕ, List, All};
 ghost use Rattle.page_model.specs.Parts.{Totals};
 
 use page_model::Report;
 use std::sync::Wait;
 
-/// Is shown the report of a run's machine after each round of its merger, on the calling thread.
+/// Sees the report of a run's machine after each round of its merger, on the calling thread.
 ///
-/// It is handed from call to call by value, so that it may hold what a run can't own, as a `&mut` to what can't be dropped.
+/// It is passed from call to call by value, so that it may hold what a run can't own, such as a `&mut` to something that
+/// can't be dropped.
 pub trait Observer: Drop {
-    // which one it is, as by the name of what it borrows
+    // which one it is, such as by the name of what it borrows
     ghost name: { Self → ℕ };
 
     // the reports that it kept, in order
     ghost kept: { Self → List Totals };
 
-    /// After a round that served so many requests, or none: what the machine counts now. It keeps the report or doesn't.
+    /// Called with what the machine counts after a round, and how many requests the round served, perhaps none. It keeps
+    /// the report or doesn't.
     fn observe<R: Wait>(self, rt: &R, report: Report, served: u32) -> Self
         requires { All (λ before. before.entries ≤ report.entries) (kept self) }
         ensures name { name result ≡ name self }
         ensures kept { (kept result ≡ kept self) ⊎ (kept result ≡ kept self ++ report ∷ []) };
 }
 
-/// The observer of a run that nobody looks at.
+/// The observer of a run that nobody observes.
 #[derive(Clone, Copy, Debug, PartialEq, Eq)]
 pub(crate) struct NoObserver;
 

@@ -4,11 +4,11 @@ use std::sync::Wait;
 use std::sync::atomic::AtomicU64;
 use std::time::Duration;
 
-/// How often a thread looks once more where it looked in vain, and how long it sleeps after that.
+/// How often a thread looks again after a failed look, and how long it sleeps after that.
 ///
-/// It doesn't yield: where other work wants the processors, a thread that yields may wait for a whole slice of their time,
-/// thousands of times longer than what it waits for. A thread that sleeps is soon woken, and leaves its processor to those that
-/// have work, as the merger among many guests that wait for it.
+/// It doesn't yield: when other work wants the processors, a thread that yields may wait for a whole slice of their time,
+/// thousands of times longer than what it waits for. A thread that sleeps is soon woken, and leaves its processor to those
+/// that have work, such as the merger among many guests that wait for it.
 #[derive(Drop)]
 pub(crate) struct Patience {
     looks: u32,
@@ -20,8 +20,8 @@ pub(crate) struct Patience {
 }
 
 impl Patience {
-    /// The patience of a thread that looks at most so often in vain, one look after the other, before it sleeps so many
-    /// microseconds at a time.
+    /// Makes the patience of a thread that makes at most `most` failed looks in a row before it sleeps, `nap` microseconds at
+    /// a time.
     pub(crate) fn new(most: u32, nap: u64) -> Patience {
         Patience {
             looks: most,
@@ -31,7 +31,7 @@ impl Patience {
         }
     }
 
-    /// Waits a moment before the next look, or sleeps where so many were in vain.
+    /// Waits a moment before the next look, or sleeps if no failed looks are left.
     pub(crate) fn wait<R: Wait>(&mut self, rt: &R) {
         if self.looks == 0 {
             let nap = Duration::from_micros(self.nap);
@@ -42,7 +42,7 @@ impl Patience {
         }
     }
 
-    /// So many more looks are worth while, since one wasn't in vain.
+    /// Allows `looks` more failed looks, since one succeeded, but never more than `most` in a row.
     pub(crate) fn regain(&mut self, looks: u32) {
         self.looks = self.looks.saturating_add(looks).min(self.most);
     }

@@ -22,19 +22,19 @@ const WORKERS: u32 = 2;
 /// How many requests a round serves at most.
 const LIMIT: u32 = 64;
 
-/// How often the merger looks in vain before it sleeps: some 100 microseconds.
+/// How many failed looks the merger makes before it sleeps: they take some 100 microseconds.
 const MOST_LOOKS: u32 = 2_000;
 
-/// How many looks in vain a round makes up for that served something.
+/// How many failed looks are offset by a round that served something.
 const LOOKS_A_ROUND: u32 = 1_000;
 
-/// How long the merger sleeps where it waited in vain, in microseconds.
+/// How long the merger sleeps after waiting without success, in microseconds.
 const NAP: u64 = 20;
 
-/// Serves by rounds until each of the first so many guests has ended, and waits after a round that served nothing. The
-/// observer is shown the report after each round.
+/// Serves by rounds until each of the first `guests` guests has ended, and waits after a round that served nothing. The
+/// observer sees the report after each round.
 ///
-/// The other guests, whose threads were not started, send nothing: what they are asked for decides nothing.
+/// The other guests, whose threads were not started, send nothing: a visit to them finds no request.
 pub(crate) fn serve_all<
     R: Threads + Wait + Sync,
     H: PageHash,
@@ -63,7 +63,7 @@ pub(crate) fn serve_all<
     unreachable!()
 }
 
-/// Serves what waits in the guests' rings, and tells how much that was: nothing, too, where the journal is full.
+/// Serves what waits in the guests' rings, and returns how many requests that was: also 0 if the journal is full.
 fn serve_round<R: Threads + Wait + Sync, H: PageHash, A: Allocator + Send + Sync>(
     rt: &R,
     alloc: &A,
@@ -78,7 +78,7 @@ fn serve_round<R: Threads + Wait + Sync, H: PageHash, A: Allocator + Send + Sync
     }
 }
 
-/// Whether each of the first so many guests was given its `Closed`.
+/// Whether each of the first `guests` guests was given its `Closed`.
 fn have_ended<A: Allocator>(ends: &[MergerEnd<A>], guests: usize) -> bool
     requires { guests ≤ length ends.now }
     ensures { result ≡ true → HaveEnded guests ends.now }

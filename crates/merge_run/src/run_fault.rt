@@ -1,17 +1,17 @@
-//! Why a run gives nothing back.
+//! Why a run fails.
 ghost use Rattle.std.specs.Prelude.{◌≡◌};
 
 use merge_machine::{Fault, JournalFull};
 use std::alloc::AllocError;
 use thiserror::Error;
 
-/// Why a machine was not run to its end, in the order in which the causes are looked at.
+/// Why a machine was not run to its end, in the order in which the causes are checked.
 #[derive(Clone, Copy, Debug, PartialEq, Eq, Error)]
 pub enum RunFault {
     /// 0 frames, or more than 1,048,576.
     #[error("a machine has 1 to 1,048,576 frames")]
     Frames,
-    /// No guest, more than 64, or not as many salts as guests.
+    /// No guest, more than 64, or not exactly one salt per guest.
     #[error("a machine has 1 to 64 guests, with a salt each")]
     Guests,
     /// A guest with no page, or more than 1,048,576 pages in total.
@@ -23,7 +23,7 @@ pub enum RunFault {
     /// A journal of 0 entries, or of more than 16,777,216.
     #[error("a journal holds 1 to 16,777,216 entries")]
     Journal,
-    /// The guests send more requests, their closes among them, than the journal has room for.
+    /// The guests send more requests, closes included, than the journal has room for.
     #[error("the guests send more than the journal holds")]
     Stopped(JournalFull),
     /// The memory for the run was refused, before any thread was started.

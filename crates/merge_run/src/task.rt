@@ -1,4 +1,4 @@
-//! What the thread of a guest is given and what it gives back.
+//! What a guest's thread gets and what it returns.
 
 use page_model::{Request, Verdict};
 use share_rings::{ClosedPort, Port};
@@ -6,7 +6,7 @@ use std::alloc::{Allocator, Global};
 use std::snapshot::Snapshot;
 use std::thread::{Promise, PromisedHandle};
 
-/// What a guest's thread is given.
+/// What a guest's thread gets.
 #[derive(Drop)]
 pub(crate) struct Task<A: Allocator = Global> {
     /// Which guest it is.
@@ -15,14 +15,14 @@ pub(crate) struct Task<A: Allocator = Global> {
     pub(crate) port: Port<A>,
     /// What the guest sends before its close.
     pub(crate) script: Vec<Request, A>,
-    /// An empty list, with room for a verdict to each request and to the close.
+    /// An empty list, with room for a verdict on each request and on the close.
     pub(crate) verdicts: Vec<Verdict, A>,
 }
 
-/// What a guest's thread gives back.
+/// What a guest's thread returns.
 #[derive(Drop)]
 pub(crate) struct DoneTask<A: Allocator = Global> {
-    /// The end that the thread was given, after the close and the last verdict.
+    /// The guest's end, after the close and the last verdict.
     pub(crate) port: ClosedPort<A>,
     /// The verdicts that came, oldest first.
     pub(crate) verdicts: Vec<Verdict, A>,
@@ -38,5 +38,5 @@ impl<A: Allocator> Promise<DoneTask<A>> for DoesTask<A> {
     ghost kept_by = { λ promise report. IsDone promise.0.value report };
 }
 
-/// Threads that were started, guest 0's first.
+/// The threads that were started, guest 0's first.
 pub(crate) type Handles<A> = Vec<PromisedHandle<DoneTask<A>, DoesTask<A>>, A>;

@@ -1,4 +1,4 @@
-//! The tasks of all guests, and what they come to.
+//! The tasks of all guests, and their results.
 ghost use Rattle.std.specs.Prelude.{◌≡◌, ◌≤◌, ◌↔◌, false, [], All, IsTrue, IfOk, length, vec_capacity};
 ghost use Rattle.share_rings.specs.Closing.{has_close};
 ghost use Rattle.merge_machine.specs.Kept.{port_names, port_capacities};
@@ -10,11 +10,11 @@ use page_model::{Request, Verdict};
 use share_rings::{ClosedPort, Port};
 use std::alloc::{AllocError, Allocator};
 
-/// Whether a journal holds that many entries: each request of these scripts, and a close for each.
+/// Whether a journal of this size has room for each request of these scripts, and a close for each script.
 pub fn has_room<A: Allocator>(journal: u32, scripts: &[Vec<Request, A>]) -> bool
     ensures { IsTrue result ↔ (entries_needed scripts.now ≤ journal) }
 {
-    // What is left of the journal. To count down can't overflow, however long the scripts are.
+    // What is left of the journal. Counting down can't overflow, however long the scripts are.
     let mut left = journal as usize;
     for script in scripts {
         if script.len() >= left {
@@ -25,7 +25,7 @@ pub fn has_room<A: Allocator>(journal: u32, scripts: &[Vec<Request, A>]) -> bool
     true
 }
 
-/// How many requests the guests of these scripts will send, their closes among them: at most so many that a `u64` holds them.
+/// Returns how many requests the guests of these scripts will send, closes included, or `u64::MAX` if there are more.
 pub(crate) fn count_requests<A: Allocator>(scripts: &[Vec<Request, A>]) -> u64 {
     let mut count: u64 = 0;
     for script in scripts {
@@ -34,7 +34,7 @@ pub(crate) fn count_requests<A: Allocator>(scripts: &[Vec<Request, A>]) -> u64 {
     count
 }
 
-/// What each guest's thread is given, guest 0's first.
+/// Makes the tasks of the guests' threads, guest 0's first.
 pub(crate) fn new_tasks<A: Allocator + Copy>(
     alloc: A,
     ports: Vec<Port<A>, A>,
@@ -66,7 +66,7 @@ pub(crate) fn new_tasks<A: Allocator + Copy>(
     Ok(tasks)
 }
 
-/// The ports and the lists of verdicts, each in a list of its own.
+/// Moves the ports and the lists of verdicts to these two lists, which are empty and have room for them.
 pub(crate) fn into_lists<A: Allocator>(
     done: Vec<DoneTask<A>, A>,
     ports: &mut Vec<ClosedPort<A>, A>,

@@ -32,7 +32,7 @@ pub(crate) fn start_all<'s, E, R: Threads + Wait + Sync, A: Allocator + Send + '
     }
 }
 
-/// Starts a guest's thread. `None` where that is refused.
+/// Starts a guest's thread. Returns `None` if that is refused.
 fn start<'s, E, R: Threads + Wait + Sync, A: Allocator + Send + 's, G: Gate + Sync>(
     scope: &Scope<'s, E>,
     rt: &'s R,
@@ -51,7 +51,7 @@ fn start<'s, E, R: Threads + Wait + Sync, A: Allocator + Send + 's, G: Gate + Sy
     scope.spawn_with(promise, work).ok()
 }
 
-/// Waits until the threads have ended.
+/// Waits until the threads have ended, and pushes what they return to the list.
 pub(crate) fn join_all<R: Threads, A: Allocator>(
     rt: &R,
     handles: Handles<A>,

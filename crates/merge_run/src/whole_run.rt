@@ -36,15 +36,16 @@ use std::thread::{Scope, Threads};
 /// Runs a machine to its end: a thread for each guest sends its script and then a close, and takes its verdicts, while
 /// the merger serves them on the calling thread.
 ///
-/// There is one script for each guest, guest 0's first, and no script holds a close. `gate` is called in the guests'
+/// There is one script for each guest, guest 0's first, and no script contains a close. `gate` is called in the guests'
 /// threads, around each send and verdict, and on the calling thread before the first thread is started.
 ///
-/// At `Ok` the machine is settled. Each guest sent its script and a close, and got exactly one verdict for each request,
-/// in order, and they are those of one thread that replays the journal on plain page contents.
+/// At `Ok` the machine is settled. Each guest sent its script and a close, and received exactly one verdict for each
+/// request, in order, and they are those of one thread that replays the journal on plain page contents.
 ///
 /// # Errors
 ///
-/// The first cause that holds, in the order of [`RunFault`]. All memory is taken before the first thread is started.
+/// The first cause that holds, in the order of [`RunFault`]. All memory that the run can't do without is allocated before
+/// the first thread is started.
 ///
 /// Once the start of a thread is refused, no more are started. The guests whose threads were started are served to
 /// their end, their threads are joined, and the machine is dropped.
@@ -68,8 +69,8 @@ pub fn run<
     Ok(finished)
 }
 
-/// The same, while an observer is shown the machine's report after each round. It comes back, and each report that it kept
-/// is the report of the replay of a front of the journal.
+/// Runs a machine as [`run`] does, with an observer that sees the machine's report after each round. The observer comes
+/// back, and each report that it kept is the report of the replay of a front of the journal.
 ///
 /// # Errors
 ///
@@ -105,7 +106,7 @@ pub fn run_observed<
     run_tasks(rt, alloc, gate, merger, tasks, observer)
 }
 
-/// Runs the guests' tasks beside their merger, and settles the machine.
+/// Runs the guests' tasks alongside their merger, and settles the machine.
 fn run_tasks<
     R: Threads + Wait + Sync,
     H: PageHash + Drop,
@@ -208,7 +209,7 @@ fn run_threads<
     )
 }
 
-/// The same in a scope.
+/// Does the same in a scope.
 fn run_in<
     's,
     E,

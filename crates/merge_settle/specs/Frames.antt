@@ -16,7 +16,7 @@ abbrev pub frames_of : Names → List ℕ
 frames_of [] = []
 frames_of (g ∷ names) = frames_in g.slots ++ frames_of names
 
--- how many distinct numbers stand in a list: of equal ones only the last counts
+-- how many distinct numbers are in a list: of equal ones only the last counts
 abbrev pub distinct_numbers : List ℕ → ℕ
 distinct_numbers [] = 0
 distinct_numbers (n ∷ ns) = (if list_any (λ m. m == n) ns then 0 else 1) + distinct_numbers ns

@@ -8,7 +8,7 @@ use crate::unsettled::SettleFault;
 use share_rings::{ClosedPort, MergerEnd};
 use std::alloc::Allocator;
 
-/// The first cause not to settle the machine of these ends and ports, if there is one.
+/// Returns the first cause not to settle the machine of these ends and ports, if there is one.
 pub(crate) fn find_fault<A: Allocator>(
     ends: &[MergerEnd<A>],
     ports: &[ClosedPort<A>],

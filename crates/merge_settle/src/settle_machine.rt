@@ -18,12 +18,15 @@ use page_digest::PageHash;
 use share_rings::ClosedPort;
 use std::alloc::Allocator;
 
-/// Settles a machine: each guest has then got exactly one verdict for each request that it sent, in order, and they are
-/// those of one thread that replays the journal on plain page contents; each page reads the bytes last stored to it.
+/// Settles a machine. Each guest has then received exactly one verdict for each request that it sent, in order, and they
+/// are those of one thread that replays the journal on plain page contents; each page reads the bytes last stored to it.
 ///
-/// The ports are all those of the merger's machine, guest 0's first. At `Err` the merger has not answered some guest's
-/// close, or a guest has not got its `Closed`; all comes back unchanged, and each end knows all that is left in its ring
-/// and no fewer free slots than before.
+/// The ports are all those of the merger's machine, guest 0's first.
+///
+/// # Errors
+///
+/// The merger has not answered some guest's close, or a guest has not received its `Closed`. Everything comes back
+/// unchanged, but each end knows all that is left in its ring, and of no fewer free slots than before.
 pub fn settle<H: PageHash, A: Allocator>(
     merger: Merger<H, A>,
     ports: Vec<ClosedPort<A>, A>,
@@ -53,7 +56,7 @@ pub fn settle<H: PageHash, A: Allocator>(
     }
 }
 
-/// It does nothing: its contract is what a core's frames tell of the number of frames in use.
+/// Does nothing: its contract is what a core's frames say about the number of frames in use.
 fn count_frames<H: PageHash, A: Allocator>(core: &Core<H, A>)
     ensures { used (state_of core.now).guests ≡ distinct_numbers (frames_of core.now.names) }
 {

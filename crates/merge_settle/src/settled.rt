@@ -1,4 +1,4 @@
-//! A machine whose guests have all got their `Closed`.
+//! A machine whose guests have all received their `Closed`.
 ghost use Rattle.std.specs.Prelude.{◌≡◌, length};
 ghost use Rattle.merge_machine.specs.View.{guest_count};
 
@@ -26,21 +26,21 @@ impl<H: PageHash, A: Allocator> Settled<H, A> {
     ghost use Rattle.merge_machine.specs.Machines.{opening};
     ghost use Rattle.merge_settle.specs.View.{settled_journal, settled_ports, settled_core};
 
-    /// The whole journal, oldest entry first.
+    /// Returns the whole journal, oldest entry first.
     pub fn journal(&self) -> &[Entry]
         ensures { result.now ≡ settled_journal self.now }
     {
         self.merger.journal()
     }
 
-    /// What the machine counts.
+    /// Returns what the machine counts.
     pub fn report(&self) -> Report
         ensures { result ≡ totals (state_of (settled_core self.now)).entries (state_of (settled_core self.now)).guests }
     {
         self.merger.report()
     }
 
-    /// The byte of a page at a place, 0 where the page is unmapped: it is the one last stored there.
+    /// Returns the byte of a page at a place, 0 if the page is unmapped: the byte last stored there.
     pub fn read(&self, guest: u8, ppn: u32, at: u32) -> u8
         requires page { IsSome (page_at (state_of (settled_core self.now)).guests guest ppn) }
         requires at { at < 4096 }
@@ -50,14 +50,14 @@ impl<H: PageHash, A: Allocator> Settled<H, A> {
         self.merger.read(guest, ppn, at)
     }
 
-    /// The core.
+    /// Returns the core.
     pub fn core(&self) -> &Core<H, A>
         ensures { result.now ≡ settled_core self.now }
     {
         self.merger.core()
     }
 
-    /// A guest's port.
+    /// Returns a guest's port.
     pub fn port(&self, guest: u8) -> &ClosedPort<A>
         requires { guest < length (settled_ports self.now) }
         ensures { slice_get (settled_ports self.now) guest ≡ Some result.now }

@@ -5,13 +5,13 @@ use share_rings::ClosedPort;
 use std::alloc::{Allocator, Global};
 use thiserror::Error;
 
-/// Why a machine is not settled, in the order in which the causes are looked at.
+/// Why a machine is not settled, in the order in which the causes are checked.
 #[derive(Clone, Copy, Debug, PartialEq, Eq, Error)]
 pub enum SettleFault {
-    /// The merger has not answered this guest's close, and has answered that of each lesser guest.
+    /// The merger has not answered this guest's close, but has answered that of each guest with a lower number.
     #[error("the close of guest {0} is not answered")]
     Running(u8),
-    /// This guest has not got its `Closed`, and each lesser guest has.
+    /// This guest has not received its `Closed`, but each guest with a lower number has.
     #[error("guest {0} has not got its last verdict")]
     Undrained(u8),
 }

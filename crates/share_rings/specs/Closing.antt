@@ -1,4 +1,4 @@
--- Which requests and verdicts end a guest's part, and what stands where in their lists.
+-- Which requests and verdicts end a guest's part, and where they are in their lists.
 use Rattle.std.specs.Prelude.{Bool, true, false, not, ◌&&◌, List, [], ◌∷◌}
 use Rattle.page_model.specs.declared.request.Request.{Request}
 use Rattle.page_model.specs.declared.verdict.Verdict.{Verdict}
@@ -25,12 +25,12 @@ abbrev pub same : Bool → Bool → Bool
 same true b = b
 same false b = not b
 
--- xs is no longer than ys, and each of xs passes p just where its neighbour in ys passes q
+-- xs is no longer than ys, and each of xs passes p exactly when its neighbor in ys passes q
 abbrev pub passes_beside : {X Y : Type 0} → (X → Bool) → (Y → Bool) → List X → List Y → Bool
 passes_beside p q [] ys = true
 passes_beside p q (x ∷ xs) [] = false
 passes_beside p q (x ∷ xs) (y ∷ ys) = same (p x) (q y) && passes_beside p q xs ys
 
--- there are no more verdicts than requests, and each verdict is `Closed` just where the request at its place is `Close`
+-- there are no more verdicts than requests, and each verdict is `Closed` exactly when the request at its place is `Close`
 abbrev pub matched : List Verdict → List Request → Bool
 matched verdicts requests = passes_beside is_closed is_close verdicts requests

@@ -33,15 +33,15 @@ module _ {A : Type 0} where
   abbrev pub port_name : Port A → PairName A
   port_name p = (producer_name p.requests, consumer_name p.verdicts)
 
-  -- the requests that were sent, oldest first
+  -- the requests sent, oldest first
   abbrev pub port_sent : Port A → List Request
   port_sent p = sent p.requests
 
-  -- the verdicts that were got, oldest first
+  -- the verdicts received, oldest first
   abbrev pub port_got : Port A → List Verdict
   port_got p = received p.verdicts
 
-  -- the verdicts that the port has seen in the ring and not got
+  -- the verdicts that the port has seen in the ring but not yet received
   abbrev pub port_known : Port A → List Verdict
   port_known p = known_items p.verdicts
 
@@ -49,7 +49,7 @@ module _ {A : Type 0} where
   abbrev pub port_capacity : Port A → ℕ
   port_capacity p = producer_capacity p.requests
 
-  -- at least as many requests were sent as the ring holds
+  -- the number of requests sent is at least the ring's capacity
   abbrev pub HasFilled : Port A → Type 0
   HasFilled p = port_capacity p ≤ length (port_sent p)
 
@@ -71,15 +71,15 @@ module _ {A : Type 0} where
   abbrev pub end_name : MergerEnd A → PairName A
   end_name e = (consumer_name e.requests, producer_name e.verdicts)
 
-  -- the requests that were taken, oldest first
+  -- the requests taken, oldest first
   abbrev pub end_taken : MergerEnd A → List Request
   end_taken e = received e.requests
 
-  -- the verdicts that were given, oldest first
+  -- the verdicts given, oldest first
   abbrev pub end_given : MergerEnd A → List Verdict
   end_given e = sent e.verdicts
 
-  -- the requests that the end has seen in the ring and not taken
+  -- the requests that the end has seen in the ring but not taken
   abbrev pub end_known : MergerEnd A → List Request
   end_known e = known_items e.requests
 
@@ -91,7 +91,7 @@ module _ {A : Type 0} where
   abbrev pub end_capacity : MergerEnd A → ℕ
   end_capacity e = producer_capacity e.verdicts
 
-  -- some request has no verdict yet, and the first such is `Close` just where `closed` is true
+  -- some request has no verdict yet, and the first such request is `Close` exactly when `closed` is true
   abbrev pub IsUnanswered : MergerEnd A → Bool → Type 0
   IsUnanswered e closed = (length (end_given e) < length (end_taken e)) × ((d : Request) → closed ≡ is_close (slice_index_or (end_taken e) (length (end_given e)) d))
 
@@ -99,16 +99,16 @@ module _ {A : Type 0} where
   abbrev pub IsOnePair : ClosedPort A → MergerEnd A → Type 0
   IsOnePair p e = closed_name p ≡ end_name e
 
-  -- all that a closed port shows: which rings, what was sent and what was got, and the capacity
+  -- all that a closed port shows: which rings, what was sent and received, and the capacity
   abbrev pub closed_view : ClosedPort A → PairName A × (List Request × List Verdict) × ℕ
   closed_view p = (closed_name p, (closed_sent p, closed_got p), closed_capacity p)
 
-  -- all that a merger's end shows: which rings, what was taken and what was given, and the capacity
+  -- all that a merger's end shows: which rings, what was taken and given, and the capacity
   abbrev pub end_view : MergerEnd A → PairName A × (List Request × List Verdict) × ℕ
   end_view e = (end_name e, (end_taken e, end_given e), end_capacity e)
 
--- A send: where the answer is Ok the request follows what was sent before, and where it is a fault nothing was sent.
--- Which rings they are, their capacity, and the verdicts got and known stay.
+-- A send: if the answer is Ok, the request follows what was sent before; if it is a fault, nothing was sent. Which rings
+-- they are, their capacity, and the verdicts received and known stay the same.
 pub record Sends {A E : Type 0} (old new : Port A) (request : Request) (answer : Result (Unit {0}) E) : Type 0 where
   pub pair : port_name new ≡ port_name old
   pub capacity : port_capacity new ≡ port_capacity old

@@ -1,4 +1,4 @@
--- Why there is no pair of rings, and why a request was not sent: each fault with all that it says.
+-- Why there is no pair of rings, and why a request was not sent: all that each fault says.
 use Rattle.std.specs.Prelude.{ℕ, ◌≡◌, ◌<◌, ◌≤◌, ◌⊎◌}
 use Rattle.page_model.specs.Faults.{Fits, RefusedFor}
 use Rattle.page_model.specs.declared.limits.TheConstants.{MAX_RING_CAPACITY}
@@ -18,13 +18,13 @@ abbrev pub NoPairFor : ℕ → RingFault → Type 0
 NoPairFor capacity Ring = (capacity ≡ 0) ⊎ (MAX_RING_CAPACITY < capacity)
 NoPairFor capacity OutOfMemory = IsCapacity capacity
 
--- what a request's fault is to one who sends it
+-- a request's fault as the fault of sending it
 abbrev pub fault_of : RequestFault → SendFault
 fault_of refused.Length = Length
 fault_of refused.Crosses = Crosses
 
--- The first cause for which a store or load of len bytes at this place was not sent, on a ring of this capacity to
--- which so many requests went before. A ring is busy only after as many as it holds.
+-- The first cause for which a store or load of len bytes at this place was not sent, on a ring of this capacity to which
+-- `before` requests were sent earlier. A ring is busy only after at least its capacity of requests.
 abbrev pub NotSentFor : ℕ → ℕ → ℕ → ℕ → SendFault → Type 0
 NotSentFor at len capacity before Length = RefusedFor at len refused.Length
 NotSentFor at len capacity before Crosses = RefusedFor at len refused.Crosses

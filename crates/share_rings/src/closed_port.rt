@@ -7,11 +7,11 @@ use page_model::{Request, Verdict};
 use rtrb::{Consumer, Producer};
 use std::alloc::{Allocator, Global};
 
-/// A guest's end that has sent its `Close`, and only takes verdicts.
+/// A guest's end that has sent its `Close` and only takes verdicts.
 pub struct ClosedPort<A: Allocator = Global> {
     pub(crate) requests: Producer<Request, A>,
     pub(crate) verdicts: Consumer<Verdict, A>,
-    // Whether the last verdict that was got is `Closed`.
+    // Whether the last verdict received is `Closed`.
     pub(crate) drained: bool,
     pub ghost shut: { has_close (sent requests) ≡ true },
     pub ghost once: { has_close (front (sent requests)) ≡ false },
@@ -24,7 +24,7 @@ impl<A: Allocator> ClosedPort<A> {
     ghost use Rattle.share_rings.specs.Closing.{last_closed};
     ghost use Rattle.share_rings.specs.Ends.{closed_sent, closed_got, closed_name, closed_known, closed_capacity};
 
-    /// The next verdict, if one is seen. `None` changes nothing, and is the answer once drained.
+    /// Returns the next verdict, if one is seen. `None` changes nothing, and is the answer once drained.
     pub fn verdict(&mut self) -> Option<Verdict>
         ensures pair { closed_name self.new ≡ closed_name self.old }
         ensures capacity { closed_capacity self.new ≡ closed_capacity self.old }
@@ -43,7 +43,7 @@ impl<A: Allocator> ClosedPort<A> {
         Some(verdict)
     }
 
-    /// Whether the last verdict that was got is `Closed`.
+    /// Whether the last verdict received is `Closed`.
     pub fn drained(&self) -> bool
         ensures { result ≡ last_closed (closed_got self.now) }
     {

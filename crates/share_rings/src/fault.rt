@@ -9,13 +9,13 @@ use thiserror::Error;
 #[error("the ring of requests is full: take verdicts, let the merger serve, and send again")]
 pub struct Busy;
 
-/// Why a request was not sent, in the order in which the causes are looked at.
+/// Why a request was not sent, in the order in which the causes are checked.
 #[derive(Clone, Copy, Debug, PartialEq, Eq, Error)]
 pub enum SendFault {
     /// No byte, or more than 64.
     #[error("a store or load is of 1 to 64 bytes: split a longer one")]
     Length,
-    /// The last byte would stand past the page's end.
+    /// The last byte would be past the page's end.
     #[error("a store or load ends within its page of 4,096 bytes: split it at the page's end")]
     Crosses,
     /// The ring has no slot that is known to be free.

@@ -13,13 +13,14 @@ use std::alloc::Allocator;
 pub enum Meeting {
     /// The merger's end has not given `Closed`.
     Running,
-    /// The port has not got its `Closed`.
+    /// The port has not received its `Closed`.
     Undrained,
-    /// What was sent was taken, and what was given was got.
+    /// All requests sent were taken, and all verdicts given were received.
     Met,
 }
 
-/// Looks at both rings of a pair. All that is left in them is then known to its end.
+/// Checks both rings of a pair, and returns how far it has come. All that is left in a ring is then known to the end that
+/// takes from it.
 pub fn meet<A: Allocator>(port: &mut ClosedPort<A>, end: &mut MergerEnd<A>) -> Meeting
     requires { IsOnePair port.old end.old }
     ensures meeting { MeetingIs result (closed_sent port.old) (end_taken end.old) (end_given end.old) (closed_got port.old) }

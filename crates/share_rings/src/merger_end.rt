@@ -31,7 +31,7 @@ impl<A: Allocator> MergerEnd<A> {
     ghost use Rattle.share_rings.specs.Closing.{has_close, has_closed, last_closed};
     ghost use Rattle.share_rings.specs.Ends.{end_taken, end_given, end_name, end_free, end_known, end_capacity, IsUnanswered};
 
-    /// Looks at the verdict ring. The answer is how many slots are now known to be free.
+    /// Checks the verdict ring. Returns how many slots are now known to be free.
     pub fn free(&mut self) -> u32
         ensures pair { end_name self.new ≡ end_name self.old }
         ensures capacity { end_capacity self.new ≡ end_capacity self.old }
@@ -43,7 +43,7 @@ impl<A: Allocator> MergerEnd<A> {
         self.verdicts.slots() as u32
     }
 
-    /// The next request, if one is seen. `None` changes nothing, and is the answer once `Close` was taken.
+    /// Takes the next request, if one is seen. `None` changes nothing, and is the answer once `Close` was taken.
     pub fn take(&mut self) -> Option<Request>
         ensures pair { end_name self.new ≡ end_name self.old }
         ensures capacity { end_capacity self.new ≡ end_capacity self.old }
@@ -63,7 +63,7 @@ impl<A: Allocator> MergerEnd<A> {
         Some(request)
     }
 
-    /// Gives the verdict of the first request without one.
+    /// Gives the verdict on the first request that has none.
     pub fn give(&mut self, verdict: Verdict)
         requires free { 0 < end_free self.old }
         requires unanswered { IsUnanswered self.old (closing.is_closed verdict) }
@@ -78,7 +78,7 @@ impl<A: Allocator> MergerEnd<A> {
         self.verdicts.push_reserved(verdict);
     }
 
-    /// Whether `Closed` was given: it is then the last that was.
+    /// Whether `Closed` was given. It is then the last verdict.
     pub fn ended(&self) -> bool
         ensures given { result ≡ has_closed (end_given self.now) }
         ensures last { result ≡ last_closed (end_given self.now) }

@@ -10,13 +10,13 @@ use rtrb::RingBuffer;
 use std::alloc::{AllocError, Allocator};
 use thiserror::Error;
 
-/// Why no pair was made, in the order in which the causes are looked at.
+/// Why no pair was made, in the order in which the causes are checked.
 #[derive(Clone, Copy, Debug, PartialEq, Eq, Error)]
 pub enum RingFault {
     /// A capacity of 0, or above 65,536.
     #[error("give a ring room for 1 to 65,536 items")]
     Ring,
-    /// Memory ran out.
+    /// The memory for the rings was refused.
     #[error("the rings' memory was refused: free some, or make smaller rings")]
     OutOfMemory,
 }
@@ -31,7 +31,7 @@ impl From<AllocError> for RingFault {
     }
 }
 
-/// A guest's two rings, for `capacity` items each: the guest's end and the merger's.
+/// Makes a guest's two rings, for `capacity` items each: the guest's end and the merger's.
 pub fn ring_pair<A: Allocator + Copy>(
     alloc: A,
     capacity: u32,
@@ -48,7 +48,7 @@ pub fn ring_pair<A: Allocator + Copy>(
     Ok(open_pair(alloc, capacity)?)
 }
 
-/// The same for a capacity that is known to be from 1 to 65,536.
+/// Makes them as [`ring_pair`] does, for a capacity that is known to be from 1 to 65,536.
 pub fn open_pair<A: Allocator + Copy>(
     alloc: A,
     capacity: u32,

@@ -13,7 +13,7 @@ use std::alloc::{Allocator, Global};
 pub struct Port<A: Allocator = Global> {
     pub(crate) requests: Producer<Request, A>,
     pub(crate) verdicts: Consumer<Verdict, A>,
-    // Whether the last verdict that was got is `Closed`.
+    // Whether the last verdict received is `Closed`.
     pub(crate) drained: bool,
     pub ghost open: { has_close (sent requests) ≡ false },
     pub ghost room: { producer_capacity requests ≤ known_free requests + length (sent requests) },
@@ -28,7 +28,7 @@ impl<A: Allocator> Port<A> {
     ghost use Rattle.share_rings.specs.Ends.{Sends, HasFilled, port_sent, port_got, port_name, port_capacity, port_known, closed_sent, closed_got, closed_name, closed_capacity, closed_known};
     ghost use Rattle.share_rings.specs.Faults.{NotSentFor};
 
-    /// Sends a request, or hands it back where no slot is known to be free.
+    /// Sends a request, or returns it if no slot is known to be free.
     pub fn send(&mut self, request: Request) -> Result<(), (Request, Busy)>
         requires { is_close request ≡ false }
         ensures sends { Sends self.old self.new request result }
@@ -49,7 +49,7 @@ impl<A: Allocator> Port<A> {
         Ok(())
     }
 
-    /// Sends a store of these bytes to page `ppn` from place `at` on.
+    /// Sends a store of these bytes to page `ppn`, starting at `at`.
     pub fn store(&mut self, ppn: u32, at: u32, bytes: &[u8]) -> Result<(), SendFault>
         ensures sends { Sends self.old self.new (Request.Store (record { ppn = ppn; at = at; bytes = bytes.now })) result }
         ensures fault { MatchResult result (λ _. Fits at (length bytes.now)) (λ fault. NotSentFor at (length bytes.now) (port_capacity self.old) (length (port_sent self.old)) fault) }
@@ -59,7 +59,7 @@ impl<A: Allocator> Port<A> {
         Ok(())
     }
 
-    /// Sends a load of `len` bytes of page `ppn` from place `at` on.
+    /// Sends a load of `len` bytes of page `ppn`, starting at `at`.
     pub fn load(&mut self, ppn: u32, at: u32, len: u32) -> Result<(), SendFault>
         ensures sends { Sends self.old self.new (Request.Load (record { ppn = ppn; at = at; len = len })) result }
         ensures fault { MatchResult result (λ _. Fits at len) (λ fault. NotSentFor at len (port_capacity self.old) (length (port_sent self.old)) fault) }
@@ -78,7 +78,7 @@ impl<A: Allocator> Port<A> {
         Ok(())
     }
 
-    /// Asks what the machine counts.
+    /// Sends a request for what the machine counts.
     pub fn count(&mut self) -> Result<(), SendFault>
         ensures sends { Sends self.old self.new Request.Count result }
         ensures busy { IfErr result (λ fault. (fault ≡ SendFault.Busy) × HasFilled self.old) }
@@ -87,7 +87,7 @@ impl<A: Allocator> Port<A> {
         Ok(())
     }
 
-    /// The next verdict, if one is seen. `None` changes nothing.
+    /// Returns the next verdict, if one is seen. `None` changes nothing.
     pub fn verdict(&mut self) -> Option<Verdict>
         ensures pair { port_name self.new ≡ port_name self.old }
         ensures capacity { port_capacity self.new ≡ port_capacity self.old }
@@ -102,7 +102,7 @@ impl<A: Allocator> Port<A> {
         Some(verdict)
     }
 
-    /// Sends `Close`. The port comes back unchanged where no slot is known to be free.
+    /// Sends `Close`, or returns the port unchanged if no slot is known to be free.
     pub fn close(self) -> Result<ClosedPort<A>, Port<A>>
         ensures pair { MatchResult result (λ closed. closed_name closed ≡ port_name self) (λ port. port_name port ≡ port_name self) }
         ensures capacity { MatchResult result (λ closed. closed_capacity closed ≡ port_capacity self) (λ port. port_capacity port ≡ port_capacity self) }

@@ -5,16 +5,16 @@ use rand_core::SeedableRng;
 use rand_core::utils::NextWord;
 use rand_pcg::Pcg32;
 
-// Where a scan stands.
+// How far a scan has come.
 #[derive(Debug, Drop)]
 enum Order {
-    // What the next number is modulo the pages.
+    // The next number is this modulo the number of pages.
     Sequential(u32),
-    // The generator of the next word.
+    // The next word comes from this generator.
     Random(Pcg32),
 }
 
-/// A scan of a guest's pages, in order or at random. It doesn't end.
+/// An endless scan of a guest's pages, in order or at random.
 #[derive(Debug, Drop)]
 pub struct Scan {
     pages: u32,
@@ -26,7 +26,7 @@ impl Scan {
     ghost use Rattle.std.specs.Prelude.{◌≡◌, ℕ, ◌+◌, ◌≤◌};
     ghost use Rattle.share_rings.specs.Numbers.{number_of, sequential_number, random_number};
 
-    /// A scan in order: number n, from 0 on, is n modulo `pages`.
+    /// Makes a scan in order: number n, counted from 0, is n modulo `pages`.
     pub fn sequential(pages: u32) -> Scan
         requires { 1 ≤ pages }
         ensures { (n : ℕ) → number_of result n ≡ sequential_number pages n }
@@ -37,7 +37,7 @@ impl Scan {
         }
     }
 
-    /// A scan at random: number n, from 0 on, is word n of the generator `Pcg32` that `seed_from_u64` makes of
+    /// Makes a scan at random: number n, counted from 0, is word n of the generator `Pcg32` that `seed_from_u64` makes from
     /// `seed`, modulo `pages`.
     pub fn random(seed: u64, pages: u32) -> Scan
         requires { 1 ≤ pages }
@@ -49,7 +49,7 @@ impl Scan {
         }
     }
 
-    /// The next number. What was number n + 1 before is number n after it.
+    /// Returns the next number. What was number n + 1 before the call is number n after it.
     pub fn next(&mut self) -> u32
         ensures number { result ≡ number_of self.old 0 }
         ensures rest { (n : ℕ) → number_of self.new n ≡ number_of self.old (n + 1) }
