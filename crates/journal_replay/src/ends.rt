@@ -56,7 +56,7 @@ pub struct Noted<T> {
 }
 
 impl<T> Noted<T> {
-    /// Wraps a reader or a writer that has not failed.
+    /// Makes a reader or a writer that has not failed.
     pub fn new(inner: T) -> Self
         ensures inner { inner_of result ≡ inner }
         ensures failed { failed_of result ≡ false }

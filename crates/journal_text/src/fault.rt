@@ -62,7 +62,7 @@ pub enum TextFault {
     /// The text ends before this line does.
     #[error("line {0} is cut off: expected {wanted}, and a line feed behind it", wanted = expectation(self))]
     Truncated(u32),
-    /// The last line has another number of lines than there are.
+    /// The end line has a wrong number of request lines.
     #[error("the number of request lines is wrong: expected {wanted}", wanted = expectation(self))]
     Count,
     /// A growth of memory was refused.

@@ -1,4 +1,4 @@
-//! The lines from the fourth on: a request of a guest, or the end.
+//! The lines after a text's head: a request of a guest, or the end.
 ghost use Rattle.std.specs.Prelude.{◌≡◌, ◌+◌, ◌/◌, ◌<◌, ◌≤◌, ◌^◌, ℕ, List, Option, Some, None, Ok, Err, false, codes, length, IsTrue, slice_get, IfOk, OnOk};
 ghost use Rattle.std.specs.Str.{bytes_eq};
 ghost use Rattle.journal_text.specs.Words.{spelled, is_bytes_word};
@@ -150,7 +150,7 @@ fn asked(rest: Left<'_>) -> Result<Asked, Cause>
     named(name, rest)
 }
 
-/// Whether a guest may ask, if `closed` says of each guest whether it has closed.
+/// Checks that a guest may ask; `closed` says of each guest whether it has closed.
 pub fn may_ask(closed: &[bool], guest: u32) -> Result<(), Cause>
     ensures value { result ≡ may_ask (slice_get closed.now guest) }
     ensures below { OnOk result (guest < length closed.now) }
@@ -191,7 +191,7 @@ fn entry(closed: &[bool], first: &[u8], rest: Left<'_>) -> Result<Line<Entry>, C
     }))
 }
 
-/// Reads a line, if `closed` says of each guest whether it has closed.
+/// Reads a line; `closed` says of each guest whether it has closed.
 #[tactic(auto, unfolding(crate::specs::Requests::line_of))]
 pub fn read_line(closed: &[bool], line: &[u8]) -> Result<Line<Entry>, Cause>
     requires { length closed.now ≤ 64 }

@@ -97,7 +97,7 @@ pub fn next_number<'a>(rest: Left<'a>) -> Result<(u32, Left<'a>), Cause>
     Ok((number(first)?, rest))
 }
 
-/// Whether a word is bytes: lower case digits, two for each byte, at least two.
+/// Whether a word is bytes: lower case hexadecimal digits, two for each byte, at least two.
 pub fn is_bytes(word: &[u8]) -> bool
     ensures { result ≡ is_bytes_word word.now }
 {

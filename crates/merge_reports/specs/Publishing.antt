@@ -8,13 +8,13 @@ use Rattle.merge_reports.specs.Reports.{NeverFalls}
 use Rattle.merge_reports.specs.Lists.{published, publisher_id, list_told, told_id, seen, heard, watch_id}
 
 module _ {A : Type 0} where
-  -- what is returned is the whole list as it is, and in it the entry counts never fall
+  -- the `Told` is of the whole list as it is, and in it the entry counts never fall
   pub record TellsAll (p : Publisher A) (t : Told) : Type 0 where
     pub list : list_told t ≡ published p
     pub never_falls : NeverFalls (list_told t)
     pub same : told_id t ≡ publisher_id p
 
-  -- the report comes after all that were published before, and the whole list is returned
+  -- the report comes after all that were published before, and the `Told` is of the whole list
   pub record Publishes (before after : Publisher A) (r : Totals) (t : Told) : Type 0 where
     pub list : published after ≡ published before ++ r ∷ []
     pub told : TellsAll after t

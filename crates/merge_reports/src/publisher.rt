@@ -51,7 +51,7 @@ pub struct Publisher<A: Allocator = Global> {
     pub ghost tied_here: { (view writer.desk.place).history.book ≡ history.book },
 }
 
-// The most notes of a history. A publish makes at most two: at a million a second they last for 73,000 years.
+// The most notes of a history. A publish makes at most two: at a million publishes a second they last for 73,000 years.
 const MAX_NOTES: u64 = 1 << 62;
 
 // Returns what is shown before the first publish.
@@ -103,7 +103,7 @@ impl<A: Allocator> Publisher<A> {
         })
     }
 
-    /// Publishes a report, and returns the whole list with it. May wait for a watch that is reading.
+    /// Publishes a report, and returns a [`Told`] of the whole list. May wait for a watch that is reading.
     ///
     /// An `Err` changes nothing. It comes when memory is refused, and after 2^61 calls.
     pub fn publish<R: Wait>(&mut self, rt: &R, report: Report) -> Result<Told, OutOfMemory>
@@ -148,7 +148,7 @@ impl<A: Allocator> Publisher<A> {
         Ok(self.told.again())
     }
 
-    /// Returns all reports that were published so far. Takes no memory.
+    /// Returns a [`Told`] of all reports that were published so far. Takes no memory.
     pub fn tell(&self) -> Told
         ensures { TellsAll self.now result }
     {

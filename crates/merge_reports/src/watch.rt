@@ -24,7 +24,7 @@ type Place<A> = Reader<Shown, Seat, LastShown, A>;
 
 /// Reads the report that was published last, in any thread.
 ///
-/// It has the list of reports that it saw, whose last one it read, and the lists that it learned. It keeps none of them in
+/// It has the list of reports that it saw, the last of which it read, and the lists that it learned. It keeps none of them in
 /// memory.
 #[derive(Drop)]
 pub struct Watch<A: Allocator = Global> {
@@ -56,7 +56,7 @@ impl<A: Allocator> Watch<A> {
         }
     }
 
-    /// Learns what the watch's publisher had published, so that no later read is older. Takes no memory.
+    /// Learns what the watch's publisher had published when it made `told`, so that no later read is older. Takes no memory.
     pub fn learn(&mut self, told: Told)
         requires same_publisher { told_id told ≡ watch_id self.old }
         ensures { Hears self.old self.new told }

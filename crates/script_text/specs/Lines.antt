@@ -84,8 +84,8 @@ with_room most total guest work =
 unfoldable pub item_at : ℕ → ℕ → ℕ → List ℕ → Option (List ℕ) → Result (Line Item) Cause
 item_at guests most total first left = asking work_at (is_guest guests) (with_room most total) first left
 
--- What a line after the head says, of a script with this many guests and a journal of `most` entries. total: how many of them the
--- guests' closes and the requests before the line take.
+-- What a line after the head says, of a script with this many guests and a journal of `most` entries. total: how many of them
+-- the guests' closes and the requests before the line take.
 unfoldable pub script_line_of : ℕ → ℕ → ℕ → List ℕ → Result (Line Item) Cause
 script_line_of guests most total line = behind_head (item_at guests most total) line
 

@@ -47,7 +47,7 @@ fn tell_no_thread<W: Sink>(writer: &mut W) -> Result<(), ThreadedFault>
     }
 }
 
-/// Returns why the run of a script that was read was refused; if no thread could be started, the line of that fault is written.
+/// Returns why the run of a script that was read was refused. If it was for lack of a thread, writes the line of that fault.
 fn tell_refused<W: Sink>(writer: &mut W, fault: RunFault) -> Result<(), ThreadedFault>
     requires left { IsLeft fault }
     requires fine { W.has_failed writer.old ≡ false }
@@ -167,8 +167,9 @@ fn read_and_run<
 /// Reads a script, runs it with a thread for each guest, and writes what `form` names: each guest's verdict lines in the order
 /// in which it got them, guest 0's first, and then the report line; or the text of the run's journal.
 ///
-/// The journal of a run depends on the threads; in each one, the entries are of the script's guests, and each guest asks for
-/// what its script says and then closes. `gate` is called in the guests' threads, around each send and verdict.
+/// The journal of a run depends on the threads; in every journal the entries are of the script's guests, and each guest asks
+/// for what its script says and then closes. `gate` is called in the guests' threads, around each send and verdict, and on the
+/// calling thread before the first of them is started.
 ///
 /// # Errors
 ///

@@ -51,8 +51,8 @@ impl<H: PageHash, A: Allocator> Merger<H, A> {
         self.plain.step(guest)
     }
 
-    /// Publishes the report of the whole journal, and returns the whole list of published reports with it. May wait for a watch
-    /// that is reading.
+    /// Publishes the report of the whole journal, and returns a [`Told`] of all published reports. May wait for a watch that is
+    /// reading.
     ///
     /// # Errors
     ///
@@ -65,7 +65,7 @@ impl<H: PageHash, A: Allocator> Merger<H, A> {
         self.publisher.publish(rt, self.plain.report())
     }
 
-    /// Returns all reports that were published so far. Takes no memory.
+    /// Returns a [`Told`] of all reports that were published so far. Takes no memory.
     pub fn tell(&self) -> Told
         ensures { Tells H.hash_of self.now result }
     {

@@ -76,8 +76,8 @@ impl<H: PageHash, A: Allocator> Settled<H, A> {
         self.plain.port(guest)
     }
 
-    /// Publishes the report of the whole journal, and returns the whole list of published reports with it. May wait for a watch
-    /// that is reading.
+    /// Publishes the report of the whole journal, and returns a [`Told`] of all published reports. May wait for a watch that is
+    /// reading.
     ///
     /// # Errors
     ///
@@ -103,7 +103,7 @@ impl<H: PageHash, A: Allocator> Settled<H, A> {
         self.publisher.watch()
     }
 
-    /// Returns all reports that were published. Takes no memory.
+    /// Returns a [`Told`] of all reports that were published. Takes no memory.
     pub fn tell(&self) -> Told
         ensures { SettledTells H.hash_of self.now result }
     {

@@ -38,7 +38,7 @@ use std::thread::Threads;
 /// # Errors
 ///
 /// The first cause that holds, in the order of [`RunFault`]. All memory except that of a publish and of the viewer's thread is
-/// taken before the first thread is started, the publisher's first.
+/// taken before the first guest's thread is started, the publisher's first.
 pub fn run<
     R: Threads + Wait + Sync,
     H: PageHash + Drop,
