@@ -22,7 +22,7 @@ write_failed (Err e) bytes = true
 abbrev pub AppendsFront : Option (List ℕ) → Option (List ℕ) → List ℕ → Type 0
 AppendsFront old new bytes = (n : ℕ) × Appends old new (take n bytes)
 
--- known bytes grew by what comes before ahead in a whole text
+-- known bytes grew by what comes before `ahead` in a whole text
 pub record Sends (old new : Option (List ℕ)) (ahead whole : List ℕ) : Type 0 where
   pub sent : List ℕ
   pub appends : Appends old new sent

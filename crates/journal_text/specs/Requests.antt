@@ -92,7 +92,8 @@ end_at left = do
   _ ← nothing_at count.1
   Ok (Ends count.0)
 
--- A guest's line: its form is checked first, then whether its guest may ask, then its numbers, and then what enter makes of it.
+-- A guest's line: its form is checked first, then whether its guest may ask, then its numbers, and then what `enter` makes of
+-- it.
 abbrev pub asking : {X Y : Type 0} → (Option (List ℕ) → Result (Result X Cause) Cause) → (ℕ → Result (Unit {0}) Cause) → (ℕ → X → Result Y Cause) → List ℕ → Option (List ℕ) → Result (Line Y) Cause
 asking asked_at may enter first left = do
   guest ← number first

@@ -80,7 +80,7 @@ is_whole (b ∷ c ∷ text) = is_whole (c ∷ text)
 abbrev pub closed_after : List Bool → Entry → List Bool
 closed_after closed e = if is_close e.request then slice_set closed e.guest true else closed
 
--- Line n is the end line. It has the number of request lines before it, which is k; then it must be the last line.
+-- Line n is the end line. It must have the number of request lines before it, which is k, and after that be the last line.
 abbrev pub ended : ℕ → ℕ → Bool → ℕ → Result (Unit {0}) TextFault
 ended n k last count = if count == k then (if last then Ok tt else Err (faults.Line (n + 1) causes.Form)) else Err faults.Count
 
@@ -89,7 +89,7 @@ abbrev pub nothing_more : {X : Type 0} → Result (Unit {0}) TextFault → Resul
 nothing_more (Ok done) = Ok []
 nothing_more (Err fault) = Err fault
 
--- what line n and the lines after it say: what it enters goes before what more reads from the later lines
+-- what line n and the lines after it say: what it enters goes before what `more` reads from the later lines
 abbrev pub goes_on : {X : Type 0} → ℕ → ℕ → Bool → Result (Line X) Cause → (X → Result (List X) TextFault) → Result (List X) TextFault
 goes_on n k last (Err cause) more = Err (faults.Line n cause)
 goes_on n k last (Ok (Ends count)) more = nothing_more (ended n k last count)
