@@ -5,7 +5,7 @@ use Rattle.journal_replay.specs.declared.ends.Noted.{Noted}
 use Rattle.journal_text.specs.declared.fault.TextFault.{TextFault}
 use Rattle.journal_text.specs.declared.fault.TextFault.TheVariants as faults
 
--- the reader or writer that is noted
+-- the inner reader or writer
 abbrev pub inner_of : {T : Type 0} → Noted T → T
 inner_of noted = noted.inner
 
@@ -13,7 +13,7 @@ inner_of noted = noted.inner
 abbrev pub failed_of : {T : Type 0} → Noted T → Bool
 failed_of noted = is_some noted.error
 
--- a write failed: it answered an error, or took 0 of some bytes
+-- a write failed: it returned an error, or wrote 0 of some bytes
 abbrev pub write_failed : {E : Type 0} → Result ℕ E → List ℕ → Bool
 write_failed (Ok n) bytes = n == 0 && nat_lt 0 (length bytes)
 write_failed (Err e) bytes = true
@@ -22,13 +22,13 @@ write_failed (Err e) bytes = true
 abbrev pub AppendsFront : Option (List ℕ) → Option (List ℕ) → List ℕ → Type 0
 AppendsFront old new bytes = (n : ℕ) × Appends old new (take n bytes)
 
--- known bytes grew by what stands before ahead in a whole text
+-- known bytes grew by what comes before `ahead` in a whole text
 pub record Sends (old new : Option (List ℕ)) (ahead whole : List ℕ) : Type 0 where
   pub sent : List ℕ
   pub appends : Appends old new sent
   pub rest : sent ++ ahead ≡ whole
 
--- the fault tells of a failed read
+-- the fault says that a read failed
 abbrev pub is_read_fault : TextFault → Bool
 is_read_fault faults.Read = true
 is_read_fault faults.Write = false
@@ -38,7 +38,7 @@ is_read_fault faults.Count = false
 is_read_fault faults.OutOfMemory = false
 is_read_fault faults.Long = false
 
--- the fault tells of a failed write
+-- the fault says that a write failed
 abbrev pub is_write_fault : TextFault → Bool
 is_write_fault faults.Write = true
 is_write_fault faults.Read = false

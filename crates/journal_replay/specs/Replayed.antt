@@ -27,7 +27,7 @@ lines_from hash s es = verdict_lines es (verdicts_of hash s es)
 abbrev pub report_text : State → List ℕ
 report_text s = report_line (totals s.entries s.guests) ++ codes "\n"
 
--- the lines of the entries' verdicts from a state on, and of the report after them
+-- the lines of the entries' verdicts from a state on, and then the report's
 unfoldable pub printed_from : (ℕ → List ℕ → ℕ) → State → List Entry → List ℕ
 printed_from hash s es = lines_from hash s es ++ report_text (state_after hash s es)
 
@@ -44,7 +44,7 @@ abbrev pub written_for : Result (List ℕ) TextFault → List ℕ
 written_for (Ok text) = text
 written_for (Err fault) = fault_line fault ++ codes "\n"
 
--- Why printing a text failed: where memory ran out nothing went out, and where the writer failed a front did.
+-- Why printing a text failed: if memory ran out nothing went out, and if the writer failed a front did.
 abbrev pub NotPrinted : Option (List ℕ) → Option (List ℕ) → List ℕ → TextFault → Type 0
 NotPrinted old new text faults.OutOfMemory = Keeps old new
 NotPrinted old new text faults.Write = AppendsFront old new text
@@ -54,18 +54,18 @@ NotPrinted old new text faults.Count = ⊥
 NotPrinted old new text faults.Read = ⊥
 NotPrinted old new text faults.Long = ⊥
 
--- a fault of the text, of which one line tells
+-- a fault of the text, whose line was written
 abbrev pub Told : TextFault → Option (List ℕ) → Option (List ℕ) → Result (List ℕ) TextFault → Type 0
 Told fault old new answer = (answer ≡ Err fault) × Appends old new (written_for answer)
 
--- How a refusal for a fault ends: its line went out, or a front of it as the writer failed, or nothing as memory ran out.
+-- How a refusal for a fault ends: its line went out, or a front of it since the writer failed, or nothing since memory ran out.
 abbrev pub Refuses : TextFault → Option (List ℕ) → Option (List ℕ) → TextFault → Type 0
 Refuses fault old new e =
     ((e ≡ fault) × Appends old new (fault_line fault ++ codes "\n"))
     ⊎ ((e ≡ faults.Write) × AppendsFront old new (fault_line fault ++ codes "\n"))
     ⊎ ((e ≡ faults.OutOfMemory) × Keeps old new)
 
--- How work on a text at fault ends: a fault of the text is told by its line, and other faults are answered alone.
+-- How work on a text at fault ends: for a fault of the text its line is written, and other faults are only returned.
 abbrev pub Refused : TextFault → Option (List ℕ) → Option (List ℕ) → Result (Unit {0}) TextFault → Type 0
 Refused (faults.Line n cause) old new r = IsErr r × IfErr r (λ e. Refuses (faults.Line n cause) old new e)
 Refused (faults.Truncated n) old new r = IsErr r × IfErr r (λ e. Refuses (faults.Truncated n) old new e)
@@ -75,8 +75,8 @@ Refused faults.Long old new r = (r ≡ Err faults.Long) × Keeps old new
 Refused faults.Read old new r = (r ≡ Err faults.Read) × Keeps old new
 Refused faults.Write old new r = (r ≡ Err faults.Write) × Keeps old new
 
--- What an engine does with the bytes, where answer has the output for each input, or the input's fault. input: what the
--- reader had; old and new: what the writer holds.
+-- What an engine does with the bytes; answer has the output for each input, or the input's fault. input: what the reader had;
+-- old and new: what the writer holds.
 abbrev pub Writes : (List ℕ → Result (List ℕ) TextFault) → Option (List ℕ) → Option (List ℕ) → Option (List ℕ) → Result (Unit {0}) TextFault → Type 0
 Writes answer input old new (Ok done) = IfSome input (λ text. IsOk (answer text) × Appends old new (written_for (answer text)))
 Writes answer input old new (Err (faults.Line n cause)) = IfSome input (λ text. Told (faults.Line n cause) old new (answer text))

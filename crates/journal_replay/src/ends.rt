@@ -11,7 +11,7 @@ use std::io::{self, ErrorKind, Read, Write};
 
 /// A reader that remembers whether a read failed.
 pub trait Source {
-    // The bytes that reads will give, where they are known.
+    // The bytes that reads will return, if they are known.
     ghost remaining: { Self → Option (List ℕ) };
     // Whether a read failed.
     ghost has_failed: { Self → Bool };
@@ -27,9 +27,9 @@ pub trait Source {
         ensures { result ≡ has_failed self.now };
 }
 
-/// A writer that remembers whether a write failed, also by taking none of some bytes.
+/// A writer that remembers whether a write failed; a write that wrote none of some bytes counts as failed.
 pub trait Sink {
-    // The bytes that the writer holds, where they are known.
+    // The bytes that the writer holds, if they are known.
     ghost contents: { Self → Option (List ℕ) };
     // Whether a write failed.
     ghost has_failed: { Self → Bool };
@@ -47,8 +47,8 @@ pub trait Sink {
 
 /// A reader or a writer of std, with the error of the last call on it that failed.
 ///
-/// Each call makes one call of the inner reader or writer and hands its answer on. No contract says that, since
-/// none can count calls: tests do.
+/// Each call makes one call of the inner reader or writer and returns its answer. No contract says that, since none can count
+/// calls: tests check it.
 #[derive(Drop)]
 pub struct Noted<T> {
     inner: T,
@@ -56,7 +56,7 @@ pub struct Noted<T> {
 }
 
 impl<T> Noted<T> {
-    /// A reader or a writer that has not failed.
+    /// Makes a reader or a writer that has not failed.
     pub fn new(inner: T) -> Self
         ensures inner { inner_of result ≡ inner }
         ensures failed { failed_of result ≡ false }
@@ -64,8 +64,8 @@ impl<T> Noted<T> {
         Noted { inner, error: None }
     }
 
-    /// Why the last failed call failed; `None` where none has. A write that took none of some bytes has the
-    /// kind `WriteZero`.
+    /// Returns why the last failed call failed; `None` if none has. A write that wrote none of some bytes has the kind
+    /// `WriteZero`.
     pub fn error(&self) -> Option<io::Error>
         ensures { is_some result ≡ failed_of self.now }
     {
@@ -109,7 +109,7 @@ impl<W: Write> Sink for Noted<W> {
     }
 }
 
-/// Why a write of `buf` failed, if it did.
+/// Returns why a write of `buf` failed, if it did.
 fn write_error(took: &io::Result<usize>, buf: &[u8]) -> Option<io::Error>
     ensures { is_some result ≡ write_failed took.now buf.now }
 {
@@ -123,7 +123,7 @@ fn write_error(took: &io::Result<usize>, buf: &[u8]) -> Option<io::Error>
 /// How many bytes are asked for at once.
 const PIECE_BYTES: usize = 65_536;
 
-/// So many zeros.
+/// Returns this many zeros.
 fn room<A: Allocator>(alloc: A, len: usize) -> Result<Vec<u8, A>, TextFault>
     ensures len { IfOk result (λ v. vec_len v ≡ len) }
     ensures err { IfErr result (λ e. e ≡ TextFault.OutOfMemory) }
@@ -131,7 +131,7 @@ fn room<A: Allocator>(alloc: A, len: usize) -> Result<Vec<u8, A>, TextFault>
     Ok(vec![in alloc; 0; len]?)
 }
 
-/// All that a reader gives. An `Err` is `Read`, `Long` or `OutOfMemory`.
+/// Reads all that a reader has. An `Err` is `Read`, `Long` or `OutOfMemory`.
 pub fn read_all<R: Source, A: Allocator + Clone>(
     alloc: A,
     reader: &mut R,

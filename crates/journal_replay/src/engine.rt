@@ -20,7 +20,7 @@ use page_digest::PageHash;
 use page_model::{Entry, MachineShape};
 use std::alloc::Allocator;
 
-/// The machine of this shape, before its first request.
+/// Makes the machine of this shape, before its first request.
 pub fn core_of<H: PageHash + Drop, A: Allocator + Clone>(
     alloc: A,
     shape: &MachineShape<'_>,
@@ -34,8 +34,8 @@ pub fn core_of<H: PageHash + Drop, A: Allocator + Clone>(
     Ok(core)
 }
 
-/// Serves an entry, and puts its verdict's line behind what the buffer holds. Those that come next are looked at for pages to
-/// hash with the one that the entry proposes.
+/// Serves an entry, and appends its verdict's line to the buffer. The entries that come next are searched for pages to hash
+/// with the one that the entry proposes.
 fn print_entry<H: PageHash, W: Sink, A: Allocator>(
     core: &mut Core<H, A>,
     entry: &Entry,
@@ -63,7 +63,7 @@ fn print_entry<H: PageHash, W: Sink, A: Allocator>(
     Ok(())
 }
 
-/// Serves these entries, and puts the lines of their verdicts behind what the buffer holds.
+/// Serves these entries, and appends the lines of their verdicts to the buffer.
 pub fn print_run<H: PageHash, W: Sink, A: Allocator>(
     core: &mut Core<H, A>,
     entries: &[Entry],
@@ -90,7 +90,7 @@ pub fn print_run<H: PageHash, W: Sink, A: Allocator>(
     Ok(())
 }
 
-/// Writes what the buffer holds, and the report's line behind it.
+/// Writes what the buffer holds, and then the report's line.
 pub fn print_report<H: PageHash, W: Sink, A: Allocator>(
     core: &Core<H, A>,
     writer: &mut W,
@@ -109,7 +109,7 @@ pub fn print_report<H: PageHash, W: Sink, A: Allocator>(
     write_all(writer, out.as_bytes())
 }
 
-/// Writes the lines of the entries' verdicts, and of the report after them, by way of an empty buffer.
+/// Writes the lines of the entries' verdicts, and then the report's, through an empty buffer.
 fn print_all<H: PageHash, W: Sink, A: Allocator>(
     core: &mut Core<H, A>,
     entries: &[Entry],
@@ -131,8 +131,8 @@ fn print_all<H: PageHash, W: Sink, A: Allocator>(
     print_report(core, writer, out)
 }
 
-/// Writes the lines of the verdicts of a new machine's first entries, and of the report after them. All memory is
-/// taken before the first write.
+/// Writes the lines of the verdicts of a new machine's first entries, and then the report's. All memory is taken before the
+/// first write.
 fn print_entries<H: PageHash + Drop, W: Sink, A: Allocator + Clone>(
     alloc: A,
     shape: &MachineShape<'_>,
@@ -170,7 +170,7 @@ fn print_journal<H: PageHash + Drop, W: Sink, A: Allocator + Clone>(
     print_entries(alloc, &shape, &journal.entries, writer, hash)
 }
 
-/// Writes the line that tells of a fault of the text, and answers the fault.
+/// Writes the line of a fault of the text, and returns the fault.
 fn refuse<W: Sink, A: Allocator>(
     alloc: A,
     writer: &mut W,
@@ -190,8 +190,8 @@ fn refuse<W: Sink, A: Allocator>(
     Err(fault)
 }
 
-/// Answers a fault that kept a text from being read or served. One of the text's lines is told by the fault's line; of
-/// the others nothing is written.
+/// Returns a fault that kept a text from being read or served. For `Line`, `Truncated` and `Count` the line of the fault is
+/// written; for the others nothing is.
 pub fn tell_fault<W: Sink, A: Allocator>(
     alloc: A,
     writer: &mut W,
@@ -217,9 +217,9 @@ pub fn tell_fault<W: Sink, A: Allocator>(
 
 /// Reads a journal, and writes a verdict line for each entry and then the report line.
 ///
-/// Where the text is at fault, the fault's line is written and nothing else, and the fault is answered. On
-/// `OutOfMemory`, `Read` and `Long` nothing was written, and on `Write` a front of the output went out. `Read`
-/// is answered exactly where the reader failed, and `Write` exactly where the writer did.
+/// If the text is at fault, only the line of the fault is written, and the fault is returned. On `OutOfMemory`, `Read` and
+/// `Long` nothing was written, and on `Write` a front of the output went out. `Read` is returned exactly if the reader failed,
+/// and `Write` exactly if the writer did.
 pub fn replay<R: Source, W: Sink, H: PageHash + Drop, A: Allocator + Clone>(
     alloc: A,
     reader: &mut R,

@@ -1,7 +1,7 @@
 //! The engine that replays a journal, from a reader to a writer.
 //!
-//! What it writes, and what it answers at a fault, stands in `docs/FORMATS.md`; `specs/` defines it apart from the code.
-//! The readers, the writers and the buffer serve the engines of scripts too.
+//! What it writes, and what it returns at a fault, is in `docs/FORMATS.md`; `specs/` defines it independently of the code. The
+//! engines of scripts use the readers, the writers and the buffer too.
 #![tactic(auto)]
 
 pub mod ends;

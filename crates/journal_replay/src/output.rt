@@ -1,4 +1,4 @@
-//! Lines on their way to a writer, through a buffer that takes no memory after it was made.
+//! Lines on their way to a writer, through a buffer that takes no memory once it is made.
 ghost use Rattle.std.specs.Prelude.{◌≡◌, ◌+◌, ◌≤◌, ◌++◌, [], codes, true, false, string_bytes, string_len, string_capacity, IfOk, IfErr, OnOk, OnErr};
 ghost use Rattle.page_model.specs.Parts.{Totals};
 ghost use Rattle.journal_replay.specs.Ends.{AppendsFront, Sends};
@@ -13,10 +13,10 @@ use std::alloc::{AllocError, Allocator};
 /// How many bytes of output are kept before they are written.
 const OUTPUT_BYTES: usize = 65_536;
 
-/// No verdict or report line is longer, its line feed counted.
+/// No verdict or report line is longer, including its line feed.
 pub const LINE_BYTES: usize = 160;
 
-/// An empty buffer with all its room.
+/// Makes an empty buffer with all its room.
 pub fn buffer<A: Allocator>(alloc: A) -> Result<String<A>, AllocError>
     ensures bytes { IfOk result (λ out. string_bytes out ≡ []) }
     ensures room { IfOk result (λ out. LINE_BYTES ≤ string_capacity out) }
@@ -24,7 +24,7 @@ pub fn buffer<A: Allocator>(alloc: A) -> Result<String<A>, AllocError>
     String::with_capacity(alloc, OUTPUT_BYTES)
 }
 
-/// Writes what the buffer holds, where a longest line may not fit behind it.
+/// Writes what the buffer holds, if a longest line may not fit after it.
 pub fn make_room<W: Sink, A: Allocator>(
     writer: &mut W,
     out: &mut String<A>,

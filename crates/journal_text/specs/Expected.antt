@@ -1,4 +1,4 @@
--- What would have been right where a text or the work on it is at fault, in words for a person.
+-- What would have been right instead of a fault of a text or of the work on it, in words for a person.
 use Rattle.std.specs.Prelude.{ℕ, ◌==◌, if◌then◌else◌, List, codes}
 use Rattle.journal_text.specs.declared.fault.Cause.{Cause}
 use Rattle.journal_text.specs.declared.fault.Cause.TheVariants as causes
@@ -14,7 +14,7 @@ line_form n =
     else if n == 4 then codes "a request line, as \"GUEST propose PPN\", or \"end NUMBER\" with nothing behind that line; in version 2 \"salts NUMBER ..\""
     else codes "a request line, as \"GUEST propose PPN\", or \"end NUMBER\" with nothing behind that line"
 
--- what line n is to be, where it is at fault for this cause
+-- what line n must be, if it is at fault for this cause
 abbrev pub expected_on : ℕ → Cause → List ℕ
 expected_on n causes.Header = line_form n
 expected_on n causes.Form = line_form n

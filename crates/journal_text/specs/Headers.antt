@@ -11,7 +11,7 @@ use Rattle.journal_text.specs.Words.{◌>>=◌, is_space, word_at, nothing_at, n
 abbrev pub is_feed : ℕ → Bool
 is_feed b = b == 10
 
--- Line n, and what stands behind its line feed. A line that has none is cut off.
+-- Line n, and what comes after its line feed. A line that has none is cut off.
 unfoldable pub line_at : ℕ → List ℕ → Result (List ℕ × List ℕ) TextFault
 line_at n text = if nat_lt (position_or_len is_feed text) (length text) then Ok (before_first is_feed text, after_first is_feed text) else Err (faults.Truncated n)
 
@@ -20,7 +20,7 @@ abbrev pub at_line : {A : Type 0} → ℕ → Result A Cause → Result A TextFa
 at_line n (Ok x) = Ok x
 at_line n (Err cause) = Err (faults.Line n cause)
 
--- this word stands at the place of a line's name
+-- this word is the name that a line must have
 abbrev pub keyword : List ℕ → List ℕ → Result (Unit {0}) Cause
 keyword name word = if bytes_eq word name then Ok tt else Err causes.Form
 
@@ -37,7 +37,7 @@ frames_of line = do
   _ ← nothing_at n.1
   frames_in_limits n.0
 
--- the words that are left of a line
+-- the remaining words of a line
 abbrev pub words_in : Option (List ℕ) → List (List ℕ)
 words_in None = []
 words_in (Some bytes) = slice_split is_space bytes
@@ -54,7 +54,7 @@ numbers (word ∷ words) = do
 abbrev pub are_pages : List ℕ → Bool
 are_pages pages = list_all (nat_lt 0) pages && nat_le (sum pages) (2 ^ 20)
 
--- 1 to 64 guests with their pages. The form comes first, then the number of guests, then the pages
+-- 1 to 64 guests with their pages. The form is checked first, then the number of guests, then the pages
 abbrev pub pages_in_limits : List ℕ → Result (List ℕ) Cause
 pages_in_limits pages =
     if length pages == 0 then Err causes.Form
@@ -70,14 +70,14 @@ pages_of line = do
   pages ← numbers (words_in first.1)
   pages_in_limits pages
 
--- one salt for each of so many guests. The form comes first
+-- one salt for each of this many guests. The form is checked first
 abbrev pub salts_in_limits : ℕ → List ℕ → Result (List ℕ) Cause
 salts_in_limits guests salts =
     if length salts == 0 then Err causes.Form
     else if length salts == guests then Ok salts
     else Err causes.Salts
 
--- salts NUMBER .., for so many guests
+-- salts NUMBER .., for this many guests
 unfoldable pub salts_of : ℕ → List ℕ → Result (List ℕ) Cause
 salts_of guests line = do
   first ← word_at (Some line)

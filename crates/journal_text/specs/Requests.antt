@@ -1,4 +1,4 @@
--- The lines behind a text's head: a request of a guest, or the end.
+-- The lines after a text's head: a request of a guest, or the end.
 use Rattle.std.specs.Prelude.{◌≡◌, ℕ, ◌+◌, ◌<◌, ◌==◌, ◌||◌, nat_lt, Bool, true, false, if◌then◌else◌, List, length, Option, Some, None, Result, Ok, Err, IfOk, slice_get, codes}
 use Rattle.std.specs.Str.{bytes_eq}
 use Rattle.page_model.specs.Closing.{is_close}
@@ -18,15 +18,15 @@ stored ppn at bytes =
     else if nat_lt 4096 (at + length bytes) then Err Crosses
     else Ok (Store (record { ppn = ppn; at = at; bytes = bytes }))
 
--- a load of so many bytes, or what is wrong with its numbers
+-- a load of len bytes, or what is wrong with its numbers
 abbrev pub loaded : ℕ → ℕ → ℕ → Result Request Cause
 loaded ppn at len =
     if len == 0 || nat_lt 64 len then Err Length
     else if nat_lt 4096 (at + len) then Err Crosses
     else Ok (Load (record { ppn = ppn; at = at; len = len }))
 
--- What stands behind the word that names a request. The outer answer is about the form, which comes before every other
--- cause; the inner one is the request, or what is wrong with its numbers.
+-- What comes after the word that names a request. The outer answer is about the form, which is checked before everything else;
+-- the inner one is the request, or what is wrong with its numbers.
 unfoldable pub propose_at : Option (List ℕ) → Result (Result Request Cause) Cause
 propose_at left = do
   ppn ← number_at left
@@ -62,7 +62,7 @@ bare_at request left = do
   _ ← nothing_at left
   Ok (Ok request)
 
--- by the word that names the request
+-- what comes after the guest's number, by the word that names the request
 unfoldable pub named : List ℕ → Option (List ℕ) → Result (Result Request Cause) Cause
 named name left =
     if bytes_eq name (codes "propose") then propose_at left
@@ -73,27 +73,27 @@ named name left =
     else if bytes_eq name (codes "close") then bare_at Close left
     else Err Form
 
--- what stands behind the guest's number
+-- what comes after the guest's number
 unfoldable pub asked_at : Option (List ℕ) → Result (Result Request Cause) Cause
 asked_at left = do
   name ← word_at left
   named name.0 name.1
 
--- A guest may ask where it is one of the machine's and hasn't closed; closed says of each guest whether it has.
+-- A guest may ask if it is one of the machine's and hasn't closed; closed says of each guest whether it has.
 abbrev pub may_ask : Option Bool → Result (Unit {0}) Cause
 may_ask None = Err NoGuest
 may_ask (Some true) = Err AfterClose
 may_ask (Some false) = Ok tt
 
--- end NUMBER, behind the word end
+-- end NUMBER, after the word end
 unfoldable pub end_at : {X : Type 0} → Option (List ℕ) → Result (Line X) Cause
 end_at left = do
   count ← number_at left
   _ ← nothing_at count.1
   Ok (Ends count.0)
 
--- A guest's line: its form comes first, then whether its guest may ask, then what is wrong with its numbers, and then
--- what enter makes of it.
+-- A guest's line: its form is checked first, then whether its guest may ask, then its numbers, and then what `enter` makes of
+-- it.
 abbrev pub asking : {X Y : Type 0} → (Option (List ℕ) → Result (Result X Cause) Cause) → (ℕ → Result (Unit {0}) Cause) → (ℕ → X → Result Y Cause) → List ℕ → Option (List ℕ) → Result (Line Y) Cause
 asking asked_at may enter first left = do
   guest ← number first
@@ -103,21 +103,21 @@ asking asked_at may enter first left = do
   y ← enter guest x
   Ok (Enters y)
 
--- a line behind the head: the end line, or a guest's
+-- a line after the head: the end line, or a guest's
 abbrev pub behind_head : {X : Type 0} → (List ℕ → Option (List ℕ) → Result (Line X) Cause) → List ℕ → Result (Line X) Cause
 behind_head guest_at line = do
   first ← word_at (Some line)
   if bytes_eq first.0 (codes "end") then end_at first.1 else guest_at first.0 first.1
 
--- a request line, where closed says of each guest whether its close has come
+-- a request line; closed says of each guest whether it has closed
 unfoldable pub entry_at : List Bool → List ℕ → Option (List ℕ) → Result (Line Entry) Cause
 entry_at closed first left = asking asked_at (λ guest. may_ask (slice_get closed guest)) (λ guest request. Ok (record { guest = guest; request = request })) first left
 
--- what a line behind a journal's head says
+-- what a line after a journal's head says
 unfoldable pub line_of : List Bool → List ℕ → Result (Line Entry) Cause
 line_of closed line = behind_head (entry_at closed) line
 
--- what is asked is no close
+-- what is asked for is not a close
 abbrev pub IsPlain : Result Request Cause → Type 0
 IsPlain asked = IfOk asked (λ request. is_close request ≡ false)
 

@@ -1,5 +1,5 @@
--- A journal's text, version 1 or 2: what it says, or its first fault. The lines are looked at in order, and the first faulty
--- one decides; where no complete line is at fault and no end line has come, the text is cut off.
+-- A journal's text, version 1 or 2: what it says, or its first fault. The lines are read in order, and the first faulty one
+-- decides; if no complete line is at fault and no end line has come, the text is cut off.
 use Rattle.std.specs.Prelude.{◌<◌, ℕ, ◌+◌, ◌^◌, ◌==◌, ◌&&◌, nat_lt, Bool, true, false, if◌then◌else◌, List, [], ◌∷◌, length, replicate, Result, Ok, Err, slice_set, codes}
 use Rattle.std.specs.List.{All}
 use Rattle.std.specs.Str.{bytes_eq}
@@ -15,7 +15,7 @@ use Rattle.journal_text.specs.Words.{◌>>=◌}
 use Rattle.journal_text.specs.Headers.{is_feed, line_at, at_line, frames_of, pages_of, salts_of}
 use Rattle.journal_text.specs.Requests.{line_of}
 
--- what a journal says: the machine's total of frames, each guest's number of pages and salt, and who asked what
+-- what a journal says: the machine's total of frames, each guest's number of pages and salt, and who asked for what
 pub record Journal : Type 0 where
   pub frames : ℕ
   pub pages : List ℕ
@@ -29,14 +29,14 @@ pub record Head : Type 0 where
   pub pages : List ℕ
   pub salts : List ℕ
 
--- The first line, which tells the version: it is one of two, and only version 2, which is the second, has a line of salts.
+-- The first line, which says the version: it is one of two, and only version 2, the second, has a line of salts.
 unfoldable pub header_of : List ℕ → List ℕ → List ℕ → Result Bool Cause
 header_of one two line =
     if bytes_eq line one then Ok false
     else if bytes_eq line two then Ok true
     else Err causes.Header
 
--- the salts of so many guests, and what stands behind their line. Where there is none, every salt is 0
+-- the salts of this many guests, and what comes after their line. If there is no such line, every salt is 0
 unfoldable pub salts_at : Bool → ℕ → List ℕ → Result (List ℕ × List ℕ) TextFault
 salts_at false guests text = Ok (replicate guests 0, text)
 salts_at true guests text = do
@@ -44,7 +44,7 @@ salts_at true guests text = do
   salts ← at_line 4 (salts_of guests line.0)
   Ok (salts, line.1)
 
--- the lines of the machine at the head of a text whose first line is one of two, and what stands behind them
+-- the lines of the machine at the head of a text whose first line is one of two, and what comes after them
 unfoldable pub head_in : List ℕ → List ℕ → List ℕ → Result (Head × List ℕ) TextFault
 head_in one two text = do
   first ← line_at 1 text
@@ -56,11 +56,11 @@ head_in one two text = do
   salts ← salts_at has_salts (length pages) third.1
   Ok (record { has_salts = has_salts; frames = frames; pages = pages; salts = salts.0 }, salts.1)
 
--- the number of the line behind the head
+-- the number of the line after the head
 abbrev pub line_behind_head : Bool → ℕ
 line_behind_head has_salts = if has_salts then 5 else 4
 
--- one byte before the first of some lines, where there is one
+-- puts one byte before the first of some lines, if there is one
 abbrev pub onto_line : ℕ → List (List ℕ) → List (List ℕ)
 onto_line b [] = []
 onto_line b (line ∷ lines) = (b ∷ line) ∷ lines
@@ -70,7 +70,7 @@ abbrev pub lines_of : List ℕ → List (List ℕ)
 lines_of [] = []
 lines_of (b ∷ text) = if is_feed b then [] ∷ lines_of text else onto_line b (lines_of text)
 
--- no byte stands behind the last line feed
+-- no byte comes after the last line feed
 abbrev pub is_whole : List ℕ → Bool
 is_whole [] = true
 is_whole (b ∷ []) = is_feed b
@@ -80,16 +80,16 @@ is_whole (b ∷ c ∷ text) = is_whole (c ∷ text)
 abbrev pub closed_after : List Bool → Entry → List Bool
 closed_after closed e = if is_close e.request then slice_set closed e.guest true else closed
 
--- Line n is the end line. It tells how many lines of requests came before it, which are k; then it is to be the last.
+-- Line n is the end line. It must have the number of request lines before it, which is k, and after that be the last line.
 abbrev pub ended : ℕ → ℕ → Bool → ℕ → Result (Unit {0}) TextFault
 ended n k last count = if count == k then (if last then Ok tt else Err (faults.Line (n + 1) causes.Form)) else Err faults.Count
 
--- nothing is entered behind an end line that is right
+-- nothing is entered after an end line that is right
 abbrev pub nothing_more : {X : Type 0} → Result (Unit {0}) TextFault → Result (List X) TextFault
 nothing_more (Ok done) = Ok []
 nothing_more (Err fault) = Err fault
 
--- what line n and the lines after it say: what it enters goes before what more reads of the later lines
+-- what line n and the lines after it say: what it enters goes before what `more` reads from the later lines
 abbrev pub goes_on : {X : Type 0} → ℕ → ℕ → Bool → Result (Line X) Cause → (X → Result (List X) TextFault) → Result (List X) TextFault
 goes_on n k last (Err cause) more = Err (faults.Line n cause)
 goes_on n k last (Ok (Ends count)) more = nothing_more (ended n k last count)
@@ -99,17 +99,17 @@ abbrev pub is_none : List (List ℕ) → Bool
 is_none [] = true
 is_none (line ∷ lines) = false
 
--- What the lines from number n on enter, with k lines of requests before them. read: what a line says, by what is known
--- of the lines before it; after: what is known then; whole: no byte stands behind the lines.
+-- What the lines from number n on enter, with k request lines before them. read: what a line says, given what is known from the
+-- lines before it; after: what is known then; whole: no byte comes after the lines.
 unfoldable pub body_from : {S X : Type 0} → (S → List ℕ → Result (Line X) Cause) → (S → X → S) → Bool → S → ℕ → ℕ → List (List ℕ) → Result (List X) TextFault
 body_from read after whole s n k [] = Err (faults.Truncated n)
 body_from read after whole s n k (line ∷ lines) = goes_on n k (is_none lines && whole) (read s line) (λ x. body_from read after whole (after s x) (n + 1) (k + 1) lines)
 
--- what a text enters behind the lines at its head, or behind some lines of requests
+-- what a text enters after the lines at its head, or after some request lines
 abbrev pub body_in : {S X : Type 0} → (S → List ℕ → Result (Line X) Cause) → (S → X → S) → S → ℕ → ℕ → List ℕ → Result (List X) TextFault
 body_in read after s n k text = body_from read after (is_whole text) s n k (lines_of text)
 
--- the entries of a journal behind its head, or behind some entries. closed: who has closed
+-- the entries of a journal after its head, or after some entries. closed: who has closed
 abbrev pub entries_in : List Bool → ℕ → ℕ → List ℕ → Result (List Entry) TextFault
 entries_in closed n k text = body_in line_of closed_after closed n k text
 
@@ -120,7 +120,7 @@ journal_in text = do
   entries ← entries_in (replicate (length head.0.pages) false) (line_behind_head head.0.has_salts) 0 head.1
   Ok (record { frames = head.0.frames; pages = head.0.pages; salts = head.0.salts; entries = entries })
 
--- What a journal's text says: its one journal, or its first fault. A text has at most 67,108,864 bytes, and that comes first.
+-- What a journal's text says: its one journal, or its first fault. A text has at most 67,108,864 bytes, which is checked first.
 unfoldable pub journal_of : List ℕ → Result Journal TextFault
 journal_of text = if nat_lt (2 ^ 26) (length text) then Err faults.Long else journal_in text
 

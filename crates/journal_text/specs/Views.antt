@@ -1,4 +1,4 @@
--- How what the code answers is compared with what the definitions say.
+-- How what the code returns is compared with what the definitions say.
 use Rattle.std.specs.Prelude.{◌≡◌, Result, Ok, Err}
 use Rattle.journal_text.specs.Texts as said
 use Rattle.journal_text.specs.declared.fault.TextFault.{TextFault}
@@ -14,8 +14,8 @@ journal_seen j = record { frames = j.frames; pages = j.pages.items; salts = j.sa
 abbrev pub head_seen : {A : Type 0} → Head A → said.Head
 head_seen h = record { has_salts = h.has_salts; frames = h.frames; pages = h.pages.items; salts = h.salts.items }
 
--- A call answers this fault, and what it looks at says read: the same fault, unless memory ran out. No look at a text
--- answers Read or Write.
+-- A call returns this fault, and `read` is what the definitions say of the same bytes: the same fault, unless memory ran out.
+-- No call that reads a text's bytes returns Read or Write.
 abbrev pub Fails : {Y : Type 0} → TextFault → Result Y TextFault → Type 0
 Fails (faults.Line n cause) read = read ≡ Err (faults.Line n cause)
 Fails (faults.Truncated n) read = read ≡ Err (faults.Truncated n)
@@ -25,7 +25,7 @@ Fails faults.Read read = ⊥
 Fails faults.Write read = ⊥
 Fails faults.Long read = read ≡ Err faults.Long
 
--- a call answers what read says, with its value seen by view, unless memory ran out
+-- a call returns what `read` says, with its value seen by view, unless memory ran out
 abbrev pub Gives : {X Y : Type 0} → (X → Y) → Result X TextFault → Result Y TextFault → Type 0
 Gives view (Ok x) read = read ≡ Ok (view x)
 Gives view (Err e) read = Fails e read

@@ -1,5 +1,5 @@
--- The words of a line. They are parted by exactly one space, and there is none at either end: so a second space in a
--- row, and one at an end, leave an empty word, which nothing accepts.
+-- The words of a line. Exactly one space separates them, and there is none at either end: so a second space in a row, and one
+-- at an end, leave an empty word, which nothing accepts.
 use Rattle.std.specs.Prelude.{ℕ, ◌+◌, ◌-◌, ◌*◌, ◌%◌, ◌^◌, ◌==◌, ◌&&◌, ◌||◌, nat_le, nat_lt, Bool, false, if◌then◌else◌, List, [], ◌∷◌, ◌++◌, length, Option, Some, None, Result, Ok, Err}
 use Rattle.std.specs.List.{list_all, before_first, after_first, position_or_len}
 use Rattle.std.specs.Str.{all_ascii_digits}
@@ -8,7 +8,7 @@ use Rattle.hex.specs.declared.error.FromHexError.{FromHexError}
 use Rattle.journal_text.specs.declared.fault.Cause.{Cause}
 use Rattle.journal_text.specs.declared.fault.Cause.TheVariants.{Form}
 
--- an answer handed on to what is asked next: the first error is the answer of the whole
+-- an answer passed on to what is asked next: the first error is the answer of the whole
 infixl 10 ◌>>=◌
 abbrev pub ◌>>=◌ : {A B F : Type 0} → Result A F → (A → Result B F) → Result B F
 (Ok x) >>= f = f x
@@ -21,11 +21,11 @@ with_front front read = read >>= λ xs. Ok (front ++ xs)
 abbrev pub is_space : ℕ → Bool
 is_space b = b == 32
 
--- what stands behind the first space, where there is one
+-- what comes after the first space, if there is one
 abbrev pub behind_space : List ℕ → Option (List ℕ)
 behind_space bytes = if nat_lt (position_or_len is_space bytes) (length bytes) then Some (after_first is_space bytes) else None
 
--- The next word of what is left of a line, and what is left behind its space. None: no word is left.
+-- The next word of what is left of a line, and what is left after its space. None: no word is left.
 unfoldable pub word_at : Option (List ℕ) → Result (List ℕ × Option (List ℕ)) Cause
 word_at None = Err Form
 word_at (Some bytes) = Ok (before_first is_space bytes, behind_space bytes)
@@ -35,18 +35,18 @@ abbrev pub nothing_at : Option (List ℕ) → Result (Unit {0}) Cause
 nothing_at None = Ok tt
 nothing_at (Some bytes) = Err Form
 
--- the number that digits spell, where the digits before them spell n
+-- the number that digits spell, if the digits before them spell n
 abbrev pub value_on : ℕ → List ℕ → ℕ
 value_on n [] = n
 value_on n (c ∷ cs) = value_on (10 * n + (c - 48)) cs
 
--- digits, at least one, with no needless zero in front
+-- at least one digit, with no needless zero in front
 abbrev pub is_plain : List ℕ → Bool
 is_plain [] = false
 is_plain (c ∷ []) = all_ascii_digits (c ∷ [])
 is_plain (c ∷ d ∷ cs) = nat_lt 48 c && all_ascii_digits (c ∷ d ∷ cs)
 
--- a number of at most this much, in its one spelling
+-- a number that is at most this, in its one spelling
 unfoldable pub number_to : ℕ → List ℕ → Result ℕ Cause
 number_to most word = if is_plain word && nat_le (value_on 0 word) most then Ok (value_on 0 word) else Err Form
 

@@ -1,4 +1,4 @@
--- A journal written as a text: version 1 where every salt is 0, and version 2 otherwise.
+-- A journal written as a text: version 1 if every salt is 0, and version 2 otherwise.
 use Rattle.std.specs.Prelude.{◌≡◌, ◌≢◌, ℕ, ◌+◌, ◌^◌, ◌<◌, ◌≤◌, ◌==◌, Bool, true, not, if◌then◌else◌, List, [], ◌∷◌, ◌++◌, length, codes, decimal, Ok}
 use Rattle.std.specs.List.{All, list_all}
 use Rattle.hex.specs.Hex.{IsBytes, encode_lower}
@@ -27,7 +27,7 @@ abbrev pub entry_lines : List Entry → List ℕ
 entry_lines [] = []
 entry_lines (e ∷ es) = entry_line e ++ entry_lines es
 
--- numbers, each behind a space
+-- numbers, each after a space
 abbrev pub number_words : List ℕ → List ℕ
 number_words [] = []
 number_words (n ∷ ns) = counted (codes " ") n ++ number_words ns
@@ -44,11 +44,11 @@ needs_salts salts = not (list_all (λ salt. salt == 0) salts)
 abbrev pub machine_lines : Bool → ℕ → List ℕ
 machine_lines has_salts frames = (if has_salts then codes "pageshare journal 2\nframes " else codes "pageshare journal 1\nframes ") ++ (decimal frames ++ codes "\n")
 
--- the lines of the guests' pages, and of their salts where they need one
+-- the line of the guests' pages, and that of their salts if it is needed
 abbrev pub guests_lines : Bool → List ℕ → List ℕ → List ℕ
 guests_lines has_salts pages salts = numbers_line (codes "pages") pages ++ (if has_salts then numbers_line (codes "salts") salts else [])
 
--- the lines of the entries, and of their number
+-- the lines of the entries, and the line of their number
 abbrev pub entries_lines : List Entry → List ℕ
 entries_lines es = entry_lines es ++ (counted (codes "end ") (length es) ++ codes "\n")
 
@@ -56,7 +56,7 @@ entries_lines es = entry_lines es ++ (counted (codes "end ") (length es) ++ code
 unfoldable pub journal_text : Journal → List ℕ
 journal_text j = machine_lines (needs_salts j.salts) j.frames ++ (guests_lines (needs_salts j.salts) j.pages j.salts ++ entries_lines j.entries)
 
--- a request as its type keeps it
+-- a request that its type can hold
 abbrev pub IsWritable : Request → Type 0
 IsWritable (Propose ppn) = ppn < 2 ^ 32
 IsWritable (Store r) = (r.ppn < 2 ^ 32) × (1 ≤ length r.bytes) × (length r.bytes ≤ 64) × (r.at + length r.bytes ≤ 4096) × IsBytes r.bytes
@@ -70,7 +70,7 @@ abbrev pub NoneAfterClose : List Entry → Type 0
 NoneAfterClose [] = Unit {0}
 NoneAfterClose (e ∷ es) = (is_close e.request ≡ true → All (λ later. later.guest ≢ e.guest) es) × NoneAfterClose es
 
--- a journal of a machine within the limits, as its type keeps it, whose guests ask nothing after their closes and whose
+-- a journal of a machine within the limits, as its type keeps it, whose guests ask for nothing after their closes and whose
 -- text isn't too long
 pub record CanBeRead (j : Journal) : Type 0 where
   pub frames : AreFrames j.frames
@@ -84,6 +84,6 @@ pub record CanBeRead (j : Journal) : Type 0 where
   pub few : length j.entries < 16777216
   pub short : length (journal_text j) ≤ 2 ^ 26
 
--- what is written of a journal is read as that journal
+-- what is written for a journal is read as that journal
 abbrev pub ReadsAsWritten : Type 0
 ReadsAsWritten = (j : Journal) → CanBeRead j → journal_of (journal_text j) ≡ Ok j

@@ -1,10 +1,10 @@
-//! What would have been right where a text or the work on it is at fault, in words for a person.
+//! What would have been right instead of a fault of a text or of the work on it, in words for a person.
 ghost use Rattle.std.specs.Prelude.{◌≡◌};
 ghost use Rattle.journal_text.specs.Expected.{line_form, expected_on, expectation};
 
 use crate::fault::{Cause, TextFault};
 
-/// The form of line `n`.
+/// Returns the form of line `n`.
 fn line_form(n: u32) -> &'static str
     ensures { result.now ≡ line_form n }
 {
@@ -21,7 +21,7 @@ fn line_form(n: u32) -> &'static str
     }
 }
 
-/// What line `n` is to be, where it is at fault for this cause.
+/// Returns what line `n` must be, if it is at fault for this cause.
 fn expected_on(n: u32, cause: Cause) -> &'static str
     ensures { result.now ≡ expected_on n cause }
 {
@@ -42,7 +42,7 @@ fn expected_on(n: u32, cause: Cause) -> &'static str
     }
 }
 
-/// What would have been right in place of a fault, in words for a person.
+/// Returns what would have been right instead of a fault, in words for a person.
 pub fn expectation(fault: &TextFault) -> &'static str
     ensures { result.now ≡ expectation fault.now }
 {

@@ -6,13 +6,13 @@ use crate::expect::expectation;
 use std::alloc::{AllocError, AllocFailed};
 use thiserror::Error;
 
-/// What is wrong with a line. Shown, it says what to do.
+/// What is wrong with a line. Its `Display` text says what to do.
 #[derive(Clone, Copy, Debug, PartialEq, Eq, Error)]
 pub enum Cause {
-    /// The first line is none that the call reads.
+    /// The first line is none of those that the call reads.
     #[error("begin with the line \"pageshare journal 1\" or \"pageshare journal 2\"")]
     Header,
-    /// The words are not those that the line's place asks for.
+    /// The words are not those that the line must have at its place.
     #[error("give the words of this line's form, with one space between them")]
     Form,
     /// 0 frames, or more than 1,048,576.
@@ -30,16 +30,16 @@ pub enum Cause {
     /// A journal limit of 0 entries, or of more than 16,777,216.
     #[error("give the journal room for 1 to 16,777,216 requests")]
     Journal,
-    /// The guest is none of the machine's.
+    /// The machine has no such guest.
     #[error("name a guest of the \"pages\" line, counted from 0")]
     NoGuest,
-    /// A store or load of no byte or of more than 64.
+    /// A store or load of no byte, or of more than 64.
     #[error("store or load 1 to 64 bytes")]
     Length,
     /// A store or load past the page's end.
     #[error("stay within the 4,096 bytes of the page")]
     Crosses,
-    /// The guest's close came before.
+    /// The guest has closed before.
     #[error("ask nothing of a guest after its close")]
     AfterClose,
     /// More requests than the journal limit allows.
@@ -50,10 +50,10 @@ pub enum Cause {
     Salts,
 }
 
-/// Why a text was refused, or the work on it.
+/// Why a text, or the work on it, was refused.
 ///
-/// `Line`, `Truncated` and `Count` are faults of the text, and come for the first line at fault. Lines are
-/// counted from 1. Shown, a fault says what was expected; `fault_line` has the line for programs.
+/// `Line`, `Truncated` and `Count` are faults of the text, and come for the first line at fault. Lines are counted from 1. A
+/// fault's `Display` text says what was expected; `fault_line` returns the line for programs.
 #[derive(Clone, Copy, Debug, PartialEq, Eq, Error)]
 pub enum TextFault {
     /// This line is at fault.
@@ -62,7 +62,7 @@ pub enum TextFault {
     /// The text ends before this line does.
     #[error("line {0} is cut off: expected {wanted}, and a line feed behind it", wanted = expectation(self))]
     Truncated(u32),
-    /// The last line tells another number of lines than there are.
+    /// The end line has a wrong number of request lines.
     #[error("the number of request lines is wrong: expected {wanted}", wanted = expectation(self))]
     Count,
     /// A growth of memory was refused.
@@ -71,7 +71,7 @@ pub enum TextFault {
     /// A read failed.
     #[error("a read failed: expected {wanted}", wanted = expectation(self))]
     Read,
-    /// A write failed, or took none of some bytes.
+    /// A write failed, or wrote none of some bytes.
     #[error("a write failed: expected {wanted}", wanted = expectation(self))]
     Write,
     /// The text has more than 67,108,864 bytes.

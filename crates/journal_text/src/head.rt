@@ -1,4 +1,4 @@
-//! What stands at a text's head.
+//! A text's head.
 ghost use Rattle.page_model.specs.Limits.{AreLimits};
 
 use std::alloc::Allocator;

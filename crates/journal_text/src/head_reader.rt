@@ -9,7 +9,7 @@ use crate::head::Head;
 use crate::header::{at_line, frames, next_line, pages, salts};
 use std::alloc::Allocator;
 
-/// Whether the first line is that of version 2, which has a line of salts: it is one of two.
+/// Returns whether the first line, which must be one of two, is that of version 2, which has a line of salts.
 #[tactic(auto, unfolding(crate::specs::Texts::header_of))]
 fn header(one: &[u8], two: &[u8], line: &[u8]) -> Result<bool, Cause>
     ensures { result ≡ header_of one.now two.now line.now }
@@ -23,7 +23,7 @@ fn header(one: &[u8], two: &[u8], line: &[u8]) -> Result<bool, Cause>
     }
 }
 
-/// The salts of version 1.
+/// Returns the salts of version 1.
 fn no_salts<A: Allocator>(alloc: A, guests: usize) -> Result<Vec<u32, A>, TextFault>
     ensures salts { IfOk result (λ v. v.items ≡ replicate guests 0) }
     ensures err { IfErr result (λ e. e ≡ OutOfMemory) }
@@ -31,7 +31,7 @@ fn no_salts<A: Allocator>(alloc: A, guests: usize) -> Result<Vec<u32, A>, TextFa
     Ok(vec![in alloc; 0; guests]?)
 }
 
-/// The salts of so many guests, and what stands behind them.
+/// Returns the salts of this many guests, and the text after them.
 #[tactic(auto, unfolding(crate::specs::Texts::salts_at))]
 fn salts_in<'a, A: Allocator>(
     alloc: A,
@@ -50,7 +50,7 @@ fn salts_in<'a, A: Allocator>(
     Ok((salts(alloc, guests, line)?, rest))
 }
 
-/// The lines at the head of a text whose first line is `one` or `two`, and what stands behind them.
+/// Reads the lines at the head of a text whose first line is `one` or `two`; also returns the text after them.
 #[tactic(auto, unfolding(crate::specs::Texts::head_in))]
 pub fn read_head<'a, A: Allocator + Clone>(
     alloc: A,
@@ -77,7 +77,7 @@ pub fn read_head<'a, A: Allocator + Clone>(
     Ok((head, rest))
 }
 
-/// The number of the line behind the lines of the machine.
+/// Returns the number of the line after the lines of the machine.
 pub fn line_behind_head(has_salts: bool) -> u32
     ensures line { result ≡ line_behind_head has_salts }
     ensures small { result ≤ 5 }

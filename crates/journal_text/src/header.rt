@@ -10,7 +10,7 @@ use crate::word::{Left, cut, first_word, next_number, nothing, number, word};
 use page_model::{MAX_FRAMES, MAX_GUESTS, MAX_PAGES};
 use std::alloc::Allocator;
 
-/// Line `n`, and what stands behind its line feed.
+/// Returns line `n`, and the text after its line feed.
 #[tactic(auto, unfolding(crate::specs::Headers::line_at))]
 pub fn next_line<'a>(n: u32, text: &'a [u8]) -> Result<(&'a [u8], &'a [u8]), TextFault>
     ensures value { seen (λ x. (x.0.now, x.1.now)) result ≡ line_at n text.now }
@@ -23,7 +23,7 @@ pub fn next_line<'a>(n: u32, text: &'a [u8]) -> Result<(&'a [u8], &'a [u8]), Tex
     }
 }
 
-/// What a line says, with the line's number where it is at fault.
+/// Returns what a line says, with the line's number if it is at fault.
 pub fn at_line<T: Drop>(n: u32, said: Result<T, Cause>) -> Result<T, TextFault>
     ensures { result ≡ at_line n said }
 {
@@ -33,7 +33,7 @@ pub fn at_line<T: Drop>(n: u32, said: Result<T, Cause>) -> Result<T, TextFault>
     }
 }
 
-/// Whether this word stands at the place of a line's name.
+/// Checks that this word is the name that a line must have.
 pub fn keyword(name: &[u8], word: &[u8]) -> Result<(), Cause>
     ensures { result ≡ keyword name.now word.now }
 {
@@ -55,7 +55,7 @@ fn frames_in_limits(n: u32) -> Result<u32, Cause>
     }
 }
 
-/// The total of frames.
+/// Reads the total of frames.
 #[tactic(auto, unfolding(crate::specs::Headers::frames_of))]
 pub fn frames(line: &[u8]) -> Result<u32, Cause>
     ensures value { result ≡ frames_of line.now }
@@ -68,7 +68,7 @@ pub fn frames(line: &[u8]) -> Result<u32, Cause>
     frames_in_limits(n)
 }
 
-/// The numbers that the words left of line `n` spell.
+/// Returns the numbers that the remaining words of line `n` spell.
 fn numbers<A: Allocator>(alloc: A, n: u32, rest: Left<'_>) -> Result<Vec<u32, A>, TextFault>
     ensures { Gives (λ v. v.items) result (at_line n (numbers (words_in (left rest.entry)))) }
 {
@@ -120,7 +120,7 @@ fn pages_in_limits(pages: &[u32]) -> Result<(), Cause>
     Ok(())
 }
 
-/// The guests' numbers of pages, on line 3.
+/// Reads the guests' numbers of pages, on line 3.
 #[tactic(auto, unfolding(crate::specs::Headers::pages_of))]
 pub fn pages<A: Allocator>(alloc: A, line: &[u8]) -> Result<Vec<u32, A>, TextFault>
     ensures value { Gives (λ v. v.items) result (at_line 3 (pages_of line.now)) }
@@ -148,7 +148,7 @@ fn salts_in_limits(guests: usize, salts: &[u32]) -> Result<(), Cause>
     Ok(())
 }
 
-/// The salts of so many guests, on line 4.
+/// Reads the salts of this many guests, on line 4.
 #[tactic(auto, unfolding(crate::specs::Headers::salts_of))]
 pub fn salts<A: Allocator>(alloc: A, guests: usize, line: &[u8]) -> Result<Vec<u32, A>, TextFault>
     ensures value { Gives (λ v. v.items) result (at_line 4 (salts_of guests line.now)) }

@@ -6,7 +6,7 @@ ghost use Rattle.journal_text.specs.Texts.{AreBelow};
 use page_model::{Entry, MachineShape, ShapeFault};
 use std::alloc::Allocator;
 
-/// A machine's total of frames, its guests' numbers of pages and salts, guest 0 first, and who asked what.
+/// A machine's total of frames, its guests' numbers of pages and salts, guest 0's first, and who asked for what.
 ///
 /// The machine is within the limits, with a salt for each guest, each entry is of one of its guests, and there
 /// are fewer than 16,777,216 entries.
@@ -22,7 +22,7 @@ pub struct Journal<A: Allocator> {
 }
 
 impl<A: Allocator> Journal<A> {
-    /// The shape of the journal's machine.
+    /// Returns the shape of the journal's machine.
     pub fn shape(&self) -> MachineShape<'_>
         ensures { result ≡ record { frames = self.now.frames; pages = self.now.pages.items; salts = self.now.salts.items } }
     {

@@ -1,7 +1,6 @@
 //! Journals as texts, read and written, and the lines of verdicts, reports and faults.
 //!
-//! The texts, the lines and the order of faults stand in `docs/FORMATS.md`; `specs/` defines them apart
-//! from the code.
+//! The texts, the lines and the order of faults are in `docs/FORMATS.md`; `specs/` defines them independently of the code.
 #![tactic(auto)]
 
 mod expect;

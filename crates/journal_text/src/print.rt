@@ -1,7 +1,7 @@
 //! Verdicts, reports and faults as lines.
 //!
-//! Each `push_` function appends to a string, and says how many bytes it may append at most. So room that
-//! was reserved for a longest line is always enough.
+//! Each `push_` function appends to a string, and all but `push_fault` say how many bytes they append at most. So room that was
+//! reserved for a longest line of a verdict or a report is always enough.
 ghost use Rattle.std.specs.Prelude.{◌≡◌, ◌+◌, ◌*◌, ◌<◌, ◌≤◌, ◌++◌, ◌^◌, length, codes, decimal, string_bytes, string_len, string_capacity, IfOk, OnOk, OnErr};
 ghost use Rattle.hex.specs.Hex.{encode_lower};
 ghost use Rattle.journal_text.specs.Printed.{pages_words, saved_words, frames_words, report_words, report_line, verdict_words, verdict_line, cause_word, fault_line};
@@ -85,7 +85,7 @@ fn push_report<A: Allocator>(out: &mut String<A>, report: &Report) -> Result<(),
     push_frames(out, report)
 }
 
-/// Appends the words of a report behind a word of 7 bytes, as `report ` or `totals `: at most 117 bytes.
+/// Appends the words of a report after a word of 7 bytes, such as `report ` or `totals `: at most 117 bytes.
 pub fn push_totals<A: Allocator>(
     out: &mut String<A>,
     word: &str,
@@ -225,7 +225,7 @@ fn push_fault<A: Allocator>(out: &mut String<A>, fault: &TextFault) -> Result<()
     }
 }
 
-/// A verdict's line: the guest's number and the verdict's words, without a line feed.
+/// Returns a verdict's line: the guest's number and the verdict's words, without a line feed.
 pub fn verdict_line<A: Allocator>(
     alloc: A,
     guest: u8,
@@ -238,7 +238,7 @@ pub fn verdict_line<A: Allocator>(
     Ok(line)
 }
 
-/// A report's line, without a line feed.
+/// Returns a report's line, without a line feed.
 pub fn report_line<A: Allocator>(alloc: A, report: &Report) -> Result<String<A>, AllocError>
     ensures { IfOk result (λ s. string_bytes s ≡ report_line report.now) }
 {
@@ -247,7 +247,7 @@ pub fn report_line<A: Allocator>(alloc: A, report: &Report) -> Result<String<A>,
     Ok(line)
 }
 
-/// A fault's line, without a line feed.
+/// Returns a fault's line, without a line feed.
 pub fn fault_line<A: Allocator>(alloc: A, fault: &TextFault) -> Result<String<A>, AllocError>
     ensures { IfOk result (λ s. string_bytes s ≡ fault_line fault.now) }
 {

@@ -25,7 +25,7 @@ fn note(closed: &mut [bool], entry: &Entry)
     }
 }
 
-/// The entries that were found before an end line, if it is right.
+/// Returns the entries that were found before an end line, if that line is right.
 fn ended<A: Allocator>(
     n: u32,
     found: Vec<Entry, A>,
@@ -40,7 +40,7 @@ fn ended<A: Allocator>(
     Ok(found)
 }
 
-/// The entries of the lines from number `first` on.
+/// Reads the entries of the lines from number `first` on.
 fn entries<A: Allocator>(
     alloc: A,
     first: u32,
@@ -72,7 +72,7 @@ fn entries<A: Allocator>(
     Err(TextFault::Truncated(n))
 }
 
-/// The entries of so many guests, none of whom has closed, from line `first` on.
+/// Reads the entries of this many guests, none of whom has closed, from line `first` on.
 fn first_entries<A: Allocator>(
     alloc: A,
     first: u32,
@@ -90,7 +90,7 @@ fn first_entries<A: Allocator>(
     entries(alloc, first, &mut closed[..guests], text)
 }
 
-/// The entries behind the lines of the machine, for guests with so many pages each.
+/// Reads the entries after the lines of the machine, for guests with these numbers of pages.
 fn entries_behind_head<A: Allocator>(
     alloc: A,
     has_salts: bool,
@@ -107,7 +107,7 @@ fn entries_behind_head<A: Allocator>(
     first_entries(alloc, first, pages.len(), text)
 }
 
-/// The journal of a text that is not too long.
+/// Reads the journal of a text that is not too long.
 #[tactic(auto, unfolding(crate::specs::Texts::journal_in))]
 fn journal_in<A: Allocator + Clone>(alloc: A, text: &[u8]) -> Result<Journal<A>, TextFault>
     requires { length text.now ≤ 2 ^ 26 }
@@ -136,10 +136,10 @@ fn journal_in<A: Allocator + Clone>(alloc: A, text: &[u8]) -> Result<Journal<A>,
     }
 }
 
-/// Reads a journal's text, version 1 or 2. Version 1 gives every guest the salt 0.
+/// Reads a journal's text, version 1 or 2. In version 1 every guest has the salt 0.
 ///
-/// An `Err` is the text's first fault, in the order of `docs/FORMATS.md`, or `OutOfMemory` where a growth
-/// was refused before that fault's line was looked at.
+/// An `Err` is the text's first fault, in the order of `docs/FORMATS.md`, or `OutOfMemory` if memory was refused before that
+/// fault's line was read.
 #[tactic(auto, unfolding(crate::specs::Texts::journal_of))]
 pub fn read_journal<A: Allocator + Clone>(alloc: A, text: &[u8]) -> Result<Journal<A>, TextFault>
     ensures { Gives journal_seen result (journal_of text.now) }

@@ -1,4 +1,4 @@
-//! The lines from the fourth on: a request of a guest, or the end.
+//! The lines after a text's head: a request of a guest, or the end.
 ghost use Rattle.std.specs.Prelude.{◌≡◌, ◌+◌, ◌/◌, ◌<◌, ◌≤◌, ◌^◌, ℕ, List, Option, Some, None, Ok, Err, false, codes, length, IsTrue, slice_get, IfOk, OnOk};
 ghost use Rattle.std.specs.Str.{bytes_eq};
 ghost use Rattle.journal_text.specs.Words.{spelled, is_bytes_word};
@@ -10,7 +10,7 @@ use crate::fault::{Cause, TextFault};
 use crate::word::{Left, is_bytes, next_number, nothing, number, word};
 use page_model::{Entry, Request, RequestFault};
 
-/// What a line behind a text's head says.
+/// What a line after a text's head says.
 #[derive(Drop)]
 pub enum Line<T> {
     /// What a guest asks for.
@@ -22,7 +22,7 @@ pub enum Line<T> {
 /// A request that a line asks for, or what is wrong with its numbers.
 pub type Asked = Result<Request, Cause>;
 
-/// The store of the bytes that a word spells.
+/// Makes the store of the bytes that a word spells.
 fn stored(ppn: u32, at: u32, word: &[u8]) -> Asked
     requires { IsTrue (is_bytes_word word.now) }
     ensures value { result ≡ stored ppn at (spelled word.now) }
@@ -117,7 +117,7 @@ fn bare(request: Request, rest: Left<'_>) -> Result<Asked, Cause>
     Ok(Ok(request))
 }
 
-/// What is asked by the word that names a request.
+/// Reads a request, from the word that names it and the words after.
 #[tactic(auto, unfolding(crate::specs::Requests::named))]
 pub fn named(name: &[u8], rest: Left<'_>) -> Result<Asked, Cause>
     ensures value { result ≡ named name.now (left rest.entry) }
@@ -150,7 +150,7 @@ fn asked(rest: Left<'_>) -> Result<Asked, Cause>
     named(name, rest)
 }
 
-/// Whether a guest may ask, where `closed` says of each guest whether its close has come.
+/// Checks that a guest may ask; `closed` says of each guest whether it has closed.
 pub fn may_ask(closed: &[bool], guest: u32) -> Result<(), Cause>
     ensures value { result ≡ may_ask (slice_get closed.now guest) }
     ensures below { OnOk result (guest < length closed.now) }
@@ -162,7 +162,7 @@ pub fn may_ask(closed: &[bool], guest: u32) -> Result<(), Cause>
     }
 }
 
-/// The end line, behind the word `end`.
+/// Reads the end line, after the word `end`.
 #[tactic(auto, unfolding(crate::specs::Requests::end_at))]
 pub fn end<T>(rest: Left<'_>) -> Result<Line<T>, Cause>
     ensures value { result ≡ end_at (left rest.entry) }
@@ -191,7 +191,7 @@ fn entry(closed: &[bool], first: &[u8], rest: Left<'_>) -> Result<Line<Entry>, C
     }))
 }
 
-/// What a line says, where `closed` says of each guest whether its close has come.
+/// Reads a line; `closed` says of each guest whether it has closed.
 #[tactic(auto, unfolding(crate::specs::Requests::line_of))]
 pub fn read_line(closed: &[bool], line: &[u8]) -> Result<Line<Entry>, Cause>
     requires { length closed.now ≤ 64 }
@@ -207,8 +207,8 @@ pub fn read_line(closed: &[bool], line: &[u8]) -> Result<Line<Entry>, Cause>
     }
 }
 
-/// Whether the end line, which is line `n`, is right: it tells how many lines asked for something, which are `asked`,
-/// and is the last.
+/// Checks the end line, which is line `n`: it must have the number of lines that asked for something, which is `asked`, and be
+/// the last.
 pub fn check_end(n: u32, asked: usize, count: u32, is_last: bool) -> Result<(), TextFault>
     requires { n < 2 ^ 31 }
     ensures { result ≡ ended n asked is_last count }

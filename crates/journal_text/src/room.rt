@@ -1,11 +1,11 @@
-//! Room for a text's requests, which is taken before its lines are read.
+//! Room for a text's requests, taken before its lines are read.
 
 use crate::word::cut;
 
-/// No line of a request is shorter, its line feed not counted.
+/// No line of a request is shorter, not counting its line feed.
 pub const LEAST_LINE_BYTES: usize = 7;
 
-/// How many lines of the text may be requests. A list with that room needn't grow.
+/// Returns how many lines of the text may be requests. A list with that room needn't grow.
 pub(crate) fn count_lines(text: &[u8]) -> usize {
     let mut count: usize = 0;
     let mut rest = text;

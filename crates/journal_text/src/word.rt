@@ -6,10 +6,10 @@ ghost use Rattle.journal_text.specs.Cursor.{left, left_length, seen, IsCut};
 
 use crate::fault::Cause;
 
-/// What is left of a line behind its first words. `None`: no word is left.
+/// What is left of a line after its first words. `None`: no word is left.
 pub type Left<'a> = Option<&'a [u8]>;
 
-/// What stands before and behind the first such byte, and `None` where there is none.
+/// Returns what comes before and after the first such byte, or `None` if there is none.
 pub fn cut<'a>(byte: u8, bytes: &'a [u8]) -> Option<(&'a [u8], &'a [u8])>
     ensures parts { IsCut byte bytes.now result }
     ensures length { IfSome result (λ x. length x.0.now + length x.1.now + 1 ≡ length bytes.now) }
@@ -20,7 +20,7 @@ pub fn cut<'a>(byte: u8, bytes: &'a [u8]) -> Option<(&'a [u8], &'a [u8])>
     }
 }
 
-/// The first word of some bytes, and what is left behind it.
+/// Returns the first word of some bytes, and what is left after it.
 pub fn first_word<'a>(bytes: &'a [u8]) -> (&'a [u8], Left<'a>)
     ensures word { result.0.now ≡ before_first is_space bytes.now }
     ensures rest { left result.1 ≡ behind_space bytes.now }
@@ -32,7 +32,7 @@ pub fn first_word<'a>(bytes: &'a [u8]) -> (&'a [u8], Left<'a>)
     }
 }
 
-/// The next word, and what is left behind it.
+/// Returns the next word, and what is left after it.
 #[tactic(auto, unfolding(crate::specs::Words::word_at))]
 pub fn word<'a>(rest: Left<'a>) -> Result<(&'a [u8], Left<'a>), Cause>
     ensures value { seen (λ x. (x.0.now, left x.1)) result ≡ word_at (left rest.entry) }
@@ -44,7 +44,7 @@ pub fn word<'a>(rest: Left<'a>) -> Result<(&'a [u8], Left<'a>), Cause>
     }
 }
 
-/// Whether no word is left.
+/// Checks that no word is left.
 pub fn nothing(rest: Left<'_>) -> Result<(), Cause>
     ensures { result ≡ nothing_at (left rest.entry) }
 {
@@ -54,7 +54,7 @@ pub fn nothing(rest: Left<'_>) -> Result<(), Cause>
     }
 }
 
-/// The number that a word spells, at most `most`.
+/// Returns the number that a word spells, at most `most`.
 #[tactic(auto, unfolding(crate::specs::Words::number_to))]
 pub fn number_to(most: u64, word: &[u8]) -> Result<u64, Cause>
     requires { 9 ≤ most }
@@ -79,7 +79,7 @@ pub fn number_to(most: u64, word: &[u8]) -> Result<u64, Cause>
     Ok(n)
 }
 
-/// The number that a word spells, at most 4,294,967,295.
+/// Returns the number that a word spells, at most 4,294,967,295.
 pub fn number(word: &[u8]) -> Result<u32, Cause>
     ensures value { result ≡ number word.now }
     ensures some { OnOk result (1 ≤ length word.now) }
@@ -87,7 +87,7 @@ pub fn number(word: &[u8]) -> Result<u32, Cause>
     Ok(number_to(u64::from(u32::MAX), word)? as u32)
 }
 
-/// The next word as a number.
+/// Returns the next word as a number.
 #[tactic(auto, unfolding(crate::specs::Words::number_at))]
 pub fn next_number<'a>(rest: Left<'a>) -> Result<(u32, Left<'a>), Cause>
     ensures value { seen (λ x. (x.0, left x.1)) result ≡ number_at (left rest.entry) }
@@ -97,7 +97,7 @@ pub fn next_number<'a>(rest: Left<'a>) -> Result<(u32, Left<'a>), Cause>
     Ok((number(first)?, rest))
 }
 
-/// Whether a word is bytes: digits by twos, lower case, at least two.
+/// Whether a word is bytes: lower case hexadecimal digits, two for each byte, at least two.
 pub fn is_bytes(word: &[u8]) -> bool
     ensures { result ≡ is_bytes_word word.now }
 {

@@ -64,7 +64,7 @@ fn push_entries<A: Allocator>(out: &mut String<A>, entries: &[Entry]) -> Result<
     Ok(())
 }
 
-/// Appends numbers, each behind a space.
+/// Appends numbers, each after a space.
 fn push_numbers<A: Allocator>(out: &mut String<A>, numbers: &[u32]) -> Result<(), AllocError>
     ensures { OnOk result (string_bytes out.new ≡ string_bytes out.old ++ number_words numbers.now) }
 {
@@ -116,7 +116,7 @@ fn push_machine<A: Allocator>(
     out.push_str("\n")
 }
 
-/// Appends the lines of the guests' pages, and of their salts where they need one.
+/// Appends the line of the guests' pages, and that of their salts if it is needed.
 fn push_guests<A: Allocator>(
     out: &mut String<A>,
     has_salts: bool,
@@ -133,7 +133,7 @@ fn push_guests<A: Allocator>(
     }
 }
 
-/// Appends the lines of the entries, and of their number.
+/// Appends the lines of the entries, and the line of their number.
 fn push_body<A: Allocator>(out: &mut String<A>, entries: &[Entry]) -> Result<(), AllocError>
     requires { length entries.now < 2 ^ 32 }
     ensures { OnOk result (string_bytes out.new ≡ string_bytes out.old ++ entries_lines entries.now) }
@@ -143,7 +143,7 @@ fn push_body<A: Allocator>(out: &mut String<A>, entries: &[Entry]) -> Result<(),
     out.push_str("\n")
 }
 
-/// The text of a journal of a machine with these frames, pages and salts: version 1 where every salt is 0, and version 2
+/// Returns the text of a journal of a machine with these frames, pages and salts: version 1 if every salt is 0, and version 2
 /// otherwise.
 #[tactic(auto, unfolding(crate::specs::Written::journal_text))]
 pub fn write_entries<A: Allocator>(
@@ -164,7 +164,7 @@ pub fn write_entries<A: Allocator>(
     Ok(text)
 }
 
-/// A journal's text, as [`write_entries`] has it.
+/// Returns a journal's text, as [`write_entries`] does.
 pub fn write_journal<A: Allocator>(alloc: A, journal: &Journal<A>) -> Result<String<A>, AllocError>
     ensures { IfOk result (λ text. string_bytes text ≡ journal_text (journal_seen journal.now)) }
 {

@@ -1,4 +1,4 @@
--- The rule of a history, and what its steps tell.
+-- The rule of a history, and what its steps say.
 use Rattle.std.specs.Prelude.{ℕ, ◌≡◌, ◌==◌, true, List, [], ◌∷◌, ◌++◌, length, MatchBool}
 use Rattle.logbook.specs.Pages.{Cell, Step, View, Book, Named}
 use Rattle.merge_reports.specs.declared.note.Note.{Note}
@@ -11,6 +11,6 @@ pub record CountsNotes (cells : List Cell) (notes : List Note) : Type 0 where
 abbrev pub counter_of : Book → Named
 counter_of history = record { tracked = true; key = 0; book = history }
 
--- where the counter was the number that was known, the note stands behind all notes that were known
+-- if the counter held the known number, the note comes right after all notes that were known
 abbrev pub AddsNote : Step Note → View Note ℕ → ℕ → View Note ℕ → Type 0
 AddsNote step before found after = MatchBool (found == step.old) (after.0 ≡ before.0 ++ step.ask ∷ []) (Unit {0})

@@ -1,4 +1,4 @@
--- What a contract sees of a publisher, of a watch, and of what is told.
+-- What a contract sees of a publisher, of a watch, and of a `Told`.
 use Rattle.std.specs.Prelude.{List}
 use Rattle.logbook.specs.Pages.{Book}
 use Rattle.page_model.specs.Parts.{Totals}
@@ -7,11 +7,11 @@ use Rattle.merge_reports.specs.declared.publisher.Publisher.{Publisher}
 use Rattle.merge_reports.specs.declared.watch.Watch.{Watch}
 use Rattle.merge_reports.specs.Notes.{published_in}
 
--- the list that is told
+-- the list that it says was published
 abbrev pub list_told : Told → List Totals
 list_told t = published_in t.history.log
 
--- by which publisher it is told
+-- whose publisher's list it is
 abbrev pub told_id : Told → Book
 told_id t = t.history.book
 
@@ -28,7 +28,7 @@ module _ {A : Type 0} where
   abbrev pub seen : Watch A → List Totals
   seen w = w.seen.log
 
-  -- the lists that it was told, in order
+  -- the lists that it learned, in order
   abbrev pub heard : Watch A → List (List Totals)
   heard w = w.heard.log
 

@@ -8,13 +8,13 @@ use Rattle.merge_reports.specs.Reports.{NeverFalls}
 use Rattle.merge_reports.specs.Lists.{published, publisher_id, list_told, told_id, seen, heard, watch_id}
 
 module _ {A : Type 0} where
-  -- what is told is the whole list as it is, in which the entry counts never fall
+  -- the `Told` is of the whole list as it is, and in it the entry counts never fall
   pub record TellsAll (p : Publisher A) (t : Told) : Type 0 where
     pub list : list_told t ≡ published p
     pub never_falls : NeverFalls (list_told t)
     pub same : told_id t ≡ publisher_id p
 
-  -- the report stands behind all that were published before, and the whole list is told
+  -- the report comes after all that were published before, and the `Told` is of the whole list
   pub record Publishes (before after : Publisher A) (r : Totals) (t : Told) : Type 0 where
     pub list : published after ≡ published before ++ r ∷ []
     pub told : TellsAll after t
@@ -24,7 +24,7 @@ module _ {A : Type 0} where
     pub list : published after ≡ published before
     pub same : publisher_id after ≡ publisher_id before
 
-  -- the watch saw nothing yet, and was told all that was published
+  -- the watch has seen nothing yet, and has learned all that was published
   pub record IsNewWatch (p : Publisher A) (w : Watch A) : Type 0 where
     pub reports : seen w ≡ []
     pub lists : heard w ≡ published p ∷ []

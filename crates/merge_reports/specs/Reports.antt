@@ -18,16 +18,16 @@ NeverFalls-prop [] = Unit-prop
 NeverFalls-prop (r ∷ []) = Unit-prop
 NeverFalls-prop (r ∷ s ∷ rs) = ×_prop le_prop (NeverFalls-prop (s ∷ rs))
 
--- all zeros, which is read before anything was published
+-- all zeros, which a watch reads before anything was published
 abbrev pub no_report : Totals
 no_report = record { entries = 0; mapped = 0; shared = 0; frames = 0; reclaimed = 0; hints = 0 }
 
--- the last report of the list, or all zeros where it is empty
+-- the last report of the list, or all zeros if it is empty
 abbrev pub last_of : List Totals → Totals
 last_of [] = no_report
 last_of (r ∷ []) = r
 last_of (r ∷ s ∷ rs) = last_of (s ∷ rs)
 
--- each report of the list has at most as many entries as this one
+-- no report of the list has more entries than this one
 abbrev pub NoneLater : Totals → List Totals → Type 0
 NoneLater r list = All (λ s. s.entries ≤ r.entries) list

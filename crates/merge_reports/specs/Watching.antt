@@ -7,14 +7,14 @@ use Rattle.merge_reports.specs.Reports.{StartsWith, NeverFalls, NoneLater, last_
 use Rattle.merge_reports.specs.Lists.{list_told, seen, heard, watch_id}
 
 module _ {A : Type 0} where
-  -- the watch was told one more list, and nothing else changed
+  -- the watch learned one more list, and nothing else changed
   pub record Hears (before after : Watch A) (t : Told) : Type 0 where
     pub lists : heard after ≡ heard before ++ list_told t ∷ []
     pub reports : seen after ≡ seen before
     pub same : watch_id after ≡ watch_id before
 
-  -- The watch read the last report of a list that begins with all that it saw before and with each list that it was
-  -- told. In that list the entry counts never fall, so nothing that it saw or was told of is later than this report
+  -- The watch read the last report of a list that begins with all that it saw before and with each list that it learned. In
+  -- that list the entry counts never fall, so nothing that it saw or learned of is later than this report
   pub record Reads (before after : Watch A) (r : Totals) : Type 0 where
     pub last : r ≡ last_of (seen after)
     pub earlier : StartsWith (seen after) (seen before)

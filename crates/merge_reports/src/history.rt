@@ -1,6 +1,6 @@
-//! A publisher's history: its notes, which the proofs alone have, and the counter of them.
+//! A publisher's history: its notes, which exist in the proofs alone, and their counter.
 //!
-//! The history only grows, so what a token of it says holds for good, in every thread.
+//! The history only grows, so what a token says of it stays true, in every thread.
 ghost use Rattle.std.specs.Prelude.{◌≡◌, ◌+◌, ◌<◌, ◌^◌, ◌++◌, ◌∷◌, [], length, MatchBool};
 ghost use Rattle.merge_reports.specs.Counting.{counter_of};
 
@@ -18,7 +18,7 @@ impl Rule<Note, u64> for Counted {
 
     ghost holds = { λ cells notes. CountsNotes cells notes };
 
-    // A note that publishes nothing stands first, so that what is told always ends by such a note.
+    // The first note is a `Published` that publishes nothing: so the history of a `Told` always ends with a `Published`.
     ghost first = { Published ∷ [] };
 
     ghost hinted = { λ number notes. Unit {0} };
@@ -30,7 +30,7 @@ impl Rule<Note, u64> for Counted {
     ghost moves = { λ ask before after answer. Unit {0} };
 }
 
-/// The publisher keeps nothing beside the history.
+/// The publisher keeps nothing but the history.
 pub struct NoGain;
 
 impl Gain<Note, u64> for NoGain {
@@ -56,13 +56,13 @@ impl Plain<Note, Note, u64> for OneMore {
     ghost state = { λ note. None };
 }
 
-/// That the history has reached these notes. It has no bytes.
+/// Says that the history has reached these notes. It has no bytes.
 pub type History = Seen<Note, u64, Counted>;
 
-/// How many notes there are.
+/// The number of notes.
 pub type Counter = Word<Note, u64, Counted>;
 
-/// Adds a note where the history is as long as was known, and says whether it was.
+/// Adds a note if the history is still as long as it was known to be, and returns whether it was.
 pub fn add_note(counter: &Counter, history: &mut History, count: u64, note: Note) -> bool
     requires counter { counter.now ≡ counter_of history.old.book }
     requires count { length history.old.log ≡ count }

@@ -1,8 +1,8 @@
-//! Published reports: one thread publishes what its machine counts, and watches in other threads read the report that
-//! was published last, without asking the publisher.
+//! Published reports: one thread publishes what its machine counts, and watches in other threads read the latest published
+//! report, without asking the publisher.
 //!
-//! A watch never sees an older report than one that it saw or was told of. What was published is told by a [`Told`],
-//! which has no report in it, goes to any thread, and may be taken in by any watch of the same publisher.
+//! A watch never sees a report older than one that it has seen or learned of. A [`Told`] says what was published: it has no
+//! report in it, may be sent to any thread, and any watch of the same publisher can learn it.
 #![tactic(auto)]
 
 mod history;

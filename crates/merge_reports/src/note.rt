@@ -1,10 +1,10 @@
-//! What a publisher's history notes.
+//! The notes of a publisher's history.
 use page_model::Report;
 
-/// A report is offered first, and published by the note that follows. One that `left_right` had no room for stays offered.
+/// A report is offered first, and then published by the next note. One that `left_right` had no room for stays offered.
 #[derive(Clone, Copy)]
 pub enum Note {
     Offered(Report),
-    /// The report of the note before is published.
+    /// Publishes the report of the note before.
     Published,
 }

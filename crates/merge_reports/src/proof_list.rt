@@ -1,6 +1,6 @@
-//! Lists that the proofs alone have: what a watch saw, and what it was told. They have no bytes.
+//! Lists that exist in the proofs alone: what a watch saw, and what it learned. They have no bytes.
 //!
-//! Each is a history of its own, under no rule, which is opened anew whenever the list becomes another one.
+//! Each is a separate history, under no rule, which is opened anew whenever the list changes.
 ghost use Rattle.std.specs.Prelude.{◌≡◌, ◌++◌, ◌∷◌, []};
 ghost use Rattle.merge_reports.specs.Notes.{published_in};
 ghost use Rattle.merge_reports.specs.Showing.{list_shown};
@@ -57,14 +57,14 @@ impl Opening<Shown, Report> for WhatIsShown {
     ghost log = { λ count shown. list_shown shown };
 }
 
-/// What a watch was told before, and what it is told now.
+/// What a watch learned before, and what it learns now.
 #[derive(Drop)]
 pub struct Hearing {
     pub heard: ProofList<LinkedList<Report>>,
     pub told: Told,
 }
 
-/// The lists that were told before, and the one that is told now.
+/// The lists that were learned before, and then the one that is learned now.
 pub struct OneMoreHeard;
 
 impl Opening<Hearing, LinkedList<Report>> for OneMoreHeard {
@@ -74,28 +74,28 @@ impl Opening<Hearing, LinkedList<Report>> for OneMoreHeard {
     ghost log = { λ count hearing. hearing.heard.log ++ published_in hearing.told.history.log ∷ [] };
 }
 
-/// No report was seen.
+/// Returns the list of a watch that has seen no report.
 pub fn nothing_seen() -> ProofList<Report>
     ensures { result.log ≡ [] }
 {
     Seen::open_row::<(), NothingYet>(&(), Start::alone(), 0).0
 }
 
-/// No list was told.
+/// Returns the lists of a watch that has learned none.
 pub fn nothing_heard() -> ProofList<LinkedList<Report>>
     ensures { result.log ≡ [] }
 {
     Seen::open_row::<(), NothingYet>(&(), Start::alone(), 0).0
 }
 
-/// The list that is shown.
+/// Returns the list that is shown.
 pub fn seen_now(shown: &Shown) -> ProofList<Report>
     ensures { result.log ≡ list_shown shown.now }
 {
     Seen::open_row::<Shown, WhatIsShown>(shown, Start::alone(), 0).0
 }
 
-/// The lists that were told before, and the one that is told now.
+/// Appends the list that is learned now to those that were learned before.
 pub fn heard_also(
     heard: ProofList<LinkedList<Report>>,
     told: Told,

@@ -31,14 +31,14 @@ impl From<AllocError> for OutOfMemory {
     }
 }
 
-/// What publishes reports. Use it up by [`Publisher::end`], since it can't be dropped.
+/// Publishes reports. Use it up by [`Publisher::end`], since it can't be dropped.
 ///
-/// It has the list of all reports that were published, in order, of which it keeps the last alone in memory.
+/// It has the list of all reports that were published, in order, but keeps only the last one in memory.
 pub struct Publisher<A: Allocator = Global> {
     writer: Writer<Shown, Shown, Seat, LastShown, A>,
     counter: Counter,
     told: Told,
-    // The history as far as it was written: after what is told there may be offers that were not published.
+    // The history as far as it was written: it may end with offers that were not published, which `told` doesn't have.
     history: History,
     count: u64,
     pub ghost counted: { length history.log ≡ count },
@@ -51,10 +51,10 @@ pub struct Publisher<A: Allocator = Global> {
     pub ghost tied_here: { (view writer.desk.place).history.book ≡ history.book },
 }
 
-// The most notes of a history. A publish makes two at most: at a million a second they last for 73,000 years.
+// The most notes of a history. A publish makes at most two: at a million publishes a second they last for 73,000 years.
 const MAX_NOTES: u64 = 1 << 62;
 
-// What is shown before the first publish.
+// Returns what is shown before the first publish.
 fn nothing_shown(history: &History) -> Shown
     ensures { result ≡ record { report = last_of []; notes = 1; history = history.now } }
 {
@@ -69,9 +69,9 @@ impl<A: Allocator> Publisher<A> {
     ghost use Rattle.merge_reports.specs.Lists.{published, publisher_id};
     ghost use Rattle.merge_reports.specs.Publishing.{Publishes, Unchanged, TellsAll, IsNewWatch};
 
-    /// A publisher with an empty list, and room for 8 watches, which see all zeros before the first publish.
+    /// Makes a publisher with an empty list, and room for 8 watches, which see all zeros before the first publish.
     ///
-    /// It takes `rt` since it shows its first value once, and waits for nobody: no watch is there yet.
+    /// It takes `rt` because it shows its first value once. It waits for nobody, since there is no watch yet.
     pub fn new<R: Wait>(alloc: A, rt: &R) -> Result<Publisher<A>, OutOfMemory>
     where
         A: Clone,
@@ -103,9 +103,9 @@ impl<A: Allocator> Publisher<A> {
         })
     }
 
-    /// Publishes a report, and tells the whole list with it. May wait for a watch that reads.
+    /// Publishes a report, and returns a [`Told`] of the whole list. May wait for a watch that is reading.
     ///
-    /// An Err changes nothing. It comes where memory is refused, and after 2^61 calls.
+    /// An `Err` changes nothing. It comes when memory is refused, and after 2^61 calls.
     pub fn publish<R: Wait>(&mut self, rt: &R, report: Report) -> Result<Told, OutOfMemory>
         requires not_older { (last_of (published self.old)).entries ≤ report.entries }
         ensures same { publisher_id self.new ≡ publisher_id self.old }
@@ -114,7 +114,7 @@ impl<A: Allocator> Publisher<A> {
         if self.count >= MAX_NOTES {
             return Err(OutOfMemory);
         }
-        // Nobody else has the counter, so it is always found as it was left; no clause can say so.
+        // Nobody else has the counter, so it always holds what was last put there; no clause can say so.
         let (offer, mut offered) = (Note::Offered(report), self.history.again());
         if !add_note(&self.counter, &mut offered, self.count, offer) {
             return Err(OutOfMemory);
@@ -148,16 +148,16 @@ impl<A: Allocator> Publisher<A> {
         Ok(self.told.again())
     }
 
-    /// Tells all reports that were published so far. Takes no memory.
+    /// Returns a [`Told`] of all reports that were published so far. Takes no memory.
     pub fn tell(&self) -> Told
         ensures { TellsAll self.now result }
     {
         self.told.again()
     }
 
-    /// A watch that saw nothing yet and was told all that was published so far.
+    /// Makes a watch that has seen nothing yet and has learned all that was published so far.
     ///
-    /// An Err comes where eight watches are there already; `left_right` may refuse one for a cause of its own.
+    /// An `Err` comes if there are eight watches already; `left_right` may also refuse one for its own reasons.
     pub fn watch(&mut self) -> Result<Watch<A>, NoWatch>
         ensures unchanged { Unchanged self.old self.new }
         ensures watch { IfOk result (IsNewWatch self.old) }
@@ -169,7 +169,7 @@ impl<A: Allocator> Publisher<A> {
         Ok(Watch::starting(reader, self.tell()))
     }
 
-    /// Ends the publisher, and waits for the watches that read just now. A watch reads no more from then on.
+    /// Ends the publisher, and waits for the watches that are reading right now. After that, no watch reads anything.
     pub fn end<R: Wait>(self, rt: &R) {
         let Publisher {
             writer,

@@ -1,4 +1,4 @@
-//! The rule by which `left_right` shows reports: it speaks of lists of reports alone.
+//! The rule by which `left_right` shows reports. It speaks only of lists of reports.
 use crate::history::History;
 use crate::shown::Shown;
 use atomic_table::{Join, Split};
@@ -6,7 +6,7 @@ use crossbeam_utils::rule::{Outcome, Protocol};
 use page_model::Report;
 use std::collections::LinkedList;
 
-/// What the publisher, or a watch, knows of what is shown. No value of it is made.
+/// What the publisher, or a watch, knows of what is shown. No value of it is ever made.
 pub struct Seat {
     /// Whether it knows the history.
     pub is_tied: bool,
@@ -15,7 +15,7 @@ pub struct Seat {
     pub seen: LinkedList<Report>,
 }
 
-/// The last report of a list is shown, and every list that was seen is a front of it.
+/// The last report of a list is shown, and every list that was seen is a front of that list.
 pub struct LastShown;
 
 impl Protocol<Shown, Seat> for LastShown {
@@ -26,7 +26,7 @@ impl Protocol<Shown, Seat> for LastShown {
     ghost first = { newcomer };
 }
 
-/// A watch looks at what is shown.
+/// A watch reads what is shown.
 pub struct Looked;
 
 impl Outcome<Shown, Seat> for Looked {
@@ -44,7 +44,7 @@ impl Outcome<Shown, Seat> for Replaced {
     ghost then = { Replaces };
 }
 
-/// A new watch is told which history it is, and no more.
+/// A new watch learns which history it is, and no more.
 pub struct Tied;
 
 impl Split<Seat> for Tied {

@@ -17,7 +17,7 @@ pub struct Shown {
 }
 
 impl Shown {
-    /// A copy.
+    /// Makes a copy.
     pub fn again(&self) -> Shown
         ensures { result ≡ self.now }
     {

@@ -1,4 +1,4 @@
-//! A list of published reports, told.
+//! Published reports, as a value that can be passed on.
 ghost use Rattle.std.specs.Prelude.{◌≡◌, ◌+◌, ◌++◌, ◌∷◌, [], length, take};
 ghost use Rattle.merge_reports.specs.declared.note.Note.TheVariants.{Published};
 ghost use Rattle.merge_reports.specs.Notes.{published_in};
@@ -6,10 +6,10 @@ ghost use Rattle.merge_reports.specs.Reports.{NeverFalls, NeverFalls-prop};
 
 use crate::history::History;
 
-/// All reports that were published when this was made. It may go to any thread.
+/// All reports that were published when this was made. It may be sent to any thread.
 #[derive(Drop)]
 pub struct Told {
-    // How many notes `history` has before its last, by which the last report is published.
+    // The number of notes in `history` before its last one, which publishes the last report.
     pub(crate) before: u64,
     pub(crate) history: History,
     pub ghost counted: { length history.log ≡ before + 1 },
@@ -18,7 +18,7 @@ pub struct Told {
 }
 
 impl Told {
-    /// A copy, for another watch. Takes no memory.
+    /// Makes a copy, for another watch. Takes no memory.
     pub fn again(&self) -> Told
         ensures { result ≡ self.now }
     {

@@ -15,21 +15,21 @@ use std::alloc::{Allocator, Global};
 use std::collections::LinkedList;
 use thiserror::Error;
 
-/// Eight watches are there, or `left_right` gave no place.
+/// There are eight watches already, or `left_right` had no place.
 #[derive(Clone, Copy, Debug, PartialEq, Eq, Error)]
 #[error("no place for one more watch: drop one of those that there are, at most 8, then call again")]
 pub struct NoWatch;
 
 type Place<A> = Reader<Shown, Seat, LastShown, A>;
 
-/// What reads the report that was published last, in any thread.
+/// Reads the report that was published last, in any thread.
 ///
-/// It has the list of reports that it saw, of which it read the last one, and the lists that it was told. It keeps none
-/// of them in memory.
+/// It has the list of reports that it saw, the last of which it read, and the lists that it learned. It keeps none of them in
+/// memory.
 #[derive(Drop)]
 pub struct Watch<A: Allocator = Global> {
     reader: Place<A>,
-    // The longest list that it was told.
+    // The longest list that it learned.
     longest: Told,
     seen: ProofList<Report>,
     heard: ProofList<LinkedList<Report>>,
@@ -56,7 +56,7 @@ impl<A: Allocator> Watch<A> {
         }
     }
 
-    /// Takes in what was told by the watch's publisher, so that no later read is older. Takes no memory.
+    /// Learns what the watch's publisher had published when it made `told`, so that no later read is older. Takes no memory.
     pub fn learn(&mut self, told: Told)
         requires same_publisher { told_id told ≡ watch_id self.old }
         ensures { Hears self.old self.new told }
@@ -70,9 +70,9 @@ impl<A: Allocator> Watch<A> {
         }
     }
 
-    /// The report that was published last; all zeros before the first. Waits for nobody, and takes no memory.
+    /// Returns the report that was published last; all zeros before the first. Waits for nobody, and takes no memory.
     ///
-    /// A `None` changes nothing. It comes where the publisher was ended, since `left_right` then shows no report.
+    /// A `None` changes nothing. It comes if the publisher was ended, since `left_right` then shows no report.
     pub fn read(&mut self) -> Option<Report>
         ensures same { watch_id self.new ≡ watch_id self.old }
         ensures heard { heard self.new ≡ heard self.old }
@@ -87,7 +87,7 @@ impl<A: Allocator> Watch<A> {
     }
 }
 
-// Reads what is shown, with the list whose last report it is, where that list is no shorter than what was told.
+// Reads what is shown, with the list whose last report it is, if that list is no shorter than the one that was learned.
 fn look<A: Allocator>(
     reader: Place<A>,
     told: &Told,

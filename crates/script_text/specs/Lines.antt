@@ -1,4 +1,4 @@
--- The lines of a script behind its head: a request, a scan, or the end.
+-- The lines of a script after its head: a request, a scan, or the end.
 use Rattle.std.specs.Prelude.{◌≡◌, ℕ, ◌+◌, ◌-◌, ◌^◌, ◌<◌, ◌≤◌, ◌==◌, nat_lt, false, if◌then◌else◌, List, Option, Result, Ok, Err, codes}
 use Rattle.std.specs.Str.{bytes_eq}
 use Rattle.page_model.specs.declared.request.Request.{Request}
@@ -21,12 +21,12 @@ seed_at left = do
   seed ← number_to (2 ^ 64 - 1) word.0
   Ok (seed, word.1)
 
--- a scan of so many pages; one of none isn't asked for
+-- a scan of n pages; it must have at least one
 abbrev pub scanned : ℕ → Work → Result Work Cause
 scanned n work = if n == 0 then Err Length else Ok work
 
--- What stands behind the words that name a scan. The outer answer is about the form, which comes before every other
--- cause; the inner one is the scan, or what is wrong with its numbers.
+-- What comes after the words that name a scan. The outer answer is about the form, which is checked before everything else; the
+-- inner one is the scan, or what is wrong with its numbers.
 unfoldable pub in_order_at : Option (List ℕ) → Result (Result Work Cause) Cause
 in_order_at left = do
   n ← number_at left
@@ -40,14 +40,14 @@ at_random_at left = do
   _ ← nothing_at n.1
   Ok (scanned n.0 (ScansAtRandom seed.0 n.0))
 
--- by the word that names the order
+-- what comes after the word scan, by the word that names the order
 unfoldable pub scan_named : List ℕ → Option (List ℕ) → Result (Result Work Cause) Cause
 scan_named order left =
     if bytes_eq order (codes "sequential") then in_order_at left
     else if bytes_eq order (codes "random") then at_random_at left
     else Err Form
 
--- what stands behind the word scan
+-- what comes after the word scan
 unfoldable pub scan_at : Option (List ℕ) → Result (Result Work Cause) Cause
 scan_at left = do
   order ← word_at left
@@ -57,14 +57,14 @@ scan_at left = do
 abbrev pub as_work : Result Request Cause → Result Work Cause
 as_work asked = asked >>= λ request. Ok (Asks request)
 
--- by the word that names the request or the scan; a close isn't asked for
+-- what comes after the guest's number, by the word that names the request or the scan; a close can't be asked for
 unfoldable pub work_named : List ℕ → Option (List ℕ) → Result (Result Work Cause) Cause
 work_named name left =
     if bytes_eq name (codes "scan") then scan_at left
     else if bytes_eq name (codes "close") then Err Form
     else named name left >>= λ asked. Ok (as_work asked)
 
--- what stands behind the guest's number
+-- what comes after the guest's number
 unfoldable pub work_at : Option (List ℕ) → Result (Result Work Cause) Cause
 work_at left = do
   name ← word_at left
@@ -74,22 +74,22 @@ work_at left = do
 abbrev pub is_guest : ℕ → ℕ → Result (Unit {0}) Cause
 is_guest guests guest = if nat_lt guest guests then Ok tt else Err NoGuest
 
--- a journal of so many entries, of which total are spoken for, holds what a line stands for
+-- a journal of `most` entries, `total` of them already taken, has room for what a line asks for
 abbrev pub with_room : ℕ → ℕ → ℕ → Work → Result Item Cause
 with_room most total guest work =
     if nat_lt most (total + size_of work) then Err TooMany
     else Ok (record { guest = guest; work = work })
 
--- a script line: its form, then its guest, then its numbers, then whether the journal has room for it
+-- a script line: its form is checked first, then its guest, then its numbers, then whether the journal has room for it
 unfoldable pub item_at : ℕ → ℕ → ℕ → List ℕ → Option (List ℕ) → Result (Line Item) Cause
 item_at guests most total first left = asking work_at (is_guest guests) (with_room most total) first left
 
--- What a line behind the head says, of a script of so many guests whose journal has so many entries. total: how many of
--- them the guests' closes and the requests before the line take.
+-- What a line after the head says, of a script with this many guests and a journal of `most` entries. total: how many of them
+-- the guests' closes and the requests before the line take.
 unfoldable pub script_line_of : ℕ → ℕ → ℕ → List ℕ → Result (Line Item) Cause
 script_line_of guests most total line = behind_head (item_at guests most total) line
 
--- how many entries are spoken for after a line
+-- how many entries are taken after a line
 abbrev pub total_after : ℕ → Item → ℕ
 total_after total item = total + size_of item.work
 
@@ -99,7 +99,7 @@ IsPlain (Asks request) = is_close request ≡ false
 IsPlain (ScansInOrder n) = Unit {0}
 IsPlain (ScansAtRandom seed n) = Unit {0}
 
--- what a line asks for is of one of so many guests, is no close, and has room in the journal
+-- what a line asks for is of one of the guests, is not a close, and has room in the journal
 abbrev pub Fits : ℕ → ℕ → ℕ → Line Item → Type 0
 Fits guests most total (Enters item) = (item.guest < guests) × IsPlain item.work × (total + size_of item.work ≤ most)
 Fits guests most total (Ends count) = Unit {0}

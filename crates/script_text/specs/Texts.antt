@@ -1,4 +1,4 @@
--- A script's text, version 1 or 2: what it says, or its first fault. Its lines are looked at in the order of every text's.
+-- A script's text, version 1 or 2: what it says, or its first fault. Its lines are read in the same order as any text's.
 use Rattle.std.specs.Prelude.{ℕ, ◌+◌, ◌^◌, ◌==◌, ◌||◌, nat_lt, if◌then◌else◌, List, length, Some, Result, Ok, Err, codes}
 use Rattle.page_model.specs.declared.request.Request.{Request}
 use Rattle.journal_text.specs.declared.fault.Cause.{Cause}
@@ -45,11 +45,11 @@ journal_in_limits guests n =
 unfoldable pub ring_of : List ℕ → Result ℕ Cause
 ring_of line = named_number (codes "ring") line >>= ring_in_limits
 
--- journal NUMBER, for so many guests
+-- journal NUMBER, for this many guests
 unfoldable pub journal_limit_of : ℕ → List ℕ → Result ℕ Cause
 journal_limit_of guests line = named_number (codes "journal") line >>= journal_in_limits guests
 
--- The lines of the rings and of the journal, of which the first is line n, and what stands behind them.
+-- The lines of the rings and of the journal, starting at line n, and what comes after them.
 unfoldable pub rooms_in : ℕ → ℕ → List ℕ → Result ((ℕ × ℕ) × List ℕ) TextFault
 rooms_in n guests text = do
   first ← line_at n text
@@ -58,12 +58,12 @@ rooms_in n guests text = do
   journal ← at_line (n + 1) (journal_limit_of guests second.0)
   Ok ((ring, journal), second.1)
 
--- What the lines from number n on ask for, of a script of so many guests whose journal has so many entries. total: how many
--- of them are spoken for; k: how many lines came before.
+-- What the lines from number n on ask for, of a script with this many guests and a journal of `most` entries. total: how many
+-- of them are already taken; k: how many request lines came before.
 abbrev pub items_in : ℕ → ℕ → ℕ → ℕ → ℕ → List ℕ → Result (List Item) TextFault
 items_in guests most total n k text = body_in (script_line_of guests most) total_after total n k text
 
--- what each guest asks by all lines behind the head, of which the first is line n
+-- what each guest asks for by all lines after the head, starting at line n
 unfoldable pub scripts_in : List ℕ → ℕ → ℕ → List ℕ → Result (List (List Request)) TextFault
 scripts_in pages most n text = do
   items ← items_in (length pages) most (length pages) n 0 text
@@ -77,6 +77,6 @@ script_in text = do
   scripts ← scripts_in head.0.pages rooms.0.1 (line_behind_head head.0.has_salts + 2) rooms.1
   Ok (record { frames = head.0.frames; pages = head.0.pages; salts = head.0.salts; ring = rooms.0.0; journal = rooms.0.1; scripts = scripts })
 
--- What a script's text says: its script, or its first fault. A text has at most 67,108,864 bytes, and that comes first.
+-- What a script's text says: its script, or its first fault. A text has at most 67,108,864 bytes, which is checked first.
 unfoldable pub script_of : List ℕ → Result Script TextFault
 script_of text = if nat_lt (2 ^ 26) (length text) then Err faults.Long else script_in text

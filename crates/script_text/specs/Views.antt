@@ -1,4 +1,4 @@
--- How what the code answers is compared with what the definitions say.
+-- How what the code returns is compared with what the definitions say.
 use Rattle.std.specs.Prelude.{◌≡◌, ℕ, List, ◌++◌, map, slice_index_or, slice_set, Result, Ok, Err}
 use Rattle.std.specs.declared.vec.Vec.{Vec}
 use Rattle.page_model.specs.declared.request.Request.{Request}
@@ -19,7 +19,7 @@ module _ {A : Type 0} where
   abbrev pub lists_of : List (Vec Request A) → List (List Request)
   lists_of scripts = map (λ script. script.items) scripts
 
-  -- a list of requests grew by what a line stands for, and the others are as they were
+  -- a guest's list of requests grew by what a line asks for, and the others are as they were
   pub record Adds (pages : List ℕ) (item : Item) (old new : List (Vec Request A)) : Type 0 where
     pub script : Vec Request A
     pub set : new ≡ slice_set old item.guest script

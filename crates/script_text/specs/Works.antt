@@ -12,19 +12,19 @@ abbrev pub proposals : (ℕ → ℕ) → ℕ → List Request
 proposals number zero = []
 proposals number (suc n) = proposals number n ++ Propose (number n) ∷ []
 
--- the requests that a line of a guest with so many pages stands for
+-- the requests of a line of a guest with this many pages
 unfoldable pub requests_of : ℕ → Work → List Request
 requests_of pages (Asks request) = request ∷ []
 requests_of pages (ScansInOrder n) = proposals (sequential_number pages) n
 requests_of pages (ScansAtRandom seed n) = proposals (random_number seed pages) n
 
--- how many requests that are
+-- how many requests that is
 abbrev pub size_of : Work → ℕ
 size_of (Asks request) = 1
 size_of (ScansInOrder n) = n
 size_of (ScansAtRandom seed n) = n
 
--- all requests of a guest with so many pages, in the order of the lines
+-- all requests of a guest with this many pages, in the order of the lines
 abbrev pub asked_by : ℕ → ℕ → List Item → List Request
 asked_by guest pages [] = []
 asked_by guest pages (item ∷ items) = (if item.guest == guest then requests_of pages item.work else []) ++ asked_by guest pages items

@@ -22,15 +22,15 @@ use page_digest::PageHash;
 use page_model::{Entry, MAX_GUESTS, Request};
 use std::alloc::Allocator;
 
-/// So many entries are served together, or more: an entry of them sees those after it, whose pages may be hashed with its own.
+/// At least this many entries are served together: each of them sees those after it, whose pages may be hashed with its own.
 const WINDOW: usize = 256;
 
-/// Room for the entries that are served together: turns are taken into it until it has `WINDOW` entries or more, and a turn
-/// has at most an entry of each guest.
+/// Room for the entries that are served together: turns are added until there are `WINDOW` entries or more, and a turn has at
+/// most one entry of each guest.
 const ROOM: usize = WINDOW + MAX_GUESTS;
 
-/// Serves scripts in their serial order, and writes the lines of the verdicts and of the report after them, by way of an empty
-/// list and an empty buffer, which take no more memory.
+/// Serves scripts in their serial order, and writes the lines of the verdicts and then the report's, through an empty list and
+/// an empty buffer, which take no more memory.
 fn print_turns<H: PageHash, W: Sink, A: Allocator>(
     core: &mut Core<H, A>,
     scripts: &[Vec<Request, A>],
@@ -85,12 +85,12 @@ fn print_script<H: PageHash + Drop, W: Sink, A: Allocator + Clone>(
 
 /// Reads a script, and writes a verdict line for each request in its serial order and then the report line.
 ///
-/// In that order the guests take turns, guest 0 first, each with its next request; its close is each guest's last, and
+/// In that order the guests take turns, guest 0 first, each with its next request; each guest's last request is its close, and
 /// a guest that has ended is left out.
 ///
-/// Where the text is at fault, the fault's line is written and nothing else, and the fault is answered. On
-/// `OutOfMemory`, `Read` and `Long` nothing was written, and on `Write` a front of the output went out. `Read`
-/// is answered exactly where the reader failed, and `Write` exactly where the writer did.
+/// If the text is at fault, only the line of the fault is written, and the fault is returned. On `OutOfMemory`, `Read` and
+/// `Long` nothing was written, and on `Write` a front of the output went out. `Read` is returned exactly if the reader failed,
+/// and `Write` exactly if the writer did.
 pub fn serial<R: Source, W: Sink, H: PageHash + Drop, A: Allocator + Clone>(
     alloc: A,
     reader: &mut R,

@@ -23,7 +23,7 @@ fn add_scan<A: Allocator>(script: &mut Vec<Request, A>, scan: Scan, n: u32) -> R
     Ok(())
 }
 
-/// Appends what a line of a guest with so many pages stands for.
+/// Appends the requests of a line of a guest with this many pages.
 pub(crate) fn add<A: Allocator>(
     script: &mut Vec<Request, A>,
     pages: u32,

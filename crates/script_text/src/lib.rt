@@ -1,7 +1,7 @@
 //! Scripts as texts, and the engine that serves one on one thread.
 //!
-//! A script has a machine with the sizes of its rings and its journal, and for each guest what it asks, scans of its pages
-//! among that. The lines and the order of faults stand in `docs/FORMATS.md`; `specs/` defines them apart from the code.
+//! A script has a machine with the sizes of its rings and its journal, and what each guest asks for, which may be scans of its
+//! pages. The lines and the order of faults are in `docs/FORMATS.md`; `specs/` defines them independently of the code.
 #![tactic(auto)]
 
 mod engine;

@@ -1,4 +1,4 @@
-//! The lines of a script behind its head: a request, a scan, or the end.
+//! The lines of a script after its head: a request, a scan, or the end.
 ghost use Rattle.std.specs.Prelude.{◌≡◌, ◌+◌, ◌<◌, ◌≤◌, false, IfOk, OnOk};
 ghost use Rattle.page_model.specs.Closing.{is_close};
 ghost use Rattle.script_text.specs.Works.{size_of};
@@ -14,7 +14,7 @@ use page_model::Request;
 /// What a line asks for, or what is wrong with its numbers.
 type Asked = Result<Work, Cause>;
 
-/// The next word as a seed.
+/// Returns the next word as a seed.
 #[tactic(auto, unfolding(crate::specs::Lines::seed_at))]
 fn next_seed<'a>(rest: Left<'a>) -> Result<(u64, Left<'a>), Cause>
     ensures { seen (λ x. (x.0, left x.1)) result ≡ seed_at (left rest.entry) }
@@ -74,7 +74,7 @@ fn scan(rest: Left<'_>) -> Result<Asked, Cause>
     scan_named(order, rest)
 }
 
-/// One request as what a line asks for.
+/// Returns one request as what a line asks for.
 fn as_work(asked: Result<Request, Cause>) -> Asked
     requires { IfOk asked (λ r. is_close r ≡ false) }
     ensures value { result ≡ as_work asked }
@@ -110,7 +110,7 @@ fn next_work(rest: Left<'_>) -> Result<Asked, Cause>
     work_named(name, rest)
 }
 
-/// Whether a machine of so many guests has this one.
+/// Checks that a machine of this many guests has this one.
 fn is_guest(guests: u32, guest: u32) -> Result<(), Cause>
     ensures value { result ≡ is_guest guests guest }
     ensures below { OnOk result (guest < guests) }
@@ -122,7 +122,7 @@ fn is_guest(guests: u32, guest: u32) -> Result<(), Cause>
     }
 }
 
-/// What a guest asks for, where the journal has room for it.
+/// Returns what a guest asks for, if the journal has room for it.
 fn with_room(most: u32, total: u32, guest: u8, work: Work) -> Result<Item, Cause>
     requires { total ≤ most }
     ensures value { result ≡ with_room most total guest work }
@@ -157,8 +157,8 @@ fn item(
     Ok(Line::Enters(item))
 }
 
-/// What a line behind the head says, of a script of so many guests whose journal has `most` entries, of which `total` are
-/// spoken for.
+/// Reads a line after the head of a script with this many guests, whose journal has `most` entries, `total` of them already
+/// taken.
 #[tactic(auto, unfolding(crate::specs::Lines::script_line_of))]
 pub(crate) fn read_script_line(
     guests: u32,

@@ -1,4 +1,4 @@
-//! The serial order of scripts, a turn at a time.
+//! The serial order of scripts, one turn at a time.
 ghost use Rattle.merge_machine.specs.Scripts.{with_close};
 ghost use Rattle.std.specs.Prelude.{◌≡◌, ◌+◌, ◌≤◌, ◌++◌, drop, map, length, vec_capacity};
 ghost use Rattle.journal_text.specs.Texts.{AreBelow};
@@ -8,7 +8,7 @@ ghost use Rattle.script_text.specs.Views.{lists_of};
 use page_model::{Entry, Request};
 use std::alloc::Allocator;
 
-/// What a guest asks in a turn, the first of which is turn 0; `None` where it has ended before.
+/// Returns what a guest asks for in a turn, counted from 0; `None` if it has ended before.
 fn request_at<A: Allocator>(script: &Vec<Request, A>, turn: usize) -> Option<Request>
     ensures { result ≡ first_of (drop turn (with_close script.now.items)) }
 {
@@ -21,7 +21,7 @@ fn request_at<A: Allocator>(script: &Vec<Request, A>, turn: usize) -> Option<Req
     None
 }
 
-/// Appends what each guest asks in a turn, guest 0 first, to a list with room for an entry of each.
+/// Appends what each guest asks for in a turn, guest 0 first, to a list with room for an entry of each.
 pub(crate) fn push_turn<A: Allocator>(
     entries: &mut Vec<Entry, A>,
     scripts: &[Vec<Request, A>],
@@ -43,7 +43,7 @@ pub(crate) fn push_turn<A: Allocator>(
     }
 }
 
-/// How many turns the scripts take, their closes among them.
+/// Returns how many turns the scripts take, including their closes.
 pub(crate) fn turns_of<A: Allocator>(scripts: &[Vec<Request, A>]) -> usize
     ensures { result ≡ longest (map with_close (lists_of scripts.now)) }
 {

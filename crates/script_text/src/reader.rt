@@ -77,7 +77,7 @@ fn add_lines<A: Allocator>(
     Err(TextFault::Truncated(n))
 }
 
-/// What each guest asks by the lines from number `first` on.
+/// Reads what each guest asks for by the lines from number `first` on.
 fn read_lists<A: Allocator + Clone>(
     alloc: A,
     pages: &[u32],
@@ -100,7 +100,7 @@ fn read_lists<A: Allocator + Clone>(
     Ok(scripts)
 }
 
-/// The script of a text that is not too long.
+/// Reads the script of a text that is not too long.
 #[tactic(auto, unfolding(crate::specs::Texts::script_in))]
 fn script_in<A: Allocator + Clone>(alloc: A, text: &[u8]) -> Result<Script<A>, TextFault>
     requires { length text.now ≤ 2 ^ 26 }
@@ -131,12 +131,12 @@ fn script_in<A: Allocator + Clone>(alloc: A, text: &[u8]) -> Result<Script<A>, T
     Ok(Script { config, scripts })
 }
 
-/// Reads a script's text, version 1 or 2, with its scans written out as proposals. Version 1 gives every guest the salt 0.
+/// Reads a script's text, version 1 or 2, with its scans written out as proposals. In version 1 every guest has the salt 0.
 ///
 /// # Errors
 ///
-/// The text's first fault, in the order of `docs/FORMATS.md`, or `OutOfMemory` where a growth was refused before that
-/// fault's line was looked at.
+/// The text's first fault, in the order of `docs/FORMATS.md`, or `OutOfMemory` if memory was refused before that fault's line
+/// was read.
 #[tactic(auto, unfolding(crate::specs::Texts::script_of))]
 pub fn read_script<A: Allocator + Clone>(alloc: A, text: &[u8]) -> Result<Script<A>, TextFault>
     ensures { Gives script_seen result (script_of text.now) }

@@ -1,4 +1,4 @@
-//! Room for a script's requests, which is taken before its lines are read.
+//! Room for a script's requests, taken before its lines are read.
 ghost use Rattle.std.specs.Prelude.{◌≡◌, ◌≤◌, [], length, replicate, IfErr, IfOk};
 ghost use Rattle.journal_text.specs.declared.fault.TextFault.TheVariants.{OutOfMemory};
 ghost use Rattle.script_text.specs.Views.{lists_of};
@@ -9,7 +9,7 @@ use journal_text::word::{cut, first_word, number};
 use page_model::{MAX_GUESTS, Request};
 use std::alloc::Allocator;
 
-/// For each guest, how many lines of the text may be requests of it. A scan counts as one of them.
+/// Returns, for each guest, how many lines of the text may be requests of it. A scan counts as one of them.
 fn count_lines(text: &[u8]) -> [usize; MAX_GUESTS] {
     let mut counts = [0; MAX_GUESTS];
     let mut rest = text;
@@ -33,9 +33,9 @@ fn count_line(counts: &mut [usize; MAX_GUESTS], line: &[u8]) {
     }
 }
 
-/// An empty list for each of so many guests, with room for what the text's lines ask but for scans.
+/// Makes an empty list for each of this many guests, with room for one request for each of its lines in the text.
 ///
-/// So the lists needn't grow where no scan is asked for, and a text takes no more memory than its least lines need.
+/// So the lists needn't grow if there is no scan, and they take at most the memory that the shortest lines would need.
 pub(crate) fn empty_scripts<A: Allocator + Clone>(
     alloc: A,
     guests: usize,

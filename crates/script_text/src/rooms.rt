@@ -10,7 +10,7 @@ use journal_text::word::{next_number, nothing, word};
 use journal_text::{Cause, TextFault};
 use page_model::{MAX_ENTRIES, MAX_RING_CAPACITY};
 
-/// The number on a line of a word and a number.
+/// Reads the number on a line of a word and a number.
 #[tactic(auto, unfolding(crate::specs::Texts::named_number))]
 fn named_number(name: &[u8], line: &[u8]) -> Result<u32, Cause>
     ensures { result ≡ named_number name.now line.now }
@@ -66,7 +66,8 @@ fn journal(guests: u32, line: &[u8]) -> Result<u32, Cause>
     journal_in_limits(guests, n)
 }
 
-/// The room of the rings and of the journal, for so many guests, on line `n` and the next, and what stands behind them.
+/// Reads the room of the rings and of the journal, for this many guests, on line `n` and the next; also returns the text after
+/// them.
 #[tactic(auto, unfolding(crate::specs::Texts::rooms_in))]
 pub(crate) fn read_rooms<'a>(
     n: u32,

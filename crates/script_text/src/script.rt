@@ -8,10 +8,10 @@ use merge_machine::Config;
 use page_model::{MachineShape, Request, ShapeFault};
 use std::alloc::Allocator;
 
-/// A machine with the sizes of its rings and its journal, and what each guest asks, guest 0's list first.
+/// A machine with the sizes of its rings and its journal, and what each guest asks for, guest 0's list first.
 ///
-/// There may be such a machine, each guest has a list, no list holds a close, and the journal has room for all
-/// requests and a close for each guest.
+/// There can be such a machine, each guest has a list, no list holds a close, and the journal has room for all requests and a
+/// close for each guest.
 #[derive(Drop)]
 pub struct Script<A: Allocator> {
     pub config: Config<A>,
@@ -23,7 +23,7 @@ pub struct Script<A: Allocator> {
 }
 
 impl<A: Allocator> Script<A> {
-    /// The shape of the script's machine.
+    /// Returns the shape of the script's machine.
     pub fn shape(&self) -> MachineShape<'_>
         ensures { result ≡ record { frames = self.now.config.frames; pages = self.now.config.pages.items; salts = self.now.config.salts.items } }
     {

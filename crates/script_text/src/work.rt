@@ -9,9 +9,9 @@ use page_model::Request;
 pub enum Work {
     /// One request.
     Asks(Request),
-    /// So many proposals of a scan in order.
+    /// This many proposals of a scan in order.
     ScansInOrder(u32),
-    /// So many proposals of the scan at random with this seed.
+    /// This many proposals of the random scan with this seed.
     ScansAtRandom(u64, u32),
 }
 
@@ -23,7 +23,7 @@ pub struct Item {
 }
 
 impl Work {
-    /// How many requests it stands for.
+    /// Returns how many requests it is.
     pub fn size(&self) -> u32
         ensures { result ≡ size_of self.now }
     {

@@ -15,7 +15,7 @@ use Rattle.script_text.specs.Texts.{Script}
 use Rattle.share_text.specs.declared.form.Output.{Output}
 use Rattle.share_text.specs.declared.form.Output.TheVariants.{Verdicts, JournalText}
 
--- the values of f at so many numbers, the first of which is k
+-- n values of f, at k and the numbers after it; n is the last argument
 abbrev pub each_from : {X : Type 0} → (ℕ → X) → ℕ → ℕ → List X
 each_from f k zero = []
 each_from f k (suc n) = f k ∷ each_from f (k + 1) n
@@ -24,8 +24,8 @@ each_from f k (suc n) = f k ∷ each_from f (k + 1) n
 abbrev pub machine : Script → State
 machine s = empty_state s.frames (shapes s.salts s.pages)
 
--- A run of this script may have this journal: all its entries are of the script's guests, and each guest, guest 0 first, asks
--- for what its script says, and then closes.
+-- A run of this script may have this journal: all its entries are of the script's guests, and each guest asks for what its
+-- script says, and then closes; guest 0's script is the first.
 pub record IsRunOf (s : Script) (es : List Entry) : Type 0 where
   pub members : AreBelow (length s.pages) es
   pub asked : each_from (λ guest. journal.asked guest es) 0 (length s.pages) ≡ map with_close s.scripts

@@ -22,12 +22,12 @@ use Rattle.share_text.specs.declared.fault.ThreadedFault.TheVariants as threaded
 use Rattle.share_text.specs.declared.form.Output.{Output}
 use Rattle.share_text.specs.declared.form.Output.TheVariants.{Verdicts, JournalText}
 
--- how the run of a script ends: with a journal, or refused since the start of a guest's thread was
+-- how the run of a script ends: with a journal, or refused because the start of a guest's thread was
 pub data Outcome : Type 0 where
   Ran : (es : List Entry) → Outcome
   NoThread : Outcome
 
--- the run of this script may end so
+-- the run of this script may end like this
 abbrev pub CanEnd : Script → Outcome → Type 0
 CanEnd s (Ran es) = IsRunOf s es
 CanEnd s NoThread = Unit {0}
@@ -36,12 +36,12 @@ CanEnd s NoThread = Unit {0}
 abbrev pub no_thread_text : List ℕ
 no_thread_text = threaded_fault_line threaded.NoThread ++ codes "\n"
 
--- what is written of such a run: what is due for its journal, or the line of its fault
+-- what is written of a run that ended like this: the output for its journal, or the line of its fault
 abbrev pub outcome_text : (ℕ → List ℕ → ℕ) → Output → Script → Outcome → List ℕ
 outcome_text hash form s (Ran es) = run_text hash form s es
 outcome_text hash form s NoThread = no_thread_text
 
--- what is written for a text where the run of its script ends so, or the text's first fault
+-- what is written for a text if the run of its script ends like this, or the text's first fault
 unfoldable pub run_answer : (ℕ → List ℕ → ℕ) → Output → Outcome → List ℕ → Result (List ℕ) TextFault
 run_answer hash form outcome text = script_of text >>= λ s. Ok (outcome_text hash form s outcome)
 
@@ -50,14 +50,14 @@ abbrev pub of_text : Result (Unit {0}) TextFault → Result (Unit {0}) ThreadedF
 of_text (Ok done) = Ok done
 of_text (Err fault) = Err (threaded.Text fault)
 
--- Why not all that is due was written. Of a run that was refused its line is due, and its fault says that it was written.
+-- Why not all that is due was written. For a refused run its line is due, and its fault means that the line was written.
 abbrev pub as_written : Result (Unit {0}) ThreadedFault → Result (Unit {0}) TextFault
 as_written (Ok done) = Ok done
 as_written (Err (threaded.Text fault)) = Err fault
 as_written (Err threaded.NoThread) = Ok tt
 
--- A run that ended so may be answered so: by Ok where it has a journal, and by its fault where it was refused. A fault of
--- the text, or of the work on it, may come with either.
+-- A run that ended like this may be answered like this: by Ok if it has a journal, and by its fault if it was refused. A fault
+-- of the text, or of the work on it, may come with either.
 abbrev pub Answers : Outcome → Result (Unit {0}) ThreadedFault → Type 0
 Answers (Ran es) (Ok done) = Unit {0}
 Answers NoThread (Ok done) = ⊥
@@ -66,8 +66,8 @@ Answers NoThread (Err threaded.NoThread) = Unit {0}
 Answers (Ran es) (Err (threaded.Text fault)) = Unit {0}
 Answers NoThread (Err (threaded.Text fault)) = Unit {0}
 
--- What `threaded` does with the bytes, in this form: the run of the input's script, where the input has one, ended in some
--- way in which it may, that is answered, and what was written is what is due for it.
+-- What `threaded` does with the bytes, in this form: the run of the input's script, if the input has one, ended in one of the
+-- ways in which it may; the answer fits that way, and what was written is the output for it.
 pub record Threads (hash : ℕ → List ℕ → ℕ) (form : Output) (input old new : Option (List ℕ)) (r : Result (Unit {0}) ThreadedFault) : Type 0 where
   pub outcome : Outcome
   pub can_end : IfSome input (λ text. IfOk (script_of text) (λ s. CanEnd s outcome))
@@ -79,7 +79,7 @@ pub record NeitherFailed (read_failed write_failed : Bool) : Type 0 where
   pub reader : read_failed ≡ false
   pub writer : write_failed ≡ false
 
--- All that `threaded` does: what it does with the bytes, and that its answer tells which end failed.
+-- All that `threaded` does: what it does with the bytes, and that its answer shows which end failed.
 pub record RunsText (hash : ℕ → List ℕ → ℕ) (form : Output) (input old new : Option (List ℕ)) (read_failed write_failed : Bool) (r : Result (Unit {0}) ThreadedFault) : Type 0 where
   pub bytes : Threads hash form input old new r
   pub reader : read_failed ≡ tells_read (as_written r)
@@ -97,7 +97,8 @@ IsLeft runs.Ring = ⊥
 IsLeft runs.Journal = ⊥
 IsLeft (runs.Stopped full) = ⊥
 
--- the work on a script whose run ended so: that is answered, and what is due for it was written, or why not is told
+-- the work on a script whose run ended like this: the answer fits, and either its output was written, or the answer says why
+-- not
 pub record EndsAs (outcome : Outcome) (due : List ℕ) (old new : Option (List ℕ)) (r : Result (Unit {0}) ThreadedFault) : Type 0 where
   pub answers : Answers outcome r
   pub ok : OnOk (as_written r) (Appends old new due)
@@ -110,7 +111,7 @@ pub record Serves (hash : ℕ → List ℕ → ℕ) (form : Output) (s : Script)
   pub ends : EndsAs outcome (outcome_text hash form s outcome) old new r
 
 module _ {H A : Type 0} {ghosts : Ghosts H} where
-  -- what is written of a run that has ended, by what it gave back
+  -- what is written of a run that has ended, by what it returned
   abbrev pub finished_text : Output → Config A → Finished H A ghosts → List ℕ
   finished_text Verdicts c f = lists_lines 0 (map (λ list. list.items) f.verdicts.items) ++ report_text (state_of (settled_core f.settled))
   finished_text JournalText c f = journal_text (record { frames = c.frames; pages = c.pages.items; salts = c.salts.items; entries = settled_journal f.settled })

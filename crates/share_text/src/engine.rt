@@ -23,7 +23,7 @@ use std::sync::Wait;
 use std::thread::Threads;
 use watched_machine::Viewer;
 
-/// The answer of work in which no run was refused.
+/// Returns the answer of work in which no run was refused.
 fn of_text(answer: Result<(), TextFault>) -> Result<(), ThreadedFault>
     ensures answer { result ≡ of_text answer }
     ensures written { as_written result ≡ answer }
@@ -34,7 +34,7 @@ fn of_text(answer: Result<(), TextFault>) -> Result<(), ThreadedFault>
     }
 }
 
-/// Writes the line of a run that was refused for want of a thread, and answers that fault.
+/// Writes the line of a run that was refused for lack of a thread, and returns that fault.
 fn tell_no_thread<W: Sink>(writer: &mut W) -> Result<(), ThreadedFault>
     requires fine { W.has_failed writer.old ≡ false }
     ensures ends { EndsAs threads.NoThread no_thread_text (W.contents writer.old) (W.contents writer.new) result }
@@ -47,7 +47,7 @@ fn tell_no_thread<W: Sink>(writer: &mut W) -> Result<(), ThreadedFault>
     }
 }
 
-/// Answers why the run of a script that was read was refused: where no thread could be started, the line of that is written.
+/// Returns why the run of a script that was read was refused. If it was for lack of a thread, writes the line of that fault.
 fn tell_refused<W: Sink>(writer: &mut W, fault: RunFault) -> Result<(), ThreadedFault>
     requires left { IsLeft fault }
     requires fine { W.has_failed writer.old ≡ false }
@@ -67,14 +67,14 @@ fn tell_refused<W: Sink>(writer: &mut W, fault: RunFault) -> Result<(), Threaded
     }
 }
 
-/// A viewer that there never is.
+/// A viewer that never exists.
 struct Nobody;
 
 impl Viewer for Nobody {
     fn show(&self, _report: &Report) {}
 }
 
-/// Runs a machine to its end. Where there is a viewer, it is shown the reports as they are published.
+/// Runs a machine to its end. If there is a viewer, it is shown the reports as they are published.
 fn run_machine<
     T: Threads + Wait + Sync,
     H: PageHash + Drop,
@@ -102,7 +102,7 @@ fn run_machine<
     }
 }
 
-/// Runs a script, and writes what is to be written of the run, or the line of its fault. The machine is dropped here.
+/// Runs a script, and writes the output of the run, or the line of its fault. The machine is dropped here.
 fn run_script<
     T: Threads + Wait + Sync,
     W: Sink,
@@ -164,18 +164,18 @@ fn read_and_run<
     }
 }
 
-/// Reads a script, runs it with a thread for each guest, and writes what `form` names: each guest's verdict lines in the
-/// order in which it got them, guest 0's first, and then the report line; or the text of the run's journal.
+/// Reads a script, runs it with a thread for each guest, and writes what `form` names: each guest's verdict lines in the order
+/// in which it got them, guest 0's first, and then the report line; or the text of the run's journal.
 ///
-/// Which journal a run has depends on the threads; in each, the entries are of the script's guests, and each guest asks
-/// for what its script says and then closes. `gate` is called in the guests' threads, around each send and verdict.
+/// The journal of a run depends on the threads; in every journal the entries are of the script's guests, and each guest asks
+/// for what its script says and then closes. `gate` is called in the guests' threads, around each send and verdict, and on the
+/// calling thread before the first of them is started.
 ///
 /// # Errors
 ///
-/// Where the text is at fault, the fault's line is written and nothing else, and the fault is answered; so it is with
-/// `NoThread` where the start of a guest's thread is refused. On `OutOfMemory`, `Read` and `Long` nothing was written, and
-/// on `Write` a front of the output went out. `Read` is answered exactly where the reader failed, and `Write` exactly where
-/// the writer did.
+/// If the text is at fault, only the line of the fault is written, and the fault is returned; the same goes for `NoThread`, if
+/// the start of a guest's thread is refused. On `OutOfMemory`, `Read` and `Long` nothing was written, and on `Write` a front of
+/// the output went out. `Read` is returned exactly if the reader failed, and `Write` exactly if the writer did.
 pub fn threaded<
     T: Threads + Wait + Sync,
     R: Source,
@@ -199,7 +199,8 @@ pub fn threaded<
     read_and_run(rt, alloc, reader, writer, hash, gate, viewer, form)
 }
 
-/// The same, while a viewer is shown how the run goes on, in a thread of its own. Nothing that is written depends on it.
+/// Does the same as [`threaded`], while a viewer is shown how the run goes on, in a separate thread. Nothing that is written
+/// depends on it.
 pub fn threaded_viewed<
     T: Threads + Wait + Sync,
     R: Source,

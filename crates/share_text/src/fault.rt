@@ -1,4 +1,4 @@
-//! Why a script wasn't run, or why what is due for its run wasn't written.
+//! Why a script wasn't run, or why the output of its run wasn't written.
 ghost use Rattle.std.specs.Prelude.{◌≡◌, string_bytes, IfOk};
 ghost use Rattle.share_text.specs.Faults.{threaded_expectation, threaded_fault_line};
 
@@ -8,11 +8,11 @@ use thiserror::Error;
 
 /// Why an engine with threads refused a text, or the work on it.
 ///
-/// Of the causes for which a run is refused, `NoThread` alone is one of a script that was read: its machine is within the
-/// limits, its journal has room for all requests and closes, and want of memory is told as a text's is.
+/// Of the causes for which a run is refused, only `NoThread` has its own variant. A script that was read has a machine within
+/// the limits and a journal with room for all requests and closes, and lack of memory is reported as a text's is.
 #[derive(Clone, Copy, Debug, PartialEq, Eq, Error)]
 pub enum ThreadedFault {
-    /// The text is at fault, or the work on it, as in an engine without threads.
+    /// The text, or the work on it, is at fault, as in an engine without threads.
     #[error(transparent)]
     Text(TextFault),
     /// The start of a guest's thread was refused.
@@ -20,7 +20,7 @@ pub enum ThreadedFault {
     NoThread,
 }
 
-/// What would have been right in place of a fault, in words for a person.
+/// Returns what would have been right instead of a fault, in words for a person.
 pub fn threaded_expectation(fault: &ThreadedFault) -> &'static str
     ensures { result.now ≡ threaded_expectation fault.now }
 {
@@ -30,7 +30,7 @@ pub fn threaded_expectation(fault: &ThreadedFault) -> &'static str
     }
 }
 
-/// The line of a run that was refused for want of a thread, without a line feed.
+/// Returns the line of a run that was refused for lack of a thread, without a line feed.
 fn no_thread_line<A: Allocator>(alloc: A) -> Result<String<A>, AllocError>
     ensures { IfOk result (λ s. string_bytes s ≡ threaded_fault_line ThreadedFault.NoThread) }
 {
@@ -39,7 +39,7 @@ fn no_thread_line<A: Allocator>(alloc: A) -> Result<String<A>, AllocError>
     Ok(line)
 }
 
-/// A fault's line, without a line feed.
+/// Returns a fault's line, without a line feed.
 pub fn threaded_fault_line<A: Allocator>(
     alloc: A,
     fault: &ThreadedFault,

@@ -1,8 +1,8 @@
 //! Texts of page requests, and the engines that serve them.
 //!
-//! This crate gives the whole surface of journals (`journal_text`, `journal_replay`) and scripts (`script_text`), so that
-//! a user names it alone, and the engine that runs a script with a thread for each guest. The texts, the output and the
-//! order of faults stand in `docs/FORMATS.md`.
+//! This crate has the whole surface of journals (`journal_text`, `journal_replay`) and scripts (`script_text`), so that users
+//! need to name no other crate, and the engine that runs a script with a thread for each guest. The texts, the output and the
+//! order of faults are in `docs/FORMATS.md`.
 #![tactic(auto)]
 
 mod engine;

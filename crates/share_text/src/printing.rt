@@ -1,4 +1,4 @@
-//! What a run gave back, as lines or as a journal's text.
+//! What a run returned, as lines or as a journal's text.
 ghost use Rattle.std.specs.Prelude.{◌≡◌, ◌+◌, ◌≤◌, ◌++◌, [], codes, false, true, length, map, string_bytes, string_capacity, IfErr, OnOk, OnErr};
 ghost use Rattle.std.specs.Io.KnownBytes.{Appends};
 ghost use Rattle.merge_core.specs.Shown.{state_of};
@@ -23,7 +23,7 @@ use page_digest::PageHash;
 use page_model::Verdict;
 use std::alloc::Allocator;
 
-/// Puts a verdict's line behind what the buffer holds.
+/// Appends a verdict's line to the buffer.
 fn print_verdict<W: Sink, A: Allocator>(
     guest: u8,
     verdict: &Verdict,
@@ -44,7 +44,7 @@ fn print_verdict<W: Sink, A: Allocator>(
     Ok(())
 }
 
-/// Puts the lines of a guest's verdicts behind what the buffer holds.
+/// Appends the lines of a guest's verdicts to the buffer.
 fn print_guest<W: Sink, A: Allocator>(
     guest: u8,
     verdicts: &[Verdict],
@@ -66,7 +66,7 @@ fn print_guest<W: Sink, A: Allocator>(
     Ok(())
 }
 
-/// Puts the lines of all guests' verdicts, guest 0's first, behind what the buffer holds.
+/// Appends the lines of all guests' verdicts, guest 0's first, to the buffer.
 fn print_guests<W: Sink, A: Allocator>(
     lists: &[Vec<Verdict, A>],
     writer: &mut W,
@@ -90,7 +90,7 @@ fn print_guests<W: Sink, A: Allocator>(
     Ok(())
 }
 
-/// Writes the lines of all guests' verdicts and of the report, by way of an empty buffer.
+/// Writes the lines of all guests' verdicts and then the report's, through an empty buffer.
 fn print_lines<H: PageHash, W: Sink, A: Allocator>(
     core: &Core<H, A>,
     lists: &[Vec<Verdict, A>],
@@ -111,7 +111,7 @@ fn print_lines<H: PageHash, W: Sink, A: Allocator>(
     print_report(core, writer, out)
 }
 
-/// Writes the journal's text of a run. All memory is taken before the first write.
+/// Writes the text of a run's journal. All memory is taken before the first write.
 fn print_journal<H: PageHash, W: Sink, A: Allocator + Copy>(
     alloc: A,
     config: &Config<A>,
@@ -151,7 +151,7 @@ fn print_verdicts<H: PageHash, W: Sink, A: Allocator + Copy>(
     )
 }
 
-/// Writes what is to be written of a run. All memory is taken before the first write.
+/// Writes the output of a run. All memory is taken before the first write.
 pub(crate) fn print_run<H: PageHash, W: Sink, A: Allocator + Copy>(
     alloc: A,
     form: Output,

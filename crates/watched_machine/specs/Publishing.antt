@@ -17,30 +17,30 @@ use Rattle.watched_machine.specs.declared.merger.Merger.{Merger}
 use Rattle.watched_machine.specs.declared.settled.Settled.{Settled}
 
 module _ {A : Type 0} where
-  -- What is told is the whole list of published reports, in which the entry counts never fall; and each of them is the
+  -- The `Told` is of the whole list of published reports, in which the entry counts never fall; and each of them is the
   -- report of the replay of a front of this journal.
   pub record TellsFronts (hash : ℕ → List ℕ → ℕ) (machine : State) (journal : List Entry) (p : Publisher A) (t : Told) : Type 0 where
     pub all : TellsAll p t
     pub fronts : AreOfFronts hash machine journal (list_told t)
 
-  -- The report of the replay of the whole journal stands behind all that were published before, and all are told.
+  -- The report of the replay of the whole journal comes after all that were published before, and the `Told` is of them all.
   pub record PublishesWhole (hash : ℕ → List ℕ → ℕ) (machine : State) (journal : List Entry) (before after : Publisher A) (t : Told) : Type 0 where
     pub publishes : Publishes before after (report_after hash machine journal) t
     pub fronts : AreOfFronts hash machine journal (list_told t)
 
 module _ {H A : Type 0} {ghosts : Ghosts H} where
-  -- all reports that the merger published are told
+  -- the `Told` is of all reports that the merger published
   abbrev pub Tells : (ℕ → List ℕ → ℕ) → Merger H A ghosts → Told → Type 0
   Tells hash m t = TellsFronts hash (machine_of (plain_of m)) (journal_of (plain_of m)) (publisher_of m) t
 
-  -- the report of the merger's whole journal is published, and all are told
+  -- the report of the merger's whole journal is published, and the `Told` is of all published reports
   abbrev pub PublishesJournal : (ℕ → List ℕ → ℕ) → Merger H A ghosts → Merger H A ghosts → Told → Type 0
   PublishesJournal hash old new t = PublishesWhole hash (machine_of (plain_of old)) (journal_of (plain_of old)) (publisher_of old) (publisher_of new) t
 
-  -- all reports that were published of the settled machine are told
+  -- the `Told` is of all published reports of the settled machine
   abbrev pub SettledTells : (ℕ → List ℕ → ℕ) → Settled H A ghosts → Told → Type 0
   SettledTells hash s t = TellsFronts hash (opening (state_of (settled_core (plain_settled s)))) (settled_journal (plain_settled s)) (settled_publisher s) t
 
-  -- the report of the settled machine's whole journal is published, and all are told
+  -- the report of the settled machine's whole journal is published, and the `Told` is of all published reports
   abbrev pub SettledPublishes : (ℕ → List ℕ → ℕ) → Settled H A ghosts → Settled H A ghosts → Told → Type 0
   SettledPublishes hash old new t = PublishesWhole hash (opening (state_of (settled_core (plain_settled old)))) (settled_journal (plain_settled old)) (settled_publisher old) (settled_publisher new) t

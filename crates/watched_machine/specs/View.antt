@@ -1,4 +1,4 @@
--- What a contract sees of a machine that is watched.
+-- What a contract sees of a watched machine.
 use Rattle.std.specs.Prelude.{List}
 use Rattle.page_model.specs.Parts.{Totals}
 use Rattle.page_model.specs.declared.hashing.HashFunction.{Ghosts}
@@ -7,7 +7,7 @@ use Rattle.merge_settle.specs.declared.settled.Settled as settle
 use Rattle.merge_reports.specs.declared.publisher.Publisher.{Publisher}
 use Rattle.watched_machine.specs.declared.merger.Merger.{Merger}
 use Rattle.watched_machine.specs.declared.settled.Settled.{Settled}
--- and what it sees of the machine without its reports, of what publishes them, of watches and of what is told
+-- and what it sees of the machine without its reports, of publishers, of watches and of `Told`s
 pub use Rattle.merge_run.specs.View.{end_names, port_names, closed_names, end_views, closed_views}
 pub use Rattle.merge_run.specs.View.{shape_of}
 unfoldable pub use Rattle.merge_run.specs.View.{opening}
@@ -20,7 +20,7 @@ module _ {H A : Type 0} {ghosts : Ghosts H} where
   abbrev pub plain_of : Merger H A ghosts → machine.Merger H A ghosts
   plain_of m = m.plain
 
-  -- what publishes its reports
+  -- the publisher of its reports
   abbrev pub publisher_of : Merger H A ghosts → Publisher A
   publisher_of m = m.publisher
 
@@ -32,7 +32,7 @@ module _ {H A : Type 0} {ghosts : Ghosts H} where
   abbrev pub plain_settled : Settled H A ghosts → settle.Settled H A ghosts
   plain_settled s = s.plain
 
-  -- what publishes its reports
+  -- the publisher of its reports
   abbrev pub settled_publisher : Settled H A ghosts → Publisher A
   settled_publisher s = s.publisher
 

@@ -1,4 +1,4 @@
-//! Why a run gives nothing back where memory was refused.
+//! Why a run returns nothing when memory was refused.
 ghost use Rattle.merge_run.specs.Runs.{NotRunFor};
 
 use merge_machine::{Config, JournalFull};
@@ -6,8 +6,7 @@ use merge_run::{RunFault, has_room};
 use page_model::Request;
 use std::alloc::Allocator;
 
-/// The first cause against a run to which memory was refused: want of memory is told only where nothing else stands against
-/// it.
+/// Returns the first cause against a run to which memory was refused: lack of memory is reported only if nothing else is wrong.
 pub(crate) fn find_cause<A: Allocator>(config: &Config<A>, scripts: &[Vec<Request, A>]) -> RunFault
     ensures { NotRunFor config.now scripts.now result }
 {

@@ -1,4 +1,4 @@
-//! What a run gives back.
+//! What a run returns.
 ghost use Rattle.std.specs.Prelude.{◌≡◌};
 
 use crate::settled::Settled;
@@ -7,7 +7,7 @@ use page_model::Verdict;
 use std::alloc::{Allocator, Global};
 use std::sync::Wait;
 
-/// A run whose guests have all ended. Its machine can't be dropped, and so neither can it.
+/// A run whose guests have all ended. Its machine can't be dropped, so neither can it.
 pub struct Finished<H: PageHash, A: Allocator = Global> {
     /// The machine, with all its ports.
     pub settled: Settled<H, A>,
@@ -18,7 +18,8 @@ pub struct Finished<H: PageHash, A: Allocator = Global> {
 impl<H: PageHash, A: Allocator> Finished<H, A> {
     ghost use Rattle.watched_machine.specs.View.{plain_settled};
 
-    /// The run without its reports. Waits for the watches that read just now; a watch reads no more from then on.
+    /// Returns the run without its reports. Waits for the watches that are reading right now; after that, no watch reads
+    /// anything.
     pub fn unwatched<R: Wait>(self, rt: &R) -> merge_run::Finished<H, A>
         ensures settled { result.settled ≡ plain_settled self.settled }
         ensures verdicts { result.verdicts ≡ self.verdicts }

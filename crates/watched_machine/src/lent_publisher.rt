@@ -5,14 +5,14 @@ use page_model::Report;
 use std::alloc::{Allocator, Global};
 use std::sync::Wait;
 
-/// After how many requests a report is published at the latest.
+/// A report is due once this many requests were served since the last one.
 const MOST_UNPUBLISHED: u32 = 4_096;
 
-/// A publisher that its owner lends to a run. A run owns nothing that can't be dropped, and a publisher can't.
+/// A publisher that its owner lends to a run: a run owns nothing that can't be dropped, and a publisher can't.
 #[derive(Drop)]
 pub(crate) struct LentPublisher<'p, P: Allocator = Global> {
     pub(crate) publisher: &'p mut Publisher<P>,
-    /// How many requests were served since a report was published.
+    /// The number of requests that were served since a report was published.
     pub(crate) unpublished: u32,
 }
 
@@ -23,8 +23,8 @@ impl<'p, P: Allocator> Observer for LentPublisher<'p, P> {
 
     ghost kept = { λ lent. published lent.publisher.now };
 
-    /// Publishes the report after so many requests, or where the merger waits. Where memory is refused it tries again after
-    /// as many more.
+    /// Publishes the report after every `MOST_UNPUBLISHED` requests, and when the merger waits. If memory is refused, it tries
+    /// again after as many requests more.
     fn observe<R: Wait>(self, rt: &R, report: Report, served: u32) -> LentPublisher<'p, P> {
         let LentPublisher {
             publisher,

@@ -1,11 +1,11 @@
 //! A machine whose reports others read while its merger works.
 //!
-//! It is the machine of `merge_run` with a publisher of `merge_reports` beside its merger: [`Merger::publish`] publishes
-//! the report of the whole journal, and a [`Watch`] in another thread reads the report that was published last, without
-//! asking the merger. This crate gives the whole surface of such machines, so that a user names it alone.
+//! It is the machine of `merge_run` whose merger has a publisher of `merge_reports`: [`Merger::publish`] publishes the report
+//! of the whole journal, and a [`Watch`] in another thread reads the report that was published last, without asking the merger.
+//! This crate has the whole surface of such machines, so users need to name no other crate.
 //!
-//! A publisher can't be dropped, and so nothing that has one can: a [`Merger`], a [`Settled`], an [`Unsettled`] and a
-//! [`Finished`] are used up, in the end by [`Merger::end`] or [`Settled::end`].
+//! A publisher can't be dropped, so nothing that has one can be: a [`Merger`], a [`Settled`], an [`Unsettled`] and a
+//! [`Finished`] must be used up, in the end by [`Merger::end`] or [`Settled::end`].
 #![tactic(auto)]
 
 mod causes;

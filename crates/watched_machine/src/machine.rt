@@ -11,15 +11,15 @@ use share_rings::Port;
 use std::alloc::Allocator;
 use std::sync::Wait;
 
-/// What makes machines.
+/// Makes machines.
 pub struct Machine;
 
 impl Machine {
-    /// A machine before its first request, of which nothing was published: its merger, and guest i's port as item i of the
-    /// list. There is room for 8 watches.
+    /// Makes a machine before its first request, with nothing published: returns its merger and a list of ports, whose item i
+    /// is guest i's. There is room for 8 watches.
     ///
-    /// All memory of the machine but that of a publish is taken here. It takes `rt` since its publisher does, and waits for
-    /// nobody: no watch is there yet.
+    /// All memory of the machine except that of a publish is taken here. It takes `rt` because its publisher does. It waits for
+    /// nobody, since there is no watch yet.
     pub fn new<R: Wait, H: PageHash + Drop, A: Allocator + Copy>(
         rt: &R,
         alloc: A,

@@ -15,8 +15,8 @@ use std::thread::Threads;
 /// A machine's merger that publishes reports. Use it up by [`settle`](crate::settle) or [`Merger::end`], since it can't be
 /// dropped.
 ///
-/// It has the list of all reports that were published, of which it keeps the last alone in memory. Each is the report of
-/// the replay of a front of its journal.
+/// It has the list of all reports that were published, but keeps only the last one in memory. Each is the report of the replay
+/// of a front of its journal.
 pub struct Merger<H: PageHash, A: Allocator = Global> {
     pub(crate) plain: merge_machine::Merger<H, A>,
     pub(crate) publisher: Publisher<A>,
@@ -36,12 +36,12 @@ impl<H: PageHash, A: Allocator> Merger<H, A> {
     ghost use Rattle.watched_machine.specs.Publishing.{PublishesJournal, Tells};
     ghost use Rattle.watched_machine.specs.View.{plain_of, publisher_of};
 
-    /// Serves one request of a guest: it is taken, put in the journal, applied and answered. It takes no memory, and
+    /// Serves one request of a guest: takes it, puts it in the journal, applies it and answers it. It takes no memory, and
     /// publishes nothing.
     ///
     /// # Errors
     ///
-    /// The journal has its full number of entries, and the guest's `Closed` wasn't given.
+    /// The journal has its full number of entries, and the guest has not been given its `Closed`.
     pub fn step(&mut self, guest: u8) -> Result<Step, JournalFull>
         requires { guest < length (ends_of (plain_of self.old)) }
         ensures step { MatchResult result (λ answer. Steps H.hash_of guest (plain_of self.old) (plain_of self.new) answer) (λ _. IsFull guest (plain_of self.old) (plain_of self.new)) }
@@ -51,12 +51,12 @@ impl<H: PageHash, A: Allocator> Merger<H, A> {
         self.plain.step(guest)
     }
 
-    /// Publishes the report of the whole journal, and tells the whole list of published reports with it. May wait for a
-    /// watch that reads.
+    /// Publishes the report of the whole journal, and returns a [`Told`] of all published reports. May wait for a watch that is
+    /// reading.
     ///
     /// # Errors
     ///
-    /// Memory is refused. Nothing has changed then.
+    /// Memory is refused. Then nothing has changed.
     pub fn publish<R: Wait>(&mut self, rt: &R) -> Result<Told, OutOfMemory>
         ensures published { MatchResult result (PublishesJournal H.hash_of self.old self.new) (λ _. Unchanged (publisher_of self.old) (publisher_of self.new)) }
         ensures plain { plain_of self.new ≡ plain_of self.old }
@@ -65,18 +65,18 @@ impl<H: PageHash, A: Allocator> Merger<H, A> {
         self.publisher.publish(rt, self.plain.report())
     }
 
-    /// Tells all reports that were published so far. Takes no memory.
+    /// Returns a [`Told`] of all reports that were published so far. Takes no memory.
     pub fn tell(&self) -> Told
         ensures { Tells H.hash_of self.now result }
     {
         self.publisher.tell()
     }
 
-    /// A watch that saw nothing yet and was told all that was published so far. Takes no memory.
+    /// Makes a watch that has seen nothing yet and has learned all that was published so far. Takes no memory.
     ///
     /// # Errors
     ///
-    /// Eight watches are there already; `left_right` may refuse one for a cause of its own.
+    /// There are eight watches already; `left_right` may also refuse one for its own reasons.
     pub fn watch(&mut self) -> Result<Watch<A>, NoWatch>
         ensures watch { IfOk result (IsNewWatch (publisher_of self.old)) }
         ensures reports { Unchanged (publisher_of self.old) (publisher_of self.new) }
@@ -85,14 +85,14 @@ impl<H: PageHash, A: Allocator> Merger<H, A> {
         self.publisher.watch()
     }
 
-    /// What the machine counts.
+    /// Returns what the machine counts.
     pub fn report(&self) -> Report
         ensures { result ≡ totals (memory_of (plain_of self.now)).entries (memory_of (plain_of self.now)).guests }
     {
         self.plain.report()
     }
 
-    /// The byte of a page at a place, 0 where the page is unmapped: it is the one last stored there.
+    /// Returns the byte at a place of a page, 0 if the page is unmapped: it is the one last stored there.
     pub fn read(&self, guest: u8, ppn: u32, at: u32) -> u8
         requires page { IsSome (page_at (memory_of (plain_of self.now)).guests guest ppn) }
         requires at { at < 4096 }
@@ -102,21 +102,21 @@ impl<H: PageHash, A: Allocator> Merger<H, A> {
         self.plain.read(guest, ppn, at)
     }
 
-    /// The entries so far, oldest first.
+    /// Returns the entries so far, oldest first.
     pub fn journal(&self) -> &[Entry]
         ensures { result.now ≡ journal_of (plain_of self.now) }
     {
         self.plain.journal()
     }
 
-    /// The core.
+    /// Returns the core.
     pub fn core(&self) -> &Core<H, A>
         ensures { result.now ≡ core_of (plain_of self.now) }
     {
         self.plain.core()
     }
 
-    /// Ends the machine: waits for the watches that read just now. A watch reads no more from then on.
+    /// Ends the machine: waits for the watches that are reading right now. After that, no watch reads anything.
     pub fn end<R: Wait>(self, rt: &R)
     where
         H: Drop,
@@ -133,8 +133,8 @@ impl<H: PageHash, A: Allocator + Sync> Merger<H, A> {
     ghost use Rattle.merge_machine.specs.Rounds.{Rounds, IsFullForAll};
     ghost use Rattle.watched_machine.specs.View.{plain_of, publisher_of};
 
-    /// Serves several requests, of all guests in turn, at most `limit`, and tells how many: as
-    /// [`merge_machine::Merger::round`]. It publishes nothing.
+    /// Serves several requests, of all guests in turn, at most `limit`, and returns how many, as
+    /// [`merge_machine::Merger::round`] does. It publishes nothing.
     ///
     /// `workers` is 1 to 64, the calling thread among them, and `limit` 1 to 1,024.
     ///

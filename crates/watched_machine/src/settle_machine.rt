@@ -14,16 +14,16 @@ use page_digest::PageHash;
 use share_rings::ClosedPort;
 use std::alloc::Allocator;
 
-/// Settles a machine, as `merge_settle` does: each guest has then got exactly one verdict for each request that it sent,
-/// in order, and they are those of one thread that replays the journal on plain page contents; each page reads the bytes
-/// last stored to it. The publisher goes along, and no watch is waited for.
+/// Settles a machine, as `merge_settle` does: each guest has then got exactly one verdict for each request that it sent, in
+/// order, and they are those of one thread that replays the journal on plain page contents; each page reads the bytes last
+/// stored to it. The publisher moves into the settled machine, and no watch is waited for.
 ///
-/// The ports are all those of the merger's machine, guest 0's first.
+/// The ports must be all those of the merger's machine, guest 0's first.
 ///
 /// # Errors
 ///
-/// The merger has not answered some guest's close, or a guest has not got its `Closed`. All comes back unchanged, and each
-/// end knows all that is left in its ring and no fewer free slots than before.
+/// The merger has not answered some guest's close, or a guest has not got its `Closed`. Everything comes back unchanged, and
+/// each end knows all that is left in its ring and no fewer free slots than before.
 pub fn settle<H: PageHash, A: Allocator>(
     merger: Merger<H, A>,
     ports: Vec<ClosedPort<A>, A>,

@@ -1,4 +1,4 @@
-//! A machine whose guests have all got their `Closed`, and which can still be watched.
+//! A machine whose guests have all got their `Closed`, and that can still be watched.
 ghost use Rattle.merge_core.specs.Shown.{state_of};
 ghost use Rattle.merge_machine.specs.Machines.{opening, IsReplayOf};
 ghost use Rattle.merge_reports.specs.Lists.{published};
@@ -16,7 +16,7 @@ use std::sync::Wait;
 /// A settled machine: its merger and all its closed ports, in one thread again. Use it up by [`Settled::end`], since it
 /// can't be dropped.
 ///
-/// It goes on with its merger's list of published reports: each is the report of the replay of a front of its journal.
+/// It continues its merger's list of published reports: each is the report of the replay of a front of its journal.
 pub struct Settled<H: PageHash, A: Allocator = Global> {
     pub(crate) plain: merge_settle::Settled<H, A>,
     pub(crate) publisher: Publisher<A>,
@@ -37,21 +37,21 @@ impl<H: PageHash, A: Allocator> Settled<H, A> {
     ghost use Rattle.watched_machine.specs.Publishing.{SettledPublishes, SettledTells};
     ghost use Rattle.watched_machine.specs.View.{plain_settled, settled_publisher};
 
-    /// The whole journal, oldest entry first.
+    /// Returns the whole journal, oldest entry first.
     pub fn journal(&self) -> &[Entry]
         ensures { result.now ≡ settled_journal (plain_settled self.now) }
     {
         self.plain.journal()
     }
 
-    /// What the machine counts.
+    /// Returns what the machine counts.
     pub fn report(&self) -> Report
         ensures { result ≡ totals (state_of (settled_core (plain_settled self.now))).entries (state_of (settled_core (plain_settled self.now))).guests }
     {
         self.plain.report()
     }
 
-    /// The byte of a page at a place, 0 where the page is unmapped: it is the one last stored there.
+    /// Returns the byte at a place of a page, 0 if the page is unmapped: it is the one last stored there.
     pub fn read(&self, guest: u8, ppn: u32, at: u32) -> u8
         requires page { IsSome (page_at (state_of (settled_core (plain_settled self.now))).guests guest ppn) }
         requires at { at < 4096 }
@@ -61,14 +61,14 @@ impl<H: PageHash, A: Allocator> Settled<H, A> {
         self.plain.read(guest, ppn, at)
     }
 
-    /// The core.
+    /// Returns the core.
     pub fn core(&self) -> &Core<H, A>
         ensures { result.now ≡ settled_core (plain_settled self.now) }
     {
         self.plain.core()
     }
 
-    /// A guest's port.
+    /// Returns a guest's port.
     pub fn port(&self, guest: u8) -> &ClosedPort<A>
         requires { guest < length (settled_ports (plain_settled self.now)) }
         ensures { slice_get (settled_ports (plain_settled self.now)) guest ≡ Some result.now }
@@ -76,12 +76,12 @@ impl<H: PageHash, A: Allocator> Settled<H, A> {
         self.plain.port(guest)
     }
 
-    /// Publishes the report of the whole journal, and tells the whole list of published reports with it. May wait for a
-    /// watch that reads.
+    /// Publishes the report of the whole journal, and returns a [`Told`] of all published reports. May wait for a watch that is
+    /// reading.
     ///
     /// # Errors
     ///
-    /// Memory is refused. Nothing has changed then.
+    /// Memory is refused. Then nothing has changed.
     pub fn publish<R: Wait>(&mut self, rt: &R) -> Result<Told, OutOfMemory>
         ensures published { MatchResult result (SettledPublishes H.hash_of self.old self.new) (λ _. Unchanged (settled_publisher self.old) (settled_publisher self.new)) }
         ensures plain { plain_settled self.new ≡ plain_settled self.old }
@@ -90,11 +90,11 @@ impl<H: PageHash, A: Allocator> Settled<H, A> {
         self.publisher.publish(rt, self.plain.report())
     }
 
-    /// A watch that saw nothing yet and was told all that was published. Takes no memory.
+    /// Makes a watch that has seen nothing yet and has learned all that was published. Takes no memory.
     ///
     /// # Errors
     ///
-    /// Eight watches are there already; `left_right` may refuse one for a cause of its own.
+    /// There are eight watches already; `left_right` may also refuse one for its own reasons.
     pub fn watch(&mut self) -> Result<Watch<A>, NoWatch>
         ensures watch { IfOk result (IsNewWatch (settled_publisher self.old)) }
         ensures reports { Unchanged (settled_publisher self.old) (settled_publisher self.new) }
@@ -103,14 +103,14 @@ impl<H: PageHash, A: Allocator> Settled<H, A> {
         self.publisher.watch()
     }
 
-    /// Tells all reports that were published. Takes no memory.
+    /// Returns a [`Told`] of all reports that were published. Takes no memory.
     pub fn tell(&self) -> Told
         ensures { SettledTells H.hash_of self.now result }
     {
         self.publisher.tell()
     }
 
-    /// Ends the machine: waits for the watches that read just now. A watch reads no more from then on.
+    /// Ends the machine: waits for the watches that are reading right now. After that, no watch reads anything.
     pub fn end<R: Wait>(self, rt: &R)
     where
         H: Drop,

@@ -6,13 +6,13 @@ use std::sync::Wait;
 use std::sync::atomic::{AtomicU64, Ordering};
 use std::time::Duration;
 
-/// How long lies between two looks, in milliseconds.
+/// The pause between two reads, in milliseconds.
 const PAUSE: u64 = 100;
 
 /// What the word of a run holds once the run is over.
 const OVER: u64 = 1;
 
-/// Shows what is published ten times a second, until the run is over. Where there is no watch, nothing is shown.
+/// Shows the latest published report ten times a second, until the run is over. Shows nothing if there is no watch.
 pub(crate) fn view<R: Wait, A: Allocator, V: Viewer>(
     rt: &R,
     viewer: &V,

@@ -26,19 +26,19 @@ use std::sync::atomic::AtomicU64;
 use std::thread;
 use std::thread::Threads;
 
-/// Runs a machine to its end, as [`merge_run::run`]: a thread for each guest sends its script and then a close, and takes
-/// its verdicts, while the merger serves them on the calling thread. `gate` is called as there.
+/// Runs a machine to its end, as [`merge_run::run`] does: a thread for each guest sends its script and then a close, and takes
+/// its verdicts, while the merger serves them on the calling thread. `gate` is called as it is there.
 ///
-/// The merger publishes its report after every 4,096 requests, and where it has nothing to serve. A thread of its own has a
-/// watch, and shows the viewer what it reads, ten times a second; where no such thread can be had, the viewer is shown the
-/// whole run alone.
+/// The merger publishes its report after every 4,096 requests, and when it has nothing to serve. A separate thread has a watch,
+/// and shows the viewer what it reads, ten times a second; if that thread can't be started, the viewer is shown only the whole
+/// run.
 ///
 /// There is one script for each guest, guest 0's first, and no script holds a close.
 ///
 /// # Errors
 ///
-/// The first cause that holds, in the order of [`RunFault`]. All memory but that of a publish and of the viewer's thread is
-/// taken before the first thread is started, that of the publisher at first.
+/// The first cause that holds, in the order of [`RunFault`]. All memory except that of a publish and of the viewer's thread is
+/// taken before the first guest's thread is started, the publisher's first.
 pub fn run<
     R: Threads + Wait + Sync,
     H: PageHash + Drop,
@@ -87,7 +87,7 @@ pub fn run<
     }
 }
 
-/// Runs a machine that publishes its reports here.
+/// Runs a machine that publishes its reports with `publisher`.
 fn run_published<
     R: Threads + Wait + Sync,
     H: PageHash + Drop,
@@ -123,7 +123,7 @@ fn run_published<
     Ok(finished)
 }
 
-/// Runs a machine with this observer, while a thread of its own shows the viewer what the watch reads.
+/// Runs a machine with this observer, while another thread shows the viewer what the watch reads.
 fn run_viewed<
     R: Threads + Wait + Sync,
     H: PageHash + Drop,
