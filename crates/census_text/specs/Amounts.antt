@@ -1,7 +1,7 @@
 -- Amounts of memory for people. A page has 4,096 bytes, so 256 pages are a MiB. Each is rounded to the nearest, a half up.
 use Rattle.std.specs.Prelude.{ℕ, ◌+◌, ◌*◌, ◌/◌, ◌==◌, if◌then◌else◌}
 
--- so many pages in MiB
+-- this many pages in MiB
 abbrev pub mebibytes : ℕ → ℕ
 mebibytes pages = (pages + 128) / 256
 

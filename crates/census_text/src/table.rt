@@ -3,14 +3,14 @@ use crate::{Estimate, GuestLine, PlainName, mebibyte_tenths, mebibytes, per_mill
 use page_census::{CopiesClass, TotalNumbers};
 use std::alloc::{AllocError, Allocator};
 
-/// How wide a cell's two numbers are, the pages and the whole MiB. A decimal of the MiB stands behind them.
+/// How wide a cell's two numbers are: the pages, and the whole MiB. A decimal of the MiB comes behind them.
 #[derive(Clone, Copy)]
 struct Widths {
     pages: usize,
     mebibytes: usize,
 }
 
-/// The columns of a guest's line, and those of the total's.
+/// The columns of a guest's line, and those of the line of the total.
 const OF_GUESTS: [&str; 5] = ["pages", "zero", "shared", "distinct", "alone"];
 
 const OF_TOTAL: [&str; 7] = [
@@ -23,10 +23,10 @@ const OF_TOTAL: [&str; 7] = [
     "between",
 ];
 
-/// The characters of the longest of them.
+/// The length of the longest of them.
 const LONGEST: usize = 14;
 
-/// The table: a line for each guest and one for the total, then the copies, and last the sentence that one wants to read.
+/// Writes the table: a line for each guest and one for the total, then the copies, and last a sentence that sums it up.
 /// Each line ends with a line feed.
 pub fn table_text<A: Allocator>(
     alloc: A,
@@ -44,7 +44,7 @@ pub fn table_text<A: Allocator>(
     Ok(text)
 }
 
-/// How many decimal digits a number has.
+/// Returns how many decimal digits a number has.
 fn digits(number: u32) -> usize {
     match number.checked_ilog10() {
         Some(power) => power as usize + 1,
@@ -182,7 +182,7 @@ fn push_class<A: Allocator>(
     text.push_str("\n")
 }
 
-/// Appends the sentence that one wants to read, in whole MiB, without a line feed.
+/// Appends the sentence that sums it up, in whole MiB, without a line feed.
 pub(crate) fn push_sentence<A: Allocator>(
     text: &mut String<A>,
     total: TotalNumbers,
