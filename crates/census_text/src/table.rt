@@ -52,7 +52,7 @@ fn digits(number: u32) -> usize {
     }
 }
 
-/// No number is greater than the pages in total.
+/// Returns widths that fit all numbers: none is greater than the pages in total.
 fn widths_of(total: TotalNumbers) -> Widths {
     let mebibytes = digits(mebibyte_tenths(total.pages) / 10);
     let least = LONGEST.saturating_sub(3).saturating_sub(mebibytes);
@@ -182,7 +182,7 @@ fn push_class<A: Allocator>(
     text.push_str("\n")
 }
 
-/// Appends the sentence that sums it up, in whole MiB, without a line feed.
+/// Appends the sentence that sums up the numbers, in whole MiB, without a line feed.
 pub(crate) fn push_sentence<A: Allocator>(
     text: &mut String<A>,
     total: TotalNumbers,

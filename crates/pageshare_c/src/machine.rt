@@ -7,7 +7,7 @@ use merge_core::Core;
 use page_digest::Sha256Hash;
 use std::alloc::Global;
 
-/// A handle: room for one machine, which holds none while all its bytes are 0.
+/// A handle: room for one machine. It holds none while all its bytes are 0.
 #[repr(C)]
 pub struct Machine {
     pub slot: Slot,
@@ -46,7 +46,7 @@ impl Machine {
     }
 }
 
-/// Refuses a type that may not go to another thread.
+/// Rejects a type that may not go to another thread.
 #[allow(dead_code)]
 fn goes_to_threads<T: Send>() {}
 
