@@ -119,7 +119,7 @@ fn noted_report<R: Threads + Wait + Sync + Abort, B: Allocator + Clone + Send>(
     Ok(report)
 }
 
-/// Forty pages whose hashes two workers note: every second growth is refused, or none.
+/// Two workers note the hashes of forty pages, while one growth is refused, or none.
 #[test]
 fn many_noted(rt: HostRuntime) -> Result<(), Fail> {
     for refused_from in [0u64, 3, 100] {

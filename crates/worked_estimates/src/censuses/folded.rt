@@ -1,4 +1,4 @@
-//! The fast hash, by known values.
+//! The fast hash, checked against known values.
 use page_census::FoldHash;
 use page_digest::PageHash;
 use page_model::Page;
