@@ -1,6 +1,6 @@
 //! Journals, with what their replays write.
 
-/// A text, and what an engine writes of it.
+/// A text, and what an engine writes for it.
 #[derive(Clone, Copy)]
 pub struct Row {
     pub name: &'static str,
@@ -8,7 +8,7 @@ pub struct Row {
     pub output: &'static str,
 }
 
-/// A journal of a close alone.
+/// A journal that has only a close.
 pub const CLOSE_ALONE: &str = "pageshare journal 1\nframes 1\npages 1\n0 close\nend 1\n";
 
 /// A journal of loads, most of them of zeros.
