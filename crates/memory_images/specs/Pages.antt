@@ -23,7 +23,7 @@ page_count len = (len + 4095) / 4096
 abbrev pub pages_in : List ℕ → List (List ℕ)
 pages_in bytes = map (page_of bytes) (range_with_len 0 (page_count (length bytes)))
 
--- a segment begins a page of its own
+-- each segment begins a new page
 unfoldable pub segment_pages : List ℕ → Segment → List (List ℕ)
 segment_pages bytes segment = pages_in (part bytes segment.offset segment.len)
 

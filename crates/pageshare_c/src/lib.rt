@@ -4,7 +4,6 @@
 //! call. No call has a condition on its arguments except that its references are valid: a wrong one is answered by a
 //! status above 0, and then nothing has changed. A status is the first cause that holds, in the order of the numbers;
 //! only [`pageshare_make`] first checks whether the handle holds a machine already.
-//! a machine already is the exception, which [`pageshare_make`] looks at first.
 //!
 //! `include/pageshare.h` declares the same functions in C, and says what the caller owes.
 #![tactic(auto)]

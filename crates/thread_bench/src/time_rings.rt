@@ -50,7 +50,7 @@ fn is_joined(verdict: Option<Verdict>, ppn: u32) -> bool {
     }
 }
 
-// Returns how many round trips returned the verdict of their own request, all on one thread.
+// Returns how many round trips ended with the verdict of their own request, all on one thread.
 fn on_one_thread(port: &mut Port, end: &mut MergerEnd, rounds: u32) -> u32
     requires { length (end_given end.old) ≡ length (end_taken end.old) }
 {

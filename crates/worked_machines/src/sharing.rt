@@ -13,7 +13,7 @@ use std::alloc::Global;
 use std::process::Abort;
 use std::test::Fail;
 
-/// Steps of these guests, each of which serves a request.
+/// Steps these guests in turn. Each step serves a request.
 fn serve(rt: &impl Abort, merger: &mut Merging<Global>, guests: &[u8])
     requires guests { guest_count merger.old ≡ 2 }
     ensures guests { guest_count merger.new ≡ 2 }
