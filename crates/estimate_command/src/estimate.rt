@@ -103,7 +103,7 @@ fn processors(rt: &impl Threads) -> u32 {
     }
 }
 
-/// What is written. All of it is made before any is written.
+/// What is written. All of it is made before any of it is written.
 #[derive(Drop)]
 struct Texts {
     output: String,

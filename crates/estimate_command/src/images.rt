@@ -37,7 +37,7 @@ impl FileMark {
     }
 }
 
-/// Opens each image. Returns the first fault.
+/// Opens each image, or returns the first fault.
 pub fn open_images<'a, R: Files<File = File>>(
     rt: &R,
     alloc: Global,

@@ -21,7 +21,7 @@ pub enum FormFault {
     /// The entry size of the program headers isn't 56.
     #[error("the ELF file's program headers aren't of 56 bytes")]
     EntrySize,
-    /// The number of program headers should be in section header 0, and there is none of 64 bytes within the file.
+    /// The number of program headers must be in section header 0, and there is none of 64 bytes within the file.
     #[error("section header 0 isn't whole within the file")]
     CutSection,
     /// The file ends before the last program header does.

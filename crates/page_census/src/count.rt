@@ -27,8 +27,8 @@ pub struct CensusNumbers<A: Allocator> {
     pub copies: Vec<CopiesClass, A>,
 }
 
-/// Counts the pages of the guests, guest 0 first. Each source is read once in order, by several workers, and pages that
-/// may be equal are read once more to be compared; and once again, on one thread, if different pages of guests with the
+/// Counts the pages of the guests, guest 0 first. Each source is read once in order, by `workers` workers, and pages
+/// that may be equal are read once more to be compared; and once again, on one thread, if different pages of guests with the
 /// same salt have the same hash.
 ///
 /// The result holds if each source is steady: if each of its reads returns the same bytes.

@@ -8,7 +8,7 @@ use page_digest::PageHash;
 use page_model::Page;
 use std::alloc::Allocator;
 
-/// Whether the page is all zeros. It checks every byte, which processors do many at a time.
+/// Whether the page is all zeros. It checks every byte; processors check many at a time.
 fn is_blank(page: &Page) -> bool
     ensures { result ≡ bytes_eq page.now blank }
 {

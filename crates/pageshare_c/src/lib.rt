@@ -1,9 +1,9 @@
 //! Page sharing for C: each function that a program in C, C++ or Rust calls.
 //!
 //! C makes room for a [`Machine`], a handle that holds no machine while its bytes are 0, and passes its address to each
-//! call. No call has a condition on its arguments except that its references are valid: a wrong one is answered by a
-//! status above 0, and then nothing has changed. A status is the first cause that holds, in the order of the numbers;
-//! only [`pageshare_make`] first checks whether the handle holds a machine already.
+//! call. No call has a condition on its arguments except that its references are valid: a wrong argument is answered
+//! by a status above 0, and then nothing has changed. A status above 0 is the first cause that holds, in the order of the
+//! numbers; only [`pageshare_make`] first checks whether the handle holds a machine already.
 //!
 //! `include/pageshare.h` declares the same functions in C, and says what the caller owes.
 #![tactic(auto)]

@@ -1,6 +1,6 @@
 //! Worked faults of scripts: what a person is shown about each.
 //!
-//! This crate has tests alone.
+//! This crate has only tests.
 #![tactic(auto)]
 
 #[cfg(test)]

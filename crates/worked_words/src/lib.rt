@@ -1,6 +1,6 @@
 //! Worked command lines, and the lines that show how far the work is.
 //!
-//! This crate has tests alone.
+//! This crate has only tests.
 #![tactic(auto)]
 
 #[cfg(test)]

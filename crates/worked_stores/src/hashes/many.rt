@@ -17,7 +17,7 @@ const LETTER: u64 = 0x9aab_2ec0_0da3_0c5d;
 // More requests than a call makes.
 const MOST_REQUESTS: u64 = 100;
 
-// The hashes of so many frames.
+// Returns the hashes of `count` frames.
 fn hashes_of<R: Threads + Wait + Sync, A: Allocator + Clone + Send>(
     rt: &R,
     lists: Global,
