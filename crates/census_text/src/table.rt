@@ -26,8 +26,8 @@ const OF_TOTAL: [&str; 7] = [
 /// The length of the longest of them.
 const LONGEST: usize = 14;
 
-/// Writes the table: a line for each guest and one for the total, then the copies, and last a sentence that sums it up.
-/// Each line ends with a line feed.
+/// Writes the table: a line for each guest and one for the total, then the copies, and last a sentence that sums up the
+/// numbers. Each line ends with a line feed.
 pub fn table_text<A: Allocator>(
     alloc: A,
     estimate: &Estimate<'_>,

@@ -14,7 +14,7 @@ use crate::word::u32_at;
 use crate::{FormFault, ImageFault, ReadAt, Segment};
 use std::alloc::{AllocFailed, Allocator};
 
-/// The value that the ELF header has if it has no room for the number of program headers.
+/// The number of program headers in an ELF header that has no room for the actual one.
 const MANY: u16 = 65535;
 
 /// The type of a segment to load, `PT_LOAD`.

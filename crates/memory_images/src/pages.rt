@@ -42,7 +42,7 @@ pub(crate) fn read_page<R: ReadAt>(
     Ok(())
 }
 
-/// Reads pages of a segment into the list until it is full, from page `first` on: those that are whole in one read.
+/// Reads pages of a segment into the list until it is full, from page `first` on, the whole ones in one read.
 pub(crate) fn read_run<R: ReadAt>(
     reader: &R,
     segment: Segment,

@@ -106,8 +106,8 @@ pub extern "C" fn pageshare_store(
     serve(alloc, machine, guest, &store_request(ppn, at, bytes))
 }
 
-/// Loads 1 to 64 bytes of a page, as many as the room holds, from place `at` on. The room stays as it is if none are
-/// loaded.
+/// Loads 1 to 64 bytes of a page, as many as the room holds, from place `at` on. The room stays as it is unless
+/// the verdict is `Bytes`.
 #[unsafe(no_mangle)]
 pub extern "C" fn pageshare_load(
     alloc: Global,
@@ -141,7 +141,8 @@ pub extern "C" fn pageshare_release(
     serve(alloc, machine, guest, &Ok(Request::Release(ppn)))
 }
 
-/// Gets the machine's totals, as a request of the guest, which is itself among the entries.
+/// Gets the machine's totals, this request of the guest among the entries. `totals` stays as it is unless the verdict is
+/// `Totals`.
 #[unsafe(no_mangle)]
 pub extern "C" fn pageshare_count(
     alloc: Global,
@@ -209,7 +210,8 @@ pub extern "C" fn pageshare_report(alloc: Global, machine: &mut Machine, totals:
     }
 }
 
-/// Copies a page to the room. The status is 6 if the handle holds no machine, and 11 if there is no such page.
+/// Copies a page to the room; an unmapped page reads as zeros. The status is 6 if the handle holds no machine, and 11 if
+/// there is no such page.
 #[unsafe(no_mangle)]
 pub extern "C" fn pageshare_read(
     alloc: Global,

@@ -13,7 +13,7 @@ pub struct ReadSoFar {
 }
 
 impl ReadSoFar {
-    /// Returns how many hundredths were read. Of no pages, all were.
+    /// Returns how many hundredths of the pages were read; 100 if there are no pages.
     fn per_cent(&self) -> u64 {
         match self.done.saturating_mul(100).checked_div(self.total) {
             Some(part) => part,

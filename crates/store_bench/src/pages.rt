@@ -8,7 +8,7 @@ use page_digest::{PageHash, Sha256Hash};
 use page_model::Page;
 use std::alloc::{AllocError, Global};
 
-/// Frames, and a list of salts, each with the MPN of one of them.
+/// Frames, and a list of pairs: a salt, and the MPN of one of the frames.
 #[derive(Drop)]
 pub struct Listed {
     pub frames: Frames,
