@@ -15,7 +15,7 @@ pub trait ReadAt {
     /// Each read returns these bytes. Nobody can say so of a file that the system may change.
     ghost is_steady: { Self → Type 0 };
 
-    /// How many bytes there are.
+    /// Returns how many bytes there are.
     fn len(&self) -> u64
         ensures { result ≡ length (bytes self.now) };
 

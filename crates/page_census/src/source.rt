@@ -14,7 +14,7 @@ pub trait PageSource: Sync {
     /// Each read returns these bytes. Nobody can say so of a file that the system may change.
     ghost is_steady: { Self → Type 0 };
 
-    /// How many pages there are.
+    /// Returns how many pages there are.
     fn count(&self) -> u32
         ensures { result ≡ length (pages self.now) };
 

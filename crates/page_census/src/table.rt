@@ -29,7 +29,7 @@ fn power(number: u32) -> u64
     2u64.pow(number)
 }
 
-/// The fewest copies in the class with this number.
+/// Returns the fewest copies in the class with this number.
 fn fewest(number: u32) -> u32
     requires { number < 33 }
     ensures { result ≡ fewest number }
@@ -37,7 +37,7 @@ fn fewest(number: u32) -> u32
     (power(number) / 2 + 1) as u32
 }
 
-/// The most copies in the class with this number.
+/// Returns the most copies in the class with this number.
 fn most(number: u32) -> u32
     requires { number < 33 }
     ensures { result ≡ most number }

@@ -1,4 +1,4 @@
-//! A page of the machine of a handle: its frame and its bytes.
+//! A page of the machine behind a handle: its frame and its bytes.
 ghost use Rattle.std.specs.Prelude.{◌≡◌, ◌<◌, Some, IsSome, IfOk, IfErr, IsTrue, ◌↔◌};
 ghost use Rattle.page_model.specs.Pages.{page_at};
 ghost use Rattle.page_model.specs.Stored.{text_at};

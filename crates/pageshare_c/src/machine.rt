@@ -50,7 +50,7 @@ impl Machine {
 #[allow(dead_code)]
 fn goes_to_threads<T: Send>() {}
 
-/// A handle may.
+/// Checks that a handle may.
 #[allow(dead_code)]
 fn handle_goes_to_threads() {
     goes_to_threads::<Machine>();

@@ -64,7 +64,7 @@ fn drain_and_settle<A: Allocator>(
     Ok(settled)
 }
 
-/// The calls of the settled machine.
+/// Checks the calls of the settled machine.
 fn look<A: Allocator>(rt: &impl Abort, settled: &Settled<Sha256Hash, A>) -> Result<(), Fail> {
     let wanted = [Request::load(0, 0, 1)?, Request::Count, Request::Close];
     assert_eq!(rt; settled.journal().len(), 3);

@@ -39,7 +39,7 @@ fn gets(rt: &impl Abort, port: &mut Port, verdicts: &[Verdict])
     assert_eq!(rt; port.verdict(), None);
 }
 
-/// Three pages of the same content come to share one frame.
+/// Lets three pages of the same content come to share one frame.
 fn share(rt: &impl Abort, merger: &mut Merging<Global>, first: &mut Port, second: &mut Port)
     requires guests { guest_count merger.old ≡ 2 }
     ensures guests { guest_count merger.new ≡ 2 }
@@ -69,7 +69,7 @@ fn share(rt: &impl Abort, merger: &mut Merging<Global>, first: &mut Port, second
     assert_eq!(rt; numbers(&merger.report()), [6, 3, 3, 1, 2, 0]);
 }
 
-/// A store through the second guest's page copies the frame: the first guest's pages keep their bytes.
+/// Stores through the second guest's page, which copies the frame: the first guest's pages keep their bytes.
 fn copy(rt: &impl Abort, merger: &mut Merging<Global>, first: &mut Port, second: &mut Port)
     requires guests { guest_count merger.old ≡ 2 }
     ensures guests { guest_count merger.new ≡ 2 }

@@ -1,4 +1,4 @@
-//! How few frames could hold the pages of a small machine, worked out over the definitions alone.
+//! The fewest frames that could hold the pages of a small machine, worked out from the definitions alone.
 ghost use Rattle.std.specs.Prelude.{◌≡◌, ◌∷◌, []};
 ghost use Rattle.page_model.specs.Pages.{used};
 ghost use Rattle.page_model.specs.Contents.{mapped_contents, copies, different};

@@ -93,7 +93,7 @@ fn no_memory_but_for_publishing(rt: HostRuntime) -> Result<(), Fail> {
     Ok(())
 }
 
-// A first publish that is refused.
+// Tries a first publish, which is refused.
 fn publish_in_vain<R: Abort + Wait, A: Allocator>(
     rt: &R,
     publisher: &mut Publisher<A>,

@@ -14,7 +14,7 @@ const MOST: u64 = 100;
 
 const SLOTS: u32 = 6;
 
-// Each call that sends, once with room and once without, and each fault of a request.
+// Makes each call that sends, once with room and once without, and provokes each fault of a request.
 fn send_each<A: Allocator>(rt: &impl Abort, port: &mut Port<A>)
     ensures { port_name port.new ≡ port_name port.old }
 {
@@ -53,7 +53,7 @@ fn get_each<A: Allocator>(rt: &impl Abort, port: &mut Port<A>)
     assert!(rt; port.verdict().is_none());
 }
 
-// Every call of both ends, and both kinds of scan.
+// Makes every call of both ends, and both kinds of scan.
 fn every_call<A: Allocator>(
     rt: &impl Abort,
     mut port: Port<A>,

@@ -72,7 +72,7 @@ fn compared<H: PageHash + Drop, A: Allocator>(finished: Finished<H, A>) -> Outco
     }
 }
 
-/// The run itself.
+/// Runs the scripts.
 fn run_plainly<
     R: Threads + Wait + Sync,
     H: PageHash + Drop,

@@ -71,7 +71,7 @@ fn show<A: Allocator>(table: &Table<A>) -> (u32, Option<u16>, u32) {
     (table.count(7), table.field(7), table.extended())
 }
 
-// A frame of two pages that 65,534 more join, and all leave.
+// Adds a frame of two pages, which 65,534 more join, and all leave.
 fn widen<R: Abort, A: Allocator>(rt: &R, table: &mut Table<A>)
     requires { table.old.capacity ≡ 1 }
 {

@@ -210,7 +210,7 @@ pub fn hint_moved() -> Row {
     }
 }
 
-/// By `FirstByteHash`.
+/// Served with `FirstByteHash`.
 pub fn false_match() -> Row {
     Row {
         name: "false match",
@@ -236,7 +236,7 @@ pub fn false_match() -> Row {
     }
 }
 
-/// By `FirstByteHash`.
+/// Served with `FirstByteHash`.
 pub fn false_match_again() -> Row {
     Row {
         name: "false match again",
@@ -264,7 +264,7 @@ pub fn false_match_again() -> Row {
     }
 }
 
-/// By `TwoByteHash`.
+/// Served with `TwoByteHash`.
 pub fn one_key_two_hashes() -> Row {
     Row {
         name: "one key two hashes",
@@ -296,7 +296,7 @@ pub fn one_key_two_hashes() -> Row {
     }
 }
 
-/// The requests of `stale_hint`, by a hash that is 0 for every page.
+/// The requests of `stale_hint`, served with a hash that is 0 for every page.
 pub fn weak_hash() -> Row {
     Row {
         name: "weak hash",

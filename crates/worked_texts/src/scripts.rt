@@ -1,7 +1,7 @@
 //! Scripts, with what `serial` writes for them; for one guest, what any engine writes.
 use crate::journals::Row;
 
-/// One guest, whose journal has just room for its store, two proposals, its release and its close.
+/// One guest, whose journal has just enough room for its store, two proposals, its release and its close.
 pub fn scan() -> Row {
     Row {
         name: "scan",
@@ -131,7 +131,7 @@ pub fn stale_hint() -> Row {
     }
 }
 
-/// The same by a hash that is 0 for every page: the hint page is found under its old key, and isn't equal.
+/// The same with a hash that is 0 for every page: the hint page is found under its old key, and isn't equal.
 pub fn weak_hash() -> Row {
     Row {
         name: "weak hash",
@@ -148,7 +148,7 @@ pub fn weak_hash() -> Row {
     }
 }
 
-/// By `FirstByteHash`: two pages of two contents have one hash.
+/// With `FirstByteHash`, two pages of two contents have one hash.
 pub fn false_match() -> Row {
     Row {
         name: "false match",

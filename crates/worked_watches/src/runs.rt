@@ -23,8 +23,8 @@ fn store() -> Request
     Request::store(0, 0, &[0x41]).unwrap_or(Request::Count)
 }
 
-/// A store by each of two guests, of equal bytes. Only guest 1 proposes its page, so each order gives the same
-/// verdicts.
+/// Makes the scripts: a store by each of two guests, of equal bytes. Only guest 1 proposes its page, so each order
+/// gives the same verdicts.
 fn two_scripts<A: Allocator + Copy>(alloc: A) -> Result<Vec<Vec<Request, A>, A>, AllocError>
     ensures each { IfOk result (λ scripts. length scripts.items ≡ 2) }
     ensures plain { IfOk result (λ scripts. All (λ script. has_close script.items ≡ false) scripts.items) }

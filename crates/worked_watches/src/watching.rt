@@ -34,7 +34,7 @@ fn publish<R: Abort + Wait, A: Allocator>(
     }
 }
 
-// A second watch that learns from three lists reads nothing older after the last of them.
+// Lets a second watch learn from three lists: after the last of them it reads nothing older.
 fn watch_late<R: Abort + Wait, A: Allocator>(
     rt: &R,
     merger: &mut Watched<A>,
@@ -57,7 +57,8 @@ fn watch_late<R: Abort + Wait, A: Allocator>(
     assert_eq!(rt; late.read(), Some(one_page(2)));
 }
 
-/// A store is seen once it is published, and a load after it by a second watch. Ends the machine, of one guest.
+/// Checks that a store is seen once it is published, and a load after it by a second watch. Ends the machine, of one
+/// guest.
 pub fn watch_and_end<R: Abort + Wait, A: Allocator>(rt: &R, merger: Watched<A>, port: Port<A>)
     requires guest { 0 < guest_count (plain_of merger) }
 {
