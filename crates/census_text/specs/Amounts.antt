@@ -1,7 +1,7 @@
 -- Amounts of memory for people. A page has 4,096 bytes, so 256 pages are a MiB. Each is rounded to the nearest, a half up.
 use Rattle.std.specs.Prelude.{ℕ, ◌+◌, ◌*◌, ◌/◌, ◌==◌, if◌then◌else◌}
 
--- so many pages in MiB
+-- this many pages in MiB
 abbrev pub mebibytes : ℕ → ℕ
 mebibytes pages = (pages + 128) / 256
 
@@ -9,6 +9,6 @@ mebibytes pages = (pages + 128) / 256
 abbrev pub mebibyte_tenths : ℕ → ℕ
 mebibyte_tenths pages = (10 * pages + 128) / 256
 
--- how many thousandths of the whole the part is; 0 where the whole is 0
+-- how many thousandths of the whole the part is; 0 if the whole is 0
 abbrev pub per_mille : ℕ → ℕ → ℕ
 per_mille part whole = if whole == 0 then 0 else (1000 * part + whole / 2) / whole

@@ -4,7 +4,7 @@ ghost use Rattle.census_text.specs.Amounts.{mebibyte_tenths, mebibytes, per_mill
 
 use std::fmt::{self, Display, Formatter};
 
-/// So many pages with a unit: KiB below one MiB, and else tenths of MiB.
+/// A number of pages, shown with a unit: KiB below one MiB, and else tenths of a MiB.
 #[derive(Clone, Copy)]
 pub(crate) struct Amount(pub(crate) u32);
 
@@ -20,21 +20,22 @@ impl Display for Amount {
     }
 }
 
-/// So many pages in MiB, to the nearest; a half is rounded up.
+/// Returns these pages in MiB, to the nearest; a half is rounded up.
 pub fn mebibytes(pages: u32) -> u32
     ensures { result ≡ mebibytes pages }
 {
     ((u64::from(pages) + 128) / 256) as u32
 }
 
-/// So many pages in tenths of a MiB, to the nearest; a half is rounded up.
+/// Returns these pages in tenths of a MiB, to the nearest; a half is rounded up.
 pub fn mebibyte_tenths(pages: u32) -> u32
     ensures { result ≡ mebibyte_tenths pages }
 {
     ((10 * u64::from(pages) + 128) / 256) as u32
 }
 
-/// How many thousandths of the whole the part is, to the nearest; a half is rounded up. Of 0 it is 0.
+/// Returns how many thousandths of the whole the part is, to the nearest; a half is rounded up. For a whole of 0 it is
+/// 0.
 pub fn per_mille(part: u32, whole: u32) -> u64
     ensures { result ≡ per_mille part whole }
 {

@@ -1,4 +1,4 @@
-//! What a guest's bar is made of.
+//! The parts of a guest's bar.
 ghost use Rattle.std.specs.Prelude.{◌≡◌, ◌+◌, ◌<◌, ◌^◌, nat_lt};
 ghost use Rattle.census_text.specs.Parts.{parts_of, salt_zeros, zero_under};
 
@@ -12,13 +12,13 @@ pub struct Parts {
     pub zero: u32,
     /// The other pages whose content some other page of the guest has.
     pub within: u32,
-    /// The other pages whose content no other page of the guest has, but one of another guest.
+    /// The other pages whose content a page of another guest has, and no other page of this guest.
     pub between: u32,
-    /// The pages, other than of zeros, whose content no other page has.
+    /// The pages, other than those of zeros, whose content no other page has.
     pub unshared: u32,
 }
 
-/// The parts of a guest's pages. Numbers that no census tells are cut, so that the parts are never more than the pages.
+/// Splits a guest's pages into parts. Numbers that no census returns are cut, so that the parts never exceed the pages.
 #[tactic(auto, unfolding(crate::specs::Parts::parts_of))]
 fn split_pages(has_zeros: bool, numbers: &GuestNumbers) -> Parts
     ensures value { result ≡ parts_of has_zeros numbers.now }
@@ -38,7 +38,7 @@ fn split_pages(has_zeros: bool, numbers: &GuestNumbers) -> Parts
     }
 }
 
-/// The pages of zeros of the guest, where it has this salt.
+/// Returns the guest's pages of zeros if it has this salt, and else 0.
 #[tactic(auto, unfolding(crate::specs::Parts::zero_under))]
 fn zero_under(salt: u32, guest: &GuestLine<'_>) -> u64
     ensures value { result ≡ zero_under salt guest.now }
@@ -65,7 +65,7 @@ fn has_zeros(salt: u32, guests: &[GuestLine<'_>]) -> bool
     false
 }
 
-/// The parts of a guest's pages, where these are all guests.
+/// Returns the parts of a guest's pages; `guests` are all guests.
 pub fn parts_of(guest: &GuestLine<'_>, guests: &[GuestLine<'_>]) -> Parts
     ensures value { result ≡ parts_of (nat_lt 1 (salt_zeros guest.now.salt guests.now)) guest.now.numbers }
     ensures sum { result.zero + result.within + result.between + result.unshared ≡ guest.now.numbers.pages }

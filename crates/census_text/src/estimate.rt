@@ -4,7 +4,7 @@ ghost use Rattle.std.specs.Prelude.{◌≡◌, IfOk, length, map, min, take, vec
 use page_census::{CopiesClass, GuestNumbers, TotalNumbers};
 use std::alloc::{AllocError, Allocator};
 
-/// A guest: the path of its image as it was given, its salt, and what was counted of its pages.
+/// A guest: the path of its image as given, its salt, and what was counted of its pages.
 #[derive(Clone, Copy)]
 pub struct GuestLine<'a> {
     pub image: &'a str,
@@ -19,11 +19,11 @@ pub struct Estimate<'a> {
     pub guests: &'a [GuestLine<'a>],
     /// The numbers in total.
     pub total: TotalNumbers,
-    /// How many contents have so many copies, in classes that rise.
+    /// How many contents have how many copies, in classes that rise.
     pub copies: &'a [CopiesClass],
 }
 
-/// The guests of these images, salts and numbers: as many as each of the three lists has.
+/// Makes the guests of these images, salts and numbers; as many as the shortest of the three lists has.
 pub fn guest_lines<'a, A: Allocator>(
     alloc: A,
     images: &[&'a str],

@@ -21,7 +21,7 @@ pub(crate) fn push_guest_bars<A: Allocator>(
     Ok(())
 }
 
-/// The pages of the largest guest.
+/// Returns the pages of the largest guest.
 fn most_pages(guests: &[GuestLine<'_>]) -> u64 {
     let mut most = 0;
     for guest in guests {

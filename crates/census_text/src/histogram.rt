@@ -24,7 +24,7 @@ pub(crate) fn push_histogram<A: Allocator>(
     Ok(())
 }
 
-/// The most pages of a class.
+/// Returns the most pages that a class has.
 fn most_pages(copies: &[CopiesClass]) -> u64 {
     let mut most = 0;
     for class in copies {

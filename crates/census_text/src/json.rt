@@ -43,7 +43,7 @@ struct EstimateObject<'a> {
     copies: Vec<ClassObject>,
 }
 
-/// The object, in one line without a line feed. Its members stand in the order that `docs/IMAGES.md` has.
+/// Returns the object, in one line without a line feed. Its members are in the order of `docs/IMAGES.md`.
 pub fn json_text(alloc: Global, estimate: &Estimate<'_>) -> Result<String, AllocError> {
     let object = EstimateObject {
         page_bytes: PAGE_BYTES,
@@ -51,7 +51,7 @@ pub fn json_text(alloc: Global, estimate: &Estimate<'_>) -> Result<String, Alloc
         total: total_object(estimate.total),
         copies: class_objects(alloc, estimate.copies)?,
     };
-    // Numbers and text are written whatever they are, so only memory can have been refused.
+    // Any numbers and text can be written, so only memory can have been refused.
     serde_json::to_string(alloc, &object).map_err(|_refused| AllocError)
 }
 

@@ -4,7 +4,7 @@ use crate::picture::{BETWEEN, UNSHARED, WITHIN, ZERO};
 use crate::{GuestLine, parts_of};
 use std::alloc::{AllocError, Allocator};
 
-/// What the parts of the bars are called, and what is said of them.
+/// The names of the bars' parts, and what the legend says about them.
 const OF_ZERO: (&str, &str) = ("zeros", "");
 
 const OF_WITHIN: (&str, &str) = (

@@ -1,6 +1,6 @@
-//! What a census of memory images says: a table for people, JSON for programs, and a picture.
+//! Shows a census of memory images: a table for people, JSON for programs, and a picture.
 //!
-//! Each is a text that is whole before any of it is written anywhere.
+//! Each is a text that is complete before any of it is written anywhere.
 #![tactic(auto)]
 
 mod amounts;

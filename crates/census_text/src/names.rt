@@ -1,22 +1,22 @@
 //! Names of images as they are shown.
 use std::fmt::{self, Display, Formatter};
 
-/// What is shown in place of a character that can't be.
+/// Shown instead of a character that can't be shown.
 const REPLACEMENT: char = '\u{fffd}';
 
-/// A name within one line: control characters are shown as U+FFFD.
+/// A name on one line: control characters are shown as U+FFFD.
 #[derive(Clone, Copy)]
 pub struct PlainName<'a>(pub &'a str);
 
-/// A name within XML: as a plain name, and with the characters that mean something there written as entities.
+/// A name within XML: as a plain name, with the characters that have a meaning there written as entities.
 #[derive(Clone, Copy)]
 pub struct XmlName<'a>(pub &'a str);
 
-/// A name within XML that takes at most 22 columns: of a longer one the end, behind an ellipsis.
+/// A name within XML that takes at most 22 columns: a longer one is cut to an ellipsis and its end.
 #[derive(Clone, Copy)]
 pub struct ShortName<'a>(pub &'a str);
 
-/// The columns of a short name.
+/// The columns of a short name, at most.
 const COLUMNS: usize = 22;
 
 impl Display for PlainName<'_> {
@@ -40,7 +40,7 @@ impl Display for XmlName<'_> {
 impl Display for ShortName<'_> {
     fn fmt<W: fmt::Write>(&self, f: &mut Formatter<W>) -> fmt::Result {
         let all = columns_of(self.0);
-        // An ellipsis stands for what is left out, and takes a column itself.
+        // An ellipsis replaces what is left out, and takes a column itself.
         let mut left = if all > COLUMNS {
             f.write_str("\u{2026}")?;
             all.saturating_sub(COLUMNS).saturating_add(1)
@@ -57,7 +57,7 @@ impl Display for ShortName<'_> {
     }
 }
 
-/// How many columns a text takes.
+/// Returns how many columns a text takes.
 fn columns_of(text: &str) -> usize {
     let mut sum: usize = 0;
     for c in text.chars() {
@@ -66,12 +66,12 @@ fn columns_of(text: &str) -> usize {
     sum
 }
 
-/// The columns of a character: those of East Asian scripts, and what stands behind them, may take two.
+/// Returns the columns of a character: from the scripts of East Asia on, a character may take two.
 fn columns(c: char) -> usize {
     if c < '\u{1100}' { 1 } else { 2 }
 }
 
-/// Another character for one that breaks the line, steers a terminal, or that XML can't hold.
+/// Replaces a character that breaks the line, controls a terminal, or can't be in XML.
 fn shown(c: char) -> char {
     if c.is_control() || c == '\u{2028}' || c == '\u{2029}' || c == '\u{fffe}' || c == '\u{ffff}' {
         REPLACEMENT

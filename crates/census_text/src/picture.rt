@@ -7,7 +7,7 @@ use crate::scale::top_of;
 use crate::table::push_sentence;
 use std::alloc::{AllocError, Allocator};
 
-/// What each part of a bar is filled with: they are told apart in black and white, too.
+/// The fill of each part of a bar: the parts can be distinguished in black and white, too.
 pub(crate) const ZERO: &str = "#fff";
 
 pub(crate) const WITHIN: &str = "url(#within)";
@@ -20,7 +20,7 @@ pub(crate) const UNSHARED: &str = "#bbb";
 const HATCHING: &str =
     "<defs><pattern id=\"within\" width=\"6\" height=\"6\" patternUnits=\"userSpaceOnUse\" patternTransform=\"rotate(45)\"><rect width=\"6\" height=\"6\" fill=\"#dcecf7\"/><path d=\"M1 0V6\" stroke=\"#222\" stroke-width=\"1.4\"/></pattern></defs>\n";
 
-/// The picture, as SVG: a bar for each guest, beside them the copies as a histogram, and a legend.
+/// Draws the picture as SVG: a bar for each guest, next to them the copies as a histogram, and a legend.
 pub fn picture_text<A: Allocator>(
     alloc: A,
     estimate: &Estimate<'_>,
@@ -38,7 +38,7 @@ pub fn picture_text<A: Allocator>(
     Ok(text)
 }
 
-/// Appends what stands before the panels, of a picture with so many rows.
+/// Appends what comes before the panels of a picture with this many rows.
 fn push_head<A: Allocator>(text: &mut String<A>, rows: usize) -> Result<(), AllocError> {
     let height = top_of(rows).saturating_add(50);
     write!(

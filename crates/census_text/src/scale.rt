@@ -1,14 +1,14 @@
-//! A panel of the picture: rows one below the other, and an axis of memory below them.
+//! A panel of the picture: rows, one below the other, and an axis of memory below them.
 use std::alloc::{AllocError, Allocator};
 
-/// The pixels from the top to the first row, from a row to the next, and of a bar.
+/// The pixels from the top to the first row, from one row to the next, and the height of a bar.
 const FIRST_ROW: u64 = 190;
 
 const ROW: u64 = 20;
 
 const BAR: u64 = 14;
 
-/// Where so many pages end in a panel.
+/// Where a bar of a number of pages ends in a panel.
 #[derive(Clone, Copy)]
 pub(crate) struct Scale {
     /// The pixels to the left of the rows' bars.
@@ -19,12 +19,12 @@ pub(crate) struct Scale {
     most: u64,
 }
 
-/// The pixels above the row with this number.
+/// Returns the pixels above the row with this number.
 pub(crate) fn top_of(row: usize) -> u64 {
     (row as u64).saturating_mul(ROW).saturating_add(FIRST_ROW)
 }
 
-/// Appends a number of tenths.
+/// Appends a number given in tenths, with one decimal.
 pub(crate) fn push_tenths<A: Allocator>(
     text: &mut String<A>,
     tenths: u64,
@@ -38,7 +38,7 @@ impl Scale {
         Scale { left, width, most }
     }
 
-    /// How many tenths of a pixel from the picture's left so many pages end.
+    /// Returns how many tenths of a pixel from the picture's left a bar of these pages ends.
     fn place(&self, pages: u64) -> u64 {
         let along = pages
             .saturating_mul(self.width.saturating_mul(10))
@@ -47,7 +47,7 @@ impl Scale {
         self.left.saturating_mul(10).saturating_add(along)
     }
 
-    /// Appends the part of a row's bar from so many pages to so many more.
+    /// Appends the part of a row's bar that begins behind `from` pages and has `pages` pages.
     pub(crate) fn push_bar<A: Allocator>(
         &self,
         text: &mut String<A>,
@@ -72,7 +72,7 @@ impl Scale {
         )
     }
 
-    /// Appends the begin of the text behind a row's bar, which ends at so many pages.
+    /// Appends the start of the text behind a row's bar, which has this many pages.
     pub(crate) fn push_behind<A: Allocator>(
         &self,
         text: &mut String<A>,
@@ -87,7 +87,7 @@ impl Scale {
         write!(text, "\" y=\"{base}\">")
     }
 
-    /// Appends the begin of the text before a row's bar.
+    /// Appends the start of the text before a row's bar.
     pub(crate) fn push_before<A: Allocator>(
         &self,
         text: &mut String<A>,
@@ -101,7 +101,7 @@ impl Scale {
         )
     }
 
-    /// Appends the axis below so many rows: marks with numbers, and what they are. The bars are to be drawn over it.
+    /// Appends the axis below this many rows: marks with numbers, and what they mean. The bars must be drawn over it.
     pub(crate) fn push_axis<A: Allocator>(
         &self,
         text: &mut String<A>,
@@ -152,10 +152,10 @@ impl Scale {
     }
 }
 
-/// The pages of a MiB.
+/// How many pages a MiB has.
 const PAGES: u64 = 256;
 
-/// How many pages lie between two marks of an axis: a power of two, so that there are two to four marks.
+/// Returns how many pages lie between two marks of an axis: a power of two, so that there are two to four marks.
 fn step_of(most: u64) -> u64 {
     match most.checked_ilog2() {
         Some(power) => 1u64.checked_shl(power.saturating_sub(1)).unwrap_or(1),

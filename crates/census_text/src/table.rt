@@ -3,14 +3,14 @@ use crate::{Estimate, GuestLine, PlainName, mebibyte_tenths, mebibytes, per_mill
 use page_census::{CopiesClass, TotalNumbers};
 use std::alloc::{AllocError, Allocator};
 
-/// How wide a cell's two numbers are, the pages and the whole MiB. A decimal of the MiB stands behind them.
+/// How wide a cell's two numbers are: the pages, and the whole MiB. A decimal of the MiB comes behind them.
 #[derive(Clone, Copy)]
 struct Widths {
     pages: usize,
     mebibytes: usize,
 }
 
-/// The columns of a guest's line, and those of the total's.
+/// The columns of a guest's line, and those of the line of the total.
 const OF_GUESTS: [&str; 5] = ["pages", "zero", "shared", "distinct", "alone"];
 
 const OF_TOTAL: [&str; 7] = [
@@ -23,11 +23,11 @@ const OF_TOTAL: [&str; 7] = [
     "between",
 ];
 
-/// The characters of the longest of them.
+/// The length of the longest of them.
 const LONGEST: usize = 14;
 
-/// The table: a line for each guest and one for the total, then the copies, and last the sentence that one wants to read.
-/// Each line ends with a line feed.
+/// Writes the table: a line for each guest and one for the total, then the copies, and last a sentence that sums up the
+/// numbers. Each line ends with a line feed.
 pub fn table_text<A: Allocator>(
     alloc: A,
     estimate: &Estimate<'_>,
@@ -44,7 +44,7 @@ pub fn table_text<A: Allocator>(
     Ok(text)
 }
 
-/// How many decimal digits a number has.
+/// Returns how many decimal digits a number has.
 fn digits(number: u32) -> usize {
     match number.checked_ilog10() {
         Some(power) => power as usize + 1,
@@ -52,7 +52,7 @@ fn digits(number: u32) -> usize {
     }
 }
 
-/// No number is greater than the pages in total.
+/// Returns widths that fit all numbers: none is greater than the pages in total.
 fn widths_of(total: TotalNumbers) -> Widths {
     let mebibytes = digits(mebibyte_tenths(total.pages) / 10);
     let least = LONGEST.saturating_sub(3).saturating_sub(mebibytes);
@@ -182,7 +182,7 @@ fn push_class<A: Allocator>(
     text.push_str("\n")
 }
 
-/// Appends the sentence that one wants to read, in whole MiB, without a line feed.
+/// Appends the sentence that sums up the numbers, in whole MiB, without a line feed.
 pub(crate) fn push_sentence<A: Allocator>(
     text: &mut String<A>,
     total: TotalNumbers,

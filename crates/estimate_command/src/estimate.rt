@@ -15,8 +15,9 @@ use std::process::ExitCode;
 use std::thread::{self, Threads};
 use std::time::Clock;
 
-/// Counts the pages of the images, writes the picture, and then the table or the JSON object. Gives the status: a fault is
-/// told in a line on standard error, and then nothing was written to the output unless that is what failed.
+/// Counts the pages of the images, writes the picture, and then the table or the JSON object. Returns the status: a
+/// fault is reported in a line on standard error, and then nothing was written to the output unless that is what
+/// failed.
 pub fn do_estimate<R: Threads + Sync + Files<File = File> + Eprint + Clock, W: Write + Drop>(
     rt: &R,
     alloc: Global,
@@ -56,7 +57,7 @@ fn estimate<'a, R: Threads + Sync + Files<File = File> + Eprint + Clock, W: Writ
     ))
 }
 
-/// Counts the pages, and draws how much was read where that is asked for.
+/// Counts the pages, and draws how much was read if asked to.
 fn count<'a, R: Threads + Sync + Eprint + Clock>(
     rt: &R,
     alloc: Global,
@@ -84,7 +85,7 @@ fn count<'a, R: Threads + Sync + Eprint + Clock>(
     }
 }
 
-/// How many threads read: as many as are asked for, or else as there are processors; one where the system doesn't tell.
+/// Returns how many threads read: as many as asked for, or else one for each processor; one if the system doesn't say.
 fn workers_of(rt: &impl Threads, asked: Option<u32>) -> u32
     ensures { 1 ≤ result }
 {
@@ -102,7 +103,7 @@ fn processors(rt: &impl Threads) -> u32 {
     }
 }
 
-/// What is written, all of it made before any is written.
+/// What is written. All of it is made before any of it is written.
 #[derive(Drop)]
 struct Texts {
     output: String,
@@ -131,7 +132,7 @@ fn texts_of(
     })
 }
 
-/// The salt of each guest.
+/// Returns the salt of each guest.
 fn guest_salts(alloc: Global, words: &EstimateWords<'_>) -> Result<Vec<u32>, AllocError> {
     (0..words.images.len())
         .map(|n| words.salts.get(n).copied().unwrap_or(0))

@@ -8,11 +8,11 @@ use std::io;
 /// What is at fault.
 #[derive(Debug, Drop)]
 pub enum Cause {
-    /// The system refused, for this cause.
+    /// The system refused, for this reason.
     System(io::Error),
-    /// The file isn't of a form that is read.
+    /// The file doesn't have a form that can be read.
     Form(FormFault),
-    /// It is no file with a length, as a device.
+    /// It isn't a file with a length; it is a device, for example.
     NoFile,
     /// The file was changed while it was read.
     Changed,
@@ -26,13 +26,13 @@ pub enum Cause {
 #[derive(Debug, Drop)]
 pub struct EstimateFault<'a> {
     pub name: &'a str,
-    /// How many files are meant beside it.
+    /// How many more files the fault is about.
     pub others: usize,
     pub cause: Cause,
 }
 
 impl<'a> EstimateFault<'a> {
-    /// A fault of one file.
+    /// Makes the fault of one file.
     pub fn of(name: &'a str, cause: Cause) -> EstimateFault<'a> {
         EstimateFault {
             name,
@@ -41,7 +41,7 @@ impl<'a> EstimateFault<'a> {
         }
     }
 
-    /// A fault of all of these together.
+    /// Makes the fault of all of these together.
     pub fn of_all(names: &[&'a str], cause: Cause) -> EstimateFault<'a> {
         let (name, others) = match names.split_first() {
             Some((first, others)) => (*first, others.len()),

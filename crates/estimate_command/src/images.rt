@@ -1,4 +1,4 @@
-//! The images that an estimate is made of.
+//! The images of an estimate.
 use crate::faults::{Cause, EstimateFault};
 use command_words::EstimateWords;
 use memory_images::{FileBytes, Image, ImageFault};
@@ -12,7 +12,7 @@ use std::time::SystemTime;
 /// A file of pages.
 pub type FileImage = Image<FileBytes>;
 
-/// The images that the words name, each a guest with its salt, and what the system told of their files.
+/// The images that the words name, each a guest with its salt, and what the system said about their files.
 #[derive(Drop)]
 pub struct Images {
     pub guests: Vec<Guest<FileImage>>,
@@ -21,7 +21,7 @@ pub struct Images {
     pub pages: u64,
 }
 
-/// The length of a file and the time at which it was changed last, by which a change is noticed.
+/// The length of a file and the time of its last change, which show whether it has changed.
 #[derive(Clone, Copy, PartialEq, Eq)]
 pub struct FileMark {
     len: u64,
@@ -37,7 +37,7 @@ impl FileMark {
     }
 }
 
-/// Opens each image. The first fault is told.
+/// Opens each image, or returns the first fault.
 pub fn open_images<'a, R: Files<File = File>>(
     rt: &R,
     alloc: Global,
@@ -57,7 +57,7 @@ pub fn open_images<'a, R: Files<File = File>>(
     Ok(images)
 }
 
-/// Opens an image behind the others.
+/// Opens an image and appends it to the others.
 fn open_next<R: Files<File = File>>(
     rt: &R,
     alloc: Global,
@@ -98,7 +98,7 @@ fn open_image<R: Files<File = File>>(
     Ok((image, FileMark::of(&metadata)))
 }
 
-/// A fault where a file isn't what it was when it was opened.
+/// Returns a fault if a file isn't what it was when it was opened.
 pub fn check_unchanged<'a, R: Files>(
     rt: &R,
     words: &EstimateWords<'a>,

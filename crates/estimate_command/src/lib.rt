@@ -1,4 +1,4 @@
-//! The command `estimate` of the program `pageshare`: it tells what sharing equal pages of memory images would reclaim.
+//! The command `estimate` of the program `pageshare`: it shows what sharing equal pages of memory images would reclaim.
 #![tactic(auto)]
 
 mod estimate;

@@ -1,10 +1,10 @@
-//! How much of some images was read.
+//! How much of the images was read.
 use page_census::Progress;
 use progress_line::{DrawnLine, ReadSoFar, Told};
 use std::sync::atomic::{AtomicU64, Ordering};
 use std::time::Clock;
 
-/// How many pages of images were read, and the line that tells it, if any is drawn.
+/// How many pages of the images were read, and the line that shows it, if one is drawn.
 #[derive(Drop)]
 pub struct Reading<'a, R> {
     line: Option<DrawnLine<'a, R>>,
@@ -13,7 +13,7 @@ pub struct Reading<'a, R> {
 }
 
 impl<'a, R: Eprint + Clock> Reading<'a, R> {
-    /// Nothing is read yet of so many pages.
+    /// Starts with nothing read of `total` pages.
     pub fn new(line: Option<DrawnLine<'a, R>>, total: u64) -> Reading<'a, R> {
         Reading {
             line,

@@ -11,13 +11,13 @@ use Rattle.memory_images.specs.declared.parts.Header.{Header}
 use Rattle.memory_images.specs.declared.parts.ProgramHeader.{ProgramHeader}
 use Rattle.memory_images.specs.declared.segment.Segment.{Segment}
 
--- an answer handed on to what is asked next: the first fault is the answer of the whole
+-- passes an answer on to the next question: the first fault is the answer of the whole
 infixl 10 ◌>>=◌
 abbrev pub ◌>>=◌ : {A B F : Type 0} → Result A F → (A → Result B F) → Result B F
 (Ok x) >>= f = f x
 (Err e) >>= f = Err e
 
--- a number of pages, where it is at most 4,294,967,295
+-- a number of pages, if it is at most 4,294,967,295
 abbrev pub counted : ℕ → Option ℕ
 counted count = if nat_lt 4294967295 count then None else Some count
 
@@ -37,11 +37,11 @@ raw_of bytes = few (whole_file (length bytes))
 unfoldable pub is_elf : List ℕ → Bool
 is_elf bytes = bytes_eq (part bytes 0 4) (127 ∷ 69 ∷ 76 ∷ 70 ∷ [])
 
--- section header 0, of 64 bytes, stands within so many bytes
+-- section header 0, of 64 bytes, is within this many bytes
 abbrev pub has_section : ℕ → Header → Bool
 has_section size header = not (header.sections == 0) && header.section_bytes == 64 && nat_le (header.sections + 64) size
 
--- the number of program headers. Where 65535 stands for it, it is sh_info of section header 0, if there is one
+-- the number of program headers. If the field has 65535, it is sh_info of section header 0, if there is one
 unfoldable pub table_count : List ℕ → Header → Result ℕ FormFault
 table_count bytes header =
     if header.count == 65535
@@ -61,7 +61,7 @@ is_load header = header.kind == 1 && not (header.file_bytes == 0)
 abbrev pub segment_of : ProgramHeader → Segment
 segment_of header = record { offset = header.offset; len = header.file_bytes }
 
--- the segment of a program header, where there is one to load
+-- the segment of a program header, if there is one to load
 abbrev pub loaded : ProgramHeader → List Segment
 loaded header = if is_load header then segment_of header ∷ [] else []
 
@@ -69,11 +69,11 @@ loaded header = if is_load header then segment_of header ∷ [] else []
 unfoldable pub loads : List ℕ → ℕ → ℕ → List Segment
 loads bytes table count = map segment_of (filter is_load (map (program_header bytes table) (range_with_len 0 count)))
 
--- each segment is whole within so many bytes
+-- each segment lies whole within this many bytes
 abbrev pub are_whole : ℕ → List Segment → Bool
 are_whole size segments = list_all (λ segment. nat_le (segment.offset + segment.len) size) segments
 
--- the segments of a table of so many program headers
+-- the segments of a table of this many program headers
 unfoldable pub table_segments : List ℕ → ℕ → ℕ → Result (List Segment) FormFault
 table_segments bytes table count =
     if not (nat_le (table + 56 * count) (length bytes)) then Err faults.CutTable
@@ -89,7 +89,7 @@ abbrev pub core_segments : List ℕ → Result (List Segment) FormFault
 core_segments bytes =
     core_header bytes >>= λ header. table_count bytes header >>= λ count. table_segments bytes header.table count
 
--- the segments of a file: an ELF core's where it begins as an ELF file, and else all of its bytes
+-- the segments of a file: an ELF core's if it begins as an ELF file, and else all of its bytes
 abbrev pub file_segments : List ℕ → Result (List Segment) FormFault
 file_segments bytes = if is_elf bytes then core_segments bytes else Ok (whole_file (length bytes))
 

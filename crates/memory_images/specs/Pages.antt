@@ -12,18 +12,18 @@ filled bytes = bytes ++ replicate (4096 - length bytes) 0
 unfoldable pub page_of : List ℕ → ℕ → List ℕ
 page_of bytes n = filled (take 4096 (drop (4096 * n) bytes))
 
--- so many pages that are whole, the first from byte `at` on
+-- this many pages that are whole, the first from byte `at` on
 abbrev pub pages_at : List ℕ → ℕ → ℕ → List (List ℕ)
 pages_at bytes at count = map (λ n. part bytes (at + 4096 * n) 4096) (range_with_len 0 count)
 
--- how many pages so many bytes are
+-- how many pages this many bytes make
 unfoldable pub page_count : ℕ → ℕ
 page_count len = (len + 4095) / 4096
 
 abbrev pub pages_in : List ℕ → List (List ℕ)
 pages_in bytes = map (page_of bytes) (range_with_len 0 (page_count (length bytes)))
 
--- a segment begins a page of its own
+-- each segment begins a new page
 unfoldable pub segment_pages : List ℕ → Segment → List (List ℕ)
 segment_pages bytes segment = pages_in (part bytes segment.offset segment.len)
 
@@ -35,7 +35,7 @@ pages_of segments bytes = flat_map (segment_pages bytes) segments
 abbrev pub count_of : List Segment → ℕ
 count_of segments = sum_by (λ segment. page_count segment.len) segments
 
--- segments are whole within so many bytes
+-- segments lie whole within this many bytes
 abbrev pub AreWithin : ℕ → List Segment → Type 0
 AreWithin size segments = All (λ segment. segment.offset + segment.len ≤ size) segments
 

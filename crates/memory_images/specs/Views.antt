@@ -1,4 +1,4 @@
--- What is seen of an image: the file that it reads, and the segments of it that hold pages.
+-- What proofs see of an image: the file that it reads, and the segments of it that hold pages.
 use Rattle.std.specs.Prelude.{List}
 use Rattle.memory_images.specs.declared.image.Image.{Image}
 use Rattle.memory_images.specs.declared.read_at.ReadAt.{Ghosts}

@@ -2,7 +2,7 @@
 use Rattle.std.specs.Prelude.{ℕ, List, take, drop}
 use Rattle.std.specs.Int.{w16, w32, w64, from_le_bytes}
 
--- so many bytes from a place on
+-- this many bytes from a place on
 abbrev pub part : List ℕ → ℕ → ℕ → List ℕ
 part bytes at len = take len (drop at bytes)
 

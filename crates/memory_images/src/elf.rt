@@ -14,13 +14,13 @@ use crate::word::u32_at;
 use crate::{FormFault, ImageFault, ReadAt, Segment};
 use std::alloc::{AllocFailed, Allocator};
 
-/// Stands for the number of program headers where the ELF header has no room for it.
+/// The number of program headers in an ELF header that has no room for the actual one.
 const MANY: u16 = 65535;
 
 /// The type of a segment to load, `PT_LOAD`.
 const LOAD: u32 = 1;
 
-/// The segments of an ELF core.
+/// Finds the segments of an ELF core.
 pub(crate) fn core_segments<R: ReadAt, A: Allocator>(
     alloc: A,
     reader: &R,
@@ -33,7 +33,7 @@ pub(crate) fn core_segments<R: ReadAt, A: Allocator>(
     table_segments(alloc, reader, header.table, count)
 }
 
-/// The ELF header of a file.
+/// Reads the ELF header of a file.
 #[tactic(auto, unfolding(crate::specs::Images::core_header))]
 fn core_header<R: ReadAt>(reader: &R) -> Result<Header, ImageFault<R::Fault>>
     ensures { R.is_steady reader.now → Tells (λ header. header) result (said.core_header (R.bytes reader.now)) }
@@ -49,7 +49,7 @@ fn core_header<R: ReadAt>(reader: &R) -> Result<Header, ImageFault<R::Fault>>
     }
 }
 
-/// The number of program headers.
+/// Finds the number of program headers.
 #[tactic(auto, unfolding(crate::specs::Images::table_count))]
 fn table_count<R: ReadAt>(reader: &R, header: Header) -> Result<u32, ImageFault<R::Fault>>
     ensures { R.is_steady reader.now → Tells (λ count. count) result (said.table_count (R.bytes reader.now) header) }
@@ -65,7 +65,7 @@ fn table_count<R: ReadAt>(reader: &R, header: Header) -> Result<u32, ImageFault<
     Ok(u32_at(&bytes, 44))
 }
 
-/// Whether section header 0 stands within a file of `size` bytes.
+/// Whether section header 0 is within a file of `size` bytes.
 fn has_section(size: u64, header: Header) -> bool
     ensures { result ≡ said.has_section size header }
 {
@@ -81,7 +81,7 @@ fn is_within(size: u64, at: u64, len: u64) -> bool
     at <= size && len <= size - at
 }
 
-/// The segments of a table of so many program headers.
+/// Finds the segments of a table of `count` program headers.
 #[tactic(auto, unfolding(crate::specs::Images::table_segments))]
 fn table_segments<R: ReadAt, A: Allocator>(
     alloc: A,
@@ -103,7 +103,7 @@ fn table_segments<R: ReadAt, A: Allocator>(
     Ok(segments)
 }
 
-/// The segments to load, in the order of their program headers.
+/// Finds the segments to load, in the order of their program headers.
 fn loads<R: ReadAt, A: Allocator>(
     alloc: A,
     reader: &R,
@@ -123,7 +123,7 @@ fn loads<R: ReadAt, A: Allocator>(
     Ok(segments)
 }
 
-/// Puts the segment of a program header behind the others, where there is one to load.
+/// Appends the segment of a program header, if there is one to load.
 fn push_load<A: Allocator>(
     segments: &mut Vec<Segment, A>,
     header: ProgramHeader,
@@ -136,7 +136,7 @@ fn push_load<A: Allocator>(
     Ok(())
 }
 
-/// Program header `n` of the table.
+/// Reads program header `n` of the table.
 fn program_header<R: ReadAt>(
     reader: &R,
     table: u64,
@@ -153,14 +153,14 @@ fn program_header<R: ReadAt>(
     Ok(read_program_header(&bytes))
 }
 
-/// Whether a program header tells of bytes to load.
+/// Whether a program header describes bytes to load.
 fn is_load(header: ProgramHeader) -> bool
     ensures { result ≡ said.is_load header }
 {
     header.kind == LOAD && header.file_bytes != 0
 }
 
-/// The segment that a program header tells of.
+/// Returns the segment that a program header describes.
 fn segment_of(header: ProgramHeader) -> Segment
     ensures { result ≡ said.segment_of header }
 {
@@ -170,7 +170,7 @@ fn segment_of(header: ProgramHeader) -> Segment
     }
 }
 
-/// Whether each segment is whole within a file of `size` bytes.
+/// Whether each segment lies whole within a file of `size` bytes.
 fn are_whole(size: u64, segments: &[Segment]) -> bool
     ensures { result ≡ said.are_whole size segments.now }
 {
@@ -182,7 +182,7 @@ fn are_whole(size: u64, segments: &[Segment]) -> bool
     true
 }
 
-/// Reads as many bytes as the list has, from byte `at` on.
+/// Reads bytes into the list until it is full, from byte `at` on.
 pub(crate) fn read_part<R: ReadAt>(
     reader: &R,
     at: u64,

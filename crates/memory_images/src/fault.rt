@@ -1,4 +1,4 @@
-//! Why a file is no image of memory.
+//! Why a file is not an image of memory.
 use std::alloc::{AllocError, AllocFailed};
 use std::fmt::Display;
 use thiserror::Error;
@@ -9,19 +9,19 @@ pub enum FormFault {
     /// The file ends within the ELF header.
     #[error("the ELF header isn't whole within the file")]
     CutHeader,
-    /// The class is another than that of 64 bits.
+    /// The class isn't that of 64 bits.
     #[error("the ELF file isn't of 64 bits")]
     Class,
-    /// The byte order is another than little-endian.
+    /// The byte order isn't little-endian.
     #[error("the ELF file isn't little-endian")]
     ByteOrder,
-    /// The type is another than `ET_CORE`.
+    /// The type isn't `ET_CORE`.
     #[error("the ELF file is no core")]
     FileType,
-    /// The entry size of the program headers is another than 56.
+    /// The entry size of the program headers isn't 56.
     #[error("the ELF file's program headers aren't of 56 bytes")]
     EntrySize,
-    /// The number of program headers is to stand in section header 0, and there is none of 64 bytes within the file.
+    /// The number of program headers must be in section header 0, and there is none of 64 bytes within the file.
     #[error("section header 0 isn't whole within the file")]
     CutSection,
     /// The file ends before the last program header does.
@@ -42,10 +42,10 @@ pub enum ImageFault<F> {
     /// Memory was refused.
     #[error("out of memory")]
     OutOfMemory,
-    /// The file can't be read, for this cause.
+    /// The file can't be read, for this reason.
     #[error("{0}")]
     Read(F),
-    /// The file isn't of a form that is read.
+    /// The file doesn't have a form that can be read.
     #[error("{0}")]
     Form(FormFault),
 }

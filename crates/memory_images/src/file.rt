@@ -7,9 +7,9 @@ use std::fs::File;
 use std::io;
 use std::os::unix::fs::FileExt;
 
-/// A file that can be read, with the length that it had when it was taken.
+/// A file that can be read, with the length it had when it was taken.
 ///
-/// The system may change a file at any time, so none is steady. Its ghost bytes tell its length alone.
+/// The system may change a file at any time, so none is steady. Its ghost bytes show only its length.
 #[derive(Drop)]
 pub struct FileBytes {
     file: File,
@@ -17,7 +17,7 @@ pub struct FileBytes {
 }
 
 impl FileBytes {
-    /// A file that was opened for reading. An error is that of the system, which was asked for the length.
+    /// Takes a file that was opened for reading. An error is that of the system, which was asked for the length.
     pub fn new(file: File) -> io::Result<FileBytes> {
         let len = file.metadata()?.len();
         Ok(FileBytes { file, len })

@@ -6,13 +6,13 @@ use crate::FormFault;
 use crate::parts::{Header, ProgramHeader};
 use crate::word::{u16_at, u32_at, u64_at};
 
-/// The bytes of an ELF header.
+/// The size of an ELF header.
 pub(crate) const HEADER_BYTES: usize = 64;
 
-/// The bytes of a program header.
+/// The size of a program header.
 pub(crate) const PROGRAM_HEADER_BYTES: usize = 56;
 
-/// The bytes of a section header.
+/// The size of a section header.
 pub(crate) const SECTION_HEADER_BYTES: usize = 64;
 
 /// Reads the ELF header of a core of 64 bits, little-endian.

@@ -1,7 +1,7 @@
 //! Images of memory as sources of pages: raw files, and ELF cores of 64 bits.
 //!
-//! An image is a list of segments of a file, whose bytes are cut into pages. What a file's segments are is told by
-//! definitions over its bytes, in `specs/`.
+//! An image is a list of segments of a file, whose bytes are cut into pages. Definitions over a file's bytes, in
+//! `specs/`, say what its segments are.
 #![tactic(auto)]
 
 mod elf;

@@ -14,7 +14,7 @@ use std::alloc::{AllocError, Allocator};
 const MAGIC: [u8; 4] = [0x7f, 0x45, 0x4c, 0x46];
 
 impl<R: ReadAt + Drop, A: Allocator + Clone> Image<R, A> {
-    /// The image of a raw file, whatever it begins with: page n is its bytes 4096n to 4096n + 4095.
+    /// Makes the image of a raw file, whatever it begins with: page n is its bytes 4096n to 4096n + 4095.
     pub fn raw(alloc: A, reader: R) -> Result<Image<R, A>, ImageFault<R::Fault>>
         ensures told { Tells segments_of result (said.raw_of (R.bytes reader)) }
         ensures reader { IfOk result (λ image. reader_of image ≡ reader) }
@@ -23,7 +23,7 @@ impl<R: ReadAt + Drop, A: Allocator + Clone> Image<R, A> {
         image_with(alloc, reader, segments)
     }
 
-    /// The image of a file: an ELF core where it begins as an ELF file, and else a raw file.
+    /// Makes the image of a file: of an ELF core if it begins as an ELF file, and else of a raw file.
     pub fn open(alloc: A, reader: R) -> Result<Image<R, A>, ImageFault<R::Fault>>
         ensures told { R.is_steady reader → Tells segments_of result (said.image_of (R.bytes reader)) }
         ensures reader { IfOk result (λ image. reader_of image ≡ reader) }
@@ -33,7 +33,7 @@ impl<R: ReadAt + Drop, A: Allocator + Clone> Image<R, A> {
     }
 }
 
-/// The segments of a file.
+/// Finds the segments of a file.
 fn file_segments<R: ReadAt, A: Allocator>(
     alloc: A,
     reader: &R,
@@ -63,7 +63,7 @@ fn is_elf<R: ReadAt>(reader: &R) -> Result<bool, ImageFault<R::Fault>>
     Ok(bytes == MAGIC)
 }
 
-/// All bytes of a file as one segment.
+/// Returns all bytes of a file as one segment.
 fn whole_file<A: Allocator>(alloc: A, len: u64) -> Result<Vec<Segment, A>, AllocError>
     ensures { IfOk result (λ segments. segments.items ≡ said.whole_file len) }
 {
@@ -72,7 +72,7 @@ fn whole_file<A: Allocator>(alloc: A, len: u64) -> Result<Vec<Segment, A>, Alloc
     Ok(segments)
 }
 
-/// The image of these segments, where they aren't too many pages.
+/// Makes the image of these segments, unless they have too many pages.
 fn image_with<R: ReadAt + Drop, A: Allocator>(
     alloc: A,
     reader: R,
@@ -95,7 +95,7 @@ fn image_with<R: ReadAt + Drop, A: Allocator>(
     })
 }
 
-/// How many pages segments hold; `None` where more than 4,294,967,295.
+/// Returns the number of pages of these segments, or `None` if it is more than 4,294,967,295.
 fn count_pages(segments: &[Segment]) -> Option<u32>
     ensures { result ≡ said.counted (count_of segments.now) }
 {
@@ -109,7 +109,7 @@ fn count_pages(segments: &[Segment]) -> Option<u32>
     Some(count as u32)
 }
 
-/// How many pages come before each segment.
+/// Returns how many pages come before each segment.
 fn starts_of<A: Allocator>(alloc: A, segments: &[Segment]) -> Result<Vec<u32, A>, AllocError>
     requires few { count_of segments.now < 2 ^ 32 }
     ensures { IfOk result (λ starts. AreStarts segments.now starts.items) }

@@ -6,7 +6,7 @@ ghost use Rattle.memory_images.specs.Words.{part};
 use crate::{ReadAt, Segment};
 use page_model::{PAGE_BYTES, Page};
 
-/// How many pages so many bytes are.
+/// Returns the number of pages that `len` bytes make.
 #[tactic(auto, unfolding(crate::specs::Pages::page_count))]
 pub(crate) fn page_count(len: u64) -> u64
     ensures value { result ≡ page_count len }
@@ -42,7 +42,7 @@ pub(crate) fn read_page<R: ReadAt>(
     Ok(())
 }
 
-/// Reads as many pages of a segment as the list has, from page `first` on: those that are whole at once.
+/// Reads pages of a segment into the list until it is full, from page `first` on, the whole ones in one read.
 pub(crate) fn read_run<R: ReadAt>(
     reader: &R,
     segment: Segment,
@@ -61,7 +61,7 @@ pub(crate) fn read_run<R: ReadAt>(
     Ok(())
 }
 
-/// How many of so many pages of a segment, from page `first` on, are whole.
+/// Returns how many of `count` pages of a segment, from page `first` on, are whole.
 fn whole_pages(segment: Segment, first: u32, count: usize) -> usize
     requires { count < 4294967296 }
     ensures { result ≡ min (segment.len / 4096 - first) count }
@@ -70,7 +70,7 @@ fn whole_pages(segment: Segment, first: u32, count: usize) -> usize
     pages.saturating_sub(u64::from(first)).min(count as u64) as usize
 }
 
-/// Reads as many pages of a segment as the list has, from page `first` on, all of which are whole.
+/// Reads pages of a segment into the list until it is full, from page `first` on. All of them are whole.
 fn read_whole<R: ReadAt>(
     reader: &R,
     segment: Segment,
@@ -90,7 +90,7 @@ fn read_whole<R: ReadAt>(
     Ok(())
 }
 
-/// The same one by one, a last part filled up.
+/// Reads the same one by one, and fills up a last part with zeros.
 fn read_each<R: ReadAt>(
     reader: &R,
     segment: Segment,

@@ -12,21 +12,20 @@ pub trait ReadAt {
     /// The bytes.
     ghost bytes: { Self → List ℕ };
 
-    /// Each read tells these bytes. Of a file that the system may change no one can say so.
+    /// Each read returns these bytes. Nobody can say so of a file that the system may change.
     ghost is_steady: { Self → Type 0 };
 
-    /// How many bytes there are.
+    /// Returns how many bytes there are.
     fn len(&self) -> u64
         ensures { result ≡ length (bytes self.now) };
 
-    /// Reads as many bytes as the list has, from byte `at` on, into the list. What stands there after a fault is left
-    /// open.
+    /// Reads bytes into the list until it is full, from byte `at` on. After a fault, the list may hold anything.
     fn read_at(&self, at: u64, into: &mut [u8]) -> Result<(), Self::Fault>
         requires within { at + length into.old ≤ length (bytes self.now) }
         ensures told { OnOk result (is_steady self.now → into.new ≡ take (length into.old) (drop at (bytes self.now))) };
 
-    /// Reads as many pages as the list has, the first from byte `at` on, into the list. What stands there after a fault
-    /// is left open. A type that reads many pages faster at once than one by one says so here.
+    /// Reads pages into the list until it is full, the first from byte `at` on. After a fault, the list may hold
+    /// anything. A type that reads many pages faster at once than one by one does so here.
     fn read_pages_at(&self, at: u64, into: &mut [Page]) -> Result<(), Self::Fault>
         requires within { at + 4096 * length into.old ≤ length (bytes self.now) }
         requires fits { length (bytes self.now) < 2 ^ 64 }

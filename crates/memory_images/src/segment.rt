@@ -1,5 +1,5 @@
-/// Bytes of a file that hold pages, the first page at the first of them. Where the last page isn't whole, it is filled
-/// up with zeros.
+/// Bytes of a file that hold pages; the first page begins at the first of them. If the last page isn't whole, it is
+/// filled up with zeros.
 #[derive(Clone, Copy, Debug, PartialEq, Eq)]
 pub struct Segment {
     /// Where the bytes begin.

@@ -28,8 +28,8 @@ where
     }
 }
 
-/// Reads as many pages of segments as the list has, from page `first` on, where `starts` tells how many pages come before
-/// each segment.
+/// Reads pages of segments into the list until it is full, from page `first` on. `starts` has how many pages come
+/// before each segment.
 fn read_from<R: ReadAt>(
     reader: &R,
     segments: &[Segment],
@@ -53,7 +53,7 @@ fn read_from<R: ReadAt>(
     Ok(())
 }
 
-/// The number of a segment that begins at page `first` or before, the last such one where `starts` rise.
+/// Returns the number of a segment that begins at page `first` or before; the last such one if `starts` rise.
 fn last_start(starts: &[u32], first: u32) -> usize
     requires some { 1 ≤ length starts.now }
     requires begins { slice_index starts.now 0 ≤ first }
@@ -73,7 +73,7 @@ fn last_start(starts: &[u32], first: u32) -> usize
     low
 }
 
-/// Reads as many pages of segments as the list has, from page `first` on.
+/// Reads pages of segments into the list until it is full, from page `first` on.
 fn read_pages<R: ReadAt>(
     reader: &R,
     segments: &[Segment],

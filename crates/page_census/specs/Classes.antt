@@ -12,20 +12,20 @@ class_of all content = position_or_len (is_same content) all
 abbrev pub AreAlike : List Content → List ℕ → Type 0
 AreAlike all marks = (i j : ℕ) → i < length all → j < length all → content_at all i ≡ content_at all j → slice_index marks i ≡ slice_index marks j
 
--- equal contents have equal marks, and what has the mark 0 is zeros
+-- equal contents have equal marks, and a content with the mark 0 is zeros
 pub record TellApart (all : List Content) (marks : List ℕ) : Type 0 where
   pub equal : AreAlike all marks
   pub zeros : (i : ℕ) → i < length all → slice_index marks i ≡ 0 → (content_at all i).1 ≡ blank
 
--- One more than the number of the last page before n that is the first of its class and whose mark falls into this
--- bucket, 0 where there is none.
+-- One more than the number of the last page before n that is the first of its class and whose mark is in this bucket,
+-- or 0 if there is none.
 abbrev pub last_in : List ℕ → List ℕ → ℕ → ℕ → ℕ → ℕ
 last_in marks classes buckets bucket zero = 0
 last_in marks classes buckets bucket (suc n) =
     if slice_index classes n == n && slice_index marks n % buckets == bucket then suc n else last_in marks classes buckets bucket n
 
--- Where the classes of the first pages are known: heads and links lead through the first pages of the classes in each
--- bucket, from the last back.
+-- The classes of the first pages are known: heads and links lead through the first pages of the classes in each bucket,
+-- from the last back.
 pub record Classed (steady : Type 0) (all : List Content) (marks classes links heads : List ℕ) : Type 0 where
   pub count : length marks ≡ length all
   pub few : length all < 2 ^ 32
@@ -38,6 +38,6 @@ pub record Classed (steady : Type 0) (all : List Content) (marks classes links h
   pub alike : steady → AreAlike all marks
   pub told : steady → classes ≡ map (class_of all) (take (length classes) all)
 
--- the heads after a page of this class came, whose mark falls into this bucket
+-- the heads after a page of this class came whose mark is in this bucket
 abbrev pub headed : List ℕ → ℕ → ℕ → ℕ → List ℕ
 headed heads bucket number class = if class == number then slice_set heads bucket (number + 1) else heads

@@ -8,7 +8,7 @@ use Rattle.page_census.specs.declared.source.Guest.{Guest}
 abbrev pub Content : Type 0
 Content = ℕ × List ℕ
 
--- two contents are one
+-- two contents are the same
 abbrev pub is_same : Content → Content → Bool
 is_same a b = a.0 == b.0 && bytes_eq a.1 b.1
 

@@ -1,4 +1,4 @@
--- The same numbers, by marks and classes in place of contents.
+-- The same numbers, by marks and classes instead of contents.
 use Rattle.std.specs.Prelude.{ℕ, zero, suc, ◌+◌, ◌-◌, ◌==◌, ◌&&◌, nat_eq, nat_lt, Bool, if◌then◌else◌, List, [], ◌∷◌, length, map, take, drop, count_by, filter, slice_index, sum_by}
 use Rattle.page_census.specs.Numbers.{class_numbers, distinct, fewest, has_contents, is_between, most, shared, sum_alone}
 use Rattle.page_census.specs.declared.numbers.GuestNumbers.{GuestNumbers}
@@ -6,7 +6,7 @@ use Rattle.page_census.specs.declared.numbers.TotalNumbers.{TotalNumbers}
 use Rattle.page_census.specs.declared.table.CopiesClass.{CopiesClass}
 use Rattle.page_census.specs.declared.source.Guest.{Guest}
 
--- the numbers of pages of these marks and classes, by how often each class occurs among all pages
+-- the numbers of pages of these marks and classes, given how often each class occurs among all pages
 abbrev pub counted_numbers : List ℕ → List ℕ → List ℕ → GuestNumbers
 counted_numbers copies marks classes = record {
   pages = length classes;
@@ -17,14 +17,14 @@ counted_numbers copies marks classes = record {
   alone = length classes - distinct nat_eq classes;
 }
 
--- those of each guest, whose marks and classes stand one guest after the other
+-- those of each guest; the lists have the marks and classes of one guest after the other
 abbrev pub counted_guests : {S : Type 0} → (S → List (List ℕ)) → List ℕ → List (Guest S) → List ℕ → List ℕ → List GuestNumbers
 counted_guests pages copies [] marks classes = []
 counted_guests pages copies (guest ∷ guests) marks classes =
     let n = length (pages guest.source) in
     counted_numbers copies (take n marks) (take n classes) ∷ counted_guests pages copies guests (drop n marks) (drop n classes)
 
--- the sum of what f gives for the numbers below n
+-- the sum of f over the numbers below n
 abbrev pub sum_below : (ℕ → ℕ) → ℕ → ℕ
 sum_below f zero = 0
 sum_below f (suc n) = sum_below f n + f n
@@ -37,7 +37,7 @@ count_below p n = sum_below (λ k. if p k then 1 else 0) n
 abbrev pub is_zero_class : List ℕ → List ℕ → ℕ → Bool
 is_zero_class copies marks class = slice_index marks class == 0 && nat_lt 0 (slice_index copies class)
 
--- the numbers in total, where so many classes occur
+-- the numbers in total, if this many classes occur
 abbrev pub counted_total : List ℕ → ℕ → List ℕ → List ℕ → List GuestNumbers → TotalNumbers
 counted_total copies frames marks classes numbers = record {
   pages = length classes;

@@ -1,4 +1,4 @@
--- The keys of pages, which stand for their contents until the bytes are compared.
+-- The keys of pages, which represent their contents until the bytes are compared.
 use Rattle.std.specs.Prelude.{◌≡◌, ℕ, ◌^◌, ◌<◌, ◌≤◌, List, [], ◌∷◌, All, length, map, slice_index}
 use Rattle.std.specs.List.{range_with_len}
 use Rattle.page_census.specs.Classes.{TellApart}
@@ -6,19 +6,19 @@ use Rattle.page_census.specs.Contents.{Content, content_at}
 use Rattle.page_census.specs.declared.compare.Compare.{Compare}
 use Rattle.page_census.specs.declared.compare.Compare.TheVariants.{Marks, Bytes}
 
--- the key of the page with this number: its guest's salt, and its mark in place of its bytes
+-- the key of the page with this number: its guest's salt, and its mark instead of its bytes
 abbrev pub key_at : List Content → List ℕ → ℕ → Content
 key_at all marks n = ((content_at all n).0, slice_index marks n ∷ [])
 
 abbrev pub keys : List Content → List ℕ → List Content
 keys all marks = map (key_at all marks) (range_with_len 0 (length all))
 
--- what pages are compared by
+-- how pages are compared
 abbrev pub seen : Compare → List Content → List ℕ → List Content
 seen Marks all marks = keys all marks
 seen Bytes all marks = all
 
--- the premise under which a comparison is right: marks are at hand, and bytes are read from sources
+-- when a comparison is right: one of marks always is, and one of bytes is if they are read from steady sources
 abbrev pub Sure : Compare → Type 0 → Type 0
 Sure Marks steady = Unit {0}
 Sure Bytes steady = steady

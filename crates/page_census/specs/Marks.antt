@@ -4,7 +4,7 @@ use Rattle.std.specs.Str.{bytes_eq}
 use Rattle.page_model.specs.Pages.{blank}
 use Rattle.page_census.specs.Contents.{Content}
 
--- 0 of a page of zeros, and of any other its hash, or 1 where that is 0
+-- 0 for a page of zeros, and for any other its hash, or 1 if that is 0
 abbrev pub mark : (ℕ → List ℕ → ℕ) → ℕ → List ℕ → ℕ
 mark hash salt bytes = if bytes_eq bytes blank then 0 else max (hash salt bytes) 1
 

@@ -1,4 +1,4 @@
--- What is counted of contents.
+-- What is counted from contents.
 use Rattle.std.specs.Prelude.{ℕ, ◌+◌, ◌-◌, ◌/◌, ◌^◌, ◌&&◌, min, nat_eq, nat_le, nat_lt, Bool, if◌then◌else◌, List, [], ◌∷◌, length, map, count_by, filter, sum_by}
 use Rattle.std.specs.List.{list_any, range_with_len}
 use Rattle.std.specs.Str.{bytes_eq}
@@ -14,7 +14,7 @@ module _ {X : Type 0} (same : X → X → Bool) where
   abbrev pub copies : X → List X → ℕ
   copies x all = count_by (same x) all
 
-  -- how many different ones there are: of those that are the same only the last counts
+  -- how many different ones there are: among those that are the same, only the last counts
   abbrev pub distinct : List X → ℕ
   distinct [] = 0
   distinct (x ∷ xs) = (if list_any (same x) xs then 0 else 1) + distinct xs
@@ -27,7 +27,7 @@ module _ {X : Type 0} (same : X → X → Bool) where
 abbrev pub is_zero : Content → Bool
 is_zero content = bytes_eq content.1 blank
 
--- the numbers of a guest whose pages have the contents own, where all pages have the contents all
+-- the numbers of a guest whose pages have the contents own, when all pages have the contents all
 abbrev pub guest_numbers : List Content → List Content → GuestNumbers
 guest_numbers all own = record {
   pages = length own;
@@ -38,7 +38,7 @@ guest_numbers all own = record {
   alone = length own - distinct is_same own;
 }
 
--- what the guests of these numbers reclaim alone
+-- how many pages the guests of these numbers reclaim alone
 abbrev pub sum_alone : List GuestNumbers → ℕ
 sum_alone numbers = sum_by (λ guest. guest.alone) numbers
 
@@ -72,7 +72,7 @@ is_between from to count = nat_le from count && nat_le count to
 abbrev pub has_copies : List Content → ℕ → ℕ → Content → Bool
 has_copies all from to content = is_between from to (copies is_same content all)
 
--- the different contents that have so many copies, and the pages that have these contents
+-- the different contents that have this many copies, and the pages that have these contents
 abbrev pub copies_class : List Content → ℕ → ℕ → CopiesClass
 copies_class all from to = record {
   from = from;
@@ -81,8 +81,8 @@ copies_class all from to = record {
   pages = count_by (has_copies all from to) all;
 }
 
--- The classes of copies are 1, 2, 3 to 4, 5 to 8, and so on in powers of two: the fewest copies in the class with this
--- number, and the most. No content has 2^32 copies.
+-- The classes of copies are 1, 2, 3 to 4, 5 to 8, and so on in powers of two. These are the fewest and the most copies
+-- in the class with this number. No content has 2^32 copies.
 abbrev pub fewest : ℕ → ℕ
 fewest number = 2 ^ number / 2 + 1
 

@@ -1,4 +1,4 @@
--- Where pages stand.
+-- Where pages are.
 use Rattle.std.specs.Prelude.{◌≡◌, ℕ, ◌<◌, Bool, true, List, [], ◌∷◌, length, slice_index_or}
 use Rattle.page_census.specs.Contents.{Content, contents, content_at}
 use Rattle.page_census.specs.declared.place.Place.{Place}
@@ -10,6 +10,6 @@ pub record StandsAt {S : Type 0} (pages : S → List (List ℕ)) (guests : List 
   pub page_within : (d : Guest S) → place.page < length (pages (slice_index_or guests place.guest d).source)
   pub content : (d : Guest S) → let guest = slice_index_or guests place.guest d in content_at (contents pages guests) number ≡ (guest.salt, slice_index_or (pages guest.source) place.page [])
 
--- where it was read, a list holds the page with this number among all
+-- if it was read, a list holds the page with this number among all
 pub record Holds (steady : Type 0) (all : List Content) (number : ℕ) (is_read : Bool) (pages : List (List ℕ)) : Type 0 where
   pub told : steady → is_read ≡ true → pages ≡ (content_at all number).1 ∷ []

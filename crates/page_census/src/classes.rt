@@ -12,18 +12,18 @@ use crate::{Guest, PageSource};
 use page_model::Page;
 use std::alloc::{AllocError, Allocator};
 
-/// The classes of the first pages. First pages of classes are found by the buckets of their marks.
+/// The classes of the first pages. The first page of a class is found through the bucket of its mark.
 #[derive(Drop)]
 pub(crate) struct Classes<A: Allocator> {
     /// The class of each page so far.
     pub(crate) classes: Vec<u32, A>,
-    /// For each page the head of its bucket as it was when the page came.
+    /// For each page, the head of its bucket when the page came.
     pub(crate) links: Vec<u32, A>,
-    /// For each bucket one more than the number of its last first page, or 0.
+    /// For each bucket, one more than the number of the last page in it that is the first of its class, or 0.
     pub(crate) heads: Vec<u32, A>,
 }
 
-/// The class of the next page.
+/// Returns the class of the next page.
 fn class_of_next<S: PageSource, A: Allocator>(
     guests: &[Guest<S>],
     marks: &[u64],
@@ -74,7 +74,7 @@ fn note<A: Allocator>(known: &mut Classes<A>, mark: u64, class: u32)
     }
 }
 
-/// The classes of no pages yet, with room for those of so many.
+/// Returns the classes of no pages yet, with room for `count` of them.
 fn new_classes<A: Allocator + Clone>(alloc: &A, count: usize) -> Result<Classes<A>, AllocError>
     ensures empty { IfOk result (λ known. (known.classes.items ≡ []) × (known.links.items ≡ [])) }
     ensures heads { IfOk result (λ known. known.heads.items ≡ replicate (count / 2 + 1) 0) }
@@ -90,7 +90,7 @@ fn new_classes<A: Allocator + Clone>(alloc: &A, count: usize) -> Result<Classes<
     })
 }
 
-/// The class of each page, by what pages are to be compared by.
+/// Returns the class of each page, as `by` compares pages.
 pub(crate) fn classes_of<S: PageSource, A: Allocator + Clone>(
     alloc: &A,
     guests: &[Guest<S>],

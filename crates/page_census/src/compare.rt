@@ -1,8 +1,8 @@
-/// What pages are told apart by, beside the salts of their guests.
+/// How pages are distinguished, apart from the salts of their guests.
 #[derive(Clone, Copy)]
 pub(crate) enum Compare {
-    /// Their marks.
+    /// By their marks.
     Marks,
-    /// Their bytes, where their marks are equal.
+    /// By their bytes, if their marks are equal.
     Bytes,
 }

@@ -1,4 +1,4 @@
-//! The classes of all pages, found by their marks and confirmed by several workers.
+//! The classes of all pages, found by marks and confirmed by several workers.
 ghost use Rattle.std.specs.Prelude.{◌≡◌, ◌+◌, ◌*◌, ◌<◌, ◌≤◌, ◌^◌, true, All, IfOk, length, map, slice_index, vec_len};
 ghost use Rattle.page_census.specs.Contents.{AreSteady, contents, content_at};
 ghost use Rattle.page_census.specs.Classes.{TellApart, class_of};
@@ -15,8 +15,8 @@ use std::alloc::Allocator;
 use std::thread;
 use std::thread::Threads;
 
-/// The class of each page. Classes are found by marks, which needs no page, and confirmed by so many workers. Where
-/// different pages have one mark, they are found by bytes on one thread.
+/// Returns the class of each page. Classes are found by marks, which reads no page, and confirmed by this many workers.
+/// If different pages have the same mark, classes are found by bytes on one thread instead.
 pub(crate) fn find_classes<R: Threads + Sync, S: PageSource, A: Allocator + Clone + Send + Sync>(
     rt: &R,
     alloc: &A,
@@ -40,7 +40,7 @@ pub(crate) fn find_classes<R: Threads + Sync, S: PageSource, A: Allocator + Clon
     classes_of(alloc, guests, marks, Compare::Bytes)
 }
 
-/// Whether each page is found to have the content of the first page of its class, by so many workers.
+/// Whether this many workers find that each page has the content of the first page of its class.
 fn are_confirmed<R: Threads + Sync, S: PageSource, A: Allocator + Clone + Send + Sync>(
     rt: &R,
     alloc: &A,
@@ -69,7 +69,7 @@ fn are_confirmed<R: Threads + Sync, S: PageSource, A: Allocator + Clone + Send +
     Ok(true)
 }
 
-/// Whether each page of the part with this number is, where each part but the last has so many pages.
+/// Whether this holds for each page of the part with this number, where each part but the last has `size` pages.
 fn is_part_confirmed<S: PageSource, A: Allocator + Clone>(
     alloc: &A,
     guests: &[Guest<S>],
@@ -94,7 +94,7 @@ fn is_part_confirmed<S: PageSource, A: Allocator + Clone>(
     Ok(true)
 }
 
-/// Whether two pages, by their numbers among all, are one page or have one content.
+/// Whether two pages, by their numbers among all, are the same page or have the same content.
 fn is_one_content<S: PageSource>(
     guests: &[Guest<S>],
     marks: &[u64],

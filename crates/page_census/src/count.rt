@@ -22,16 +22,16 @@ pub struct CensusNumbers<A: Allocator> {
     pub guests: Vec<GuestNumbers, A>,
     /// The numbers in total.
     pub total: TotalNumbers,
-    /// How many contents have 1 copy, 2, 3 to 4, 5 to 8, and so on in powers of two: those of these classes that have
+    /// How many contents have 1 copy, 2, 3 to 4, 5 to 8, and so on in powers of two: only the classes that have
     /// contents, rising.
     pub copies: Vec<CopiesClass, A>,
 }
 
-/// Counts the pages of the guests, guest 0 first. Each source is read once in order, by so many workers, and pages that
-/// may be equal are read once more to be compared; and once again, on one thread, where different pages of guests with
-/// one salt have one hash.
+/// Counts the pages of the guests, guest 0 first. Each source is read once in order, by `workers` workers, and pages
+/// that may be equal are read once more to be compared; and once again, on one thread, if different pages of guests with the
+/// same salt have the same hash.
 ///
-/// What is told holds where each source is steady: where each of its reads tells the same bytes.
+/// The result holds if each source is steady: if each of its reads returns the same bytes.
 pub fn census<
     R: Threads + Sync,
     H: PageHash,
@@ -63,7 +63,7 @@ pub fn census<
     }
 }
 
-/// Counts the pages of the guests, which are so many.
+/// Counts the pages of the guests, whose number is known.
 fn count_contents<
     R: Threads + Sync,
     H: PageHash,

@@ -13,7 +13,7 @@ pub enum CensusFault<F> {
     /// There are more than 4,294,967,295 pages.
     #[error("more than 4,294,967,295 pages")]
     TooManyPages,
-    /// A page of the guest with this number can't be read, for this cause.
+    /// A page of the guest with this number can't be read, for this reason.
     #[error("guest {0}: {1}")]
     Read(usize, F),
 }
@@ -29,12 +29,12 @@ impl<F> From<AllocError> for CensusFault<F> {
     }
 }
 
-/// Why pages whose number is known can't be counted.
+/// Why pages can't be counted once their number is known.
 #[derive(Drop)]
 pub(crate) enum LookFault<F> {
     /// Memory was refused.
     OutOfMemory,
-    /// A page of the guest with this number can't be read, for this cause.
+    /// A page of the guest with this number can't be read, for this reason.
     Read(usize, F),
 }
 

@@ -3,9 +3,9 @@ use page_digest::PageHash;
 use page_model::{HashFunction, Page};
 use std::hash::{FoldHasher, Hasher};
 
-/// What std's `FoldHasher` gives of the salt and the page. It takes about half a microsecond a page.
+/// The result of std's `FoldHasher` for the salt and the page. It takes about half a microsecond a page.
 ///
-/// It isn't cryptographic, and its seed is fixed: who writes a page can choose its hash.
+/// It isn't cryptographic, and its seed is fixed: anyone who writes a page can choose its hash.
 #[derive(Clone, Copy, Debug, PartialEq, Eq)]
 pub struct FoldHash;
 

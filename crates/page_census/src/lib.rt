@@ -1,7 +1,7 @@
-//! Counts the contents of pages: what sharing equal pages would reclaim.
+//! Counts the contents of pages, and so what sharing equal pages would reclaim.
 //!
 //! A content is a salt and the bytes of a page. Nothing is assumed of the hash: pages that may be equal are compared
-//! byte by byte, so that a weak hash changes the time and no number.
+//! byte by byte, so a weak hash affects the time, but no number.
 #![tactic(auto)]
 
 mod classes;

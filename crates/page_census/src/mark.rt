@@ -1,4 +1,4 @@
-//! The mark of a page: 0 of a page of zeros, and of any other a hash that isn't 0.
+//! The mark of a page: 0 for a page of zeros, and for any other a hash that isn't 0.
 ghost use Rattle.std.specs.Prelude.{◌≡◌, ◌+◌, ◌≤◌, ◌++◌, length, vec_len, vec_capacity};
 ghost use Rattle.std.specs.Str.{bytes_eq};
 ghost use Rattle.page_model.specs.Pages.{blank};
@@ -8,7 +8,7 @@ use page_digest::PageHash;
 use page_model::Page;
 use std::alloc::Allocator;
 
-/// Whether the page is zeros. It looks at all bytes, which processors do many at a time.
+/// Whether the page is all zeros. It checks every byte; processors check many at a time.
 fn is_blank(page: &Page) -> bool
     ensures { result ≡ bytes_eq page.now blank }
 {

@@ -1,4 +1,4 @@
-//! The marks of a guest's pages, by several workers.
+//! The marks of a guest's pages, found by several workers.
 ghost use Rattle.std.specs.Prelude.{◌≡◌, ◌+◌, ◌*◌, ◌^◌, ◌<◌, ◌≤◌, ◌++◌, OnOk, IfOk, MatchOption, length, map, vec_len, vec_capacity, take, drop};
 ghost use Rattle.page_census.specs.Contents.{AreSteady, contents};
 ghost use Rattle.page_census.specs.Marks.{mark_at, marks_of};
@@ -12,8 +12,7 @@ use std::alloc::Allocator;
 use std::thread;
 use std::thread::Threads;
 
-/// Appends the marks of all pages of a guest. As many workers as `workers` says read parts of equal size, fewer where
-/// there are few pages.
+/// Appends the marks of all pages of a guest. `workers` workers read parts of equal size; fewer if there are few pages.
 pub(crate) fn push_guest<
     R: Threads + Sync,
     H: PageHash,
@@ -50,7 +49,7 @@ pub(crate) fn push_guest<
     Ok(())
 }
 
-/// The marks of the part with this number, where each part but the last has so many pages.
+/// Returns the marks of the part with this number, where each part but the last has `size` pages.
 fn read_part<H: PageHash, S: PageSource, P: Progress, A: Allocator + Clone>(
     alloc: &A,
     hash: &H,
@@ -76,7 +75,7 @@ fn read_part<H: PageHash, S: PageSource, P: Progress, A: Allocator + Clone>(
     )
 }
 
-/// Appends marks that there is room for.
+/// Appends marks that there is already room for.
 fn append<A: Allocator>(marks: &mut Vec<u64, A>, more: &[u64])
     requires { vec_len marks.old + length more.now ≤ vec_capacity marks.old }
     ensures items { marks.new.items ≡ marks.old.items ++ more.now }
@@ -86,7 +85,7 @@ fn append<A: Allocator>(marks: &mut Vec<u64, A>, more: &[u64])
     let _within = marks.extend_from_slice(more);
 }
 
-/// How many pages all guests have. `None` where they are more than 4,294,967,295.
+/// Returns the number of pages of all guests, or `None` if it is more than 4,294,967,295.
 pub(crate) fn count_pages<S: PageSource>(guests: &[Guest<S>]) -> Option<u32>
     ensures { MatchOption result (2 ^ 32 ≤ length (contents S.pages guests.now)) (λ count. count ≡ length (contents S.pages guests.now)) }
 {
@@ -100,7 +99,7 @@ pub(crate) fn count_pages<S: PageSource>(guests: &[Guest<S>]) -> Option<u32>
     Some(total)
 }
 
-/// The marks of all pages, guest 0 first.
+/// Returns the marks of all pages, guest 0 first.
 pub(crate) fn marks_of_all<
     R: Threads + Sync,
     H: PageHash,

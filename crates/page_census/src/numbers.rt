@@ -11,40 +11,40 @@ use std::alloc::{AllocError, Allocator};
 /// What is counted of one guest's pages.
 #[derive(Clone, Copy, Debug, PartialEq, Eq)]
 pub struct GuestNumbers {
-    /// The pages.
+    /// How many pages there are.
     pub pages: u32,
-    /// The pages of zeros.
+    /// How many pages are all zeros.
     pub zero: u32,
-    /// The different contents of the pages.
+    /// How many different contents the pages have.
     pub distinct: u32,
-    /// The pages whose content some other page has, too, of whichever guest.
+    /// How many pages have a content that some other page has, too, of any guest.
     pub shared: u32,
-    /// The pages whose content some other page of the guest has, too.
+    /// How many pages have a content that some other page of the guest has, too.
     pub within: u32,
-    /// The pages that sharing within the guest alone would reclaim: pages less different contents.
+    /// How many pages sharing within the guest alone would reclaim: pages less different contents.
     pub alone: u32,
 }
 
 /// What is counted of the pages of all guests.
 #[derive(Clone, Copy, Debug, PartialEq, Eq)]
 pub struct TotalNumbers {
-    /// The pages.
+    /// How many pages there are.
     pub pages: u32,
-    /// The pages of zeros.
+    /// How many pages are all zeros.
     pub zero: u32,
-    /// The pages whose content some other page has, too.
+    /// How many pages have a content that some other page has, too.
     pub shared: u32,
-    /// The different contents of all pages.
+    /// How many different contents all pages have.
     pub frames: u32,
-    /// The pages that sharing would reclaim: pages less frames.
+    /// How many pages sharing would reclaim: pages less frames.
     pub reclaimed: u32,
-    /// What is zeros of the pages to reclaim: pages of zeros less the different salts of these.
+    /// How many of the pages to reclaim are all zeros: pages of zeros less the different salts of these.
     pub zero_reclaimed: u32,
-    /// The pages that only sharing between guests reclaims: pages to reclaim less what the guests reclaim alone.
+    /// How many pages only sharing between guests reclaims: pages to reclaim less those that the guests reclaim alone.
     pub between: u32,
 }
 
-/// The numbers of pages by their marks and classes, where `copies` tells how often each class occurs among all pages.
+/// Returns the numbers of pages from their marks and classes. `copies` has how often each class occurs among all pages.
 pub(crate) fn guest_numbers<A: Allocator>(
     alloc: A,
     copies: &[u32],
@@ -68,7 +68,7 @@ pub(crate) fn guest_numbers<A: Allocator>(
     })
 }
 
-/// The numbers of each guest, by the marks and classes of all pages.
+/// Returns the numbers of each guest, from the marks and classes of all pages.
 pub(crate) fn numbers_of<S: PageSource, A: Allocator + Clone>(
     alloc: &A,
     guests: &[Guest<S>],
@@ -98,7 +98,7 @@ pub(crate) fn numbers_of<S: PageSource, A: Allocator + Clone>(
     Ok(numbers)
 }
 
-/// The pages to reclaim less what each guest reclaims alone.
+/// Returns the pages to reclaim less those that each guest reclaims alone.
 fn less_alone(reclaimed: u32, numbers: &[GuestNumbers]) -> u32
     ensures { result ≡ reclaimed - sum_alone numbers.now }
 {
@@ -109,8 +109,8 @@ fn less_alone(reclaimed: u32, numbers: &[GuestNumbers]) -> u32
     left
 }
 
-/// The numbers in total, by the marks and classes of all pages and the numbers of each guest, where `copies` tells how
-/// often each class occurs and `frames` how many occur.
+/// Returns the numbers in total, from the marks and classes of all pages and the numbers of each guest. `copies` has
+/// how often each class occurs, and `frames` is how many occur.
 pub(crate) fn total_of(
     copies: &[u32],
     frames: u32,

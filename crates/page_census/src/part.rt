@@ -1,4 +1,4 @@
-//! The marks of a run of pages, on one thread.
+//! The marks of a run of pages, found on one thread.
 ghost use Rattle.std.specs.Prelude.{◌≡◌, ◌+◌, ◌^◌, ◌<◌, ◌≤◌, IfOk, OnOk, length, vec_len, take, drop};
 ghost use Rattle.page_census.specs.Marks.{marks_of};
 
@@ -12,14 +12,14 @@ use std::alloc::{AllocError, Allocator};
 /// How many pages are read at once.
 pub(crate) const RUN: u32 = 64;
 
-/// A list of so many pages to read into.
+/// Makes a list of `count` pages to read into.
 pub(crate) fn new_pages<A: Allocator>(alloc: A, count: usize) -> Result<Vec<Page, A>, AllocError>
     ensures { IfOk result (λ pages. vec_len pages ≡ count) }
 {
     vec![in alloc; [0; PAGE_BYTES]; count]
 }
 
-/// Reads as many pages of a guest as the list has, from page `first` on.
+/// Reads pages of a guest into the list until it is full, from page `first` on.
 pub(crate) fn read_run<S: PageSource>(
     number: usize,
     guest: &Guest<S>,
@@ -35,7 +35,7 @@ pub(crate) fn read_run<S: PageSource>(
     }
 }
 
-/// The marks of `count` pages of a guest, from page `from` on.
+/// Returns the marks of `count` pages of a guest, from page `from` on.
 pub(crate) fn read_marks<H: PageHash, S: PageSource, P: Progress, A: Allocator + Clone>(
     alloc: &A,
     hash: &H,

@@ -1,4 +1,4 @@
-//! Where the pages stand that are numbered through all guests.
+//! Where to find a page that is numbered among the pages of all guests.
 ghost use Rattle.std.specs.Prelude.{◌≡◌, ◌<◌, ◌≤◌, ◌^◌, true, length, slice_index_or, slice_index, IfOk, OnOk};
 ghost use Rattle.page_census.specs.Contents.{contents, content_at, is_same, AreSteady};
 ghost use Rattle.page_census.specs.Classes.{TellApart};
@@ -11,14 +11,14 @@ use crate::part::read_run;
 use crate::{Guest, PageSource};
 use page_model::Page;
 
-/// A page by its guest's number and its own.
+/// A page, by its guest's number and its own.
 #[derive(Clone, Copy)]
 pub(crate) struct Place {
     pub(crate) guest: usize,
     pub(crate) page: u32,
 }
 
-/// Where the page stands that has this number among all.
+/// Finds the page that has this number among all.
 pub(crate) fn place_of<S: PageSource>(guests: &[Guest<S>], number: u32) -> Place
     requires { number < length (contents S.pages guests.now) }
     ensures { StandsAt S.pages guests.now number result }
@@ -34,7 +34,7 @@ pub(crate) fn place_of<S: PageSource>(guests: &[Guest<S>], number: u32) -> Place
     unreachable!()
 }
 
-/// Reads the page with this number among all, which stands at this place, where it wasn't read yet.
+/// Reads the page with this number among all, which is at this place, unless it was already read.
 fn read_once<S: PageSource>(
     guests: &[Guest<S>],
     number: u32,
@@ -54,8 +54,8 @@ fn read_once<S: PageSource>(
     Ok(())
 }
 
-/// Whether two pages, by their numbers among all, have one content. Their bytes are read where their marks are equal
-/// and not 0; the first page's only where they weren't read yet.
+/// Whether two pages, by their numbers among all, have the same content. Their bytes are read if their marks are equal
+/// and not 0, those of the first page only if they weren't read yet.
 pub(crate) fn is_same_content<S: PageSource>(
     guests: &[Guest<S>],
     marks: &[u64],
@@ -90,7 +90,7 @@ pub(crate) fn is_same_content<S: PageSource>(
     Ok(own[0] == other[0])
 }
 
-/// Whether two pages, by their numbers among all, have one mark and their guests one salt.
+/// Whether two pages, by their numbers among all, have the same mark and their guests the same salt.
 fn has_same_key<S: PageSource>(guests: &[Guest<S>], marks: &[u64], a: u32, b: u32) -> bool
     requires a_within { a < length (contents S.pages guests.now) }
     requires b_within { b < length (contents S.pages guests.now) }
@@ -105,7 +105,7 @@ fn has_same_key<S: PageSource>(guests: &[Guest<S>], marks: &[u64], a: u32, b: u3
     guests[x.guest].salt == guests[y.guest].salt
 }
 
-/// Whether two pages, by their numbers among all, are the same by what they are to be compared by.
+/// Whether two pages, by their numbers among all, are the same as `by` compares them.
 pub(crate) fn is_same<S: PageSource>(
     guests: &[Guest<S>],
     marks: &[u64],

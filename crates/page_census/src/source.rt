@@ -11,30 +11,29 @@ pub trait PageSource: Sync {
     /// The bytes of each page.
     ghost pages: { Self → List (List ℕ) };
 
-    /// Each read tells these bytes. Of a file that the system may change no one can say so.
+    /// Each read returns these bytes. Nobody can say so of a file that the system may change.
     ghost is_steady: { Self → Type 0 };
 
-    /// How many pages there are.
+    /// Returns how many pages there are.
     fn count(&self) -> u32
         ensures { result ≡ length (pages self.now) };
 
-    /// Reads as many pages as the list has, from page `first` on, into the list. What stands there after a fault is
-    /// left open.
+    /// Reads pages into the list until it is full, from page `first` on. After a fault, the list may hold anything.
     fn read(&self, first: u32, into: &mut [Page]) -> Result<(), Self::Fault>
         requires within { first + length into.old ≤ length (pages self.now) }
         ensures told { OnOk result (is_steady self.now → into.new ≡ take (length into.old) (drop first (pages self.now))) };
 }
 
-/// A guest: its salt, and where its pages come from. Pages are the same content only where their guests' salts are
-/// equal, too.
+/// A guest: its salt, and where its pages come from. Pages have the same content only if their guests' salts are equal,
+/// too.
 #[derive(Drop)]
 pub struct Guest<S> {
     pub salt: u32,
     pub source: S,
 }
 
-/// What is told how much was read. It may be told from several threads.
+/// Hears how much was read. Several threads may report to it.
 pub trait Progress: Sync {
-    /// So many pages more were read.
+    /// Reports that `pages` more pages were read.
     fn advance(&self, pages: usize);
 }

@@ -1,18 +1,18 @@
-//! The copies table: how many contents have so many copies.
+//! The copies table: how many contents have how many copies.
 ghost use Rattle.std.specs.Prelude.{◌≡◌, ◌+◌, ◌≤◌, ◌<◌, ◌^◌, IfOk, length, sum};
 ghost use Rattle.page_census.specs.Numbers.{fewest, is_between, most};
 ghost use Rattle.page_census.specs.Counted.{counted_class, counted_table};
 
 use std::alloc::{AllocError, Allocator};
 
-/// The contents whose number of copies lies between two.
+/// The contents whose number of copies is in a range.
 #[derive(Clone, Copy, Debug, PartialEq, Eq)]
 pub struct CopiesClass {
     /// The fewest copies of these contents.
     pub from: u32,
     /// The most copies of these contents.
     pub to: u32,
-    /// How many different contents have so many copies.
+    /// How many different contents have this many copies.
     pub contents: u32,
     /// How many pages have these contents.
     pub pages: u32,
@@ -29,7 +29,7 @@ fn power(number: u32) -> u64
     2u64.pow(number)
 }
 
-/// The fewest copies in the class with this number.
+/// Returns the fewest copies in the class with this number.
 fn fewest(number: u32) -> u32
     requires { number < 33 }
     ensures { result ≡ fewest number }
@@ -37,7 +37,7 @@ fn fewest(number: u32) -> u32
     (power(number) / 2 + 1) as u32
 }
 
-/// The most copies in the class with this number.
+/// Returns the most copies in the class with this number.
 fn most(number: u32) -> u32
     requires { number < 33 }
     ensures { result ≡ most number }
@@ -51,7 +51,8 @@ fn is_between(from: u32, to: u32, count: u32) -> bool
     from <= count && count <= to
 }
 
-/// The contents that have at least `from` and at most `to` copies, where `copies` tells the copies of each class.
+/// Counts the contents that have at least `from` and at most `to` copies. `copies` has the number of copies of each
+/// class.
 fn count_class(copies: &[u32], from: u32, to: u32) -> CopiesClass
     requires few { length copies.now < 2 ^ 32 }
     requires all { sum copies.now < 2 ^ 32 }
@@ -73,7 +74,7 @@ fn count_class(copies: &[u32], from: u32, to: u32) -> CopiesClass
     }
 }
 
-/// The classes of copies that have contents, rising.
+/// Returns the classes of copies that have contents, rising.
 pub(crate) fn copies_table<A: Allocator>(
     alloc: A,
     copies: &[u32],

@@ -12,7 +12,7 @@ pub(crate) struct Tally<A: Allocator> {
     pub(crate) distinct: u32,
 }
 
-/// How often each class below `bound` occurs in a list.
+/// Counts how often each class below `bound` occurs in a list.
 pub(crate) fn count_copies<A: Allocator>(
     alloc: A,
     bound: usize,
@@ -40,7 +40,7 @@ pub(crate) fn count_copies<A: Allocator>(
     Ok(Tally { copies, distinct })
 }
 
-/// How many of these classes have more than one copy.
+/// Counts how many of these classes have more than one copy.
 pub(crate) fn count_shared(copies: &[u32], classes: &[u32]) -> u32
     requires below { All (λ class. class < length copies.now) classes.now }
     requires few { length classes.now < 2 ^ 32 }
@@ -55,7 +55,7 @@ pub(crate) fn count_shared(copies: &[u32], classes: &[u32]) -> u32
     count
 }
 
-/// How many of these marks are those of pages of zeros.
+/// Counts how many of these marks are those of pages of zeros.
 pub(crate) fn count_zero(marks: &[u64]) -> u32
     requires { length marks.now < 2 ^ 32 }
     ensures { result ≡ count_by (λ mark. mark == 0) marks.now }
@@ -70,7 +70,8 @@ fn is_zero_class(copies: &[u32], marks: &[u64], class: usize) -> bool
     marks[class] == 0 && copies[class] > 0
 }
 
-/// How many classes that occur are those of pages of zeros. The mark of a class is that of its first page.
+/// Counts how many of the classes that occur are those of pages of zeros. The mark of a class is that of its first
+/// page.
 pub(crate) fn count_zero_classes(copies: &[u32], marks: &[u64]) -> u32
     requires few { length copies.now < 2 ^ 32 }
     requires same { length marks.now ≡ length copies.now }

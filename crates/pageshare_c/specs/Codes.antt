@@ -5,7 +5,7 @@ use Rattle.page_model.specs.declared.verdict.Verdict.TheVariants.{NoPage, Unmapp
 use Rattle.pageshare_c.specs.declared.answer.Refusal.{Refusal}
 use Rattle.pageshare_c.specs.declared.answer.Refusal.TheVariants as r
 
--- the number of a refusal. 1 to 5 are those of a machine that isn't made
+-- the number of a refusal. 1 to 5 say why a machine wasn't made
 abbrev pub status_of : Refusal → ℕ
 status_of r.NoMachine = 6
 status_of r.NoGuest = 7
@@ -20,7 +20,7 @@ abbrev pub status_told : {X : Type 0} → Result X Refusal → ℕ
 status_told (Ok x) = 0
 status_told (Err refusal) = status_of refusal
 
--- the status of a call that asks for a machine and for nothing else
+-- the status of a call that needs a machine and nothing else
 abbrev pub held_status : {X : Type 0} → Option X → ℕ
 held_status None = 6
 held_status (Some x) = 0
@@ -46,7 +46,8 @@ code_of (Released freed) = 16
 code_of (Totals report) = 17
 code_of Closed = 18
 
--- the verdict's own number: how many pages share the frame, how many bytes were loaded, 1 where the frame is free now
+-- the number that comes with the verdict: how many pages share the frame, how many bytes were loaded, 1 if the frame is
+-- free now
 abbrev pub count_of : Verdict → ℕ
 count_of (Joined pages) = pages
 count_of (Bytes bytes) = length bytes.items

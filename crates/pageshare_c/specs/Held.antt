@@ -16,7 +16,7 @@ use Rattle.merge_core.specs.contracts.Core as core
 abbrev pub core_row : RattleType
 core_row = core.the_row sha256_row global_row (record { hash_of = sha256_hash }) allocator.ghosts
 
--- the heap's handle, of which there is one, since it has no bytes
+-- the heap's handle; there is only one, since it has no bytes
 abbrev pub heap : Global
 heap = record { memory = record { seal = tt } }
 

@@ -1,10 +1,10 @@
--- Why a machine is or is not made.
+-- Why a machine is made or not.
 use Rattle.std.specs.Prelude.{◌≡◌, ◌≤◌, ℕ, List, Option, None, IsSome}
 use Rattle.merge_core.specs.Shown.{Shown}
 use Rattle.merge_core.specs.Refusals.{AreLimits, NoCoreFor}
 use Rattle.merge_core.specs.declared.CoreFault.TheVariants.{Frames, Guests, Pages}
 
--- what each status says of the frames, pages and salts, and of what the handle held
+-- what each status says about the frames, pages and salts, and about what the handle held
 pub record Makes (frames : ℕ) (pages salts : List ℕ) (held : Option Shown) (status : ℕ) : Type 0 where
   pub made : status ≡ 0 → AreLimits frames pages salts × (held ≡ None)
   pub frames_fault : status ≡ 1 → NoCoreFor frames pages salts Frames

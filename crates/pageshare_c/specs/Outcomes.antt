@@ -1,4 +1,4 @@
--- What a request of C does to the machine of a handle.
+-- What a request of C does to the machine behind a handle.
 use Rattle.std.specs.Prelude.{ℕ, nat_le, if◌then◌else◌, length, Option, Some, None, Result, Ok, Err}
 use Rattle.std.specs.Option.{option_map}
 use Rattle.page_model.specs.Pages.{State}
@@ -31,12 +31,12 @@ accepted s guest asked =
     then Err r.Full
     else named asked
 
--- the verdict of the model's step, where the request is accepted
+-- the verdict of the model's step, if the request is accepted
 abbrev pub verdict_of : State → ℕ → Result Request Refusal → Result Verdict Refusal
 verdict_of s guest (Ok request) = Ok (step sha256_hash s guest request).verdict
 verdict_of s guest (Err refusal) = Err refusal
 
--- the state after the model's step, where the request is accepted
+-- the state after the model's step, if the request is accepted
 abbrev pub stepped : State → ℕ → Result Request Refusal → State
 stepped s guest (Ok request) = (step sha256_hash s guest request).state
 stepped s guest (Err refusal) = s
@@ -48,7 +48,7 @@ answered s guest asked = verdict_of s guest (accepted s guest asked)
 abbrev pub answered_state : State → ℕ → Result Request RequestFault → State
 answered_state s guest asked = stepped s guest (accepted s guest asked)
 
--- what the machine of a handle answers, if there is one, and its state after that
+-- what the machine behind a handle answers, if there is one, and its state after that
 abbrev pub outcome : Option State → ℕ → Result Request RequestFault → Result Verdict Refusal
 outcome None guest asked = Err r.NoMachine
 outcome (Some s) guest asked = answered s guest asked

@@ -1,4 +1,4 @@
--- What C is given: an answer, and what the room that it lends holds afterwards.
+-- What C gets: an answer, and what its room holds afterwards.
 use Rattle.std.specs.Prelude.{ℕ, nat_le, if◌then◌else◌, List, ◌++◌, length, drop, Option, Some, None, Result, Ok, Err}
 use Rattle.page_model.specs.Pages.{State, totals}
 use Rattle.page_model.specs.Parts.{Totals as Report}
@@ -15,12 +15,12 @@ abbrev pub told : Result Verdict Refusal → Answer
 told (Ok verdict) = record { status = 0; verdict = code_of verdict; count = count_of verdict }
 told (Err refusal) = record { status = status_of refusal; verdict = 0; count = 0 }
 
--- the value, or what stood there before where there is none
+-- the value, or if there is none, the old one
 abbrev pub value_or : {X : Type 0} → X → Result X Refusal → X
 value_or old (Ok x) = x
 value_or old (Err refusal) = old
 
--- the room with these bytes at its start, where they fit
+-- the room with these bytes at its start, if they fit
 abbrev pub overlaid : List ℕ → List ℕ → List ℕ
 overlaid room bytes = if nat_le (length bytes) (length room) then bytes ++ drop (length bytes) room else room
 

@@ -1,4 +1,4 @@
-//! Hashes that are computed ahead of proposals.
+//! Hashes computed ahead of proposals.
 ghost use Rattle.std.specs.Prelude.{◌≡◌};
 
 use arrayvec::ArrayVec;
@@ -13,10 +13,10 @@ pub struct PageName {
     pub ppn: u32,
 }
 
-/// How many pages are handed to the core together.
+/// How many pages are passed to the core together.
 const WINDOW: usize = 64;
 
-/// Notes the hashes of these pages. A guest past 255 is none of a machine's.
+/// Notes the hashes of these pages. It skips guests past 255, which no machine has.
 pub(crate) fn note_hashes(core: &mut Core<Sha256Hash>, pages: &[PageName])
     ensures { core.new ≡ core.old }
 {

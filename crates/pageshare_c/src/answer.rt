@@ -1,4 +1,4 @@
-//! What C is told.
+//! What C gets in answer.
 ghost use Rattle.std.specs.Prelude.{◌≡◌, Ok, Err};
 ghost use Rattle.pageshare_c.specs.Codes.{code_of, count_of, status_of as status_number};
 ghost use Rattle.pageshare_c.specs.Told.{told, numbers};
@@ -9,12 +9,12 @@ use page_model::{Report, Verdict};
 #[repr(C)]
 #[derive(Clone, Copy)]
 pub struct Answer {
-    /// 0 where the request was served, and else why it was not.
+    /// 0 if the request was served, and else why it was not.
     pub status: u32,
-    /// The verdict's number, 1 to 18, and 0 where the request was not served.
+    /// The verdict's number, 1 to 18, or 0 if the request was not served.
     pub verdict: u32,
-    /// At a join how many pages share the frame, at a load how many bytes were loaded, at a release 1 where the frame is
-    /// free now, and else 0.
+    /// For a join how many pages share the frame, for a load how many bytes were loaded, for a release 1 if the frame
+    /// is free now, and else 0.
     pub count: u32,
 }
 
@@ -30,7 +30,7 @@ pub struct Totals {
     pub hints: u32,
 }
 
-/// Why a call was refused, in the order in which the causes are looked at.
+/// Why a call was refused, in the order in which the causes are checked.
 #[derive(Clone, Copy)]
 pub enum Refusal {
     /// The handle holds no machine.
@@ -41,7 +41,7 @@ pub enum Refusal {
     Full,
     /// No byte, or more than 64.
     Length,
-    /// The last byte would stand past the page's end.
+    /// The last byte would be past the page's end.
     Crosses,
     /// There is no such page.
     NoPage,
@@ -49,7 +49,7 @@ pub enum Refusal {
     Unmapped,
 }
 
-/// The number of a refusal.
+/// Returns the number of a refusal.
 pub(crate) fn status_of(refusal: Refusal) -> u32
     ensures { result ≡ status_number refusal }
 {
@@ -100,7 +100,7 @@ fn count_in(verdict: &Verdict) -> u32
     }
 }
 
-/// What C is told of a request that was not served.
+/// Answers a request that was not served.
 pub(crate) fn refuse(refusal: Refusal) -> Answer
     ensures { result ≡ told (Err refusal) }
 {
@@ -111,7 +111,7 @@ pub(crate) fn refuse(refusal: Refusal) -> Answer
     }
 }
 
-/// What C is told of a verdict.
+/// Answers a request that was served, with its verdict.
 pub(crate) fn answer_of(verdict: &Verdict) -> Answer
     ensures { result ≡ told (Ok verdict.now) }
 {
@@ -122,7 +122,7 @@ pub(crate) fn answer_of(verdict: &Verdict) -> Answer
     }
 }
 
-/// The numbers of a report.
+/// Returns the numbers of a report.
 pub(crate) fn totals_of(report: &Report) -> Totals
     ensures { result ≡ numbers report.now }
 {

@@ -1,4 +1,4 @@
-//! A page of the machine of a handle: its frame and its bytes.
+//! A page of the machine behind a handle: its frame and its bytes.
 ghost use Rattle.std.specs.Prelude.{◌≡◌, ◌<◌, Some, IsSome, IfOk, IfErr, IsTrue, ◌↔◌};
 ghost use Rattle.page_model.specs.Pages.{page_at};
 ghost use Rattle.page_model.specs.Stored.{text_at};
@@ -20,7 +20,7 @@ fn has_page(core: &Core<Sha256Hash>, guest: u32, ppn: u32) -> bool
     guest < u32::from(core.guests()) && ppn < core.pages(guest as u8)
 }
 
-/// The number of a page's frame.
+/// Returns the number of a page's frame.
 #[tactic(auto, using(crate::proofs::Finds::found_absent, crate::proofs::Finds::found_unmapped, crate::proofs::Finds::found_mapped))]
 pub(crate) fn find_frame(core: &Core<Sha256Hash>, guest: u32, ppn: u32) -> Result<u32, Refusal>
     ensures found { result ≡ found_in core.now guest ppn }
@@ -35,7 +35,7 @@ pub(crate) fn find_frame(core: &Core<Sha256Hash>, guest: u32, ppn: u32) -> Resul
     }
 }
 
-/// Copies a page to the room, and tells whether there is one.
+/// Copies a page to the room. The result is whether there is such a page.
 #[tactic(auto, using(crate::proofs::Finds::text_absent))]
 pub(crate) fn copy_page(core: &Core<Sha256Hash>, guest: u32, ppn: u32, room: &mut Page) -> bool
     ensures page { IsTrue result ↔ IsSome (page_at (state_of core.now).guests guest ppn) }
@@ -51,7 +51,7 @@ pub(crate) fn copy_page(core: &Core<Sha256Hash>, guest: u32, ppn: u32, room: &mu
     true
 }
 
-/// Tells where a page's bytes stand. Where it can't, the room stays as it is.
+/// Puts the address of a page's bytes into `at`, and returns the number of its frame. On a refusal `at` stays as it is.
 pub(crate) fn put_address(
     core: &Core<Sha256Hash>,
     guest: u32,

@@ -1,11 +1,11 @@
 //! Page sharing for C: each function that a program in C, C++ or Rust calls.
 //!
-//! C makes room for a [`Machine`], a handle that holds no machine while its bytes are 0, and gives its address to each call.
-//! A call asks nothing of its arguments but that its references are valid: what is wrong with them is told by a status, and
-//! then nothing has changed. A status above 0 is the first cause that holds, in the order of the numbers; a handle that holds
-//! a machine already is the exception, which [`pageshare_make`] looks at first.
+//! C makes room for a [`Machine`], a handle that holds no machine while its bytes are 0, and passes its address to each
+//! call. No call has a condition on its arguments except that its references are valid: a wrong argument is answered
+//! by a status above 0, and then nothing has changed. A status above 0 is the first cause that holds, in the order of the
+//! numbers; only [`pageshare_make`] first checks whether the handle holds a machine already.
 //!
-//! `include/pageshare.h` declares the same functions in C, and says what its callers owe.
+//! `include/pageshare.h` declares the same functions in C, and says what the caller owes.
 #![tactic(auto)]
 
 ghost use Rattle.std.specs.Prelude.{◌≡◌, ◌≢◌, length, None, Some, Ok};
@@ -41,11 +41,12 @@ use serve::{load_request, serve, serve_count, serve_load, store_request};
 pub use slot::Slot;
 use std::alloc::Global;
 
-/// Makes a machine of `frames` frames, in which guest i has `pages[i]` pages and the salt `salts[i]`.
+/// Makes a machine with `frames` frames. Guest i has `pages[i]` pages and the salt `salts[i]`.
 ///
-/// The status is 0 where it is made, 5 where the handle holds a machine already, and else 1 (0 frames, or more than 1,048,576),
-/// 2 (no guest, more than 64, or not as many salts as guests), 3 (a guest with no page, or more than 1,048,576 pages in total)
-/// or 4 (the memory was refused). All memory of the machine is taken here: no other call asks for any.
+/// The status is 0 if it is made, 5 if the handle holds a machine already, and else 1 (0 frames, or more than
+/// 1,048,576), 2 (no guest, more than 64, or not as many salts as guests), 3 (a guest with no page, or more than
+/// 1,048,576 pages in total) or 4 (memory was refused). This takes all memory that the machine needs; no other call
+/// asks for any.
 #[unsafe(no_mangle)]
 pub extern "C" fn pageshare_make(
     alloc: Global,
@@ -61,7 +62,7 @@ pub extern "C" fn pageshare_make(
     make(alloc, machine, frames, pages, salts)
 }
 
-/// Frees the machine. The status is 6 where the handle holds none.
+/// Frees the machine. The status is 6 if the handle holds none.
 #[unsafe(no_mangle)]
 pub extern "C" fn pageshare_free(alloc: Global, machine: &mut Machine) -> u32
     ensures none { machine.new.slot.core ≡ None }
@@ -105,7 +106,8 @@ pub extern "C" fn pageshare_store(
     serve(alloc, machine, guest, &store_request(ppn, at, bytes))
 }
 
-/// Loads as many bytes of a page as the room holds, 1 to 64, from place `at` on. The room stays as it is where none are loaded.
+/// Loads 1 to 64 bytes of a page, as many as the room holds, from place `at` on. The room stays as it is unless
+/// the verdict is `Bytes`.
 #[unsafe(no_mangle)]
 pub extern "C" fn pageshare_load(
     alloc: Global,
@@ -124,7 +126,7 @@ pub extern "C" fn pageshare_load(
     serve_load(alloc, machine, guest, &asked, room)
 }
 
-/// Releases a page: it has no frame from then on, and reads as zeros.
+/// Releases a page: it has no frame then, and reads as zeros.
 #[unsafe(no_mangle)]
 pub extern "C" fn pageshare_release(
     alloc: Global,
@@ -139,7 +141,8 @@ pub extern "C" fn pageshare_release(
     serve(alloc, machine, guest, &Ok(Request::Release(ppn)))
 }
 
-/// Tells what the machine counts, as a request of the guest: it is among the entries itself.
+/// Gets the machine's totals, this request of the guest among the entries. `totals` stays as it is unless the verdict is
+/// `Totals`.
 #[unsafe(no_mangle)]
 pub extern "C" fn pageshare_count(
     alloc: Global,
@@ -155,8 +158,8 @@ pub extern "C" fn pageshare_count(
     serve_count(alloc, machine, guest, &Ok(Request::Count), totals)
 }
 
-/// Begins the count of requests anew, so that a machine that has counted 4,294,967,295 of them serves again. All else stays.
-/// The status is 6 where the handle holds no machine.
+/// Begins the count of requests anew, so that a machine that has counted 4,294,967,295 of them serves again. All else
+/// stays. The status is 6 if the handle holds no machine.
 #[unsafe(no_mangle)]
 pub extern "C" fn pageshare_restart_count(alloc: Global, machine: &mut Machine) -> u32
     ensures count { machine.new.slot.core ≡ option_map restarted machine.old.slot.core }
@@ -172,9 +175,9 @@ pub extern "C" fn pageshare_restart_count(alloc: Global, machine: &mut Machine) 
     }
 }
 
-/// Computes the hashes of these pages ahead of their proposals, four at a time, as far as they are private and their hashes
-/// aren't known. It is no request, and changes no answer; pages that there aren't are passed over. The status is 6 where the
-/// handle holds no machine.
+/// Computes the hashes of these pages ahead of their proposals, four at a time. It skips pages that don't exist, aren't
+/// private, or whose hash is known. It is no request and changes no answer. The status is 6 if the handle holds no
+/// machine.
 #[unsafe(no_mangle)]
 pub extern "C" fn pageshare_hash(alloc: Global, machine: &mut Machine, pages: &[PageName]) -> u32
     ensures same { machine.new.slot.core ≡ machine.old.slot.core }
@@ -190,7 +193,7 @@ pub extern "C" fn pageshare_hash(alloc: Global, machine: &mut Machine, pages: &[
     }
 }
 
-/// Tells what the machine counts, and is no request. The status is 6 where the handle holds no machine.
+/// Gets the machine's totals, and is no request. The status is 6 if the handle holds no machine.
 #[unsafe(no_mangle)]
 pub extern "C" fn pageshare_report(alloc: Global, machine: &mut Machine, totals: &mut Totals) -> u32
     ensures same { machine.new.slot.core ≡ machine.old.slot.core }
@@ -207,7 +210,8 @@ pub extern "C" fn pageshare_report(alloc: Global, machine: &mut Machine, totals:
     }
 }
 
-/// Copies a page to the room. The status is 6 where the handle holds no machine, and 11 where there is no such page.
+/// Copies a page to the room; an unmapped page reads as zeros. The status is 6 if the handle holds no machine, and 11 if
+/// there is no such page.
 #[unsafe(no_mangle)]
 pub extern "C" fn pageshare_read(
     alloc: Global,
@@ -230,8 +234,8 @@ pub extern "C" fn pageshare_read(
     }
 }
 
-/// Tells the number of a page's frame. The status is 6 where the handle holds no machine, 11 where there is no such page, and
-/// 12 where it is unmapped.
+/// Gets the number of a page's frame. The status is 6 if the handle holds no machine, 11 if there is no such page, and
+/// 12 if it is unmapped.
 #[unsafe(no_mangle)]
 pub extern "C" fn pageshare_frame(
     alloc: Global,
@@ -261,11 +265,11 @@ pub extern "C" fn pageshare_frame(
     }
 }
 
-/// Tells where a page's 4,096 bytes stand, to be read until the next call with this handle. The status is 6 where the handle
-/// holds no machine, 11 where there is no such page, and 12 where it is unmapped.
+/// Gets the address of a page's 4,096 bytes, which may be read, never written, and only until the next call with this
+/// handle. The status is 6 if the handle holds no machine, 11 if there is no such page, and 12 if it is unmapped.
 ///
-/// Where the status is above 0, `at` is as it was. No contract says what stands at the address: [`pageshare_read`] copies the
-/// bytes.
+/// If the status is above 0, `at` stays as it is. No contract says what is at the address; [`pageshare_read`] copies
+/// the bytes.
 #[unsafe(no_mangle)]
 pub extern "C" fn pageshare_page(
     alloc: Global,

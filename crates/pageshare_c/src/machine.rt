@@ -7,7 +7,7 @@ use merge_core::Core;
 use page_digest::Sha256Hash;
 use std::alloc::Global;
 
-/// A handle: room for one machine, which holds none while all its bytes are 0.
+/// A handle: room for one machine. It holds none while all its bytes are 0.
 #[repr(C)]
 pub struct Machine {
     pub slot: Slot,
@@ -46,11 +46,11 @@ impl Machine {
     }
 }
 
-/// Refuses a type that may not go to another thread.
+/// Rejects a type that may not go to another thread.
 #[allow(dead_code)]
 fn goes_to_threads<T: Send>() {}
 
-/// A handle may.
+/// Checks that a handle may.
 #[allow(dead_code)]
 fn handle_goes_to_threads() {
     goes_to_threads::<Machine>();

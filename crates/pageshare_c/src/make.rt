@@ -10,7 +10,7 @@ use merge_core::{Core, CoreFault};
 use page_digest::Sha256Hash;
 use std::alloc::Global;
 
-/// Makes a machine, and tells the status.
+/// Makes a machine, and returns the status.
 pub(crate) fn make(
     alloc: Global,
     machine: &mut Machine,

@@ -1,11 +1,12 @@
-//! A box taken apart.
+//! A box, taken apart.
 ghost use Rattle.std.specs.Prelude.{◌≡◌};
 ghost use Rattle.std_alloc.specs.Box.Ownership.{box_owns};
 
 use std::alloc::Allocator;
 use std::marker::Model;
 
-/// A box as the address of its block and the handle that frees it. It owns what the box owned, the value at the address.
+/// A box as the address of its block and the handle that frees it. It owns what the box owned: the value at the
+/// address.
 ///
 /// A pointer of a known type can be cast to one of no type and back, which a box cannot.
 pub(crate) struct Parcel<T, A: Allocator> {

@@ -1,4 +1,4 @@
-//! Requests to the machine of a handle.
+//! Requests to the machine behind a handle.
 ghost use Rattle.std.specs.Prelude.{◌≡◌, ◌<◌, length, Ok, Err, IfOk, MatchResult};
 ghost use Rattle.merge_core.specs.Shown.{state_of};
 ghost use Rattle.pageshare_c.specs.Access.{store_of, load_of};
@@ -16,7 +16,7 @@ use std::alloc::Global;
 /// How many requests a machine counts.
 const MOST_REQUESTS: u32 = 4_294_967_295;
 
-/// A store's request.
+/// Makes a store's request.
 #[tactic(auto, using(crate::proofs::Accesses::access_is))]
 pub(crate) fn store_request(ppn: u32, at: u32, bytes: &[u8]) -> Result<Request, RequestFault>
     ensures { result ≡ store_of ppn at bytes.now }
@@ -24,7 +24,7 @@ pub(crate) fn store_request(ppn: u32, at: u32, bytes: &[u8]) -> Result<Request, 
     Request::store(ppn, at, bytes)
 }
 
-/// A load's request. A length above 64 is refused whatever it is.
+/// Makes a load's request. A length above 64 is refused, however large it is.
 #[tactic(auto, using(crate::proofs::Accesses::access_is, crate::proofs::Accesses::access_long))]
 pub(crate) fn load_request(ppn: u32, at: u32, len: usize) -> Result<Request, RequestFault>
     ensures { result ≡ load_of ppn at len }
@@ -35,7 +35,7 @@ pub(crate) fn load_request(ppn: u32, at: u32, len: usize) -> Result<Request, Req
     Request::load(ppn, at, len as u32)
 }
 
-/// The request, where the machine accepts it.
+/// Returns the request if the machine accepts it.
 fn accept<'a>(
     core: &Core<Sha256Hash>,
     guest: u32,
@@ -113,7 +113,7 @@ fn answer_count(
     }
 }
 
-/// Serves a request of a guest, of whose verdict C is told no more than the answer.
+/// Serves a request of a guest whose verdict has nothing for C beyond the answer.
 pub(crate) fn serve(
     alloc: Global,
     machine: &mut Machine,
@@ -134,7 +134,7 @@ pub(crate) fn serve(
     }
 }
 
-/// The same for a load.
+/// Serves a load, and puts the bytes into the room.
 pub(crate) fn serve_load(
     alloc: Global,
     machine: &mut Machine,
@@ -157,7 +157,7 @@ pub(crate) fn serve_load(
     }
 }
 
-/// The same for a count.
+/// Serves a count, and puts the numbers into the totals.
 pub(crate) fn serve_count(
     alloc: Global,
     machine: &mut Machine,
@@ -189,7 +189,7 @@ fn put_loaded(room: &mut [u8], verdict: &Verdict)
     }
 }
 
-/// Puts bytes at the start of the room, where they fit.
+/// Puts bytes at the start of the room, if they fit.
 fn put_bytes(room: &mut [u8], bytes: &[u8])
     ensures { room.new ≡ overlaid room.old bytes.now }
 {

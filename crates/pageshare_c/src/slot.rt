@@ -1,4 +1,4 @@
-//! A core behind an address that says nothing of its type.
+//! A core behind an address that says nothing about its type.
 ghost use Rattle.std.specs.Prelude.{◌≡◌, Option, Some, None, IsSome};
 ghost use Rattle.std.specs.Coded.{coded_option};
 ghost use Rattle.merge_core.specs.Shown.{Shown, shown_code};
@@ -9,7 +9,7 @@ use page_digest::Sha256Hash;
 use std::alloc::Global;
 use std::marker::Model;
 
-/// Room for the address of a core in a block of the heap, which the slot owns where it holds one.
+/// Room for the address of a core in a block of the heap, which the slot owns if it holds one.
 ///
 /// C sees a pointer, and never follows it.
 #[repr(C)]

@@ -1,10 +1,11 @@
-//! What is told of a fault, and the status that it gives.
+//! How a fault is reported, and the status that it leads to.
 use crate::script_forms::script_form;
 use share_text::{TextFault, ThreadedFault};
 use std::io;
 use std::process::ExitCode;
 
-/// How the work on a journal or a script ended, and where a read or a write failed, what of and the system's error.
+/// How the work on a journal or a script ended; if a read or a write failed, also what it failed on and the system's
+/// error.
 #[derive(Drop)]
 pub struct Ending<'a> {
     pub is_of_script: bool,
@@ -12,7 +13,7 @@ pub struct Ending<'a> {
     pub failure: Option<(&'a str, io::Error)>,
 }
 
-/// The line on standard error of a fault of which the output can't tell; `None` where it does.
+/// Returns the line on standard error for a fault that the output can't report; `None` if it does.
 fn line_of(fault: &ThreadedFault) -> Option<&'static str> {
     match fault {
         ThreadedFault::NoThread => None,
@@ -26,8 +27,8 @@ fn line_of(fault: &ThreadedFault) -> Option<&'static str> {
     }
 }
 
-/// The status for how the work ended. A fault of which the output can't tell goes to standard error, and one
-/// line more on it explains any fault to a person, who is there where standard error is a terminal.
+/// Returns the status for how the work ended. A fault that the output can't report goes to standard error, and if
+/// standard error is a terminal, one more line explains any fault to the person who is there.
 pub fn tell(rt: &impl Eprint, is_terminal: bool, ending: &Ending<'_>) -> io::Result<ExitCode> {
     let fault = match &ending.done {
         Ok(()) => return Ok(ExitCode::SUCCESS),
@@ -42,7 +43,7 @@ pub fn tell(rt: &impl Eprint, is_terminal: bool, ending: &Ending<'_>) -> io::Res
     Ok(ExitCode::FAILURE)
 }
 
-/// Why it is a fault: in the system's own words where there are some, and else by what was expected.
+/// Explains the fault: in the system's own words if there are any, and else by what was expected.
 fn explain(rt: &impl Eprint, fault: &ThreadedFault, ending: &Ending<'_>) -> io::Result<()> {
     match (&ending.failure, fault) {
         (Some((name, error)), _) => eprintln!(rt; "{name}: {error}"),
@@ -51,7 +52,7 @@ fn explain(rt: &impl Eprint, fault: &ThreadedFault, ending: &Ending<'_>) -> io::
     }
 }
 
-/// What was expected in a script.
+/// Prints what was expected in a script.
 fn explain_script(rt: &impl Eprint, fault: &TextFault) -> io::Result<()> {
     match (fault, script_form(fault)) {
         (TextFault::Line(n, _), Some(form)) => eprintln!(rt; "line {n}: expected {form}"),

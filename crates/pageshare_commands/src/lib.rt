@@ -1,8 +1,8 @@
-//! The commands of the program `pageshare`: it replays journals of page requests, runs scripts of them, and tells what sharing
-//! would reclaim of memory images.
+//! The commands of the program `pageshare`: it replays journals of page requests, runs scripts of them, and shows what
+//! sharing would reclaim of memory images.
 //!
-//! A command reads a file or standard input, and writes standard output. Its status is 0 where the work was done, 1
-//! where input, output, memory or a thread was at fault, and 2 for a bad command line.
+//! A command reads a file or standard input, and writes to standard output. Its status is 0 if the work was done, 1 if
+//! input, output, memory or a thread was at fault, and 2 for a bad command line.
 #![tactic(auto)]
 
 mod faults;
@@ -24,10 +24,11 @@ use std::thread::Threads;
 use std::time::Clock;
 use texts::{do_text, tell_memory};
 
-/// Does what the words of a command line ask for, and gives the program's status. The first word is the program's name.
+/// Does what the words of a command line ask for, and returns the program's status. The first word is the program's
+/// name.
 ///
-/// `input` and `output` are standard input and standard output; `is_terminal` says that somebody sees standard error,
-/// who is told there what was expected where a text was at fault.
+/// `input` and `output` are standard input and standard output. `is_terminal` means that somebody reads standard error,
+/// who is shown what was expected if a text was at fault.
 pub fn do_command<
     T: Threads + Wait + Sync + Files<File = File> + Print + Eprint + Clock,
     R: Read + Drop,
@@ -48,7 +49,7 @@ pub fn do_command<
     }
 }
 
-/// Prints why the words are no command line, or the help or version that they ask for, and gives the status.
+/// Prints why the words are not a command line, or the help or version that they ask for, and returns the status.
 fn explain(rt: &(impl Print + Eprint), error: &Error) -> io::Result<ExitCode> {
     error.print(rt)?;
     Ok(ExitCode::from(if error.use_stderr() { 2 } else { 0 }))

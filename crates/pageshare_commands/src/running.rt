@@ -6,15 +6,15 @@ use share_text::Viewer;
 use std::sync::atomic::{AtomicBool, AtomicU32, AtomicU64, Ordering};
 use std::time::Clock;
 
-/// How far a run is, and the line that tells it.
+/// How far a run is, and the line that shows it.
 ///
-/// As a gate it holds nobody up: it hears how much is to come. As a viewer it draws the line, in a thread of its own.
+/// As a gate it delays nobody: it only hears how much is to come. As a viewer it draws the line, in its own thread.
 #[derive(Drop)]
 pub struct Running<'a, R> {
     line: DrawnLine<'a, R>,
-    /// How many requests the scripts have, their closes among them; 0 before the run.
+    /// How many requests the scripts have, closes included; 0 before the run.
     requests: AtomicU64,
-    /// The milliseconds from the line's making to the run.
+    /// The milliseconds from when the line was made to the run.
     start: AtomicU64,
     entries: AtomicU32,
     mapped: AtomicU32,
@@ -24,7 +24,7 @@ pub struct Running<'a, R> {
 }
 
 impl<'a, R: Eprint + Clock> Running<'a, R> {
-    /// Nothing runs yet.
+    /// Starts with nothing running.
     pub fn new(line: DrawnLine<'a, R>) -> Running<'a, R> {
         Running {
             line,
@@ -38,7 +38,7 @@ impl<'a, R: Eprint + Clock> Running<'a, R> {
         }
     }
 
-    /// Draws the line for the last time, and ends it, unless that was done or nothing was run.
+    /// Draws the line for the last time and ends it, unless it has ended or nothing was run.
     pub fn end(&self) {
         let has_run = self.requests.load(Ordering::SeqCst) > 0;
         if has_run && !self.has_ended.swap(true, Ordering::SeqCst) {

@@ -1,7 +1,8 @@
-//! What was expected where a script is at fault, in words for a person. `TextFault` shows what a journal's lines are to be.
+//! What was expected when a script is at fault, in words for a person. `TextFault` shows what a journal's lines must
+//! be.
 use share_text::{Cause, TextFault};
 
-/// The form of line `n` of a script.
+/// Returns the form of line `n` of a script.
 fn line_form(n: u32) -> &'static str {
     match n {
         1 => "\"pageshare script 1\" or \"pageshare script 2\"",
@@ -18,7 +19,7 @@ fn line_form(n: u32) -> &'static str {
     }
 }
 
-/// What was expected in place of a fault, where that is another thing in a script than in a journal.
+/// Returns what was expected at a fault, if a script differs from a journal there.
 pub fn script_form(fault: &TextFault) -> Option<&'static str> {
     match fault {
         TextFault::Line(n, Cause::Header) => Some(line_form(*n)),

@@ -19,7 +19,7 @@ use std::sync::Wait;
 use std::thread::Threads;
 use std::time::Clock;
 
-/// Does the work on the text in the file, or else on that of the input, and gives the status.
+/// Does the work on the text in the file, or if no file is named on that of the input, and returns the status.
 pub fn do_text<T: Threads + Wait + Sync + Files + Eprint + Clock, R: Read + Drop, W: Write + Drop>(
     rt: &T,
     alloc: Global,
@@ -52,7 +52,7 @@ pub fn do_text<T: Threads + Wait + Sync + Files + Eprint + Clock, R: Read + Drop
     tell(rt, is_terminal, &ending)
 }
 
-/// The status where memory was refused before any work.
+/// Returns the status if memory was refused before any work.
 pub fn tell_memory(rt: &impl Eprint, is_terminal: bool) -> io::Result<ExitCode> {
     let ending = Ending {
         is_of_script: false,
@@ -62,7 +62,7 @@ pub fn tell_memory(rt: &impl Eprint, is_terminal: bool) -> io::Result<ExitCode> 
     tell(rt, is_terminal, &ending)
 }
 
-/// Does the work on a reader's text; `name` tells the reader where it fails.
+/// Does the work on a reader's text; `name` names the reader if it fails.
 fn done_of<'a, T: Threads + Wait + Sync + Eprint + Clock, R: Read + Drop, W: Write + Drop>(
     rt: &T,
     alloc: Global,
@@ -110,7 +110,7 @@ fn form_of(is_journal: bool) -> Output {
     }
 }
 
-/// Runs a script, and draws the line meanwhile, if there is one.
+/// Runs a script, and draws the line meanwhile if there is one.
 fn run<T: Threads + Wait + Sync + Eprint + Clock, R: Source, W: Sink>(
     rt: &T,
     alloc: Global,

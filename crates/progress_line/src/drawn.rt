@@ -1,14 +1,14 @@
-//! A line on standard error that is drawn anew.
+//! A line on standard error that is redrawn.
 use std::fmt::Display;
 use std::io;
 use std::sync::atomic::{AtomicBool, AtomicU64, Ordering};
 use std::time::{Clock, Instant};
 
-/// How many milliseconds lie between two drawings at least.
+/// The least number of milliseconds between two drawings.
 const PAUSE: u64 = 100;
 
-/// A line of standard error that several threads may draw anew, each over what stood there. It is drawn at most ten times
-/// a second, by whichever thread comes first.
+/// A line on standard error that several threads may redraw, each over what was there. It is drawn at most ten times a
+/// second, by whichever thread comes first.
 #[derive(Drop)]
 pub struct DrawnLine<'a, R> {
     rt: &'a R,
@@ -20,7 +20,7 @@ pub struct DrawnLine<'a, R> {
 }
 
 impl<'a, R: Eprint + Clock> DrawnLine<'a, R> {
-    /// A line that isn't drawn yet. An error is that of the clock.
+    /// Makes a line that isn't drawn yet. An error is that of the clock.
     pub fn new(rt: &'a R) -> io::Result<DrawnLine<'a, R>> {
         Ok(DrawnLine {
             rt,
@@ -30,7 +30,7 @@ impl<'a, R: Eprint + Clock> DrawnLine<'a, R> {
         })
     }
 
-    /// The milliseconds since the start.
+    /// Returns the milliseconds since the start.
     pub fn elapsed(&self) -> u64 {
         match self.start.elapsed(self.rt) {
             Ok(since) => u64::try_from(since.as_millis()).unwrap_or(u64::MAX),
@@ -38,7 +38,7 @@ impl<'a, R: Eprint + Clock> DrawnLine<'a, R> {
         }
     }
 
-    /// Draws the line if its time has come and no other thread draws it: what `text` shows of the milliseconds since the
+    /// Draws the line if it is due and no other thread is drawing it: what `text` shows for the milliseconds since the
     /// start.
     pub fn draw_if_due<T: Told>(&self, text: &T) {
         let now = self.elapsed();
@@ -58,14 +58,14 @@ impl<'a, R: Eprint + Clock> DrawnLine<'a, R> {
         let _ = eprintln!(self.rt);
     }
 
-    /// What can't be written is left out: the work goes on without it.
+    /// Ignores a failed write: the work goes on without it.
     fn draw<T: Told>(&self, text: &T, elapsed: u64) {
         let shown = text.told(elapsed);
         let _ = eprint!(self.rt; "\r{shown}\x1b[K");
     }
 }
 
-/// A line, where one is to be drawn. Without a clock there is none.
+/// Makes a line if one should be drawn. Without a clock there is none.
 pub fn line_where<R: Eprint + Clock>(rt: &R, is_drawn: bool) -> Option<DrawnLine<'_, R>> {
     if is_drawn {
         DrawnLine::new(rt).ok()
@@ -74,10 +74,10 @@ pub fn line_where<R: Eprint + Clock>(rt: &R, is_drawn: bool) -> Option<DrawnLine
     }
 }
 
-/// What a line tells.
+/// What a line shows.
 pub trait Told {
     type Shown: Display + Drop;
 
-    /// What it tells when so many milliseconds have passed.
+    /// Returns what it shows after this many milliseconds.
     fn told(&self, elapsed: u64) -> Self::Shown;
 }

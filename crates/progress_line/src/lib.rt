@@ -1,4 +1,4 @@
-//! A line on standard error that tells how far the work is.
+//! A line on standard error that shows how far the work is.
 #![tactic(auto)]
 
 mod drawn;

@@ -1,10 +1,10 @@
-//! How much of some images was read.
+//! How much of the images was read.
 use std::fmt::{self, Display, Formatter};
 
 /// Pages of 4,096 bytes in a MiB.
 const PAGES: u64 = 256;
 
-/// So many pages of all were read in so many milliseconds.
+/// How many of all pages were read in how many milliseconds.
 #[derive(Clone, Copy, Debug, PartialEq, Eq, Drop)]
 pub struct ReadSoFar {
     pub done: u64,
@@ -13,7 +13,7 @@ pub struct ReadSoFar {
 }
 
 impl ReadSoFar {
-    /// The hundredths that were read. Nothing is whole.
+    /// Returns how many hundredths of the pages were read; 100 if there are no pages.
     fn per_cent(&self) -> u64 {
         match self.done.saturating_mul(100).checked_div(self.total) {
             Some(part) => part,
@@ -21,7 +21,7 @@ impl ReadSoFar {
         }
     }
 
-    /// The MiB read in a second.
+    /// Returns the MiB read per second.
     fn rate(&self) -> u64 {
         let thousandfold = self.done.saturating_mul(1000);
         (thousandfold / PAGES)
@@ -29,7 +29,7 @@ impl ReadSoFar {
             .unwrap_or(0)
     }
 
-    /// The seconds that are left at this rate, rounded up; `None` where nothing was read.
+    /// Returns the seconds left at this rate, rounded up; `None` if nothing was read.
     fn seconds_left(&self) -> Option<u64> {
         let left = self.total.saturating_sub(self.done);
         let time = left.saturating_mul(self.elapsed).checked_div(self.done)?;

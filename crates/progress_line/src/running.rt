@@ -1,7 +1,7 @@
 //! How far a run is.
 use std::fmt::{self, Display, Formatter};
 
-/// What a run has come to in so many milliseconds.
+/// How far a run has come in how many milliseconds.
 #[derive(Clone, Copy, Debug, PartialEq, Eq, Drop)]
 pub struct RunSoFar {
     pub requests: u64,
@@ -13,13 +13,13 @@ pub struct RunSoFar {
 }
 
 impl RunSoFar {
-    /// The hundredths of the requests that were served.
+    /// Returns how many hundredths of the requests were served.
     fn per_cent(&self) -> u64 {
         let part = u64::from(self.entries).saturating_mul(100);
         part.checked_div(self.requests).unwrap_or(100)
     }
 
-    /// The requests served in a second.
+    /// Returns the requests served per second.
     fn rate(&self) -> u64 {
         let thousandfold = u64::from(self.entries).saturating_mul(1000);
         thousandfold.checked_div(self.elapsed).unwrap_or(0)

@@ -5,7 +5,7 @@ ghost use Rattle.machine_frames.specs.FrameMap.{IsTaken, used};
 use machine_frames::Frames;
 use std::alloc::Allocator;
 
-/// Takes each free frame, and answers whether all are taken then.
+/// Takes each free frame, and returns whether all are taken then.
 pub fn take_all<A: Allocator>(frames: &mut Frames<A>) -> bool
     ensures taken { IsTrue result → used frames.new ≡ length frames.new }
     ensures total { length frames.new ≡ length frames.old }
@@ -18,7 +18,7 @@ pub fn take_all<A: Allocator>(frames: &mut Frames<A>) -> bool
     frames.take_zeroed().is_none()
 }
 
-/// Takes each free frame as a copy of frame 0, and answers whether all are taken then.
+/// Takes each free frame as a copy of frame 0, and returns whether all are taken then.
 pub fn copy_first<A: Allocator>(frames: &mut Frames<A>) -> bool
     requires { IsTaken frames.old 0 }
 {
@@ -30,7 +30,7 @@ pub fn copy_first<A: Allocator>(frames: &mut Frames<A>) -> bool
     frames.take_copy(0).is_none()
 }
 
-/// Writes the begin of each frame.
+/// Writes to the start of each frame.
 pub fn write_all<A: Allocator>(frames: &mut Frames<A>, bytes: &[u8; 64])
     requires { used frames.old ≡ length frames.old }
     ensures taken { used frames.new ≡ length frames.new }
@@ -41,7 +41,7 @@ pub fn write_all<A: Allocator>(frames: &mut Frames<A>, bytes: &[u8; 64])
     }
 }
 
-/// Gives each frame but frame 0 back.
+/// Gives back each frame but frame 0.
 pub fn give_back_all_but_first<A: Allocator>(frames: &mut Frames<A>)
     requires all { used frames.old ≡ length frames.old }
     requires some { 1 ≤ length frames.old }

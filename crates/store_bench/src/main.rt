@@ -1,5 +1,6 @@
-//! Times the stores of pages: the calls of `Frames`, those of `Table`, or the hashes of pages, as the first word says, `frames`,
-//! `table` or `hash`, over as many as the second says. With no number it only tries them, and with no word it tries each.
+//! Times the stores of pages: the calls of `Frames`, those of `Table`, or the hashes of pages. The first word says
+//! which, `frames`, `table` or `hash`, and the second over how many. With no number it only tries them, and with no
+//! word it tries each.
 #![tactic(auto)]
 
 mod frame_calls;

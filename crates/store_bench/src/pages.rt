@@ -8,14 +8,14 @@ use page_digest::{PageHash, Sha256Hash};
 use page_model::Page;
 use std::alloc::{AllocError, Global};
 
-/// Frames, and a list of salts and MPNs of these.
+/// Frames, and a list of pairs: a salt, and the MPN of one of the frames.
 #[derive(Drop)]
 pub struct Listed {
     pub frames: Frames,
     pub pairs: Vec<(u32, u32)>,
 }
 
-/// Two frames, listed so often in turn under two salts.
+/// Lists two frames in turn, `count` times in all, under three salts.
 pub fn list_pages(alloc: Global, count: u32) -> Option<Listed>
     ensures { IfSome result (λ listed. AreTaken listed.frames listed.pairs.items) }
 {
@@ -54,7 +54,7 @@ fn in_turn(_frames: &Frames, first: u32, second: u32, n: u32) -> u32
     if n % 2 == 0 { first } else { second }
 }
 
-/// The sum of so many hashes of a page, made one by one.
+/// Returns the sum of `count` hashes of a page, made one by one.
 pub fn one_by_one(page: &Page, count: u32) -> u64 {
     let mut sum = 0u64;
     for n in 0..count {
@@ -63,7 +63,7 @@ pub fn one_by_one(page: &Page, count: u32) -> u64 {
     sum
 }
 
-/// The same, made four at once, as far as whole fours go.
+/// Returns the same sum with four hashes made at once, as far as whole fours go.
 pub fn four_at_once(page: &Page, count: u32) -> u64 {
     let mut sum = 0u64;
     for _four in 0..count / 4 {

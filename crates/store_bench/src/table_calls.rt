@@ -5,7 +5,7 @@ use crate::keys::{hash, key};
 use share_table::Table;
 use std::alloc::Allocator;
 
-// The number after `n`, of so many, in an order that jumps.
+// Returns the number after `n`, of `count` numbers, in an order that jumps.
 fn jump(n: u32, count: u32) -> u32 {
     if count == 0 {
         return 0;
@@ -13,7 +13,7 @@ fn jump(n: u32, count: u32) -> u32 {
     ((u64::from(n) + 611_953) % u64::from(count)) as u32
 }
 
-/// Adds shared frames, and answers whether all were added.
+/// Adds shared frames, and returns whether all were added.
 pub fn add_all<A: Allocator>(table: &mut Table<A>, capacity: u32, count: u32) -> bool
     requires { table.old.capacity ≡ capacity }
     ensures { table.new.capacity ≡ capacity }
@@ -33,7 +33,7 @@ pub fn add_all<A: Allocator>(table: &mut Table<A>, capacity: u32, count: u32) ->
     all
 }
 
-/// Puts hints, and answers whether all were put.
+/// Puts hints, and returns whether all were put.
 pub fn put_all<A: Allocator>(table: &mut Table<A>, capacity: u32, count: u32) -> bool
     requires { table.old.capacity ≡ capacity }
     ensures { table.new.capacity ≡ capacity }
@@ -50,7 +50,7 @@ pub fn put_all<A: Allocator>(table: &mut Table<A>, capacity: u32, count: u32) ->
     all
 }
 
-/// Finds shared frames, and answers whether all are there.
+/// Finds shared frames, and returns whether all are there.
 pub fn find_all<A: Allocator>(table: &Table<A>, count: u32) -> bool {
     let mut all = true;
     let mut n = 0;
@@ -63,7 +63,7 @@ pub fn find_all<A: Allocator>(table: &Table<A>, count: u32) -> bool {
     all
 }
 
-/// Finds hints, and answers whether all are there.
+/// Finds hints, and returns whether all are there.
 pub fn find_hints<A: Allocator>(table: &Table<A>, count: u32) -> bool {
     let mut all = true;
     let mut n = 0;
@@ -76,7 +76,7 @@ pub fn find_hints<A: Allocator>(table: &Table<A>, count: u32) -> bool {
     all
 }
 
-/// One more page for each shared frame. Answers whether all had room.
+/// Counts one more page for each shared frame, and returns whether all had room.
 pub fn join_all<A: Allocator>(table: &mut Table<A>, count: u32) -> bool {
     let mut all = true;
     let mut n = 0;
@@ -92,7 +92,7 @@ pub fn join_all<A: Allocator>(table: &mut Table<A>, count: u32) -> bool {
     all
 }
 
-/// One page less for each shared frame. Answers whether all were there.
+/// Counts one page less for each shared frame, and returns whether all were there.
 pub fn leave_all<A: Allocator>(table: &mut Table<A>, count: u32) -> bool {
     let mut all = true;
     let mut n = 0;
@@ -108,7 +108,7 @@ pub fn leave_all<A: Allocator>(table: &mut Table<A>, count: u32) -> bool {
     all
 }
 
-/// Drops hints, and answers whether all were there.
+/// Drops hints, and returns whether all were there.
 pub fn drop_all<A: Allocator>(table: &mut Table<A>, count: u32) -> bool {
     let mut all = true;
     let mut n = 0;

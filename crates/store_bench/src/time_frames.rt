@@ -9,7 +9,7 @@ use std::time::Instant;
 // How many frames a try takes.
 const FEW: u32 = 8;
 
-/// Times them over as many frames as are asked for, or only tries them.
+/// Times them over as many frames as asked for, or only tries them.
 pub fn time_frames<R: Clock + Print>(rt: &R, alloc: Global, asked: Option<u32>) -> io::Result<()> {
     let has_passed = passes(rt, alloc, asked)?;
     println!(rt;

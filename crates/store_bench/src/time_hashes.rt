@@ -1,6 +1,6 @@
-//! The hashes of pages: one by one, four at once, and as listed frames by one worker, by two and by four.
+//! The hashes of pages: one by one, four at once, and as listed frames by one, two and four workers.
 //!
-//! The frames listed are two in turn, which stay in the processor's cache, so the times are those of the hash itself.
+//! Two frames are listed in turn, which stay in the processor's cache, so the times are those of the hash itself.
 ghost use Rattle.std.specs.Prelude.{◌<◌, ◌≤◌};
 
 use crate::pages::{Listed, four_at_once, list_pages, one_by_one};
@@ -15,10 +15,10 @@ use std::time::Instant;
 // How many pages a try hashes.
 const FEW: u32 = 8;
 
-// Of so many times the least is printed.
+// How many times are taken; the least of them is printed.
 const TURNS: u32 = 10;
 
-/// Times the hashes of as many pages as are asked for, in whole fours, or only tries them.
+/// Times the hashes of as many pages as asked for, in whole fours, or only tries them.
 pub fn time_hashes<R: Clock + Print + Threads + Wait + Sync>(
     rt: &R,
     alloc: Global,
@@ -50,7 +50,7 @@ pub fn time_hashes<R: Clock + Print + Threads + Wait + Sync>(
     )
 }
 
-// The lesser of two times, or why one was not had.
+// Returns the lesser of two times, or why one is missing.
 fn lesser(one: Result<u128, HashFault>, other: Result<u128, HashFault>) -> Result<u128, HashFault> {
     match (one, other) {
         (Ok(one), Ok(other)) => Ok(one.min(other)),
@@ -59,7 +59,7 @@ fn lesser(one: Result<u128, HashFault>, other: Result<u128, HashFault>) -> Resul
     }
 }
 
-// The time of one call, or why it was refused.
+// Returns the time of one call, or why it was refused.
 fn nanos_by<R: Clock + Threads + Wait + Sync>(
     rt: &R,
     alloc: Global,

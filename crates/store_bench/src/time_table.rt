@@ -12,7 +12,7 @@ const FEW: u32 = 8;
 // The most entries of a table.
 const MOST: u32 = 1_048_576;
 
-/// Times them over as many entries as are asked for, or only tries them.
+/// Times them over as many entries as asked for, or only tries them.
 pub fn time_table<R: Clock + Print>(rt: &R, alloc: Global, asked: Option<u32>) -> io::Result<()> {
     let has_passed = passes(rt, alloc, asked)?;
     println!(rt;
@@ -21,7 +21,7 @@ pub fn time_table<R: Clock + Print>(rt: &R, alloc: Global, asked: Option<u32>) -
     )
 }
 
-// Fills a table, searches it and empties it again, and answers whether each key was found.
+// Fills a table, searches it and empties it again, and returns whether each key was found.
 fn passes<R: Clock + Print>(rt: &R, alloc: Global, asked: Option<u32>) -> io::Result<bool> {
     let capacity = asked.unwrap_or(FEW);
     if capacity == 0 || capacity > MOST {

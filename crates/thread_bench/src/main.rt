@@ -1,5 +1,6 @@
-//! Times what passes between threads: a request and its verdict through a pair of rings, or whole runs, as the first word
-//! says, `rings` or `run`, over as many requests as the second says. With no number it tries a few, and with no word both.
+//! Times what passes between threads: a request and its verdict through a pair of rings, or whole runs. The first word
+//! says which, `rings` or `run`, and the second over how many requests. With no number it tries a few, and with no word
+//! both.
 #![tactic(auto)]
 
 mod time_rings;

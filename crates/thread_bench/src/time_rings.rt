@@ -28,7 +28,7 @@ fn answer(request: &Request) -> Verdict
     }
 }
 
-// Takes one request and answers it. False where there was none, or no slot for its verdict.
+// Takes one request and answers it. Returns false if there was none, or no slot for its verdict.
 fn serve_one(end: &mut MergerEnd) -> bool
     requires { length (end_given end.old) ≡ length (end_taken end.old) }
     ensures { length (end_given end.new) ≡ length (end_taken end.new) }
@@ -50,7 +50,7 @@ fn is_joined(verdict: Option<Verdict>, ppn: u32) -> bool {
     }
 }
 
-// How many round trips gave the verdict of their own request, all on one thread.
+// Returns how many round trips ended with the verdict of their own request, all on one thread.
 fn on_one_thread(port: &mut Port, end: &mut MergerEnd, rounds: u32) -> u32
     requires { length (end_given end.old) ≡ length (end_taken end.old) }
 {
@@ -76,7 +76,7 @@ fn wait_for_verdict(port: &mut Port) -> Option<Verdict> {
     None
 }
 
-// The guest's part between two threads: the next request goes once the verdict of the last has come.
+// Plays the guest's part between two threads: it sends the next request once the verdict of the last has come.
 fn ask(port: Port, rounds: u32) -> u32 {
     let mut port = port;
     let mut in_order = 0u32;
@@ -88,7 +88,7 @@ fn ask(port: Port, rounds: u32) -> u32 {
     in_order
 }
 
-// The merger's part between two threads.
+// Plays the merger's part between two threads.
 fn serve(end: &mut MergerEnd, rounds: u32)
     requires { length (end_given end.old) ≡ length (end_taken end.old) }
 {
@@ -105,7 +105,8 @@ fn serve(end: &mut MergerEnd, rounds: u32)
     }
 }
 
-/// Prints the times of as many round trips as are asked for; else makes a few, and prints how many came back in order.
+/// Makes as many round trips as asked for, and prints how many came back in order and their times. With no number it
+/// makes a few, and prints no times.
 pub fn time_rings<R: Clock + Threads + Wait + Print + Sync>(
     rt: &R,
     alloc: Global,

@@ -1,6 +1,6 @@
-//! Whole runs, one thread for each guest, beside the same scripts through a core on one thread.
+//! Whole runs, one thread for each guest, compared with the same scripts through a core on one thread.
 //!
-//! Scripts are made before the clock is started. Both times hold the making of the machine.
+//! Scripts are made before the clock starts. Both times include making the machine.
 ghost use Rattle.std.specs.Prelude.{◌≡◌, ◌+◌, ◌*◌, ◌≤◌, false, All, length, IfOk};
 ghost use Rattle.share_rings.specs.Closing.{has_close, is_close};
 ghost use Rattle.merge_core.specs.Shown.{state_of};
@@ -16,7 +16,7 @@ use std::sync::Wait;
 use std::thread::Threads;
 use std::time::Instant;
 
-// Pages of each guest, and so many frames for each.
+// How many pages each guest has, and how many frames there are for each guest.
 const PAGES: u32 = 64;
 
 const RING: u32 = 64;
@@ -25,13 +25,13 @@ const CHECKED: u32 = 100;
 
 const MOST: u32 = 100_000;
 
-// What each guest asks.
+// What each guest requests.
 #[derive(Clone, Copy)]
 enum Mix {
-    // Page after page is stored to, read and proposed, a request in 16 being a proposal, since a page's hash costs far more
-    // than all else. Every fourth page holds the same.
+    // Each page is stored to, read and proposed, page after page. One request in 16 is a proposal, since a page's hash
+    // costs far more than all else. Every fourth page holds the same.
     Proposals,
-    // Stores and loads in turn.
+    // Alternate stores and loads.
     Plain,
 }
 
@@ -44,7 +44,7 @@ impl Mix {
     }
 }
 
-// Request number n of each guest.
+// Returns request number n of each guest.
 fn request(mix: Mix, n: u32) -> Request
     ensures { is_close result ≡ false }
 {
@@ -123,7 +123,7 @@ struct Measure {
     nanoseconds: u128,
 }
 
-// A run in threads, or why there was none.
+// Measures a run in threads, or returns why there was none.
 fn in_threads<R: Clock + Threads + Wait + Sync>(
     rt: &R,
     alloc: Global,
@@ -151,7 +151,7 @@ fn in_threads<R: Clock + Threads + Wait + Sync>(
     }))
 }
 
-// The same request of each guest in turn.
+// Serves the same request of each guest in turn.
 fn turn(core: &mut Core<Sha256Hash>, guests: u8, request: &Request)
     requires guests { guests ≤ length (state_of core.old).guests }
     requires room { core.old.entries + guests ≤ 16777216 }
@@ -163,7 +163,7 @@ fn turn(core: &mut Core<Sha256Hash>, guests: u8, request: &Request)
     }
 }
 
-// The same requests through a core on one thread, or why there was none.
+// Measures the same requests through a core on one thread, or returns why there was none.
 fn on_one_thread<R: Clock>(
     rt: &R,
     alloc: Global,
@@ -197,13 +197,13 @@ fn on_one_thread<R: Clock>(
     }))
 }
 
-// How many verdicts came in a second.
+// Returns how many verdicts came per second.
 fn rate(measure: Measure) -> u128 {
     u128::from(measure.verdicts) * 1_000_000_000 / measure.nanoseconds.max(1)
 }
 
-// Prints the rates of a mix, or how many verdicts came where no number was asked for. Where a run was refused it prints why,
-// and tells so.
+// Prints the rates of a mix, or how many verdicts came if no number was asked for. If a run was refused it prints why,
+// and returns false.
 fn print_mix<R: Clock + Threads + Wait + Print + Sync>(
     rt: &R,
     alloc: Global,
@@ -243,7 +243,7 @@ fn print_mix<R: Clock + Threads + Wait + Print + Sync>(
     Ok(true)
 }
 
-// How many nanoseconds it takes to make the largest machine, or why there is none.
+// Returns how many nanoseconds it takes to make the largest machine, or why there is none.
 fn time_of_the_largest<R: Clock>(rt: &R, alloc: Global) -> io::Result<Result<u128, CoreFault>> {
     let start = Instant::now(rt)?;
     let made = Core::new(alloc, MAX_FRAMES, &[MAX_PAGES], &[0], Sha256Hash);
@@ -254,7 +254,7 @@ fn time_of_the_largest<R: Clock>(rt: &R, alloc: Global) -> io::Result<Result<u12
     }
 }
 
-// Prints how long it takes to make the largest machine, or that it is made where no number was asked for.
+// Prints how long it takes to make the largest machine, or that it is made if no number was asked for.
 fn print_largest<R: Clock + Print>(rt: &R, alloc: Global, asked: Option<u32>) -> io::Result<()> {
     match time_of_the_largest(rt, alloc)? {
         Err(fault) => println!(rt; "the largest machine: {fault}"),
@@ -268,9 +268,10 @@ fn print_largest<R: Clock + Print>(rt: &R, alloc: Global, asked: Option<u32>) ->
     }
 }
 
-/// Makes the largest machine, and prints how many nanoseconds that took. Then prints how many requests a second were served,
-/// so many of each guest being asked for, for 1, 2, 4, 8 and 64 guests over rings of 64 items: of a mix with a proposal in 16,
-/// and of stores and loads alone. Where no number is asked for it runs a few, and prints how many verdicts came.
+/// Makes the largest machine, and prints how many nanoseconds that took. Then prints how many requests were served per
+/// second, with the number asked for from each guest, for 1, 2, 4, 8 and 64 guests over rings of 64 items: of a mix
+/// with a proposal in 16, and of stores and loads alone. With no number it runs a few requests, and prints how many
+/// verdicts came.
 pub fn time_runs<R: Clock + Threads + Wait + Print + Sync>(
     rt: &R,
     alloc: Global,

@@ -1,4 +1,4 @@
-//! What was expected where a script is at fault.
+//! What was expected when a script is at fault.
 use pageshare_commands::script_form;
 use share_text::{Cause, TextFault};
 

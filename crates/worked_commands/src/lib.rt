@@ -1,6 +1,6 @@
-//! Worked faults of scripts: what is told of each to a person.
+//! Worked faults of scripts: what a person is shown about each.
 //!
-//! There is nothing here but tests.
+//! This crate has only tests.
 #![tactic(auto)]
 
 #[cfg(test)]

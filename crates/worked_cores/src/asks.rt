@@ -1,6 +1,6 @@
-//! Requests with the verdicts that are wanted, and what is seen of machines that serve them.
+//! Requests with their expected verdicts, and what is seen of machines that serve them.
 //!
-//! Machines are made, served and let go behind functions without clauses that answer plain data, so that a test is little to
+//! Machines are made, served and dropped in functions without clauses that return plain data. So a test has little to
 //! prove: it makes a list of lines and compares what was seen.
 use merge_core::Core;
 use page_digest::PageHash;
@@ -8,7 +8,7 @@ use page_model::{Request, Verdict};
 use std::alloc::{AllocError, Allocator, Global};
 use std::process::Abort;
 
-/// What a guest asks. A store begins at the page's first byte.
+/// What a guest requests. A store begins at the page's first byte.
 #[derive(Clone, Copy)]
 pub enum Ask {
     Store(u32, u8),
@@ -18,7 +18,7 @@ pub enum Ask {
     Count,
 }
 
-/// The guest, what it asks, and the verdict that is wanted.
+/// The guest, what it requests, and the expected verdict.
 pub type Line = (u8, Ask, Verdict);
 
 pub fn request_of(rt: &impl Abort, ask: Ask) -> Request {
@@ -49,7 +49,7 @@ pub fn serve<H: PageHash, A: Allocator>(rt: &impl Abort, core: &mut Core<H, A>, 
     }
 }
 
-/// The report's numbers: entries, mapped, shared, frames, reclaimed, hints.
+/// Returns the report's numbers: entries, mapped, shared, frames, reclaimed, hints.
 pub fn numbers<H: PageHash, A: Allocator>(core: &Core<H, A>) -> [u32; 6] {
     let report = core.report();
     [
@@ -62,7 +62,7 @@ pub fn numbers<H: PageHash, A: Allocator>(core: &Core<H, A>) -> [u32; 6] {
     ]
 }
 
-/// A core whose salts are all 0.
+/// Makes a core whose salts are all 0.
 pub fn core_of<H: PageHash + Drop, A: Allocator + Clone>(
     rt: &impl Abort,
     alloc: A,
@@ -92,7 +92,7 @@ pub fn share_three<H: PageHash, A: Allocator>(rt: &impl Abort, core: &mut Core<H
     assert_eq!(rt; numbers(core), [6, 3, 3, 1, 2, 0]);
 }
 
-/// Stores the same to each of guest 0's first pages. So many pages, each by its guest and number.
+/// Stores the same to each of guest 0's first `count` pages. Returns these pages, each by its guest and number.
 pub fn store_each<H: PageHash>(
     rt: &impl Abort,
     alloc: Global,
@@ -107,7 +107,7 @@ pub fn store_each<H: PageHash>(
     Ok(pages)
 }
 
-/// The page's frame.
+/// Returns the page's frame.
 pub fn frame<H: PageHash, A: Allocator>(
     rt: &impl Abort,
     core: &Core<H, A>,

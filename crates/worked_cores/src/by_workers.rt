@@ -1,4 +1,4 @@
-//! Hashes that several workers compute ahead.
+//! Hashes computed ahead by several workers.
 ghost use Rattle.std.specs.Prelude.{◌≡◌, ◌<◌, ◌≤◌, length};
 ghost use Rattle.page_digest.specs.Hashes.{sha256_hash};
 ghost use Rattle.merge_core.specs.Hashing.{page_hash};
@@ -15,12 +15,13 @@ use std::sync::Wait;
 use std::test::Fail;
 use std::thread::Threads;
 
-// By sha256sum: of the page that begins with 0x41.
+// From sha256sum: of the page that begins with 0x41.
 const LETTER: u64 = 0x9aab_2ec0_0da3_0c5d;
 
 const MOST_GROWTHS: u64 = 100;
 
-/// The hashes of the guest's pages 0, 1 and 2, of which there are two, and the verdict of page 0's proposal with its hash.
+/// Returns the hashes of the guest's pages 0, 1 and 2, of which page 2 doesn't exist, and the verdict of page 0's
+/// proposal with its hash.
 fn propose_ahead<R: Threads + Wait + Sync, B: Allocator + Clone + Send>(
     rt: &R,
     alloc: B,
@@ -36,7 +37,7 @@ fn propose_ahead<R: Threads + Wait + Sync, B: Allocator + Clone + Send>(
     Ok((hashes, verdict))
 }
 
-/// Proposes page 0, whose hash is known where it is mapped.
+/// Proposes page 0, with its known hash if it is mapped.
 fn propose_hashed(core: &mut Core<Sha256Hash>, hash: Option<u64>) -> Verdict
     requires guest { 0 < length (state_of core.old).guests }
     requires room { core.old.entries < 4294967295 }
@@ -48,8 +49,9 @@ fn propose_hashed(core: &mut Core<Sha256Hash>, hash: Option<u64>) -> Verdict
     }
 }
 
-/// A machine of one guest with two pages, of which page 0 is mapped: the hashes of pages 0, 1 and 2 are computed with memory
-/// from `alloc`, and page 0 is proposed. The verdict, or why there are no hashes, and the report after it.
+/// Makes a machine of one guest with two pages, of which page 0 is mapped. The hashes of pages 0, 1 and 2 are computed
+/// with memory from `alloc`, and page 0 is proposed. Returns the verdict, or why there are no hashes, and the report
+/// after it.
 fn ahead<R: Threads + Wait + Sync + Abort, B: Allocator + Clone + Send>(
     rt: &R,
     memory: Global,
@@ -70,7 +72,7 @@ fn ahead<R: Threads + Wait + Sync + Abort, B: Allocator + Clone + Send>(
     (verdict, numbers(&core))
 }
 
-/// The hash of a mapped page, and none of an unmapped page or of one that there isn't; a proposal with that hash.
+/// A mapped page has a hash, and an unmapped page or a missing one has none; then a proposal with that hash.
 #[test]
 fn hash_ahead(rt: HostRuntime) {
     for workers in [1u32, 4] {
@@ -80,8 +82,8 @@ fn hash_ahead(rt: HostRuntime) {
     }
 }
 
-/// Growth number n is refused, n counting up until a call has no refusal: the answer is that memory was wanting, and the core
-/// is as it was.
+/// Growth number n is refused, with n counting up until a call has no refusal: the answer is that memory was refused,
+/// and the core is as it was.
 #[test]
 fn refused_growth(rt: HostRuntime) {
     for n in 0..MOST_GROWTHS {
@@ -101,8 +103,8 @@ fn refused_growth(rt: HostRuntime) {
     assert!(rt; false, "no growth is the last");
 }
 
-/// The report of a machine of forty equal pages whose hashes two workers note with memory from `alloc`. Two of the pages are
-/// then proposed.
+/// Returns the report of a machine of forty equal pages whose hashes two workers note with memory from `alloc`. Two of
+/// the pages are then proposed.
 fn noted_report<R: Threads + Wait + Sync + Abort, B: Allocator + Clone + Send>(
     rt: &R,
     memory: Global,
@@ -117,7 +119,7 @@ fn noted_report<R: Threads + Wait + Sync + Abort, B: Allocator + Clone + Send>(
     Ok(report)
 }
 
-/// Forty pages whose hashes two workers note: every second growth is refused, or none.
+/// Two workers note the hashes of forty pages, while one growth is refused, or none.
 #[test]
 fn many_noted(rt: HostRuntime) -> Result<(), Fail> {
     for refused_from in [0u64, 3, 100] {

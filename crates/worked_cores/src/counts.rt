@@ -5,8 +5,8 @@ use page_model::Verdict;
 use std::alloc::Global;
 use std::process::Abort;
 
-/// The count and the report of a machine in which three pages share a frame; then of that whose count begins anew; and the
-/// report after a store.
+/// Returns the count and the report of a machine in which three pages share a frame; then those of the same machine
+/// once its count begins anew; and the report after a store.
 fn counted_anew(rt: &impl Abort, alloc: Global) -> ([u32; 2], [[u32; 6]; 3]) {
     let mut core = core_of(rt, alloc, 3, &[2, 1], Sha256Hash);
     share_three(rt, &mut core);
@@ -27,8 +27,8 @@ fn count_anew(rt: HostRuntime) {
     assert_eq!(rt; copied, [1, 3, 2, 2, 1, 0]);
 }
 
-/// A machine of two frames, which both are taken when their last page is stored to: whether a count then tells the report, and
-/// the report.
+/// Makes a machine of two frames, both of which are taken when their last page is stored to. Returns whether a count
+/// then gets the report, and the report.
 fn filled(rt: &impl Abort, alloc: Global) -> (bool, [u32; 6]) {
     let mut core = core_of(rt, alloc, 2, &[3], Sha256Hash);
     let lines = [

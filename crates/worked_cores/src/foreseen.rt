@@ -1,4 +1,4 @@
-//! Pages that are hashed together with one that is proposed, as the requests in sight will leave them.
+//! Pages that are hashed together with a proposed one, as the requests in sight will leave them.
 use crate::asks::{Ask, Line, core_of, request_of, serve};
 use crate::hashes::{Calls, Fours};
 use merge_core::Core;
@@ -8,7 +8,7 @@ use std::alloc::{AllocError, Allocator, Global};
 use std::process::Abort;
 use std::test::Fail;
 
-/// The requests of these lines.
+/// Returns the requests of these lines.
 fn entries_of(rt: &impl Abort, alloc: Global, lines: &[Line]) -> Result<Vec<Entry>, AllocError> {
     let mut entries = Vec::new(alloc);
     for (guest, ask, _) in lines {
@@ -49,8 +49,8 @@ fn serve_ahead<H: PageHash, A: Allocator>(
     Ok(())
 }
 
-/// How many pages are hashed alone, and how many of four at once, where these lines are served on a new machine of two guests
-/// with eight pages each.
+/// Returns how many pages are hashed alone, and how many as one of four at once, when these lines are served on a new
+/// machine of two guests with eight pages each.
 fn hashed(rt: &impl Abort, alloc: Global, lines: &[Line]) -> Result<(u32, u32), AllocError> {
     let calls = Calls::new();
     let mut core = core_of(rt, alloc, 16, &[8, 8], Fours(&calls));
@@ -58,7 +58,7 @@ fn hashed(rt: &impl Abort, alloc: Global, lines: &[Line]) -> Result<(u32, u32), 
     Ok(calls.both())
 }
 
-/// Each page is stored to and then proposed, those of two guests in turn: four are hashed at once, then the last one alone.
+/// Each page is stored to and then proposed, with two guests in turn: four are hashed at once, then the last one alone.
 #[test]
 fn stored_and_proposed(rt: HostRuntime) -> Result<(), Fail> {
     let lines = [
@@ -78,7 +78,7 @@ fn stored_and_proposed(rt: HostRuntime) -> Result<(), Fail> {
     Ok(())
 }
 
-/// Pages that are at rest are hashed four at once, before those that are stored to first.
+/// Pages at rest are hashed four at once, before those that are stored to first.
 #[test]
 fn at_rest(rt: HostRuntime) -> Result<(), Fail> {
     let lines = [
@@ -97,8 +97,8 @@ fn at_rest(rt: HostRuntime) -> Result<(), Fail> {
     Ok(())
 }
 
-/// A page that is released and stored to anew is foreseen as it will be then; one that will be unmapped, one that there isn't
-/// and one that is shared and not stored to need no hash.
+/// A page that is released and stored to anew is foreseen as it will be then. A page needs no hash if it will be
+/// unmapped, if there is no such page, or if it is shared and not stored to.
 #[test]
 fn released(rt: HostRuntime) -> Result<(), Fail> {
     let lines = [
@@ -118,8 +118,8 @@ fn released(rt: HostRuntime) -> Result<(), Fail> {
     Ok(())
 }
 
-/// The same for a machine of one guest with four pages, after the first line of those that are in `sight`, and once other
-/// lines `came` than the rest of them.
+/// Returns the same two numbers for a machine of one guest with four pages, twice: after the first line of those in
+/// `sight`, and after other lines `came` than the rest of them.
 fn hashed_otherwise(
     rt: &impl Abort,
     alloc: Global,
@@ -137,7 +137,7 @@ fn hashed_otherwise(
     Ok([first, calls.both()])
 }
 
-/// Other requests come than those that were in sight: the page is hashed anew, and the verdicts are those of what came.
+/// The requests that come differ from those in sight: the page is hashed anew, and the verdicts are those of what came.
 #[test]
 fn other_requests_come(rt: HostRuntime) -> Result<(), Fail> {
     let sight = [

@@ -6,7 +6,7 @@ use page_model::Verdict;
 use std::alloc::Global;
 use std::process::Abort;
 
-/// What is seen of a machine of two guests, of which the second has few pages.
+/// What is seen of a machine of two guests. The second has few pages.
 #[derive(Clone, Copy)]
 struct Seen {
     report: [u32; 6],
@@ -26,7 +26,7 @@ fn taken(core: &Core<Sha256Hash>) -> [u32; 2] {
     [frames.used(), frames.total()]
 }
 
-/// The first and the last byte of a page.
+/// Returns the first and the last byte of a page.
 fn bytes(rt: &impl Abort, core: &Core<Sha256Hash>, guest: u8, ppn: u32) -> [u8; 2] {
     assert!(rt; guest < core.guests());
     assert!(rt; ppn < core.pages(guest));
@@ -38,7 +38,7 @@ fn pages(rt: &impl Abort, core: &Core<Sha256Hash>, guest: u8) -> u32 {
     core.pages(guest)
 }
 
-/// What is seen once these lines are served.
+/// Returns what is seen once these lines are served.
 fn look(rt: &impl Abort, core: &mut Core<Sha256Hash>, lines: &[Line]) -> Seen {
     serve(rt, core, lines);
     Seen {
@@ -55,7 +55,7 @@ fn look(rt: &impl Abort, core: &mut Core<Sha256Hash>, lines: &[Line]) -> Seen {
     }
 }
 
-/// What is seen of a machine of three frames and of guests with two pages and one, after each of three parts.
+/// Returns what is seen of a machine of three frames and of guests with two pages and one, after each of three parts.
 fn seen_after(rt: &impl Abort, alloc: Global, a: &[Line], b: &[Line], c: &[Line]) -> [Seen; 3] {
     let mut core = core_of(rt, alloc, 3, &[2, 1], Sha256Hash);
     let first = look(rt, &mut core, a);
@@ -78,8 +78,8 @@ fn one_frame(rt: HostRuntime) {
     assert_eq!(rt; gone.frames[2], None);
 }
 
-/// The page that was the hint keeps its frame where another pairs with it, and the last page of a shared frame where
-/// it is stored to. No other page's frame moves.
+/// The page that was the hint keeps its frame when another pairs with it, and so does the last page of a shared frame
+/// when it is stored to. No other page's frame changes.
 #[test]
 fn frames_stay(rt: HostRuntime) {
     let hinted = [

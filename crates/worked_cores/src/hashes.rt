@@ -9,7 +9,7 @@ use std::process::Abort;
 use std::sync::atomic::{AtomicU32, Ordering};
 use std::test::Fail;
 
-/// The hash of the first byte, which counts its calls.
+/// Hashes to the first byte, and counts its calls.
 #[derive(Drop)]
 struct Counted<'a>(&'a AtomicU32);
 
@@ -24,7 +24,8 @@ impl PageHash for Counted<'_> {
     }
 }
 
-/// How often pages were hashed when three pages had come to share a frame, and after each of these parts, served in turn.
+/// Returns how often pages were hashed when three pages had come to share a frame, and after each of these parts,
+/// served in turn.
 fn calls_after(rt: &impl Abort, alloc: Global, parts: &[&[Line]]) -> Result<Vec<u32>, AllocError> {
     let calls = AtomicU32::new(0);
     let mut core = core_of(rt, alloc, 3, &[2, 1], Counted(&calls));
@@ -38,8 +39,8 @@ fn calls_after(rt: &impl Abort, alloc: Global, parts: &[&[Line]]) -> Result<Vec<
     Ok(counts)
 }
 
-/// Each page is hashed once as long as its bytes stay: neither a proposal of an unchanged page, nor a match, nor leaving a
-/// shared frame hashes it again, and an equal hint page is never hashed.
+/// Each page is hashed once as long as its bytes stay the same: neither a proposal of an unchanged page, nor a match,
+/// nor leaving a shared frame hashes it again, and an equal hint page is never hashed.
 #[test]
 fn known_hashes(rt: HostRuntime) -> Result<(), Fail> {
     let unchanged = [
@@ -61,8 +62,8 @@ fn known_hashes(rt: HostRuntime) -> Result<(), Fail> {
     Ok(())
 }
 
-/// How often pages were hashed once these pages' hashes were noted, after stores to five pages of six; once they were noted
-/// again and three of them proposed; and once another was stored to and proposed.
+/// Returns how often pages were hashed once these pages' hashes were noted, after stores to five pages of six; once
+/// they were noted again and three of them proposed; and once another was stored to and proposed.
 fn calls_noted(rt: &impl Abort, alloc: Global, pages: &[(u8, u32)]) -> [u32; 3] {
     let calls = AtomicU32::new(0);
     let mut core = core_of(rt, alloc, 5, &[6], Counted(&calls));
@@ -92,8 +93,8 @@ fn calls_noted(rt: &impl Abort, alloc: Global, pages: &[(u8, u32)]) -> [u32; 3] 
     [noted, proposed, calls.load(Ordering::SeqCst)]
 }
 
-/// Pages whose hashes are noted ahead are hashed then, and not at their proposals; a store makes a hash unknown again. Pages
-/// that are unmapped, or that there aren't, are passed over.
+/// Pages whose hashes are noted ahead are hashed then, and not at their proposals; a store makes a hash unknown again.
+/// Pages that are unmapped or don't exist are skipped.
 #[test]
 fn noted_ahead(rt: HostRuntime) {
     let pages = [
@@ -109,7 +110,7 @@ fn noted_ahead(rt: HostRuntime) {
     assert_eq!(rt; calls_noted(&rt, rt.alloc(), &pages), [5, 5, 6]);
 }
 
-/// How many pages were hashed alone, and how many of four at once.
+/// How many pages were hashed alone, and how many as one of four at once.
 #[derive(Drop)]
 pub struct Calls {
     alone: AtomicU32,
@@ -132,7 +133,7 @@ impl Calls {
     }
 }
 
-/// The same hash, which counts the pages that it hashes alone and those of four that it hashes at once.
+/// The same hash, counting the pages that it hashes alone and those that it hashes four at once.
 #[derive(Drop)]
 pub struct Fours<'a>(pub &'a Calls);
 
@@ -157,7 +158,8 @@ impl PageHash for Fours<'_> {
     }
 }
 
-/// How many of so many pages are hashed alone, and how many of four at once, where their hashes are noted.
+/// Returns how many of `count` pages are hashed alone, and how many as one of four at once, when their hashes are
+/// noted.
 fn noted(rt: &impl Abort, alloc: Global, count: u32) -> Result<(u32, u32), AllocError> {
     let calls = Calls::new();
     let mut core = core_of(rt, alloc, 9, &[9], Fours(&calls));
@@ -166,7 +168,7 @@ fn noted(rt: &impl Abort, alloc: Global, count: u32) -> Result<(u32, u32), Alloc
     Ok(calls.both())
 }
 
-// Of the pages that are noted ahead, each four are hashed at once, the last four too; those that are left, alone.
+// Of the pages that are noted ahead, each four are hashed at once, the last four too; those left over, alone.
 #[test]
 fn noted_four_at_once(rt: HostRuntime) -> Result<(), Fail> {
     for (pages, at_once, left) in [(3, 0, 3), (4, 4, 0), (7, 4, 3), (8, 8, 0), (9, 8, 1)] {

@@ -1,5 +1,5 @@
 //! Worked machines on one thread, served by the public calls of `merge_core`: their verdicts, reports, frames and tables.
-//! This crate has tests alone.
+//! This crate has only tests.
 #![tactic(auto)]
 
 #[cfg(test)]

@@ -1,4 +1,4 @@
-//! Which machines there are, and the greatest ones.
+//! Which machines can be made, and the largest ones.
 use crate::asks::{Ask, Line, core_of, frame, numbers, serve};
 use merge_core::{Core, CoreFault};
 use page_digest::FirstByteHash;
@@ -7,7 +7,7 @@ use std::alloc::Global;
 use std::process::Abort;
 use std::test::Fail;
 
-/// Why there is no such machine.
+/// Returns why there is no such machine.
 fn fault_of(alloc: Global, frames: u32, pages: &[u32], salts: &[u32]) -> Option<CoreFault> {
     Core::new(alloc, frames, pages, salts, FirstByteHash).err()
 }
@@ -36,13 +36,14 @@ fn core_limits(rt: HostRuntime) {
     }
 }
 
-/// A machine of the most frames and of one guest with the most pages.
+/// Makes a machine of the most frames and of one guest with the most pages.
 fn greatest(alloc: Global) -> Result<Core<FirstByteHash>, Fail> {
     let shape = MachineShape::new(MAX_FRAMES, &[MAX_PAGES], &[0])?;
     Ok(Core::with_shape(alloc, &shape, FirstByteHash)?)
 }
 
-/// The report of the greatest machine once it has served these lines, whether guest 0's page is mapped, and the frames.
+/// Returns the report of the largest machine once it has served these lines, whether guest 0's page is mapped, and the
+/// frames.
 fn greatest_served(
     rt: &impl Abort,
     alloc: Global,
@@ -55,7 +56,7 @@ fn greatest_served(
     Ok((numbers(&core), is_mapped, core.frames().total()))
 }
 
-/// Of the room that the greatest machine takes, that of the frames is reserved and not touched.
+/// Of the room that the largest machine takes, that of the frames is reserved and not touched.
 #[test]
 fn most_frames_and_pages(rt: HostRuntime) -> Result<(), Fail> {
     let last = MAX_PAGES - 1;
@@ -69,7 +70,8 @@ fn most_frames_and_pages(rt: HostRuntime) -> Result<(), Fail> {
     Ok(())
 }
 
-/// 64 guests, each with 1/64 of the most pages: each stores the same to a page, then each proposes it. The report.
+/// 64 guests, each with 1/64 of the most pages: each stores the same to a page, then each proposes it. Returns the
+/// report.
 fn all_propose(rt: &impl Abort, alloc: Global) -> [u32; 6] {
     let pages = [MAX_PAGES / 64; MAX_GUESTS];
     let mut core = core_of(rt, alloc, 64, &pages, FirstByteHash);

@@ -9,8 +9,8 @@ use std::process::Abort;
 
 const MOST_GROWTHS: u64 = 100;
 
-/// A machine whose memory this allocator gives, and which is served once every later growth is refused; its fault where there
-/// is none. Whether a growth was refused before that.
+/// Makes a machine with memory from this allocator, and serves it once every later growth is refused. Returns its fault
+/// if there is no machine, and whether a growth was refused before that.
 fn served<B: Allocator>(rt: &impl Abort, heap: &Refusing<B>) -> (Option<CoreFault>, bool) {
     match Core::new(heap, 3, &[2, 1], &[0, 0], Sha256Hash) {
         Ok(mut core) => {
@@ -24,7 +24,7 @@ fn served<B: Allocator>(rt: &impl Abort, heap: &Refusing<B>) -> (Option<CoreFaul
     }
 }
 
-/// Growth number n is refused, n counting up until a run has no refusal; afterwards every growth is.
+/// Growth number n is refused, with n counting up until a run has no refusal; afterwards every growth is.
 #[test]
 fn refused_growth(rt: HostRuntime) {
     for n in 0..MOST_GROWTHS {

@@ -1,4 +1,4 @@
-//! How much memory a machine asks for, beside its pages.
+//! How much memory a machine asks for, apart from its pages.
 use merge_core::Core;
 use page_digest::Sha256Hash;
 use page_model::{MAX_FRAMES, MAX_PAGES};
@@ -6,14 +6,14 @@ use refusing::Refusing;
 use std::alloc::Global;
 use std::process::Abort;
 
-// What a machine keeps beside the pages of its frames: at most so much for each frame, for each page, and in all.
+// What a machine keeps in addition to the pages of its frames, at most: for each frame, for each page, and in all.
 const FRAME: u64 = 48;
 
 const PAGE: u64 = 16;
 
 const MORE: u64 = 4096;
 
-/// How many bytes a machine asks for that has so many frames, and one guest of so many pages.
+/// Returns how many bytes a machine with `frames` frames and one guest of `pages` pages asks for.
 fn asked(rt: &impl Abort, alloc: Global, frames: u32, pages: u32) -> u64 {
     let heap = Refusing::new(alloc, u64::MAX, 0);
     let core = Core::new(&heap, frames, &[pages], &[0], Sha256Hash);
@@ -21,7 +21,7 @@ fn asked(rt: &impl Abort, alloc: Global, frames: u32, pages: u32) -> u64 {
     heap.bytes_asked()
 }
 
-/// All memory of a machine is asked for by `Core::new`: the frames' own 4,096 bytes, and little beside.
+/// `Core::new` asks for all memory of a machine: the frames' own 4,096 bytes each, and little more.
 #[test]
 fn bytes_asked(rt: HostRuntime) {
     for (frames, pages) in [(1, 1), (513, 700), (100_000, 3), (MAX_FRAMES, MAX_PAGES)] {

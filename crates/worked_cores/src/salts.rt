@@ -1,4 +1,4 @@
-//! Pages are shared between guests of equal salt only.
+//! Pages are shared only between guests of equal salt.
 use crate::asks::{Ask, numbers, told};
 use merge_core::Core;
 use page_digest::{FirstByteHash, PageHash, Sha256Hash};

@@ -1,4 +1,4 @@
-//! What the table shows, and a frame that more pages share than a 16-bit count can tell.
+//! What the table shows, and a frame that more pages share than a 16-bit count can hold.
 use crate::asks::{Ask, Line, core_of, frame, numbers, serve};
 use merge_core::Core;
 use page_digest::{FirstByteHash, PageHash, Sha256Hash};
@@ -8,7 +8,7 @@ use std::alloc::Global;
 use std::process::Abort;
 use std::test::Fail;
 
-/// What the table of a core shows of a hash.
+/// What the table of a core shows about a hash.
 #[derive(Clone, Copy)]
 struct Shown {
     len: u32,
@@ -27,7 +27,7 @@ fn show(core: &Core<Sha256Hash>, code: u64) -> Shown {
     }
 }
 
-/// Page 0's frame after the first of two parts, and what the table shows of a hash after each.
+/// Returns page 0's frame after the first of two parts, and what the table shows about a hash after each.
 fn shown_after(
     rt: &impl Abort,
     alloc: Global,
@@ -71,8 +71,8 @@ fn table_shows_core(rt: HostRuntime) -> Result<(), Fail> {
     Ok(())
 }
 
-/// So many pages of one content share a frame, by stores and proposals in turn; then page 0 is released. The report before and
-/// after that.
+/// Lets `pages` pages of one content share a frame, by stores and proposals in turn; then page 0 is released. Returns
+/// the report before and after that.
 fn share_all(rt: &impl Abort, alloc: Global, pages: u32) -> [[u32; 6]; 2] {
     let mut core = core_of(rt, alloc, 2, &[pages], FirstByteHash);
     for ppn in 0..pages {

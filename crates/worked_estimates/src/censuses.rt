@@ -1,4 +1,4 @@
-//! Censuses of pages, under a hash and under hashes that tell little or nothing.
+//! Censuses of pages, under a good hash and under hashes that distinguish few pages or none.
 mod copied;
 mod folded;
 mod known;

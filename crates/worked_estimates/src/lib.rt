@@ -1,6 +1,6 @@
-//! Worked estimates: a few pages counted by hand, images of memory made by hand, and what is written of numbers that stand here.
+//! Worked estimates: a few pages counted by hand, images of memory made by hand, and what is written of given numbers.
 //!
-//! There is nothing here but tests.
+//! This crate has only tests.
 #![tactic(auto)]
 
 #[cfg(test)]

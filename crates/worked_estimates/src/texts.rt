@@ -1,4 +1,4 @@
-//! What is written of numbers, amounts and names.
+//! What is written for numbers, amounts and names.
 mod amounts;
 mod names;
 mod numbers;

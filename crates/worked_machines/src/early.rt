@@ -1,4 +1,4 @@
-//! Settling before its time: the least guest is named, all comes back, and each end then knows what is left for it.
+//! Settling too early: the least guest is named, everything comes back, and each end then knows what is left for it.
 ghost use Rattle.std.specs.Prelude.{◌≡◌, ◌<◌};
 ghost use Rattle.share_rings.specs.Ends.{port_name};
 ghost use Rattle.merge_run.specs.View.{closed_names, end_names, ends_of, guest_count};
@@ -42,7 +42,7 @@ fn get_bytes(rt: &impl Abort, ports: &mut Vec<ClosedPort>)
     }
 }
 
-// Nothing was served yet. After the refusal the merger finds each request, and the port each verdict.
+// Nothing was served yet. After the refusal the merger finds each request, and the port gets each verdict.
 #[test]
 fn nothing_is_idle_after_a_refused_settle(rt: HostRuntime) -> Result<(), Fail> {
     let (merger, ports) = new_machine(rt.alloc(), 1, &[1], 4, 4)?;

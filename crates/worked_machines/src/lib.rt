@@ -1,5 +1,5 @@
 //! Worked machines, served by the public calls of `merge_run` over the ports of `share_rings`.
-//! This crate has tests alone.
+//! This crate has only tests.
 #![tactic(auto)]
 
 #[cfg(test)]

@@ -1,4 +1,4 @@
-//! Which machines there are, and a journal that is full.
+//! Which machines can be made, and a journal that is full.
 use crate::makes::{byte, new_machine, numbers, only};
 use merge_run::{Config, Fault, JournalFull, Machine, Step};
 use page_digest::Sha256Hash;
@@ -6,7 +6,7 @@ use page_model::{MAX_ENTRIES, MAX_FRAMES, MAX_PAGES, MAX_RING_CAPACITY, Verdict}
 use share_rings::SendFault;
 use std::test::Fail;
 
-/// A machine's numbers, and why there is none.
+/// A machine's numbers, and why it can't be made.
 type Limit<'a> = (u32, &'a [u32], &'a [u32], u32, u32, Option<Fault>);
 
 #[test]
@@ -48,7 +48,7 @@ fn limits_of_a_machine(rt: HostRuntime) -> Result<(), Fail> {
     Ok(())
 }
 
-// The longest rings hold what they should.
+// The longest rings hold as many items as they should.
 #[test]
 fn longest_ring(rt: HostRuntime) -> Result<(), Fail> {
     let (mut merger, ports) = new_machine(rt.alloc(), 1, &[1], MAX_RING_CAPACITY, 1)?;
@@ -62,7 +62,7 @@ fn longest_ring(rt: HostRuntime) -> Result<(), Fail> {
     Ok(())
 }
 
-// A full journal is answered before a verdict that is still to be got, and changes nothing.
+// A full journal is answered before a verdict that is still to be received, and changes nothing.
 #[test]
 fn full_journal(rt: HostRuntime) -> Result<(), Fail> {
     let (mut merger, ports) = new_machine(rt.alloc(), 1, &[1], 1, 1)?;
@@ -79,7 +79,7 @@ fn full_journal(rt: HostRuntime) -> Result<(), Fail> {
     Ok(())
 }
 
-// A guest that has ended is told so, though the journal is full.
+// A guest that has ended is answered so, though the journal is full.
 #[test]
 fn full_journal_after_the_close(rt: HostRuntime) -> Result<(), Fail> {
     let (mut merger, ports) = new_machine(rt.alloc(), 1, &[1], 1, 1)?;

@@ -1,4 +1,4 @@
-//! Machines under SHA-256 with every salt 0, and their ports out of the list and into one.
+//! Machines under SHA-256 whose salts are all 0, and their ports, taken out of a list and put into one.
 ghost use Rattle.std.specs.Prelude.{◌≡◌, [], ◌∷◌, length, replicate, IfOk, IfSome};
 ghost use Rattle.page_model.specs.Limits.{shapes};
 ghost use Rattle.page_model.specs.Replay.{empty_state};
@@ -14,7 +14,7 @@ use std::alloc::{AllocError, Allocator};
 /// A machine's merger.
 pub type Merging<A> = Merger<Sha256Hash, A>;
 
-/// The numbers of a machine whose salts are all 0.
+/// Returns the numbers of a machine whose salts are all 0.
 pub fn config_of<A: Allocator + Copy>(
     alloc: A,
     frames: u32,
@@ -33,7 +33,7 @@ pub fn config_of<A: Allocator + Copy>(
     })
 }
 
-/// A machine whose salts are all 0.
+/// Makes a machine whose salts are all 0.
 pub fn new_machine<A: Allocator + Copy>(
     alloc: A,
     frames: u32,
@@ -49,7 +49,7 @@ pub fn new_machine<A: Allocator + Copy>(
     Machine::new(alloc, &config, Sha256Hash)
 }
 
-/// The port of one guest alone.
+/// Returns the port of the only guest.
 pub fn only<A: Allocator>(ports: Vec<Port<A>, A>) -> Option<Port<A>>
     ensures { IfSome result (λ port. ports.items ≡ port ∷ []) }
 {
@@ -61,7 +61,7 @@ pub fn only<A: Allocator>(ports: Vec<Port<A>, A>) -> Option<Port<A>>
     Some(port)
 }
 
-/// The ports of two guests.
+/// Returns the ports of two guests.
 pub fn both<A: Allocator>(ports: Vec<Port<A>, A>) -> Option<(Port<A>, Port<A>)>
     ensures { IfSome result (λ (first, second). ports.items ≡ first ∷ second ∷ []) }
 {
@@ -71,7 +71,7 @@ pub fn both<A: Allocator>(ports: Vec<Port<A>, A>) -> Option<(Port<A>, Port<A>)>
     Some((first, second))
 }
 
-/// The list of a guest's port.
+/// Returns the list of a guest's port.
 pub fn list_of<A: Allocator>(
     alloc: A,
     port: ClosedPort<A>,
@@ -83,7 +83,7 @@ pub fn list_of<A: Allocator>(
     Ok(ports)
 }
 
-/// The list of two guests' ports.
+/// Returns the list of two guests' ports.
 pub fn list_of_both<A: Allocator>(
     alloc: A,
     first: ClosedPort<A>,
@@ -97,7 +97,7 @@ pub fn list_of_both<A: Allocator>(
     Ok(ports)
 }
 
-/// The next verdict of a port in a list.
+/// Returns the next verdict of a port in a list.
 pub fn verdict_at<A: Allocator>(ports: &mut Vec<ClosedPort<A>, A>, guest: usize) -> Option<Verdict>
     ensures { closed_names ports.new.items ≡ closed_names ports.old.items }
 {
@@ -105,7 +105,7 @@ pub fn verdict_at<A: Allocator>(ports: &mut Vec<ClosedPort<A>, A>, guest: usize)
     port.verdict()
 }
 
-/// What `settle` hands back, and `None` where it settles.
+/// Returns what `settle` returns if it doesn't settle, and `None` if it does.
 pub fn unsettled<A: Allocator>(
     merger: Merging<A>,
     ports: Vec<ClosedPort<A>, A>,
@@ -120,7 +120,7 @@ pub fn unsettled<A: Allocator>(
     }
 }
 
-/// The settled machine, and `None` where it isn't settled.
+/// Returns the settled machine, or `None` if it isn't settled.
 pub fn settled<A: Allocator>(
     merger: Merging<A>,
     ports: Vec<ClosedPort<A>, A>,
@@ -134,14 +134,14 @@ pub fn settled<A: Allocator>(
     }
 }
 
-/// The verdict of a load of one byte.
+/// Returns the verdict of a load of one byte.
 pub fn byte(byte: u8) -> Verdict {
     let mut bytes = ArrayVec::new();
     bytes.push(byte);
     Verdict::Bytes(bytes)
 }
 
-/// The numbers of a report: entries, mapped, shared, frames, reclaimed, hints.
+/// Returns the numbers of a report: entries, mapped, shared, frames, reclaimed, hints.
 pub fn numbers(report: &Report) -> [u32; 6] {
     [
         report.entries(),

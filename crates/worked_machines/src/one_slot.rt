@@ -13,7 +13,7 @@ use std::alloc::Allocator;
 use std::process::Abort;
 use std::test::Fail;
 
-/// Up to the close: no slot for a verdict is free where the guest has one to get.
+/// Runs up to the close: no slot for a verdict is free while the guest has one to receive.
 fn load_and_count<A: Allocator>(rt: &impl Abort, merger: &mut Merging<A>, port: &mut Port<A>)
     requires guest { 0 < guest_count merger.old }
     ensures guest { guest_count merger.new ≡ guest_count merger.old }
@@ -31,7 +31,7 @@ fn load_and_count<A: Allocator>(rt: &impl Abort, merger: &mut Merging<A>, port: 
     assert_eq!(rt; merger.step(0), Ok(Step::Blocked));
 }
 
-/// From the close on: the machine is settled only once the guest has got its last verdict.
+/// Runs from the close on: the machine is settled only once the guest has received its last verdict.
 fn drain_and_settle<A: Allocator>(
     rt: &impl Abort,
     merger: Merging<A>,
@@ -64,7 +64,7 @@ fn drain_and_settle<A: Allocator>(
     Ok(settled)
 }
 
-/// The calls of the settled machine.
+/// Checks the calls of the settled machine.
 fn look<A: Allocator>(rt: &impl Abort, settled: &Settled<Sha256Hash, A>) -> Result<(), Fail> {
     let wanted = [Request::load(0, 0, 1)?, Request::Count, Request::Close];
     assert_eq!(rt; settled.journal().len(), 3);
@@ -81,7 +81,7 @@ fn look<A: Allocator>(rt: &impl Abort, settled: &Settled<Sha256Hash, A>) -> Resu
     Ok(())
 }
 
-/// The whole course of a new machine of one guest. The closed port stands in the list that is given.
+/// Runs a new machine of one guest from beginning to end. The closed port goes into the given list.
 pub fn run_to_the_end<A: Allocator>(
     rt: &impl Abort,
     merger: Merging<A>,
@@ -113,7 +113,7 @@ fn rings_of_one_item(rt: HostRuntime) -> Result<(), Fail> {
     run_to_the_end(&rt, merger, port, ports)
 }
 
-// Each call works on where every request for memory is refused.
+// Each call works when every request for memory is refused.
 #[test]
 fn no_memory_after_the_start(rt: HostRuntime) -> Result<(), Fail> {
     let heap = Refusing::new(rt.alloc(), u64::MAX, 0);

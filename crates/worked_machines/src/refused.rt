@@ -7,11 +7,11 @@ use std::test::Fail;
 
 const MOST: u64 = 100;
 
-// The requests before those of the machine: the list of closed ports, and the two lists of the configuration.
+// The requests before those of the machine: for the list of closed ports, and for the two lists of the configuration.
 const BEFORE: u64 = 3;
 
-// The machine's nth request for memory is refused, n counting up until a run has no refusal. A machine that was made
-// takes no more.
+// The machine's nth request for memory is refused, with n counting up until a run has no refusal. A machine that was
+// made asks for no more.
 #[test]
 fn new_machine_refused_in_turn(rt: HostRuntime) -> Result<(), Fail> {
     let mut whole_at = None;

@@ -13,7 +13,7 @@ use std::alloc::Global;
 use std::process::Abort;
 use std::test::Fail;
 
-/// Steps of these guests, each of which serves a request.
+/// Steps these guests in turn. Each step serves a request.
 fn serve(rt: &impl Abort, merger: &mut Merging<Global>, guests: &[u8])
     requires guests { guest_count merger.old ≡ 2 }
     ensures guests { guest_count merger.new ≡ 2 }
@@ -28,7 +28,7 @@ fn serve(rt: &impl Abort, merger: &mut Merging<Global>, guests: &[u8])
     }
 }
 
-/// The verdicts of a port, oldest first.
+/// Checks that a port has these verdicts and no more, oldest first.
 fn gets(rt: &impl Abort, port: &mut Port, verdicts: &[Verdict])
     ensures { port_name port.new ≡ port_name port.old }
 {
@@ -39,7 +39,7 @@ fn gets(rt: &impl Abort, port: &mut Port, verdicts: &[Verdict])
     assert_eq!(rt; port.verdict(), None);
 }
 
-/// Three pages of one content come to share one frame.
+/// Lets three pages of the same content come to share one frame.
 fn share(rt: &impl Abort, merger: &mut Merging<Global>, first: &mut Port, second: &mut Port)
     requires guests { guest_count merger.old ≡ 2 }
     ensures guests { guest_count merger.new ≡ 2 }
@@ -69,7 +69,7 @@ fn share(rt: &impl Abort, merger: &mut Merging<Global>, first: &mut Port, second
     assert_eq!(rt; numbers(&merger.report()), [6, 3, 3, 1, 2, 0]);
 }
 
-/// A store through the second guest's page copies the frame: the first guest's pages keep their bytes.
+/// Stores through the second guest's page, which copies the frame: the first guest's pages keep their bytes.
 fn copy(rt: &impl Abort, merger: &mut Merging<Global>, first: &mut Port, second: &mut Port)
     requires guests { guest_count merger.old ≡ 2 }
     ensures guests { guest_count merger.new ≡ 2 }
@@ -88,7 +88,7 @@ fn copy(rt: &impl Abort, merger: &mut Merging<Global>, first: &mut Port, second:
     assert_eq!(rt; numbers(&merger.report()), [10, 3, 2, 2, 1, 0]);
 }
 
-/// The machine is settled after both closes, which are served in turn.
+/// Closes both, and settles the machine after the closes are served in turn.
 fn close_both(
     rt: &impl Abort,
     alloc: Global,
@@ -113,7 +113,7 @@ fn close_both(
     Ok(settled)
 }
 
-/// The bytes of the three pages at a place.
+/// Returns the bytes of the three pages at a place.
 fn bytes_so_far(merger: &Merging<Global>, at: u32) -> [u8; 3]
     requires machine { machine_of merger.now ≡ three_pages }
     requires at { at < 4096 }
@@ -125,7 +125,7 @@ fn bytes_so_far(merger: &Merging<Global>, at: u32) -> [u8; 3]
     ]
 }
 
-/// The same of a settled machine.
+/// Returns the same bytes of a settled machine.
 fn bytes(rt: &impl Abort, settled: &Settled<Sha256Hash>, at: u32) -> [u8; 3] {
     let core = settled.core();
     assert!(rt; core.guests() == 2);
@@ -139,7 +139,7 @@ fn bytes(rt: &impl Abort, settled: &Settled<Sha256Hash>, at: u32) -> [u8; 3] {
     ]
 }
 
-/// Whether the three pages have one frame.
+/// Whether the three pages have the same frame.
 fn is_one_frame(rt: &impl Abort, settled: &Settled<Sha256Hash>) -> bool {
     let core = settled.core();
     assert!(rt; core.guests() == 2);

@@ -1,4 +1,4 @@
-//! Two guests in threads of their own, and the merger in the test's.
+//! Two guests in their own threads, and the merger in the test's.
 ghost use Rattle.std.specs.Prelude.{◌≡◌, IfSome};
 ghost use Rattle.share_rings.specs.Ends.{port_name, closed_name};
 ghost use Rattle.merge_run.specs.View.{end_names, ends_of, guest_count};
@@ -17,7 +17,7 @@ const TRIES: u64 = 1 << 30;
 
 const LOADS: u32 = 100;
 
-/// The verdicts that a guest got: bytes of zero before the close's verdict, that verdict, and all others.
+/// The verdicts that a guest received: bytes of zero before the close's verdict, that verdict, and all others.
 #[derive(Clone, Copy, Debug, PartialEq, Eq, Drop)]
 struct Tally {
     zeros: u32,
@@ -25,14 +25,14 @@ struct Tally {
     others: u32,
 }
 
-/// What a guest's thread gives back.
+/// What a guest's thread returns.
 #[derive(Drop)]
 struct Guest {
     port: ClosedPort,
     tally: Tally,
 }
 
-/// The port that comes back is the one that was given.
+/// The port that comes back is the one that was passed in.
 #[derive(Drop)]
 struct SamePort(Snapshot<Port>);
 

@@ -1,4 +1,4 @@
-//! Orders of events, played through one call each.
+//! Orders of events, each played through in one call.
 use event_world::World;
 use page_model::{Entry, Event, Request};
 use std::test::Fail;

@@ -1,5 +1,5 @@
 //! Worked requests, reports, machine shapes and events, by the public calls of `page_model` and `event_world`.
-//! Beside the tests stands one case of a law that no call shows, `copies`.
+//! Besides the tests it has one case of a law that no call shows, `copies`.
 #![tactic(auto)]
 
 pub mod copies;

@@ -1,4 +1,4 @@
-//! Watches in threads of their own.
+//! Watches in their own threads.
 ghost use Rattle.std.specs.Prelude.{◌≡◌};
 ghost use Rattle.merge_reports.specs.Reports.{last_of};
 ghost use Rattle.merge_reports.specs.Lists.{published, told_id, watch_id};
@@ -17,14 +17,14 @@ const READS: u32 = 1_000;
 
 const PUBLISHED: u32 = 5_000;
 
-/// How many reads gave a report, and how many of these had fewer entries than the read before.
+/// How many reads returned a report, and how many of these had fewer entries than the read before.
 #[derive(Clone, Copy, Debug, PartialEq, Eq)]
 struct Tally {
     reports: u32,
     falls: u32,
 }
 
-// What is told goes to another thread, with the watch.
+// Sends what was told to another thread, with the watch.
 fn read_elsewhere<R: Threads + Wait + Sync>(rt: &R, told: Told, watch: Watch) -> Option<Report>
     requires { told_id told ≡ watch_id watch }
 {
@@ -50,7 +50,7 @@ fn what_is_told_goes_to_another_thread(rt: HostRuntime) -> Result<(), Fail> {
     Ok(())
 }
 
-// Publishes reports of 1, 2, .. entries, and counts those that were published.
+// Publishes reports of 1, 2, .. entries, and returns how many were published.
 fn publish_all<R: Wait>(rt: &R, publisher: &mut Publisher) -> u32
     requires { (last_of (published publisher.old)).entries ≡ 0 }
 {
@@ -64,7 +64,7 @@ fn publish_all<R: Wait>(rt: &R, publisher: &mut Publisher) -> u32
     done
 }
 
-// Waits for the first report that was published, so that the reads come while others are published.
+// Waits for the first published report, so that the reads come while others are published.
 fn wait_for_the_first(watch: &mut Watch) {
     for _ in 0..TRIES {
         if let Some(report) = watch.read() {

@@ -1,4 +1,4 @@
-//! Worked publishers and watches, in one thread and in several. This crate has tests alone.
+//! Worked publishers and watches, in one thread and in several. This crate has only tests.
 #![tactic(auto)]
 
 #[cfg(test)]

@@ -1,16 +1,17 @@
-//! Reports by hand, in place of a machine's.
+//! Reports made by hand, instead of by a machine.
 ghost use Rattle.std.specs.Prelude.{◌≡◌};
 
 use page_model::Report;
 
-/// What a machine reports after a store to its only page and some loads: so many entries, and one page in one frame.
+/// Returns what a machine reports after a store to its only page and some loads: this many entries, and one page in one
+/// frame.
 pub fn one_page(entries: u32) -> Report
     ensures { result ≡ record { entries = entries; mapped = 1; shared = 0; frames = 1; reclaimed = 0; hints = 0 } }
 {
     Report::new(entries, 1, 0, 1, 0)
 }
 
-/// What is read before anything was published.
+/// Returns what is read before anything was published.
 pub fn all_zeros() -> Report {
     Report::new(0, 0, 0, 0, 0)
 }

@@ -4,7 +4,7 @@ use merge_reports::{NoWatch, Publisher};
 use page_model::MAX_WATCHES;
 use std::test::Fail;
 
-// A ninth watch is none; where one of the eight is dropped, its place is free again.
+// There is no ninth watch; when one of the eight is dropped, its place is free again.
 #[test]
 fn nine_watches(rt: HostRuntime) -> Result<(), Fail> {
     let mut publisher = Publisher::new(rt.alloc(), &rt)?;

@@ -14,7 +14,7 @@ use std::test::Fail;
 
 const MOST: u64 = 100;
 
-// Publishes a report, once more where the first time was refused. After a refusal the watch reads what it read before.
+// Publishes a report, and again if the first try was refused. After a refusal the watch reads what it read before.
 fn publish<R: Abort + Wait, A: Allocator>(
     rt: &R,
     publisher: &mut Publisher<A>,
@@ -39,7 +39,7 @@ fn publish<R: Abort + Wait, A: Allocator>(
     }
 }
 
-// A watch that was made at first, one that was made at last, and two reports.
+// Publishes two reports, with a watch that was made first and one that was made last.
 fn run_to_the_end<R: Abort + Wait, A: Allocator>(rt: &R, publisher: Publisher<A>)
     requires { published publisher ≡ [] }
 {
@@ -55,8 +55,8 @@ fn run_to_the_end<R: Abort + Wait, A: Allocator>(rt: &R, publisher: Publisher<A>
     publisher.end(rt);
 }
 
-// The nth request for memory is refused, n counting up until a run has no refusal: first those of the new publisher,
-// then those of a publish. A watch asks for none.
+// The nth request for memory is refused, with n counting up until a run has no refusal: first those of the new
+// publisher, then those of a publish. A watch asks for none.
 #[test]
 fn each_growth_refused_in_turn(rt: HostRuntime) -> Result<(), Fail> {
     let mut whole_at = None;
@@ -76,7 +76,7 @@ fn each_growth_refused_in_turn(rt: HostRuntime) -> Result<(), Fail> {
     Ok(())
 }
 
-// Once a publisher is made, watches, what is told, what is read and the end ask for no memory.
+// Once a publisher is made, making watches, telling, reading and ending ask for no memory.
 #[test]
 fn no_memory_but_for_publishing(rt: HostRuntime) -> Result<(), Fail> {
     let heap = Refusing::new(rt.alloc(), u64::MAX, 0);
@@ -93,7 +93,7 @@ fn no_memory_but_for_publishing(rt: HostRuntime) -> Result<(), Fail> {
     Ok(())
 }
 
-// A first publish that is refused.
+// Tries a first publish, which is refused.
 fn publish_in_vain<R: Abort + Wait, A: Allocator>(
     rt: &R,
     publisher: &mut Publisher<A>,
@@ -112,7 +112,7 @@ fn publish_in_vain<R: Abort + Wait, A: Allocator>(
     assert_eq!(rt; watch.read(), Some(all_zeros()));
 }
 
-// Where no memory is left each publish is refused, and changes nothing.
+// When no memory is left, each publish is refused, and changes nothing.
 #[test]
 fn publish_refused_each_time(rt: HostRuntime) -> Result<(), Fail> {
     let heap = Refusing::new(rt.alloc(), u64::MAX, 0);

@@ -1,4 +1,4 @@
-//! A watch sees what it was told of at least, and nothing older than what it saw.
+//! A watch sees at least what it was told of, and nothing older than what it saw.
 use crate::makes::{all_zeros, one_page};
 use merge_reports::Publisher;
 use std::test::Fail;

@@ -8,7 +8,7 @@ use std::alloc::Allocator;
 use std::process::Abort;
 use std::test::Fail;
 
-// A new pair of one slot each: its close is sent, taken, answered and got.
+// Sends, takes, answers and receives the close of a new pair of one slot each.
 fn close_alone<A: Allocator>(
     rt: &impl Abort,
     port: Port<A>,

@@ -1,5 +1,5 @@
 //! Pairs of rings and scans by the public calls of `share_rings`, on one thread and on two, and with memory refused.
-//! This crate has tests alone.
+//! This crate has only tests.
 #![tactic(auto)]
 
 #[cfg(test)]

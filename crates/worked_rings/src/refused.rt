@@ -14,7 +14,7 @@ const MOST: u64 = 100;
 
 const SLOTS: u32 = 6;
 
-// Each call that sends, once with room and once without, and each fault of a request.
+// Makes each call that sends, once with room and once without, and provokes each fault of a request.
 fn send_each<A: Allocator>(rt: &impl Abort, port: &mut Port<A>)
     ensures { port_name port.new ≡ port_name port.old }
 {
@@ -34,7 +34,7 @@ fn send_each<A: Allocator>(rt: &impl Abort, port: &mut Port<A>)
     assert_eq!(rt; port.load(0, 0, 0), Err(SendFault::Length));
 }
 
-// A close where the ring is full: the port comes back.
+// Tries a close when the ring is full: the port comes back.
 fn close_full<A: Allocator>(port: Port<A>) -> Result<Port<A>, Fail>
     ensures { IfOk result (λ back. port_name back ≡ port_name port) }
 {
@@ -53,7 +53,7 @@ fn get_each<A: Allocator>(rt: &impl Abort, port: &mut Port<A>)
     assert!(rt; port.verdict().is_none());
 }
 
-// Every call of both ends, and both kinds of scan.
+// Makes every call of both ends, and both kinds of scan.
 fn every_call<A: Allocator>(
     rt: &impl Abort,
     mut port: Port<A>,
@@ -84,7 +84,8 @@ fn every_call<A: Allocator>(
     Ok(())
 }
 
-// The nth request for memory is refused, n counting up until a run has no refusal. A pair that was made takes no more.
+// The nth request for memory is refused, with n counting up until a run has no refusal. A pair that was made asks for
+// no more.
 #[test]
 fn ring_pair_refused_in_turn(rt: HostRuntime) -> Result<(), Fail> {
     let mut whole_at = None;

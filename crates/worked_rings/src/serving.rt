@@ -1,4 +1,4 @@
-//! A merger's end that answers each request with a verdict of its own.
+//! A merger's end that answers requests itself, without a machine.
 ghost use Rattle.std.specs.Prelude.{◌≡◌, length};
 ghost use Rattle.page_model.specs.Closing as closing;
 ghost use Rattle.share_rings.specs.Ends.{end_name, end_taken, end_given};
@@ -7,7 +7,7 @@ use page_model::{Request, Verdict};
 use share_rings::MergerEnd;
 use std::alloc::Allocator;
 
-/// A verdict that tells the page of a proposal, so that the order of verdicts can be seen.
+/// Returns a verdict. That of a proposal shows its page, so that the order of verdicts can be seen.
 fn answer(request: &Request) -> Verdict
     ensures { closing.is_closed result ≡ closing.is_close request.now }
 {
@@ -35,7 +35,7 @@ pub fn serve_one<A: Allocator>(end: &mut MergerEnd<A>)
     end.give(answer(&request));
 }
 
-/// Looks for a request so many times, and answers those that it finds.
+/// Looks for a request `times` times, and answers those that it finds.
 pub fn serve<A: Allocator>(end: &mut MergerEnd<A>, times: u32)
     requires { length (end_given end.old) ≡ length (end_taken end.old) }
     ensures pair { end_name end.new ≡ end_name end.old }

@@ -1,4 +1,4 @@
-//! The port in a thread of its own. Each try on a busy or empty ring is repeated a bounded number of times.
+//! The port in its own thread. Each try on a busy or empty ring is repeated a bounded number of times.
 ghost use Rattle.std.specs.Prelude.{◌≡◌, length, IfSome};
 ghost use Rattle.share_rings.specs.Ends.{port_name, closed_name, end_name, end_taken, end_given};
 
@@ -14,14 +14,14 @@ const TRIES: u64 = 1 << 30;
 
 const PROPOSALS: u32 = 100;
 
-// What a guest's thread gives back: its port, and how many verdicts came in their order.
+// What a guest's thread returns: its port, and how many verdicts came in order.
 #[derive(Drop)]
 struct Guest {
     port: ClosedPort,
     in_order: u32,
 }
 
-// The port that comes back is the one that was given.
+// The port that comes back is the one that was passed in.
 #[derive(Drop)]
 struct SamePort(Snapshot<Port>);
 

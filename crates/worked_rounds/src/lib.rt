@@ -1,4 +1,4 @@
-//! Worked rounds of a merger: their verdicts, reports and journals. This crate has tests alone.
+//! Worked rounds of a merger: their verdicts, reports and journals. This crate has only tests.
 #![tactic(auto)]
 
 #[cfg(test)]

@@ -1,4 +1,4 @@
-//! Machines under SHA-256 with every salt 0.
+//! Machines under SHA-256 whose salts are all 0.
 use merge_machine::{Config, Fault, Machine, Merger};
 use page_digest::Sha256Hash;
 use page_model::Report;
@@ -25,7 +25,7 @@ pub fn new_machine(
     Machine::new(alloc, &config, Sha256Hash)
 }
 
-/// The report's numbers: entries, mapped, shared, frames, reclaimed, hints.
+/// Returns the report's numbers: entries, mapped, shared, frames, reclaimed, hints.
 pub fn numbers(report: &Report) -> [u32; 6] {
     [
         report.entries(),

@@ -11,7 +11,7 @@ use std::thread::Threads;
 
 const MOST_GROWTHS: u64 = 100;
 
-/// Two pages that hold the same, and four requests that wait.
+/// Makes two pages that hold the same, and four requests that wait.
 fn waiting(rt: &impl Abort, alloc: Global) -> Result<Made, Fail> {
     let (mut merger, mut ports) = new_machine(alloc, 2, &[2], 8, 8)?;
     assert!(rt; merger.ends().len() == 1 && ports.len() == 1);
@@ -29,7 +29,7 @@ fn waiting(rt: &impl Abort, alloc: Global) -> Result<Made, Fail> {
     Ok((merger, ports))
 }
 
-/// All four are served in one round, whatever memory there is for lists.
+/// Serves all four in one round, whatever memory there is for lists.
 fn serve_four<R: Threads + Wait + Sync + Abort, B: Allocator + Clone + Send>(
     rt: &R,
     lists: B,
@@ -76,7 +76,7 @@ fn refused_growth(rt: HostRuntime) -> Result<(), Fail> {
     Err(Fail::from("each run was refused"))
 }
 
-/// Forty proposals in one round, enough for a second worker: each growth of its lists refused in turn.
+/// Forty proposals in one round, enough for a second worker, with each growth of its lists refused in turn.
 #[test]
 fn many_proposals(rt: HostRuntime) -> Result<(), Fail> {
     for n in 0..MOST_GROWTHS {

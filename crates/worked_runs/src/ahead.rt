@@ -1,4 +1,4 @@
-//! A run whose round has proposals enough for a second worker, with each growth of memory refused in turn.
+//! A run whose round has enough proposals for a second worker, with each growth of memory refused in turn.
 ghost use Rattle.std.specs.Prelude.{◌≡◌};
 
 use crate::makes::{Ask, Numbers};
@@ -30,10 +30,10 @@ const SECOND_PROPOSAL: u32 = 42;
 
 const CLOSE: u32 = 82;
 
-// All requests and their verdicts have room in the rings.
+// The rings have room for all requests and their verdicts.
 const RING: u32 = 128;
 
-/// The guest proposes the other pages while the first proposal is being served. So one round has all of them.
+/// Lets the guest propose the other pages while the first proposal is being served, so that one round has all of them.
 #[derive(Drop)]
 struct Meeting {
     first_came: AtomicBool,
@@ -50,7 +50,7 @@ impl Meeting {
         }
     }
 
-    // Notes where the flag is never seen.
+    // Waits for the flag, and notes it if the flag is never seen.
     fn wait_for(&self, flag: &AtomicBool) {
         for _ in 0..TRIES {
             if flag.load(Ordering::SeqCst) {
@@ -74,7 +74,7 @@ impl Gate for Meeting {
     fn after(&self, _guest: u8, _nth: u32) {}
 }
 
-/// Byte 0 of the page, told for the page that is proposed first once all others were proposed.
+/// Hashes to byte 0 of the page; for the page that is proposed first, only once all others were proposed.
 #[derive(Drop)]
 struct Waiting<'a> {
     meeting: &'a Meeting,
@@ -96,7 +96,7 @@ impl<'a> PageHash for Waiting<'a> {
     }
 }
 
-/// A store to each page, each of another byte, and then the proposals.
+/// Makes a script: a store to each page, each of another byte, and then the proposals.
 fn script(alloc: Global) -> Result<Vec<Ask>, AllocError> {
     let mut asks = Vec::new(alloc);
     for n in 0..PAGES {
@@ -109,7 +109,7 @@ fn script(alloc: Global) -> Result<Vec<Ask>, AllocError> {
     Ok(asks)
 }
 
-/// The verdict of request number `nth`.
+/// Returns the expected verdict of request number `nth`.
 fn due(nth: usize) -> Verdict {
     if nth < PAGES {
         Verdict::Mapped
@@ -130,9 +130,9 @@ fn check_whole<A: Allocator>(rt: &impl Abort, ran: &Outcome<A>) {
     assert_eq!(rt; ran.report, [83, 41, 0, 41, 0, 41]);
 }
 
-// The run's nth request for memory is refused, n counting up until a run has no refusal. Before the first whole run each
-// refusal is told. The later ones are of a round, whose memory is for its workers alone: they change nothing, and there
-// are some, so that the run serves by rounds.
+// The run's nth request for memory is refused, with n counting up until a run has no refusal. Before the first whole
+// run, each refusal is reported. The later ones are of a round, whose memory is for its workers alone: they change
+// nothing, and there are some, so the run serves by rounds.
 #[test]
 fn rounds_refused_in_turn(rt: HostRuntime) -> Result<(), Fail> {
     let asks = script(rt.alloc())?;

@@ -1,4 +1,4 @@
-//! How often, and in which order, a run calls its gate.
+//! How often, and in what order, a run calls its gate.
 use crate::makes::{Ask, Numbers};
 use crate::plain::replayed;
 use merge_run::Gate;
@@ -23,7 +23,7 @@ impl Calls {
         }
     }
 
-    /// How often each of the two was called.
+    /// Returns how often each of the two was called.
     fn numbers(&self) -> (u32, u32) {
         (
             self.before.load(Ordering::SeqCst),
@@ -32,8 +32,8 @@ impl Calls {
     }
 }
 
-/// It counts the calls of each guest, and notes one whose number isn't the next, or a verdict before its send. It keeps
-/// how much is to come, and notes where that is told twice, or after a send.
+/// Counts the calls of each guest, and notes one whose number isn't the next, or a verdict before its send. It keeps
+/// how much is to come, and notes if it hears that twice, or after a send.
 #[derive(Drop)]
 struct Counting {
     guests: [Calls; GUESTS],
@@ -56,7 +56,7 @@ impl Counting {
         }
     }
 
-    /// How often each of the two was called for a guest.
+    /// Returns how often each of the two was called for a guest.
     fn calls(&self, guest: usize) -> Option<(u32, u32)> {
         let calls = self.guests.get(guest)?;
         Some(calls.numbers())
@@ -100,7 +100,8 @@ fn loads(alloc: Global, times: u32) -> Result<Vec<Ask>, AllocError> {
     Ok(asks)
 }
 
-// Before each send and after each verdict once, the close among them, though a ring of one item has many tries fail.
+// The gate is called once before each send and once after each verdict, the close included, though with a ring of one
+// item many tries fail.
 #[test]
 fn gate_is_called_once_for_each_number(rt: HostRuntime) -> Result<(), Fail> {
     let numbers = Numbers {

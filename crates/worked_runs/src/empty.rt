@@ -1,4 +1,4 @@
-//! Guests that send their closes alone, and machines without guests.
+//! Guests that send only their closes, and machines without guests.
 use crate::makes::Numbers;
 use crate::plain::{fault_of, got, replayed};
 use merge_run::{JournalFull, OpenGate, RunFault};
@@ -64,7 +64,7 @@ fn no_frames_and_no_guests(rt: HostRuntime) -> Result<(), Fail> {
     Ok(())
 }
 
-// A machine that there can't be is answered as such, whatever the number of scripts.
+// A machine that can't exist is answered as such, whatever the number of scripts.
 #[test]
 fn no_machine_for_a_script(rt: HostRuntime) -> Result<(), Fail> {
     let numbers = Numbers {

@@ -1,4 +1,4 @@
-//! The order in which the causes of a run's fault are looked at.
+//! The order in which the causes of a run's fault are checked.
 use crate::makes::{Ask, Numbers};
 use crate::plain::fault_without_memory;
 use merge_run::{JournalFull, RunFault};
@@ -13,7 +13,8 @@ type Case = (u32, (u32, u32), &'static [u32], u32, u32, RunFault);
 
 const STOPPED: RunFault = RunFault::Stopped(JournalFull);
 
-// The two scripts need eight entries. All memory is refused as well, and none is asked for before the last cause.
+// The two scripts need eight entries. All memory is refused as well, but none is asked for until every other cause is
+// checked.
 #[test]
 fn order_of_faults(rt: HostRuntime) -> Result<(), Fail> {
     let cases: [Case; 14] = [

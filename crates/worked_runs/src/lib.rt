@@ -1,4 +1,4 @@
-//! Worked runs: the public call `merge_run::run`, which starts a thread for each guest. This crate has tests alone.
+//! Worked runs: the public call `merge_run::run`, which starts a thread for each guest. This crate has only tests.
 #![tactic(auto)]
 
 #[cfg(test)]

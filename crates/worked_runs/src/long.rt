@@ -14,7 +14,7 @@ fn byte(byte: u8) -> Verdict {
     Verdict::Bytes(bytes)
 }
 
-// Stores and loads in turn, over rings of one item each.
+// Alternate stores and loads, over rings of one item each.
 #[test]
 fn fifty_requests_over_one_slot(rt: HostRuntime) -> Result<(), Fail> {
     let mut asks = Vec::new(rt.alloc());

@@ -1,4 +1,4 @@
-//! Machines' numbers and scripts, by hand and as a run takes them.
+//! Machines' numbers and scripts, written by hand and as a run takes them.
 ghost use Rattle.std.specs.Prelude.{◌≡◌, false, All, length, IfOk};
 ghost use Rattle.share_rings.specs.Closing.{has_close, is_close};
 ghost use Rattle.merge_run.specs.Runs.{CanBeRun};
@@ -8,10 +8,10 @@ use page_model::Request;
 use std::alloc::{AllocError, Allocator};
 use std::process::Abort;
 
-/// What a script asks of a page. It is no close, since a run sends that itself.
+/// What a script requests of a page. It is never a close, since a run sends that itself.
 #[derive(Clone, Copy, Debug, PartialEq, Eq)]
 pub enum Ask {
-    /// A store of one byte at the page's front.
+    /// A store of one byte at the page's start.
     Store(u32, u8),
     /// A load of that byte.
     Load(u32),
@@ -20,7 +20,7 @@ pub enum Ask {
     Count,
 }
 
-/// The request itself.
+/// Returns the request itself.
 pub fn request_of(ask: Ask) -> Request
     ensures { is_close result ≡ false }
 {
@@ -34,7 +34,7 @@ pub fn request_of(ask: Ask) -> Request
     made.unwrap_or(Request::Count)
 }
 
-/// The script of one guest.
+/// Makes the script of one guest.
 pub fn script_of<A: Allocator>(alloc: A, asks: &[Ask]) -> Result<Vec<Request, A>, AllocError>
     ensures { IfOk result (λ script. has_close script.items ≡ false) }
 {
@@ -45,7 +45,7 @@ pub fn script_of<A: Allocator>(alloc: A, asks: &[Ask]) -> Result<Vec<Request, A>
     Ok(script)
 }
 
-/// The scripts of all guests, guest 0's first.
+/// Makes the scripts of all guests, guest 0's first.
 pub fn scripts_of<A: Allocator + Copy>(
     alloc: A,
     asks: &[&[Ask]],
@@ -77,7 +77,7 @@ pub struct Setting<A: Allocator> {
     pub scripts: Vec<Vec<Request, A>, A>,
 }
 
-/// The machine's numbers as a run takes them.
+/// Returns the machine's numbers as a run takes them.
 pub fn config_of<A: Allocator + Copy>(
     alloc: A,
     numbers: &Numbers<'_>,
@@ -94,8 +94,8 @@ pub fn config_of<A: Allocator + Copy>(
     })
 }
 
-/// What is run: a script for each guest, but where there is no such machine for want of frames. Two lists are taken for
-/// the machine's numbers, then one for the scripts and one for each of them.
+/// Makes what is run: a script for each guest, unless there is no such machine because it has no frames. It takes two
+/// lists for the machine's numbers, then one for the scripts and one for each of them.
 pub fn setting_of<A: Allocator + Copy>(
     rt: &impl Abort,
     alloc: A,

@@ -1,4 +1,4 @@
-//! The most guests that there may be, with a thousand requests each.
+//! The most guests that there can be, with a thousand requests each.
 ghost use Rattle.std.specs.Prelude.{◌≡◌, false, All, length, IfOk};
 ghost use Rattle.share_rings.specs.Closing.{has_close};
 ghost use Rattle.merge_run.specs.Runs.{CanBeRun};
@@ -23,8 +23,8 @@ const FRAMES: u32 = 60;
 
 const RING: u32 = 8;
 
-/// Request number n of a guest, page after page. Few contents are stored, so that pages of different guests are often
-/// equal.
+/// Returns request number n of a guest, page after page. Few contents are stored, so pages of different guests are
+/// often equal.
 fn ask(guest: u32, n: u32) -> Ask {
     let turn = n / 8;
     let ppn = turn % PAGES;
@@ -60,7 +60,7 @@ fn scripts(alloc: Global) -> Result<Vec<Vec<Request>>, AllocError>
     Ok(scripts)
 }
 
-/// Guests of even numbers have one salt, and those of odd numbers another.
+/// Returns one salt for guests of even numbers, and another for those of odd numbers.
 fn salts() -> [u32; 64] {
     let mut salts = [0u32; 64];
     for guest in (0..64usize).step_by(2) {

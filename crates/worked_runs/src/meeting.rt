@@ -1,4 +1,4 @@
-//! Two guests that wait for each other, so that the run ends only where each has a thread of its own.
+//! Two guests that wait for each other, so that the run ends only if each has its own thread.
 use crate::makes::{Ask, Numbers};
 use crate::plain::{fault_of, got, replayed};
 use merge_run::{Gate, JournalFull, RunFault};
@@ -12,7 +12,7 @@ const TRIES: u64 = 1 << 30;
 // Each guest stores the same byte to its page, and proposes it.
 const SCRIPT: [Ask; 2] = [Ask::Store(0, 0x41), Ask::Propose(0)];
 
-/// Neither guest sends before both are about to, and guest 0 proposes after guest 1 got its first verdict.
+/// Makes neither guest send before both are about to, and guest 0 propose only after guest 1 got its first verdict.
 #[derive(Drop)]
 struct Meeting {
     first_came: AtomicBool,
@@ -31,7 +31,7 @@ impl Meeting {
         }
     }
 
-    /// Waits for a flag, and notes a failure where it is never seen.
+    /// Waits for a flag, and notes a failure if it is never seen.
     fn wait_for(&self, flag: &AtomicBool) {
         for _ in 0..TRIES {
             if flag.load(Ordering::SeqCst) {
@@ -106,7 +106,7 @@ fn guests_that_wait_for_each_other(rt: HostRuntime) -> Result<(), Fail> {
     Ok(())
 }
 
-// Where the journal lacks room for one request, no guest begins.
+// If the journal lacks room for one request, no guest begins.
 #[test]
 fn no_guest_begins_without_room(rt: HostRuntime) -> Result<(), Fail> {
     let numbers = Numbers {

@@ -1,4 +1,4 @@
-//! Whole runs whose answers are plain data. No function here that a test calls has a clause, so that no test carries those
+//! Whole runs whose answers are plain data. No function here that a test calls has a clause, so no test carries those
 //! of a run.
 ghost use Rattle.std.specs.Prelude.{◌≡◌};
 ghost use Rattle.merge_run.specs.Runs.{CanBeRun};
@@ -15,7 +15,7 @@ use std::sync::Wait;
 use std::test::Fail;
 use std::thread::Threads;
 
-/// What is compared of a run.
+/// What a test compares of a run.
 #[derive(Drop)]
 pub struct Outcome<A: Allocator = Global> {
     /// Each guest's verdicts, oldest first, and guest 0's list first.
@@ -26,7 +26,7 @@ pub struct Outcome<A: Allocator = Global> {
     pub journal: usize,
 }
 
-/// A guest's verdicts, oldest first; none where there is no such guest.
+/// Returns a guest's verdicts, oldest first; none if there is no such guest.
 pub fn got<A: Allocator>(ran: &Outcome<A>, guest: usize) -> &[Verdict] {
     match ran.verdicts.get(guest) {
         Some(list) => list,
@@ -34,7 +34,7 @@ pub fn got<A: Allocator>(ran: &Outcome<A>, guest: usize) -> &[Verdict] {
     }
 }
 
-/// How often a verdict stands in the lists of all guests.
+/// Returns how often a verdict is in the lists of all guests.
 pub fn times_got(ran: &Outcome, verdict: &Verdict) -> u32 {
     let mut times = 0u32;
     for list in &ran.verdicts {
@@ -72,7 +72,7 @@ fn compared<H: PageHash + Drop, A: Allocator>(finished: Finished<H, A>) -> Outco
     }
 }
 
-/// The run itself.
+/// Runs the scripts.
 fn run_plainly<
     R: Threads + Wait + Sync,
     H: PageHash + Drop,
@@ -91,7 +91,7 @@ fn run_plainly<
     run(rt, alloc, config, hash, scripts, gate)
 }
 
-/// A run of these scripts, with all memory from one allocator.
+/// Runs these scripts, with all memory from one allocator.
 pub fn ran<
     R: Threads + Wait + Sync + Abort,
     H: PageHash + Drop,
@@ -110,7 +110,7 @@ pub fn ran<
     Ok(compared(finished))
 }
 
-/// Why there is no such run under SHA-256.
+/// Returns why there is no such run under SHA-256.
 pub fn fault_of<R: Threads + Wait + Sync + Abort, G: Gate + Sync>(
     rt: &R,
     alloc: Global,
@@ -121,7 +121,7 @@ pub fn fault_of<R: Threads + Wait + Sync + Abort, G: Gate + Sync>(
     ran(rt, alloc, numbers, asks, Sha256Hash, gate).err()
 }
 
-/// The same where all memory is refused once the scripts are made.
+/// Returns the same when all memory is refused once the scripts are made.
 pub fn fault_without_memory<R: Threads + Wait + Sync + Abort>(
     rt: &R,
     heap: &Refusing<Global>,
@@ -133,7 +133,7 @@ pub fn fault_without_memory<R: Threads + Wait + Sync + Abort>(
     run_plainly(rt, heap, &config, Sha256Hash, scripts, &OpenGate).err()
 }
 
-/// A run whose journal one thread replays to the same verdicts and report.
+/// Runs these scripts, and checks that one thread replays the journal to the same verdicts and report.
 pub fn replayed<R: Threads + Wait + Sync + Abort, G: Gate + Sync>(
     rt: &R,
     alloc: Global,
@@ -145,7 +145,7 @@ pub fn replayed<R: Threads + Wait + Sync + Abort, G: Gate + Sync>(
     replayed_setting(rt, alloc, setting, gate)
 }
 
-/// The same of a setting.
+/// Does the same for a setting.
 pub fn replayed_setting<R: Threads + Wait + Sync + Abort, G: Gate + Sync>(
     rt: &R,
     alloc: Global,

@@ -14,7 +14,7 @@ const MOST: u64 = 200;
 // The requests before those of the run: the two lists of the configuration, and three for the scripts.
 const BEFORE: u64 = 5;
 
-// Guest 1 alone proposes, so that each order gives these verdicts.
+// Only guest 1 proposes, so each order gives these verdicts.
 const FIRST: [Ask; 1] = [Ask::Store(0, 0x41)];
 
 const SECOND: [Ask; 2] = [Ask::Store(0, 0x41), Ask::Propose(0)];
@@ -28,8 +28,8 @@ fn check_whole<A: Allocator>(rt: &impl Abort, ran: &Outcome<A>) {
     assert_eq!(rt; ran.report, [5, 2, 0, 2, 0, 1]);
 }
 
-// The run's nth request for memory is refused, n counting up until a run has no refusal. `NoThread` doesn't come, since
-// the start of a thread asks the system for memory, and no allocator of a caller's.
+// The run's nth request for memory is refused, with n counting up until a run has no refusal. `NoThread` doesn't occur,
+// since starting a thread asks the system for memory, and no allocator of a caller.
 #[test]
 fn run_refused_in_turn(rt: HostRuntime) -> Result<(), Fail> {
     let numbers = Numbers {

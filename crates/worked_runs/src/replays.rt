@@ -7,7 +7,7 @@ use std::alloc::{AllocError, Global};
 use std::process::Abort;
 use std::test::Fail;
 
-/// An empty list for each guest.
+/// Makes an empty list for each guest.
 fn empty_lists(alloc: Global, guests: usize) -> Result<Vec<Vec<Verdict>>, AllocError> {
     let mut lists = Vec::new(alloc);
     for _ in 0..guests {
@@ -16,7 +16,7 @@ fn empty_lists(alloc: Global, guests: usize) -> Result<Vec<Vec<Verdict>>, AllocE
     Ok(lists)
 }
 
-/// A fresh core of these numbers.
+/// Makes a fresh core of these numbers.
 fn new_core(alloc: Global, config: &Config) -> Result<Core<Sha256Hash>, CoreFault> {
     Core::new(
         alloc,
@@ -33,7 +33,7 @@ fn apply(rt: &impl Abort, core: &mut Core<Sha256Hash>, entry: &Entry) -> Verdict
     core.apply(entry.guest, &entry.request)
 }
 
-/// Each guest's verdicts, and the core after the last entry.
+/// Returns each guest's verdicts, and the core after the last entry.
 fn apply_all(
     rt: &impl Abort,
     alloc: Global,
@@ -50,7 +50,7 @@ fn apply_all(
     Ok((core, lists))
 }
 
-/// A fresh core that applies the journal entry by entry gives each guest's verdicts and the report.
+/// Checks that a fresh core that applies the journal entry by entry gives each guest's verdicts and the report.
 pub fn check_replay(
     rt: &impl Abort,
     alloc: Global,

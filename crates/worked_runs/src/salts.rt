@@ -1,11 +1,11 @@
-//! Pages of one content are shared between guests of one salt alone.
+//! Pages of one content are shared only between guests of one salt.
 use crate::makes::{Ask, Numbers};
 use crate::plain::{got, replayed, times_got};
 use merge_run::OpenGate;
 use page_model::Verdict;
 use std::test::Fail;
 
-// The order in which guests 0 and 2 propose is free: the first of them gets a hint, and the other pairs with it.
+// Guests 0 and 2 may propose in either order: the first of them gets a hint, and the other pairs with it.
 #[test]
 fn one_page_each(rt: HostRuntime) -> Result<(), Fail> {
     let script = [Ask::Store(0, 0x41), Ask::Propose(0)];

@@ -17,19 +17,19 @@ fn add<R: Abort, A: Allocator>(rt: &R, chains: &mut Chains<A>, capacity: u32, en
     }
 }
 
-// One page more for the frame under `hash`. The count before.
+// Counts one page more for the frame under `hash`. Returns the count before.
 fn count_up<R: Abort, A: Allocator>(rt: &R, chains: &mut Chains<A>, hash: u64) -> u16 {
     assert!(rt; chains.find_shared(hash).is_some());
     chains.count_up(hash)
 }
 
-// One page less for the frame under `hash`. The count before.
+// Counts one page less for the frame under `hash`. Returns the count before.
 fn count_down<R: Abort, A: Allocator>(rt: &R, chains: &mut Chains<A>, hash: u64) -> u16 {
     assert!(rt; chains.find_shared(hash).is_some());
     chains.count_down(hash)
 }
 
-// The frame under `hash` has another MPN and count.
+// Gives the frame under `hash` another MPN and count.
 fn replace<R: Abort, A: Allocator>(
     rt: &R,
     chains: &mut Chains<A>,

@@ -1,4 +1,4 @@
-//! Frames at their limits, taken, copied and given back, and with memory refused.
+//! Frames at their limits, frames taken, copied and given back, and frames with memory refused.
 ghost use Rattle.machine_frames.specs.FrameMap.{IsTaken};
 
 use machine_frames::{Frames, FramesFault};
@@ -19,7 +19,7 @@ fn limits(rt: HostRuntime) {
     assert!(rt; Frames::new(rt.alloc(), 1).is_ok());
 }
 
-// The most frames there are: their room is reserved, and the memory of one alone is touched.
+// The most frames that there can be: their room is reserved, and the memory of only one is touched.
 #[test]
 fn most_frames(rt: HostRuntime) -> Result<(), Fail> {
     let mut frames = Frames::new(rt.alloc(), MAX_FRAMES).map_err(|_| "no frames")?;
@@ -64,7 +64,7 @@ fn use_another<A: Allocator>(frames: &mut Frames<A>, mpn: u32) -> Result<(), Fai
     Ok(())
 }
 
-// A frame that was given back with other bytes in it is taken again as a copy.
+// A frame that was given back with other bytes is taken again as a copy.
 #[test]
 fn copied_again(rt: HostRuntime) -> Result<(), Fail> {
     let mut frames = Frames::new(rt.alloc(), 2).map_err(|_| "no frames")?;
@@ -80,7 +80,7 @@ fn copied_again(rt: HostRuntime) -> Result<(), Fail> {
 
 const MOST_REQUESTS: u64 = 100;
 
-// Request number n is refused, n counting up until a run has no refusal.
+// Request number n is refused, with n counting up until a run has no refusal.
 #[test]
 fn refused_growth(rt: HostRuntime) -> Result<(), Fail> {
     let mut whole_at = None;

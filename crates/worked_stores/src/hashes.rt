@@ -1,4 +1,4 @@
-//! Hashes of pages: values from outside, four pages together against each alone, and many by several workers.
+//! Hashes of pages: values from outside, four pages together compared with each alone, and many by several workers.
 mod apart;
 mod known;
 mod makes;

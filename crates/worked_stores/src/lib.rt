@@ -1,5 +1,5 @@
 //! Worked stores of pages and hashes of them, by the public calls of the crates that keep and compute them.
-//! This crate has tests alone.
+//! This crate has only tests.
 #![tactic(auto)]
 
 #[cfg(test)]

@@ -36,14 +36,14 @@ fn put<R: Abort, A: Allocator>(
     table.put_hint(key, hint.guest, hint.ppn, hint.mpn);
 }
 
-// One more page for the frame under `hash`.
+// Counts one page more for the frame under `hash`.
 fn join<R: Abort, A: Allocator>(rt: &R, table: &mut Table<A>, hash: u64) -> u32 {
     assert!(rt; table.find_shared(hash).is_some());
     assert!(rt; table.references() < 1_048_576);
     table.join(hash)
 }
 
-// One page less for the frame under `hash`.
+// Counts one page less for the frame under `hash`.
 fn leave<R: Abort, A: Allocator>(rt: &R, table: &mut Table<A>, hash: u64) -> u32 {
     assert!(rt; table.find_shared(hash).is_some());
     table.leave(hash)
@@ -71,7 +71,7 @@ fn show<A: Allocator>(table: &Table<A>) -> (u32, Option<u16>, u32) {
     (table.count(7), table.field(7), table.extended())
 }
 
-// A frame of two pages that 65,534 more join, and all leave.
+// Adds a frame of two pages, which 65,534 more join, and all leave.
 fn widen<R: Abort, A: Allocator>(rt: &R, table: &mut Table<A>)
     requires { table.old.capacity ≡ 1 }
 {
@@ -128,7 +128,7 @@ fn one_chain(rt: HostRuntime) -> Result<(), Fail> {
     Ok(())
 }
 
-// Request number n is refused, n counting up until there is no refusal. Nothing is asked for later.
+// Request number n is refused, with n counting up until there is no refusal. Nothing is asked for later.
 #[test]
 fn new_refused_in_turn(rt: HostRuntime) {
     let mut whole_at = None;
@@ -163,7 +163,7 @@ fn greatest_capacity(rt: HostRuntime) -> Result<(), Fail> {
     Ok(())
 }
 
-// At most 20 bytes a frame of 4,096 bytes, and at least 18 where the capacity isn't a power of two.
+// At most 20 bytes a frame of 4,096 bytes, and at least 18 if the capacity isn't a power of two.
 #[test]
 fn bytes_a_frame(rt: HostRuntime) -> Result<(), Fail> {
     for (capacity, bytes) in [
@@ -193,8 +193,8 @@ fn packed_bounds(rt: HostRuntime) {
     assert!(rt; Packed::shared(0, 0, 1, 8_388_607).is_some());
 }
 
-// The worked frames, read: a shared frame with its count, one whose count stands elsewhere, and a hint frame. That they are
-// written so follows, since what is read is written as those bytes.
+// The worked frames, read: a shared frame with its count, one whose count is elsewhere, and a hint frame. It follows
+// that they are written so, since what is read is written as those bytes.
 #[test]
 fn packed_values(rt: HostRuntime) {
     let shared = [
@@ -212,7 +212,7 @@ fn packed_values(rt: HostRuntime) {
     assert!(rt; Packed::read(&hint) == Packed::hint(0xdead_beef, 2, 0x102, 0xabcd, 9));
 }
 
-// Tag 0 beside a count is no frame.
+// Tag 0 with a count is no frame.
 #[test]
 fn no_frame(rt: HostRuntime) {
     let refused = [

@@ -2,7 +2,7 @@
 use std::alloc::Global;
 use std::io::{self, ErrorKind, Read, Write};
 
-/// Fails at one of its calls alone, counted from 0, and counts its calls and the bytes that each was given.
+/// Fails at only one of its calls, counted from 0, and counts its calls and the bytes that each was given.
 #[derive(Clone, Copy)]
 pub struct Calls {
     pub fails_at: usize,
@@ -19,7 +19,7 @@ impl Calls {
         }
     }
 
-    /// Counts one more call, with a buffer of so many bytes, and answers whether it is the one that fails.
+    /// Counts one more call, with a buffer of `given` bytes, and returns whether it is the one that fails.
     fn fails_next(&mut self, given: usize) -> bool {
         let fails = self.made == self.fails_at;
         self.made = self.made.saturating_add(1);
@@ -28,7 +28,7 @@ impl Calls {
     }
 }
 
-/// Gives at most `step` bytes of a text at a call.
+/// Returns at most `step` bytes of a text per call.
 #[derive(Drop)]
 pub struct Giver<'a> {
     pub text: &'a [u8],
@@ -48,7 +48,7 @@ impl Read for Giver<'_> {
     }
 }
 
-/// Takes at most `step` bytes at a call.
+/// Takes at most `step` bytes per call.
 #[derive(Drop)]
 pub struct Taker {
     pub taken: Vec<u8>,

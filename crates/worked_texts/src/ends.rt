@@ -1,4 +1,4 @@
-//! Readers and writers that fail, at each place, and what the engines make of them. And an input that is too long.
+//! Readers and writers that fail, at each place, and what the engines make of them. Also an input that is too long.
 use crate::engine::{Case, Engine, cases, serve};
 use page_digest::Sha256Hash;
 use share_text::{Output, TextFault};
@@ -7,7 +7,7 @@ use std::io::{self, ErrorKind, Read, Write};
 use std::sync::Wait;
 use std::thread::Threads;
 
-/// Gives at most `step` bytes a read, and fails once it has answered `reads` reads.
+/// Returns at most `step` bytes per read, and fails once it has answered `reads` reads.
 #[derive(Drop)]
 struct Halting<'a> {
     text: &'a [u8],
@@ -52,7 +52,7 @@ impl Write for Narrow {
     }
 }
 
-/// Gives so many bytes `a`.
+/// Returns `left` bytes `a` in all.
 #[derive(Drop)]
 struct Letters {
     left: usize,
@@ -67,7 +67,7 @@ impl Read for Letters {
     }
 }
 
-/// Whether nothing is written where a reader fails behind so many reads.
+/// Whether nothing is written if a reader fails after this many reads.
 fn is_unread<T: Threads + Wait + Sync>(
     rt: &T,
     alloc: Global,
@@ -82,7 +82,7 @@ fn is_unread<T: Threads + Wait + Sync>(
     ended.is_refused(TextFault::Read) && ended.read_failed && out.is_empty()
 }
 
-/// Whether a writer with little room takes just the front of what is due, and the engine tells that it failed.
+/// Whether a writer with little room takes exactly the front of the output, and the engine reports that it failed.
 fn is_front<T: Threads + Wait + Sync>(
     rt: &T,
     alloc: Global,
@@ -100,7 +100,8 @@ fn is_front<T: Threads + Wait + Sync>(
         && case.output.as_bytes().starts_with(&narrow.taken)
 }
 
-/// Whether a reader that halts behind the read which finds the text's end gives the whole text, and the output is whole.
+/// Whether a reader that halts after the read which finds the text's end returns the whole text, and the output is
+/// whole.
 fn is_whole<T: Threads + Wait + Sync>(rt: &T, alloc: Global, case: &Case) -> bool {
     let text = case.text.as_bytes();
     let reads = text.len().saturating_add(1);

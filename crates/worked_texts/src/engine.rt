@@ -20,7 +20,7 @@ pub enum Engine {
     Threaded(Output),
 }
 
-/// A text of an engine, and what the engine writes of it.
+/// A text for an engine, and what the engine writes for it.
 #[derive(Clone, Copy)]
 pub struct Case {
     pub engine: Engine,
@@ -28,7 +28,7 @@ pub struct Case {
     pub output: &'static str,
 }
 
-/// Each engine in each form, with a text that has one output.
+/// Returns each engine in each form, with a text that has one output.
 pub fn cases() -> [Case; 5] {
     [
         Case {
@@ -79,9 +79,9 @@ impl Ended {
     }
 }
 
-/// How an engine serves a reader's text and writes to a writer, allocating by `heap`.
+/// Serves a reader's text by an engine and writes to a writer, with memory from `heap`. Returns how the engine ended.
 ///
-/// It promises nothing, so that no test carries the engines' contracts through its body.
+/// It promises nothing, so no test carries the engines' contracts through its body.
 pub fn serve<
     T: Threads + Wait + Sync,
     A: Allocator + Copy + Send + Sync,
@@ -109,7 +109,7 @@ pub fn serve<
     }
 }
 
-/// How an engine serves a text, and what it writes. `heap` is what the engine allocates by, and the output stands in other
+/// Returns how an engine serves a text, and what it writes. The engine allocates by `heap`, and the output is in other
 /// memory.
 pub fn served_in<T: Threads + Wait + Sync, A: Allocator + Copy + Send + Sync, H: PageHash + Drop>(
     rt: &T,

@@ -1,4 +1,4 @@
-//! What the engines write under weak hashes, where pages of several contents have one hash.
+//! What the engines write under weak hashes, when pages of several contents have one hash.
 use crate::engine::{Engine, writes};
 use crate::journals::{self, Row};
 use crate::scripts;
@@ -9,7 +9,7 @@ use std::alloc::Global;
 use std::sync::Wait;
 use std::thread::Threads;
 
-/// 0 for every page.
+/// Hashes every page to 0.
 #[derive(Clone, Copy)]
 struct ZeroHash;
 
@@ -34,7 +34,7 @@ fn prints<T: Threads + Wait + Sync, H: PageHash + Drop>(
     writes(rt, alloc, engine, row.text, hash, row.output)
 }
 
-/// Whether the row of one guest, which has one journal, is written in turn and by threads alike.
+/// Whether the row of one guest, which has one journal, is written alike in turn and by threads.
 fn prints_alike<T: Threads + Wait + Sync, H: PageHash + Copy + Drop>(
     rt: &T,
     alloc: Global,

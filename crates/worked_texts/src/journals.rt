@@ -1,6 +1,6 @@
 //! Journals, with what their replays write.
 
-/// A text, and what an engine writes of it.
+/// A text, and what an engine writes for it.
 #[derive(Clone, Copy)]
 pub struct Row {
     pub name: &'static str,
@@ -8,7 +8,7 @@ pub struct Row {
     pub output: &'static str,
 }
 
-/// A journal of a close alone.
+/// A journal that has only a close.
 pub const CLOSE_ALONE: &str = "pageshare journal 1\nframes 1\npages 1\n0 close\nend 1\n";
 
 /// A journal of loads, most of them of zeros.
@@ -210,7 +210,7 @@ pub fn hint_moved() -> Row {
     }
 }
 
-/// By `FirstByteHash`.
+/// Served with `FirstByteHash`.
 pub fn false_match() -> Row {
     Row {
         name: "false match",
@@ -236,7 +236,7 @@ pub fn false_match() -> Row {
     }
 }
 
-/// By `FirstByteHash`.
+/// Served with `FirstByteHash`.
 pub fn false_match_again() -> Row {
     Row {
         name: "false match again",
@@ -264,7 +264,7 @@ pub fn false_match_again() -> Row {
     }
 }
 
-/// By `TwoByteHash`.
+/// Served with `TwoByteHash`.
 pub fn one_key_two_hashes() -> Row {
     Row {
         name: "one key two hashes",
@@ -296,7 +296,7 @@ pub fn one_key_two_hashes() -> Row {
     }
 }
 
-/// The requests of `stale_hint`, by a hash that is 0 for every page.
+/// The requests of `stale_hint`, served with a hash that is 0 for every page.
 pub fn weak_hash() -> Row {
     Row {
         name: "weak hash",

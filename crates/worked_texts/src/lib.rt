@@ -1,5 +1,5 @@
 //! The calls and the engines of `share_text`: journals and scripts, read, written and served under each hash, and what each
-//! engine makes of ends that fail. This crate has tests alone.
+//! engine makes of ends that fail. This crate has only tests.
 #![tactic(auto)]
 
 #[cfg(test)]

@@ -1,4 +1,4 @@
-//! The lines of the greatest numbers.
+//! The lines with the greatest numbers.
 use arrayvec::ArrayVec;
 use page_model::{Report, Verdict};
 use share_text::{report_line, verdict_line};

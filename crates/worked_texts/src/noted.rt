@@ -16,7 +16,7 @@ fn letters(alloc: Global, len: usize) -> Result<Vec<u8>, AllocError> {
     Ok(bytes)
 }
 
-/// The kind of the failure of a call, or how many bytes went through.
+/// Returns the kind of the failure of a call, or how many bytes went through.
 fn shown(answer: io::Result<usize>) -> Result<usize, ErrorKind> {
     match answer {
         Ok(n) => Ok(n),
@@ -85,7 +85,7 @@ fn one_write_makes_one_inner_write(rt: HostRuntime) -> Result<(), Fail> {
     Ok(())
 }
 
-/// An end that failed has failed, also after a later call that went well.
+/// An end that failed stays failed, even after a later call that went well.
 #[test]
 fn a_failure_is_remembered(rt: HostRuntime) -> Result<(), Fail> {
     let mut buf = letters(rt.alloc(), 8)?;
@@ -115,7 +115,7 @@ fn a_failure_is_remembered(rt: HostRuntime) -> Result<(), Fail> {
     Ok(())
 }
 
-/// An output of more than 65,536 bytes goes out by writes of more than 65,000 bytes, and is whole.
+/// An output of more than 65,536 bytes goes out in writes of more than 65,000 bytes, and is whole.
 #[test]
 fn a_long_output_is_whole(rt: HostRuntime) -> Result<(), Fail> {
     let mut input = String::from_str(rt.alloc(), "pageshare journal 1\nframes 1\npages 1\n")?;

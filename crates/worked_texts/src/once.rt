@@ -1,4 +1,4 @@
-//! Readers and writers that fail at one of their calls and would go on: the engine asks them no more.
+//! Readers and writers that fail at one of their calls and would go on: the engine doesn't call them again.
 use crate::calls::{Calls, Giver, taker_of};
 use crate::engine::{Case, cases, serve};
 use page_digest::Sha256Hash;
@@ -7,12 +7,12 @@ use std::alloc::Global;
 use std::sync::Wait;
 use std::thread::Threads;
 
-/// So many calls of 10 bytes each go over these bytes.
+/// Returns how many calls of 10 bytes each cover these bytes.
 fn calls_over(bytes: &str) -> usize {
     bytes.len().saturating_add(9) / 10
 }
 
-/// Whether a reader that fails at this call is asked no more, and nothing is written.
+/// Whether a reader that fails at this call isn't called again, and nothing is written.
 fn is_read_no_more<T: Threads + Wait + Sync>(
     rt: &T,
     alloc: Global,
@@ -32,7 +32,7 @@ fn is_read_no_more<T: Threads + Wait + Sync>(
         && giver.calls.made == fails_at.saturating_add(1)
 }
 
-/// Whether a writer that fails at this call is asked no more, and has taken a front of the output.
+/// Whether a writer that fails at this call isn't called again, and has taken a front of the output.
 fn is_written_no_more<T: Threads + Wait + Sync>(
     rt: &T,
     alloc: Global,
@@ -49,7 +49,7 @@ fn is_written_no_more<T: Threads + Wait + Sync>(
         && case.output.as_bytes().starts_with(&taker.taken)
 }
 
-// One more read than goes over the text finds its end.
+// The text's end is found by one more read than covers the text.
 #[test]
 fn readers_that_fail_once(rt: HostRuntime) {
     for case in cases() {

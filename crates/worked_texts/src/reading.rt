@@ -6,8 +6,8 @@ use share_text::{TextFault, fault_line, read_journal, read_script, report_line, 
 use std::alloc::{AllocError, Allocator, Global};
 use std::test::Fail;
 
-/// A script of one guest, whose head is given by its version's first line and the line of its salts, with this journal
-/// and these lines.
+/// Makes a script of one guest, whose head has this first line with the version and this line of salts, with this
+/// journal and these lines.
 fn script(
     alloc: Global,
     first: &str,
@@ -28,7 +28,7 @@ fn script(
 /// A store, a scan of two pages at random, and a release.
 const SCAN_SCRIPT: &str = "0 store 0 0 41\n0 scan random 7 2\n0 release 0\nend 3\n";
 
-/// Whether the scripts are those of one guest, who asks this.
+/// Whether the scripts are those of one guest with these requests.
 fn asks<A: Allocator>(scripts: &[Vec<Request, A>], wanted: &[Request]) -> bool {
     scripts.len() == 1 && scripts[0].as_slice() == wanted
 }
@@ -134,7 +134,7 @@ fn text_calls(rt: HostRuntime) -> Result<(), Fail> {
     Ok(())
 }
 
-/// A journal of two guests, whose equal pages are proposed, with this first line and this line of salts.
+/// Makes a journal of two guests whose equal pages are proposed, with this first line and this line of salts.
 fn two_guests(alloc: Global, first: &str, salts: &str) -> Result<String, AllocError> {
     let mut text = String::from_str(alloc, first)?;
     text.push_str("\nframes 2\npages 1 1\n")?;

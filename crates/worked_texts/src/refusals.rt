@@ -10,10 +10,10 @@ use std::alloc::{AllocError, Allocator, Global};
 use std::sync::Wait;
 use std::thread::Threads;
 
-/// Whether an engine under this allocator is right: it wants memory and writes nothing exactly where a growth was refused.
-/// None: the output is a journal whose order depends on the threads.
+/// Whether an engine with this allocator is right: it reports that memory was refused, and writes nothing, exactly if a
+/// growth was refused. With no `output`, the output is a journal whose order depends on the threads.
 ///
-/// `NoThread` doesn't come, since the start of a thread asks the system for memory, and no allocator of a caller's.
+/// `NoThread` doesn't occur, since starting a thread asks the system for memory, and no allocator of a caller.
 fn serves_or_wants<T: Threads + Wait + Sync>(
     rt: &T,
     alloc: Global,

@@ -1,7 +1,7 @@
-//! Scripts, with what `serial` writes of them, or of one guest any engine.
+//! Scripts, with what `serial` writes for them; for one guest, what any engine writes.
 use crate::journals::Row;
 
-/// One guest, whose journal has just room for its store, two proposals, its release and its close.
+/// One guest, whose journal has just enough room for its store, two proposals, its release and its close.
 pub fn scan() -> Row {
     Row {
         name: "scan",
@@ -37,7 +37,7 @@ pub const SCAN_JOURNAL: &str = "\
     0 close\n\
     end 5\n";
 
-/// Guest 0 has a turn less than guest 1, whose lines stand around its own.
+/// Guest 0 has one turn less than guest 1, whose lines are around its own.
 pub fn two_guests() -> Row {
     Row {
         name: "two guests",
@@ -61,8 +61,8 @@ pub fn two_guests() -> Row {
     }
 }
 
-/// What each run of `two_guests` writes by threads. Guest 1 alone proposes, so each order of their requests gives the same
-/// verdicts.
+/// What each run of `two_guests` writes by threads. Only guest 1 proposes, so each order of their requests gives the
+/// same verdicts.
 pub const VERDICTS_OF_TWO: &str = "\
     0 mapped\n\
     0 closed\n\
@@ -71,7 +71,7 @@ pub const VERDICTS_OF_TWO: &str = "\
     1 closed\n\
     report entries 5 mapped 2 shared 0 frames 2 reclaimed 0 hints 1\n";
 
-/// Three equal pages of two guests. Every hash gives the same, for nothing else is stored.
+/// Three equal pages of two guests. Every hash gives the same, because nothing else is stored.
 pub fn three_share() -> Row {
     Row {
         name: "three share",
@@ -114,7 +114,7 @@ const STALE_HINT: &str = "\
     0 propose 0\n\
     end 6\n";
 
-/// A hint page is stored to, and another page takes its place.
+/// A hint page is stored to, and another page replaces it.
 pub fn stale_hint() -> Row {
     Row {
         name: "stale hint",
@@ -131,7 +131,7 @@ pub fn stale_hint() -> Row {
     }
 }
 
-/// The same by a hash that is 0 for every page: the hint page is found under its old key, and isn't equal.
+/// The same with a hash that is 0 for every page: the hint page is found under its old key, and isn't equal.
 pub fn weak_hash() -> Row {
     Row {
         name: "weak hash",
@@ -148,7 +148,7 @@ pub fn weak_hash() -> Row {
     }
 }
 
-/// By `FirstByteHash`: two pages of two contents have one hash.
+/// With `FirstByteHash`, two pages of two contents have one hash.
 pub fn false_match() -> Row {
     Row {
         name: "false match",

@@ -47,7 +47,7 @@ fn faults_tell_what_was_expected(rt: HostRuntime) -> Result<(), Fail> {
     Ok(())
 }
 
-/// No run of a test can bring about a refused thread, so what is said of it is compared here.
+/// No run of a test can make a thread be refused, so the sentence about it is compared here.
 #[test]
 fn refused_threads_are_told(rt: HostRuntime) -> Result<(), Fail> {
     for (fault, line, wanted, shown) in [

@@ -1,10 +1,10 @@
-//! Journals written, and read again.
+//! Journals, written and read again.
 use refusing::Refusing;
 use share_text::{read_journal, write_journal};
 use std::alloc::{AllocError, Global};
 use std::test::Fail;
 
-/// A journal with a request of each kind, with this first line and this line of salts.
+/// Makes a journal with a request of each kind, with this first line and this line of salts.
 fn requests(alloc: Global, first: &str, salts: &str) -> Result<String, AllocError> {
     let mut text = String::from_str(alloc, first)?;
     text.push_str("\nframes 1048576\npages 1048575 1\n")?;
@@ -16,7 +16,7 @@ fn requests(alloc: Global, first: &str, salts: &str) -> Result<String, AllocErro
     Ok(text)
 }
 
-/// Whether the journal of a text is written as this one.
+/// Whether the journal of a text is written as `wanted`.
 fn is_written_as(alloc: Global, text: &[u8], wanted: &str) -> bool {
     match read_journal(alloc, text) {
         Ok(journal) => match write_journal(alloc, &journal) {
@@ -43,7 +43,7 @@ fn texts_are_written_as_they_were_read(rt: HostRuntime) -> Result<(), Fail> {
     Ok(())
 }
 
-/// Whether what is read and written under this allocator is the text, or wants memory.
+/// Whether what is read and written with this allocator is the text, or memory was refused.
 fn writes_or_wants(heap: &Refusing, text: &str) -> bool {
     match read_journal(heap, text.as_bytes()) {
         Ok(journal) => match write_journal(heap, &journal) {

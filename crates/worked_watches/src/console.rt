@@ -1,4 +1,4 @@
-//! A console in a thread of its own, beside two guests in threads and the merger in the test's.
+//! A console in its own thread, with two guests in threads and the merger in the test's.
 ghost use Rattle.std.specs.Prelude.{◌≡◌, ◌<◌};
 ghost use Rattle.watched_machine.specs.View.{end_names, ends_of, guest_count, plain_of};
 
@@ -15,7 +15,7 @@ const TRIES: u64 = 1 << 30;
 
 const READS: u32 = 1_000;
 
-/// How many steps there are between two reports that are published.
+/// How many steps there are between two published reports.
 const STEPS: u32 = 10;
 
 /// How many steps served a request, and how often a report was published.
@@ -25,14 +25,14 @@ struct Served {
     published: u32,
 }
 
-/// How many reads gave a report, and how many of these had fewer entries than the read before.
+/// How many reads returned a report, and how many of these had fewer entries than the read before.
 #[derive(Clone, Copy, Debug, PartialEq, Eq)]
 struct Tally {
     reports: u32,
     falls: u32,
 }
 
-/// Steps a guest, and publishes after each tenth step that served a request. Tells whether the guest has ended.
+/// Steps a guest, and publishes after each tenth step that served a request. Returns whether the guest has ended.
 fn step_and_publish<R: Wait>(
     rt: &R,
     merger: &mut Watched<Global>,
@@ -73,7 +73,7 @@ fn serve_both<R: Wait>(rt: &R, merger: &mut Watched<Global>) -> Served
     served
 }
 
-// Waits for the first report that was published, so that reads come while others are published.
+// Waits for the first published report, so that reads come while others are published.
 fn wait_for_the_first(watch: &mut Watch) {
     for _ in 0..TRIES {
         if let Some(report) = watch.read() {

@@ -4,8 +4,7 @@ use page_model::Verdict;
 use std::test::Fail;
 use watched_machine::Step;
 
-// The other guest is served to its end. There is no closed port of the first, so that the machine can't be settled: it is
-// ended.
+// The other guest is served to its end. The first has no closed port, so the machine can't be settled: it is ended.
 #[test]
 fn port_dropped_without_a_close(rt: HostRuntime) -> Result<(), Fail> {
     let (mut merger, ports) = new_machine(&rt, rt.alloc(), 1, &[1, 1], 4, 4)?;

@@ -1,4 +1,4 @@
-//! A guest in a thread of its own, which loads a byte again and again and then closes its port.
+//! A guest in its own thread, which loads a byte again and again and then closes its port.
 ghost use Rattle.std.specs.Prelude.{◌≡◌, IfSome};
 ghost use Rattle.share_rings.specs.Ends.{port_name, closed_name};
 
@@ -13,7 +13,7 @@ const TRIES: u64 = 1 << 30;
 /// How many loads a guest sends.
 pub const LOADS: u32 = 100;
 
-/// The port that comes back is the one that was given.
+/// The port that comes back is the one that was passed in.
 #[derive(Drop)]
 pub struct SamePort(Snapshot<Port>);
 
@@ -24,7 +24,7 @@ impl Promise<Option<ClosedPort>> for SamePort {
     ghost kept_by = { λ promise result. IfSome result (λ closed. closed_name closed ≡ port_name promise.0.value) };
 }
 
-/// A guest's thread. It gives the port back once that has got its last verdict.
+/// A guest's thread. It returns the port once that has received its last verdict.
 pub type Running = PromisedHandle<Option<ClosedPort>, SamePort>;
 
 fn load(port: &mut Port)

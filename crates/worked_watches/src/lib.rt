@@ -1,4 +1,4 @@
-//! Worked machines that are watched, in one thread and in several. This crate has tests alone.
+//! Worked machines that are watched, in one thread and in several. This crate has only tests.
 #![tactic(auto)]
 
 #[cfg(test)]

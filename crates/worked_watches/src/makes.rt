@@ -1,4 +1,5 @@
-//! Machines under SHA-256 with every salt 0, their ports out of the list and into one, and reports by hand.
+//! Machines under SHA-256 whose salts are all 0, their ports, taken out of a list and put into one, and reports made by
+//! hand.
 ghost use Rattle.std.specs.Prelude.{◌≡◌, [], ◌∷◌, length, IfOk, IfSome};
 ghost use Rattle.watched_machine.specs.View.{end_names, port_names, closed_names, ends_of, guest_count, settled_ports};
 ghost use Rattle.watched_machine.specs.View.{plain_of, publisher_of, reports_of, plain_settled, settled_publisher};
@@ -14,7 +15,7 @@ use watched_machine::{Config, Fault, Machine, Merger, Settled, Unsettled, settle
 /// A machine's merger.
 pub type Watched<A> = Merger<Sha256Hash, A>;
 
-/// The numbers of a machine whose salts are all 0.
+/// Returns the numbers of a machine whose salts are all 0.
 pub fn config_of<A: Allocator + Copy>(
     alloc: A,
     frames: u32,
@@ -33,7 +34,7 @@ pub fn config_of<A: Allocator + Copy>(
     })
 }
 
-/// A machine whose salts are all 0.
+/// Makes a machine whose salts are all 0.
 pub fn new_machine<R: Wait, A: Allocator + Copy>(
     rt: &R,
     alloc: A,
@@ -50,7 +51,7 @@ pub fn new_machine<R: Wait, A: Allocator + Copy>(
     Machine::new(rt, alloc, &config, Sha256Hash)
 }
 
-/// The port of one guest alone.
+/// Returns the port of the only guest.
 pub fn only<A: Allocator>(ports: Vec<Port<A>, A>) -> Option<Port<A>>
     ensures { IfSome result (λ port. ports.items ≡ port ∷ []) }
 {
@@ -62,7 +63,7 @@ pub fn only<A: Allocator>(ports: Vec<Port<A>, A>) -> Option<Port<A>>
     Some(port)
 }
 
-/// The ports of two guests.
+/// Returns the ports of two guests.
 pub fn both<A: Allocator>(ports: Vec<Port<A>, A>) -> Option<(Port<A>, Port<A>)>
     ensures { IfSome result (λ (first, second). ports.items ≡ first ∷ second ∷ []) }
 {
@@ -72,7 +73,7 @@ pub fn both<A: Allocator>(ports: Vec<Port<A>, A>) -> Option<(Port<A>, Port<A>)>
     Some((first, second))
 }
 
-/// The list of a guest's port.
+/// Returns the list of a guest's port.
 pub fn list_of<A: Allocator>(
     alloc: A,
     port: ClosedPort<A>,
@@ -84,7 +85,7 @@ pub fn list_of<A: Allocator>(
     Ok(ports)
 }
 
-/// The list of two guests' ports.
+/// Returns the list of two guests' ports.
 pub fn list_of_both<A: Allocator>(
     alloc: A,
     first: ClosedPort<A>,
@@ -98,7 +99,7 @@ pub fn list_of_both<A: Allocator>(
     Ok(ports)
 }
 
-/// The settled machine, which goes on with its publisher.
+/// Returns the settled machine, which goes on with its publisher.
 pub fn settled<R: Abort + Wait, A: Allocator>(
     rt: &R,
     merger: Watched<A>,
@@ -118,12 +119,13 @@ pub fn settled<R: Abort + Wait, A: Allocator>(
     }
 }
 
-/// What is read before anything was published.
+/// Returns what is read before anything was published.
 pub fn all_zeros() -> Report {
     Report::new(0, 0, 0, 0, 0)
 }
 
-/// What a machine reports after a store to its only page and some loads: so many entries, and one page in one frame.
+/// Returns what a machine reports after a store to its only page and some loads: this many entries, and one page in one
+/// frame.
 pub fn one_page(entries: u32) -> Report {
     Report::new(entries, 1, 0, 1, 0)
 }

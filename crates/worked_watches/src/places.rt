@@ -4,7 +4,7 @@ use page_model::MAX_WATCHES;
 use std::test::Fail;
 use watched_machine::NoWatch;
 
-// A ninth watch is none; where one of the eight is dropped, its place is free again.
+// There is no ninth watch; when one of the eight is dropped, its place is free again.
 #[test]
 fn nine_watches(rt: HostRuntime) -> Result<(), Fail> {
     let (mut merger, _ports) = new_machine(&rt, rt.alloc(), 1, &[1], 4, 4)?;

@@ -1,4 +1,4 @@
-//! Memory that is refused to a machine that is watched.
+//! Memory that is refused to a watched machine.
 use crate::makes::{new_machine, only};
 use crate::watching::watch_and_end;
 use refusing::Refusing;
@@ -7,11 +7,11 @@ use watched_machine::Fault;
 
 const MOST: u64 = 100;
 
-// The requests before those of the machine: the two lists of the configuration.
+// The requests before those of the machine: for the two lists of the configuration.
 const BEFORE: u64 = 2;
 
-// The nth request for memory is refused, n counting up until a run has no refusal: first those of the new machine, then
-// those of a publish. No other call of these asks for any.
+// The nth request for memory is refused, with n counting up until a run has no refusal: first those of the new machine,
+// then those of a publish. None of the other calls asks for any.
 #[test]
 fn each_growth_refused_in_turn(rt: HostRuntime) -> Result<(), Fail> {
     let mut publish_refused = false;

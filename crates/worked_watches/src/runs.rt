@@ -23,8 +23,8 @@ fn store() -> Request
     Request::store(0, 0, &[0x41]).unwrap_or(Request::Count)
 }
 
-/// A store by each of two guests, of equal bytes; guest 1 proposes its page as well, so that each order gives the same
-/// verdicts.
+/// Makes the scripts: a store by each of two guests, of equal bytes. Only guest 1 proposes its page, so each order
+/// gives the same verdicts.
 fn two_scripts<A: Allocator + Copy>(alloc: A) -> Result<Vec<Vec<Request, A>, A>, AllocError>
     ensures each { IfOk result (λ scripts. length scripts.items ≡ 2) }
     ensures plain { IfOk result (λ scripts. All (λ script. has_close script.items ≡ false) scripts.items) }
@@ -40,14 +40,14 @@ fn two_scripts<A: Allocator + Copy>(alloc: A) -> Result<Vec<Vec<Request, A>, A>,
     Ok(scripts)
 }
 
-/// A viewer that doesn't look.
+/// A viewer that sees nothing.
 struct Blind;
 
 impl Viewer for Blind {
     fn show(&self, _report: &Report) {}
 }
 
-// Some front of the run was published, or none; its last report is, where memory for it can be had.
+// Some front of the run was published, or none; its last report is, if memory for it can be had.
 fn watch_and_end<R: Abort + Wait, A: Allocator>(rt: &R, finished: Finished<Sha256Hash, A>) {
     let Finished {
         mut settled,
@@ -70,8 +70,8 @@ fn watch_and_end<R: Abort + Wait, A: Allocator>(rt: &R, finished: Finished<Sha25
     settled.end(rt);
 }
 
-// The nth request for memory is refused, n counting up until a run has no refusal: those of the run, and then those of what
-// it publishes and of its last publish, which stop no run.
+// The nth request for memory is refused, with n counting up until a run has no refusal: those of the run, and then
+// those of what it publishes and of its last publish, which stop no run.
 #[test]
 fn run_refused_in_turn(rt: HostRuntime) -> Result<(), Fail> {
     let mut publish_refused = false;
@@ -102,7 +102,8 @@ fn run_refused_in_turn(rt: HostRuntime) -> Result<(), Fail> {
     Ok(())
 }
 
-/// Frames, what a ring holds and the journal of a run of two guests, and its fault where memory is refused too.
+/// Frames, what a ring holds, and the journal of a run of two guests; and the fault of the run, even if memory is
+/// refused too.
 type Case = (u32, u32, u32, RunFault);
 
 // The two scripts need five entries.
@@ -131,7 +132,7 @@ fn want_of_memory_is_told_last(rt: HostRuntime) -> Result<(), Fail> {
     Ok(())
 }
 
-// The faults of a configuration and of a journal without room come with memory as without.
+// The faults of a configuration and of a journal without room are the same with memory as without.
 #[test]
 fn faults_with_memory(rt: HostRuntime) -> Result<(), Fail> {
     let cases: [Case; 2] = [

@@ -16,7 +16,7 @@ use std::sync::Wait;
 use std::test::Fail;
 use watched_machine::{SettleFault, Settled, Step, Told, Unsettled, Watch, settle};
 
-// The merger of a machine that isn't settled yet, as it was, and why it isn't.
+// Returns the merger of a machine that isn't settled yet, as it was, and why it isn't.
 fn unsettled<R: Abort + Wait, A: Allocator>(
     rt: &R,
     merger: Watched<A>,
@@ -67,7 +67,7 @@ fn not_settled_yet(rt: HostRuntime) -> Result<(), Fail> {
     Ok(())
 }
 
-// A machine that published its report after a store, settled, and a watch that was told of it before.
+// Settles a machine that published its report after a store. The watch was told of it before.
 fn settle_one<R: Abort + Wait, A: Allocator>(
     rt: &R,
     merger: Watched<A>,
@@ -97,7 +97,7 @@ fn settle_one<R: Abort + Wait, A: Allocator>(
     (settled, watch)
 }
 
-// A settled machine goes on with the list. None of these calls but to publish asks for memory.
+// A settled machine goes on with the list. Of these calls, only publishing asks for memory.
 #[test]
 fn settled_with_its_reports(rt: HostRuntime) -> Result<(), Fail> {
     let heap = Refusing::new(rt.alloc(), u64::MAX, 0);

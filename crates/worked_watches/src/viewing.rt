@@ -11,10 +11,10 @@ use std::test::Fail;
 use std::thread;
 use watched_machine::{Gate, Viewer, run};
 
-// Some seconds.
+// Enough tries for some seconds.
 const TRIES: u64 = 1 << 24;
 
-/// It notes what it is shown, and where that falls. The guest sends its close only after it was shown all that came before.
+/// Notes what it is shown, and if that falls. The guest sends its close only after all that came before was shown.
 #[derive(Drop)]
 struct Showing {
     awaited: u32,
@@ -48,7 +48,7 @@ impl Gate for Showing {
     fn after(&self, _guest: u8, _nth: u32) {}
 }
 
-/// The script of one guest, who asks for the counts three times.
+/// Makes the script of one guest, which requests the counts three times.
 fn three_counts<A: Allocator + Copy>(alloc: A) -> Result<Vec<Vec<Request, A>, A>, AllocError>
     ensures each { IfOk result (λ scripts. length scripts.items ≡ 1) }
     ensures plain { IfOk result (λ scripts. All (λ script. has_close script.items ≡ false) scripts.items) }
@@ -62,9 +62,9 @@ fn three_counts<A: Allocator + Copy>(alloc: A) -> Result<Vec<Vec<Request, A>, A>
     Ok(scripts)
 }
 
-// The guest waits with its close until the viewer was shown the requests before it, so that the run ends only where its
-// reports are published while it works, and another thread reads them. Its ring holds all verdicts, which it takes no more then.
-// The last report is the whole run's.
+// The guest waits with its close until the viewer was shown the requests before it, so the run ends only if its reports
+// are published while it works and another thread reads them. Its ring holds all verdicts, and it takes no more then.
+// The last report is that of the whole run.
 #[test]
 fn viewer_is_shown_a_run_that_goes_on(rt: HostRuntime) -> Result<(), Fail> {
     let config = config_of(rt.alloc(), 1, &[1], 3, 4)?;

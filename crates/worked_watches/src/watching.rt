@@ -1,4 +1,4 @@
-//! A watch sees what it was told of at least, and nothing older than what it saw.
+//! A watch sees at least what it was told of, and nothing older than what it saw.
 ghost use Rattle.std.specs.Prelude.{◌≡◌, ◌<◌};
 ghost use Rattle.watched_machine.specs.View.{guest_count, plain_of, publisher_of, publisher_id, told_id, watch_id};
 
@@ -11,7 +11,7 @@ use std::sync::Wait;
 use std::test::Fail;
 use watched_machine::{OutOfMemory, Step, Told, Watch};
 
-// Publishes, once more where the first time was refused. After a refusal the watch reads what it read before.
+// Publishes, and again if the first try was refused. After a refusal the watch reads what it read before.
 fn publish<R: Abort + Wait, A: Allocator>(
     rt: &R,
     merger: &mut Watched<A>,
@@ -34,7 +34,7 @@ fn publish<R: Abort + Wait, A: Allocator>(
     }
 }
 
-// A second watch, which is told by three lists, is told nothing older by the last of them.
+// Lets a second watch learn from three lists: after the last of them it reads nothing older.
 fn watch_late<R: Abort + Wait, A: Allocator>(
     rt: &R,
     merger: &mut Watched<A>,
@@ -57,7 +57,8 @@ fn watch_late<R: Abort + Wait, A: Allocator>(
     assert_eq!(rt; late.read(), Some(one_page(2)));
 }
 
-/// A store is seen once it is published, and a load after it by a second watch. Ends the machine, of one guest.
+/// Checks that a store is seen once it is published, and a load after it by a second watch. Ends the machine, of one
+/// guest.
 pub fn watch_and_end<R: Abort + Wait, A: Allocator>(rt: &R, merger: Watched<A>, port: Port<A>)
     requires guest { 0 < guest_count (plain_of merger) }
 {
@@ -84,7 +85,8 @@ fn a_watch_learns_and_reads(rt: HostRuntime) -> Result<(), Fail> {
     Ok(())
 }
 
-// A machine's own calls read what it is, whatever was published: here a round's three requests, and nothing was.
+// A machine's own calls read its state, whatever was published: here a round's three requests, while nothing was
+// published.
 #[test]
 fn the_merger_reads_on_its_own(rt: HostRuntime) -> Result<(), Fail> {
     let (mut merger, ports) = new_machine(&rt, rt.alloc(), 1, &[1], 4, 4)?;

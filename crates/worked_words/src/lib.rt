@@ -1,6 +1,6 @@
-//! Worked command lines, and the lines that tell how far the work is.
+//! Worked command lines, and the lines that show how far the work is.
 //!
-//! There is nothing here but tests.
+//! This crate has only tests.
 #![tactic(auto)]
 
 #[cfg(test)]

@@ -1,4 +1,4 @@
-//! The lines that tell how far the work is.
+//! The lines that show how far the work is.
 use progress_line::{ReadSoFar, RunSoFar};
 use std::test::Fail;
 

@@ -5,7 +5,7 @@ use page_digest::FirstByteHash;
 use std::alloc::{AllocError, Global};
 use std::test::Fail;
 
-// Zeros are two contents of three copies each, one of them in two guests.
+// Zeros make two contents of three copies each, one of them in two guests.
 const TOTAL: TotalNumbers = TotalNumbers {
     pages: 20,
     zero: 6,

@@ -1,4 +1,4 @@
-//! The fast hash, by known values.
+//! The fast hash, checked against known values.
 use page_census::FoldHash;
 use page_digest::PageHash;
 use page_model::Page;
@@ -27,7 +27,7 @@ fn ends_with_one() -> Page {
     page
 }
 
-// Each byte is its place modulo 251.
+// Makes a page in which each byte is its place modulo 251.
 fn counts_up() -> Page {
     let mut page = [0; 4096];
     for i in 0..4096 {

@@ -66,10 +66,11 @@ const COPIES: [CopiesClass; 3] = [
     },
 ];
 
-// More than a census takes.
+// More requests than a census makes.
 const MOST_REQUESTS: u64 = 100;
 
-// Pages a, b and c begin with one byte. Guests 0 and 1 have one salt, guest 2 another. Of guest 1 so many can be read.
+// Pages a, b and c begin with the same byte. Guests 0 and 1 have one salt, guest 2 another. Of guest 1, only the first
+// `readable` pages can be read.
 fn three_guests(alloc: Global, readable: u32) -> Result<Vec<Guest<Memory>>, Fail> {
     let (a, b, c) = (Some(1), Some(2), Some(3));
     let mut guests = Vec::with_capacity(alloc, 3)?;
@@ -121,7 +122,7 @@ fn unreadable(rt: HostRuntime) -> Result<(), Fail> {
     Ok(())
 }
 
-// The total where memory is given, and none where it is refused.
+// Returns the total, or none if memory is refused.
 fn total_by<R: Threads + Abort + Sync, H: PageHash>(
     rt: &R,
     heap: &Refusing<Global>,
@@ -135,7 +136,7 @@ fn total_by<R: Threads + Abort + Sync, H: PageHash>(
     }
 }
 
-// Request number n is refused, n counting up until a census has no refusal.
+// Request number n is refused, with n counting up until a census has no refusal.
 fn refuses_in_turn<R: Threads + Abort + Sync, H: PageHash>(
     rt: &R,
     alloc: Global,
@@ -160,7 +161,7 @@ fn refused_in_turn(rt: HostRuntime) -> Result<(), Fail> {
     refuses_in_turn(&rt, rt.alloc(), &Sha256Hash)
 }
 
-// Classes are found twice where different pages have one mark.
+// Classes are found twice if different pages have the same mark.
 #[test]
 fn refused_in_turn_by_no_hash(rt: HostRuntime) -> Result<(), Fail> {
     refuses_in_turn(&rt, rt.alloc(), &ZeroHash)

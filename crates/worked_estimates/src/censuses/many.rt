@@ -1,4 +1,4 @@
-//! More pages than are read at once, in parts by several workers, and none.
+//! More pages than are read at once, in parts by several workers, and no pages.
 use crate::censuses::pages::{Memory, counted, guest_of};
 use page_census::{CopiesClass, Guest, GuestNumbers, TotalNumbers};
 use page_digest::Sha256Hash;
@@ -42,7 +42,7 @@ const NONE: TotalNumbers = TotalNumbers {
     between: 0,
 };
 
-/// Two guests of 200 pages each, under two salts.
+/// Makes two guests of 200 pages each, under two salts.
 fn two_guests(alloc: Global) -> Result<Vec<Guest<Memory>>, AllocError> {
     let mut lasts = [None; 200];
     for n in 0..200u8 {

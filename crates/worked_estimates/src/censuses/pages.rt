@@ -1,4 +1,4 @@
-//! Guests whose pages stand in memory, and hashes and progress for tests.
+//! Guests whose pages are in memory, and hashes and progress for tests.
 ghost use Rattle.std.specs.Prelude.{◌<◌, ◌^◌, length, vec_len};
 
 use page_census::{CensusNumbers, Guest, PageSource, Progress, census};
@@ -16,7 +16,7 @@ pub struct Memory {
     ghost few: { vec_len pages < 2 ^ 32 },
 }
 
-/// A page is none of those that can be read.
+/// A page isn't one of those that can be read.
 #[derive(Debug, Drop)]
 pub struct Unreadable;
 
@@ -42,7 +42,7 @@ impl PageSource for Memory {
     }
 }
 
-/// 0 for every page.
+/// Hashes every page to 0.
 pub struct ZeroHash;
 
 impl HashFunction for ZeroHash {
@@ -55,14 +55,14 @@ impl PageHash for ZeroHash {
     }
 }
 
-/// Nothing is told of progress.
+/// Ignores all progress.
 pub struct Quiet;
 
 impl Progress for Quiet {
     fn advance(&self, _pages: usize) {}
 }
 
-/// A page that begins with 0x41 and ends with this byte, or zeros.
+/// Makes a page that begins with 0x41 and ends with this byte, or one of zeros.
 fn page_of(last: Option<u8>) -> Page {
     let mut page = [0; 4096];
     if let Some(last) = last {
@@ -72,7 +72,7 @@ fn page_of(last: Option<u8>) -> Page {
     page
 }
 
-/// A guest with a page for each of these last bytes, of which so many can be read.
+/// Makes a guest with a page for each of these last bytes. Only the first `readable` of them can be read.
 pub fn guest_of(
     alloc: Global,
     salt: u32,
@@ -91,7 +91,7 @@ pub fn guest_of(
     })
 }
 
-/// What a census of these guests tells, by so many workers.
+/// Returns what a census of these guests counts, by this many workers.
 pub fn counted<R: Threads + Abort + Sync, H: PageHash>(
     rt: &R,
     alloc: Global,

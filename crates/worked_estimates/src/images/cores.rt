@@ -47,7 +47,7 @@ fn no_segments(rt: HostRuntime) -> Result<(), Fail> {
     Ok(())
 }
 
-/// A file with 65,535 in the place of the number of program headers, and section header 0 at `sections`.
+/// Makes a file with 65,535 for the number of program headers, and section header 0 at `sections`.
 fn many_headers_file(alloc: Global, sections: u64, bytes: u64) -> Result<Memory, AllocError> {
     let mut file = core_file(alloc, 1000, &[load(400, 20), load(500, 30)])?;
     let count = (sections as usize).wrapping_add(44);
@@ -74,7 +74,7 @@ fn many_headers(rt: HostRuntime) -> Result<(), Fail> {
     Ok(())
 }
 
-// A number of so many bytes at a place of a good core makes it a bad one.
+// A number of `len` bytes at a place of a good core makes it a bad one.
 #[test]
 fn malformed(rt: HostRuntime) -> Result<(), Fail> {
     for (at, len, number, fault) in [

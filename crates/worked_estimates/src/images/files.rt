@@ -1,4 +1,4 @@
-//! Files in memory, and the pages that images of them tell.
+//! Files in memory, and the pages that images of them have.
 
 use memory_images::{FormFault, Image, ImageFault, ReadAt};
 use page_census::PageSource;
@@ -13,7 +13,7 @@ pub struct Memory {
     pub readable: usize,
 }
 
-/// A byte is none of those that can be read.
+/// A byte isn't one of those that can be read.
 #[derive(Clone, Copy, Debug, PartialEq, Eq)]
 pub struct Unreadable;
 
@@ -39,12 +39,12 @@ impl ReadAt for Memory {
     }
 }
 
-/// What stands at a place of each file, but for its headers.
+/// Returns the byte at a place of each file, outside its headers.
 pub fn byte_at(place: usize) -> u8 {
     (place % 251) as u8
 }
 
-/// A file of so many bytes, each told by its place.
+/// Makes a file of `len` bytes, each determined by its place.
 pub fn plain_file(alloc: Global, len: usize) -> Result<Memory, AllocError> {
     let mut bytes = Vec::with_capacity(alloc, len)?;
     for place in 0..len {
@@ -67,7 +67,7 @@ pub fn put(bytes: &mut [u8], at: usize, len: usize, number: u64) {
     }
 }
 
-/// A program header: its type, the place and the number of its bytes in the file and the number in memory.
+/// A program header: its type, the place and the number of its bytes in the file, and the number in memory.
 #[derive(Clone, Copy)]
 pub struct Told {
     pub kind: u32,
@@ -76,7 +76,7 @@ pub struct Told {
     pub memory_bytes: u64,
 }
 
-/// A segment to load, which is as long in memory as in the file.
+/// Returns a segment to load that is as long in memory as in the file.
 pub fn load(offset: u64, len: u64) -> Told {
     Told {
         kind: 1,
@@ -86,7 +86,7 @@ pub fn load(offset: u64, len: u64) -> Told {
     }
 }
 
-/// A core of so many bytes with these program headers, from byte 64 on.
+/// Makes a core of `len` bytes with these program headers, from byte 64 on.
 pub fn core_file(alloc: Global, len: usize, headers: &[Told]) -> Result<Memory, AllocError> {
     let mut file = plain_file(alloc, len)?;
     put_header(file.bytes.as_mut_slice(), headers.len() as u64);
@@ -98,7 +98,7 @@ pub fn core_file(alloc: Global, len: usize, headers: &[Told]) -> Result<Memory, 
     Ok(file)
 }
 
-/// Puts the header of a core with so many program headers.
+/// Puts the header of a core with `count` program headers.
 fn put_header(bytes: &mut [u8], count: u64) {
     put(bytes, 0, 4, 0x464c_457f);
     put(bytes, 4, 1, 2);
@@ -119,7 +119,7 @@ fn put_program_header(bytes: &mut [u8], at: usize, header: &Told) {
     put(bytes, at.wrapping_add(40), 8, header.memory_bytes);
 }
 
-/// Whether a page is so many bytes of the file from a place on, and zeros behind them.
+/// Whether a page is `len` bytes of the file from a place on, and zeros behind them.
 pub fn is_page(page: &Page, from: usize, len: usize) -> bool {
     for i in 0..PAGE_BYTES {
         let told = if i < len {

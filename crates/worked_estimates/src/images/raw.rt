@@ -5,7 +5,7 @@ use std::alloc::Global;
 use std::process::Abort;
 use std::test::Fail;
 
-/// A raw file of so many bytes has these pages, whether it is asked for as raw or not.
+/// Checks that a raw file of `len` bytes has these pages, whether it is asked for as raw or not.
 fn is_cut<R: Abort>(
     rt: &R,
     alloc: Global,

@@ -7,10 +7,10 @@ use page_model::PAGE_BYTES;
 use refusing::Refusing;
 use std::test::Fail;
 
-// More than opening an image takes.
+// More requests than opening an image makes.
 const MOST_REQUESTS: u64 = 100;
 
-// Request number n is refused, n counting up until there is no refusal.
+// Request number n is refused, with n counting up until there is no refusal.
 #[test]
 fn refused_in_turn(rt: HostRuntime) -> Result<(), Fail> {
     let headers = [

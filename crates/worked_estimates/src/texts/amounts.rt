@@ -1,4 +1,4 @@
-//! Amounts of memory, as a calculator has them.
+//! Amounts of memory, checked against a calculator.
 use census_text::{mebibyte_tenths, mebibytes, per_mille};
 
 #[test]

@@ -1,4 +1,4 @@
-//! Numbers as a census may tell them.
+//! Numbers that a census may return.
 use page_census::{CopiesClass, GuestNumbers, TotalNumbers};
 
 /// Two guests of 256 MiB, of two salts.

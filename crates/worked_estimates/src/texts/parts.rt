@@ -1,4 +1,4 @@
-//! The parts of bars, by hand.
+//! The parts of bars, found by hand.
 use census_text::{GuestLine, Parts, parts_of};
 use page_census::GuestNumbers;
 use std::process::Abort;

@@ -5,10 +5,10 @@ use refusing::Refusing;
 use std::alloc::{AllocError, Allocator};
 use std::test::Fail;
 
-// More than the texts take.
+// More requests than the texts make.
 const MOST_REQUESTS: u64 = 200;
 
-/// The bytes of both texts, and of as many guests.
+/// Makes the lines of two guests and both texts, and returns how many bytes the texts have.
 fn texts<A: Allocator + Clone>(alloc: &A) -> Result<usize, AllocError> {
     let guests = guest_lines(alloc, &["a", "b"], &[0, 7], &GUESTS)?;
     let estimate = Estimate {
@@ -21,7 +21,7 @@ fn texts<A: Allocator + Clone>(alloc: &A) -> Result<usize, AllocError> {
     Ok(table.len().saturating_add(picture.len()))
 }
 
-// Request number n is refused, n counting up until there is no refusal.
+// Request number n is refused, with n counting up until there is no refusal.
 #[test]
 fn refused_in_turn(rt: HostRuntime) -> Result<(), Fail> {
     let whole = texts(&rt.alloc())?;

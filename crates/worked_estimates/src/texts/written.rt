@@ -1,4 +1,4 @@
-//! The table, the object and the picture. What is due comes from a few lines of Python.
+//! The table, the object and the picture. The expected values come from a few lines of Python.
 use crate::texts::numbers::{COPIES, GUESTS, NOTHING, TOTAL};
 use census_text::{Estimate, GuestLine, guest_lines, json_text, picture_text, table_text};
 use page_census::GuestNumbers;

@@ -1,4 +1,4 @@
-//! A hash of two pages each of which waits for the other, so that two workers are needed.
+//! A hash of two pages, each of which waits for the other, so that two workers are needed.
 ghost use Rattle.std.specs.Prelude.{◌≡◌};
 
 use crate::hashes::makes::{pairs_of, two_frames};
@@ -11,7 +11,7 @@ use std::thread;
 
 const TRIES: u64 = 1 << 30;
 
-/// Byte 0 of the page, told once a page of zeros and another page are both being hashed.
+/// Hashes to byte 0 of the page, once a page of zeros and another page are both being hashed.
 #[derive(Drop)]
 struct Together {
     blank_came: AtomicBool,
@@ -20,7 +20,7 @@ struct Together {
 }
 
 impl Together {
-    // Sets a flag and waits for the other. Notes where it is never seen.
+    // Sets a flag and waits for the other. Notes if that is never seen.
     fn meet(&self, own: &AtomicBool, other: &AtomicBool) {
         own.store(true, Ordering::SeqCst);
         for _ in 0..TRIES {

@@ -10,7 +10,7 @@ fn page_of(first: u8, second: u8, last: u8) -> Page {
     page
 }
 
-// By sha256sum: of 4,096 zeros, of the page that begins with 0x41, and of the latter after 00000001.
+// From sha256sum: of 4,096 zeros, of the page that begins with 0x41, and of the latter after 00000001.
 #[test]
 fn sha256_hashes(rt: HostRuntime) {
     let blank = page_of(0, 0, 0);

@@ -30,7 +30,8 @@ pub(crate) fn two_frames<A: Allocator + Clone>(alloc: A) -> Result<Two<A>, Fail>
     })
 }
 
-/// So many pairs of a salt and one of the two frames in turn. The first two salts are 0, the next two 9, and so on.
+/// Makes `count` pairs of a salt and one of the two frames in turn. The first two salts are 0, the next two 9, and so
+/// on.
 pub(crate) fn pairs_of<A: Allocator, B: Allocator>(
     alloc: B,
     two: &Two<A>,

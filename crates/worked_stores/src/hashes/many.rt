@@ -1,4 +1,4 @@
-//! Many frames, by several workers.
+//! Many frames, hashed by several workers.
 ghost use Rattle.std.specs.Prelude.{◌≤◌};
 
 use crate::hashes::makes::{pairs_of, two_frames};
@@ -9,15 +9,15 @@ use std::sync::Wait;
 use std::test::Fail;
 use std::thread::Threads;
 
-// By sha256sum: of 4,096 zeros, and of the page that begins with 0x41.
+// From sha256sum: of 4,096 zeros, and of the page that begins with 0x41.
 const BLANK: u64 = 0xad7f_acb2_586f_c6e9;
 
 const LETTER: u64 = 0x9aab_2ec0_0da3_0c5d;
 
-// More than a call takes.
+// More requests than a call makes.
 const MOST_REQUESTS: u64 = 100;
 
-// The hashes of so many frames.
+// Returns the hashes of `count` frames.
 fn hashes_of<R: Threads + Wait + Sync, A: Allocator + Clone + Send>(
     rt: &R,
     lists: Global,
@@ -70,8 +70,8 @@ fn most_workers(rt: HostRuntime) -> Result<(), Fail> {
     Ok(())
 }
 
-// Request number n is refused, n counting up until a run has no refusal. `NoThread` doesn't come, since the start of a
-// thread asks the system for memory, and no allocator of a caller's.
+// Request number n is refused, with n counting up until a run has no refusal. `NoThread` doesn't occur, since starting
+// a thread asks the system for memory, and no allocator of a caller.
 #[test]
 fn refused_in_turn(rt: HostRuntime) -> Result<(), Fail> {
     let mut whole_at = None;
