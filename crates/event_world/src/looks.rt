@@ -12,7 +12,7 @@ pub(crate) fn has_close(requests: &[Request]) -> bool
     requests.iter().any(Request::is_close)
 }
 
-// Returns the place of the guest's entry that has `after` of its entries before it.
+// Returns the place of the guest's entry that has `after` of the guest's entries before it.
 pub(crate) fn place_of(journal: &[Entry], guest: u8, after: usize) -> Option<usize>
     ensures { result ≡ slice_get (places guest journal.now) after }
 {

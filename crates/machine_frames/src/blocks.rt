@@ -118,7 +118,7 @@ impl<A: Allocator> Blocks<A> {
         clear_at(&mut self.blocks, key, (number % BLOCK_PAGES) as usize);
     }
 
-    // The three functions below have a whole page among their locals, so they are kept out of their callers.
+    // The three functions below have a whole page among their locals, so they aren't inlined into their callers.
 
     // Adds a page of zeros and returns its number.
     #[inline(never)]

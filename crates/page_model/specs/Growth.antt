@@ -3,7 +3,7 @@ use Rattle.std.specs.Prelude.{◌≡◌, ℕ, ◌≤◌, List, length, take}
 use Rattle.page_model.specs.Replay.{Shape, empty_state, state_after, verdicts_of}
 use Rattle.page_model.specs.declared.request.Entry.{Entry}
 
--- a longer part of the journal never leaves fewer entries
+-- a longer beginning of the journal never leaves fewer entries
 abbrev pub EntriesNeverFall : List Entry → Type 0
 EntriesNeverFall es =
     (hash : ℕ → List ℕ → ℕ) (total : ℕ) (shapes : List Shape) (m n : ℕ) → m ≤ n →

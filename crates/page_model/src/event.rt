@@ -1,7 +1,7 @@
 //! What passes between a guest and the merger.
 use crate::Request;
 
-/// One step of a guest or of the merger, by the guest's number.
+/// One step of a guest, or of the merger for a guest, with the guest's number.
 ///
 /// An event with nothing to move changes nothing: a take before a send, a give before a take, a get
 /// before a give, a send after a close.

@@ -1,4 +1,4 @@
-//! The function that a page's hash is, as contracts name it.
+//! How contracts name the hash of a page.
 ghost use Rattle.std.specs.Prelude.{ℕ, List};
 
 /// A type that names a function of a salt and the bytes of a page, for use in contracts only.

@@ -47,8 +47,8 @@ pub fn places_law(entries: &[Entry], guest: u8)
     ensures rise { PlacesRise entries.now guest }
 {}
 
-/// After every journal the report counts each entry, reclaimed plus frames in use is mapped, shared is at most
-/// mapped, and there are at most as many hints as frames in use.
+/// After every journal the report counts each entry, and in it `reclaimed` plus `frames` is `mapped`, `shared` is at most
+/// `mapped`, and `hints` is at most `frames`.
 pub fn report_law(entries: &[Entry])
     ensures sums { ReportAddsUp entries.now }
     ensures entries { ReportCountsEntries entries.now }

@@ -5,8 +5,7 @@ use std::marker::Model;
 
 /// How many requests, pages and frames there are.
 ///
-/// Reclaimed plus frames in use is mapped; shared is at most mapped, and there are at most as many hints as frames
-/// in use.
+/// `reclaimed` plus `frames` is `mapped`, `shared` is at most `mapped`, and `hints` is at most `frames`.
 #[derive(Clone, Copy, Debug, PartialEq, Eq)]
 pub struct Report {
     entries: u32,
@@ -31,7 +30,7 @@ impl Model for Report {
 }
 
 impl Report {
-    /// Makes a report of these numbers. Reclaimed is the mapped pages minus the frames in use.
+    /// Makes a report of these numbers, in which `reclaimed` is `mapped` minus `frames`.
     pub fn new(entries: u32, mapped: u32, shared: u32, frames: u32, hints: u32) -> Self
         requires frames { frames ≤ mapped }
         requires shared { shared ≤ mapped }

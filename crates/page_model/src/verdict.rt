@@ -21,7 +21,7 @@ pub enum Verdict {
     Paired,
     /// No match was found, so this page is now the hint under its key.
     Hinted,
-    /// The page was the hint under its key already.
+    /// The page was already the hint under its key.
     Kept,
     /// The hint under the key was stale, and this page replaced it.
     Replaced,
