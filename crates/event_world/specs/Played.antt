@@ -11,7 +11,7 @@ pub record Played : Type 0 where
   pub guests : List events.Traffic
   pub journal : List Entry
 
--- the world that these are, in which there is no traffic of other guests
+-- the world with this traffic and journal, and no traffic of other guests
 abbrev pub world_of : Played → events.World
 world_of p = record { traffic = λ guest. slice_index_or p.guests guest no_traffic; journal = p.journal }
 
@@ -20,7 +20,7 @@ pub record AreAlike (v w : events.World) : Type 0 where
   pub traffic : (guest : ℕ) → v.traffic guest ≡ w.traffic guest
   pub journal : v.journal ≡ w.journal
 
--- whose event it is
+-- the guest whose event this is
 abbrev pub guest_of : Event → ℕ
 guest_of (Send guest r) = guest
 guest_of (Take guest) = guest

@@ -1,8 +1,8 @@
 //! What passes between the guests and the merger, kept on one thread in plain lists: the world of events that the
-//! law of schedules speaks of, as a program.
+//! law of schedules is about, as a program.
 //!
-//! The machine itself has rings in place of these lists. Here each event is one call, so an order of events can be
-//! played through and looked at.
+//! The machine itself has rings instead of these lists. Here each event is one call, so an order of events can be
+//! played through and inspected.
 #![tactic(auto)]
 
 mod looks;

@@ -27,7 +27,7 @@ impl<A: Allocator> Model for Traffic<A> {
 }
 
 impl<A: Allocator> Traffic<A> {
-    // Nothing has passed yet. No memory is taken for it.
+    // Makes the traffic of a guest before anything has passed, without taking memory.
     pub(crate) fn new(alloc: A) -> Result<Traffic<A>, AllocError>
     where
         A: Clone,
@@ -44,7 +44,7 @@ impl<A: Allocator> Traffic<A> {
         })
     }
 
-    // The guest sends a request, unless it sent a close before.
+    // Sends a request, unless the guest has sent a close.
     pub(crate) fn send(&mut self, request: Request) -> Result<(), AllocError>
         ensures ok { OnOk result (self.new ≡ sends request self.old) }
         ensures err { OnErr result (self.new ≡ self.old) }
@@ -56,7 +56,7 @@ impl<A: Allocator> Traffic<A> {
         Ok(())
     }
 
-    // The merger takes the next request that was sent, as this guest's entry of the journal.
+    // Takes the next request that was sent, and appends it to the journal as this guest's entry.
     #[tactic(auto, using(crate::proofs::Nexts::with_none, crate::proofs::Nexts::with_some))]
     pub(crate) fn take(&mut self, guest: u8, journal: &mut Vec<Entry, A>) -> Result<(), AllocError>
         ensures ok { OnOk result (self.new ≡ takes self.old) }
@@ -76,7 +76,7 @@ impl<A: Allocator> Traffic<A> {
         Ok(())
     }
 
-    // The merger gives the place of the guest's first request in the journal that has no verdict yet.
+    // Gives the place of the guest's first request in the journal whose verdict wasn't given yet.
     #[tactic(auto, using(crate::proofs::Nexts::with_none, crate::proofs::Nexts::with_some))]
     pub(crate) fn give(&mut self, guest: u8, journal: &[Entry]) -> Result<(), AllocError>
         ensures ok { OnOk result (self.new ≡ gives (places guest journal.now) self.old) }
@@ -88,7 +88,7 @@ impl<A: Allocator> Traffic<A> {
         Ok(())
     }
 
-    // The guest gets the next place that was given.
+    // Gets the next place that was given.
     pub(crate) fn get(&mut self) -> Result<(), AllocError>
         ensures ok { OnOk result (self.new ≡ gets self.old) }
         ensures err { OnErr result (self.new ≡ self.old) }
@@ -99,28 +99,28 @@ impl<A: Allocator> Traffic<A> {
         Ok(())
     }
 
-    /// The requests that the guest sent.
+    /// Returns the requests that the guest sent.
     pub fn sent(&self) -> &[Request]
         ensures { result.now ≡ self.now.sent }
     {
         self.sent.as_slice()
     }
 
-    /// The requests that the merger took.
+    /// Returns the requests that the merger took.
     pub fn taken(&self) -> &[Request]
         ensures { result.now ≡ self.now.taken }
     {
         self.taken.as_slice()
     }
 
-    /// The places in the journal whose verdicts the merger gave.
+    /// Returns the places in the journal whose verdicts the merger gave.
     pub fn given(&self) -> &[usize]
         ensures { result.now ≡ self.now.given }
     {
         self.given.as_slice()
     }
 
-    /// The places in the journal whose verdicts the guest got.
+    /// Returns the places in the journal whose verdicts the guest got.
     pub fn got(&self) -> &[usize]
         ensures { result.now ≡ self.now.got }
     {

@@ -24,7 +24,7 @@ impl<A: Allocator> Model for World<A> {
 }
 
 impl<A: Allocator> World<A> {
-    /// The world of the guests below this number, before the first event.
+    /// Makes the world of the guests below this number, before the first event.
     pub fn new(alloc: A, guests: u8) -> Result<World<A>, AllocError>
     where
         A: Clone,
@@ -43,8 +43,8 @@ impl<A: Allocator> World<A> {
         })
     }
 
-    /// One event of one of the guests. An event that has nothing to move changes nothing. Neither does one that finds
-    /// no memory.
+    /// Plays one event of one of the guests. An event with nothing to move changes nothing, and neither does one for which
+    /// memory was refused.
     pub fn happen(&mut self, event: &Event) -> Result<(), AllocError>
         requires { guest_of event.now < length self.old.guests }
         ensures happens { OnOk result (AreAlike (world_of self.new) (happens (world_of self.old) event.now)) }
@@ -64,14 +64,14 @@ impl<A: Allocator> World<A> {
         }
     }
 
-    /// How many guests there are.
+    /// Returns how many guests there are.
     pub fn guests(&self) -> usize
         ensures { result ≡ length self.now.guests }
     {
         self.guests.len()
     }
 
-    /// What has passed between this guest and the merger.
+    /// Returns what has passed between this guest and the merger.
     pub fn traffic(&self, guest: u8) -> &Traffic<A>
         requires { guest < length self.now.guests }
         ensures { result.now ≡ (world_of self.now).traffic guest }
@@ -79,7 +79,7 @@ impl<A: Allocator> World<A> {
         &self.guests[guest as usize]
     }
 
-    /// The merger's journal.
+    /// Returns the merger's journal.
     pub fn journal(&self) -> &[Entry]
         ensures { result.now ≡ self.now.journal }
     {

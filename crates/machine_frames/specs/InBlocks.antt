@@ -1,5 +1,5 @@
--- How pages stand in blocks: page n is page n mod 512 of block n div 512. A slab has the blocks, and `keys` has their
--- keys in the blocks' order.
+-- How pages are kept in blocks: page n is page n mod 512 of block n div 512. A slab has the blocks, and `keys` has
+-- their keys in the blocks' order.
 use Rattle.std.specs.Prelude.{◌≡◌, ℕ, ◌+◌, ◌*◌, ◌/◌, ◌%◌, ◌<◌, ◌≤◌, List, [], length, map, Option, None, Some, IsSomeAnd, slice_index, slice_index_or, slice_set, option_map}
 use Rattle.std.specs.List.{range_with_len}
 use Rattle.slab.specs.Slab.{Slab, get, ContainsKey}
@@ -18,7 +18,7 @@ HasRoom blocks key = IsSomeAnd (get blocks key) (λ block. length block.pages < 
 abbrev pub changed : (PageList → PageList) → Slab PageList → ℕ → Slab PageList
 changed change blocks key = record { slots = slice_set blocks.slots key (option_map change (get blocks key)); vacant_key = blocks.vacant_key; capacity = blocks.capacity }
 
--- the block of each number
+-- the block with each number
 abbrev pub block_of : List ℕ → Slab PageList → ℕ → Option PageList
 block_of keys blocks number = get blocks (slice_index keys number)
 
@@ -37,7 +37,7 @@ page_of block n = slice_index_or (pages_of (block (n / 512))) (n % 512) []
 unfoldable pub pages_in : (ℕ → Option PageList) → ℕ → List (List ℕ)
 pages_in block len = map (page_of block) (range_with_len 0 len)
 
--- `count` blocks have the first `len` pages and room for `capacity`
+-- `count` blocks have the first `len` pages, and room for `capacity` pages
 pub record Holds (block : ℕ → Option PageList) (count len capacity : ℕ) : Type 0 where
   pub few : len ≤ capacity
   pub stored : (b j : ℕ) → b < count → j < 512 → 512 * b + j < len → j < length (pages_of (block b))

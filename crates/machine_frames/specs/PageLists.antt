@@ -1,4 +1,4 @@
--- Pages by their numbers, in room for a fixed number of them.
+-- Pages by their numbers, with room for a fixed number of them.
 use Rattle.std.specs.Prelude.{◌≡◌, ℕ, List, [], ◌∷◌, ◌++◌, slice_index_or, slice_set, refl}
 use Rattle.std.specs.Coded.{Coded, code_by, coded×, coded_ℕ, coded_list}
 
@@ -20,10 +20,10 @@ page_list_code =
 abbrev pub page_in : PageList → ℕ → List ℕ
 page_in list number = slice_index_or list.pages number []
 
--- with other bytes in one page
+-- the list with other bytes in one page
 abbrev pub with_page : PageList → ℕ → List ℕ → PageList
 with_page list number page = record { pages = slice_set list.pages number page; room = list.room }
 
--- with one more page
+-- the list with one more page
 abbrev pub with_more : PageList → List ℕ → PageList
 with_more list page = record { pages = list.pages ++ page ∷ []; room = list.room }

@@ -10,11 +10,11 @@ use Rattle.machine_frames.specs.PageLists.{PageList}
 abbrev pub times : ℕ → List ℕ → ℕ
 times n numbers = count_by (λ x. x == n) numbers
 
--- the page of a frame that is taken
+-- the page of a frame, if the frame is taken
 abbrev pub taken_page : List ℕ → List (List ℕ) → ℕ → Option (List ℕ)
 taken_page free pages mpn = if times mpn free == 0 then slice_get pages mpn else None
 
--- what a contract sees
+-- what a contract sees of `Frames`
 unfoldable pub frames_of : List ℕ → PageList → FrameMap
 frames_of free list = map (taken_page free list.pages) (range_with_len 0 list.room)
 

@@ -1,4 +1,4 @@
-//! A block: pages one after the other, in room that was taken when the block was made.
+//! A block: pages one after the other, in room that was allocated when the block was made.
 ghost use Rattle.std.specs.Prelude.{◌≡◌, ◌+◌, ◌≤◌, ◌<◌, [], length, All, IfOk};
 ghost use Rattle.page_model.specs.Pages.{blank, written};
 ghost use Rattle.machine_frames.specs.FrameMap.{IsPage};
@@ -25,7 +25,7 @@ impl<A: Allocator> Model for Block<A> {
 }
 
 impl<A: Allocator> Block<A> {
-    // A block with no page, and with room for this many.
+    // Makes a block with no pages, and with room for this many.
     pub(crate) fn new(alloc: A, room: usize) -> Result<Block<A>, AllocError>
         ensures { IfOk result (λ block. block ≡ record { pages = []; room = room }) }
     {

@@ -1,6 +1,6 @@
 //! Pages by their numbers, in blocks of 512: page n is page n mod 512 of block n div 512.
 //!
-//! A block's pages lie next to one another, and the few entries that are read on the way to a page are soon in a cache.
+//! A block's pages are next to one another, and the few entries that are read on the way to a page are soon in a cache.
 ghost use Rattle.std.specs.Prelude.{◌≡◌, ◌+◌, ◌≤◌, ◌<◌, ◌==◌, [], length, Some, IfOk, option_map};
 ghost use Rattle.page_model.specs.Pages.{blank, written};
 ghost use Rattle.slab.specs.Slab.{get};
@@ -18,7 +18,7 @@ const BLOCK_PAGES: u32 = 512;
 
 #[derive(Drop)]
 pub(crate) struct Blocks<A: Allocator> {
-    // The key in `blocks` of each block, in their order.
+    // The key in `blocks` of each block, in the blocks' order.
     keys: Vec<usize, A>,
     blocks: Slab<Block<A>, A>,
     len: u32,
@@ -40,7 +40,7 @@ impl<A: Allocator> Model for Blocks<A> {
 }
 
 impl<A: Allocator> Blocks<A> {
-    // No page yet, and room for this many.
+    // Makes room for this many pages, with no page yet.
     pub(crate) fn new(alloc: A, capacity: u32) -> Result<Blocks<A>, AllocError>
     where
         A: Clone,
@@ -63,7 +63,7 @@ impl<A: Allocator> Blocks<A> {
         })
     }
 
-    // The number of pages.
+    // Returns the number of pages.
     pub(crate) fn len(&self) -> u32
         ensures value { result ≡ length self.now.pages }
         ensures room { result ≤ self.now.room }
@@ -71,7 +71,7 @@ impl<A: Allocator> Blocks<A> {
         self.len
     }
 
-    // How many pages there can be.
+    // Returns how many pages there can be.
     pub(crate) fn capacity(&self) -> u32
         ensures { result ≡ self.now.room }
     {
@@ -118,9 +118,9 @@ impl<A: Allocator> Blocks<A> {
         clear_at(&mut self.blocks, key, (number % BLOCK_PAGES) as usize);
     }
 
-    // The three functions below have a whole page among their locals, so they are kept out of their callers.
+    // The three functions below have a whole page among their locals, so they aren't inlined into their callers.
 
-    // Adds a page of zeros, and tells its number.
+    // Adds a page of zeros and returns its number.
     #[inline(never)]
     #[tactic(auto, unfolding(page_model::specs::Pages::blank))]
     pub(crate) fn add_zeroed(&mut self) -> u32
@@ -143,7 +143,7 @@ impl<A: Allocator> Blocks<A> {
         set_at(&mut self.blocks, key, (to % BLOCK_PAGES) as usize, page);
     }
 
-    // Adds a copy of a page, and tells its number.
+    // Adds a copy of a page and returns its number.
     #[inline(never)]
     pub(crate) fn add_copy(&mut self, from: u32) -> u32
         requires room { length self.old.pages < self.old.room }
@@ -155,7 +155,7 @@ impl<A: Allocator> Blocks<A> {
         self.push(page)
     }
 
-    // Adds a page, and tells its number.
+    // Adds a page and returns its number.
     fn push(&mut self, page: Page) -> u32
         requires { length self.old.pages < self.old.room }
         ensures value { result ≡ length self.old.pages }

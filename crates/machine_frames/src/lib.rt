@@ -1,4 +1,4 @@
-//! Machine memory: frames of 4,096 bytes, by machine page numbers (MPNs) below a fixed total.
+//! Machine memory: frames of 4,096 bytes, numbered by machine page numbers (MPNs) below a fixed total.
 #![tactic(auto)]
 
 ghost use Rattle.std.specs.Prelude.{◌≡◌, ◌+◌, ◌≤◌, ◌<◌, ◌↔◌, ◌⊎◌, length, None, Some, IsNone, IfNone, IfSome, IfOk, IfErr, slice_set, option_map};
@@ -20,7 +20,7 @@ pub enum FramesFault {
     /// The number of frames is 0 or above 1,048,576.
     #[error("ask for 1 to 1,048,576 frames")]
     Frames,
-    /// The room for the frames was refused.
+    /// The memory for the frames was refused.
     #[error("the frames' memory was refused: free some, or ask for fewer frames")]
     OutOfMemory,
 }
@@ -38,11 +38,11 @@ impl From<AllocError> for FramesFault {
 
 /// A fixed number of frames, each of them free or taken.
 ///
-/// All room is made by `new`, but a frame's memory is first touched when that frame is first taken. From then on its
+/// `new` allocates all memory, but a frame's memory is first touched when that frame is first taken. From then on its
 /// page stays where it is.
 #[derive(Drop)]
 pub struct Frames<A: Allocator = Global> {
-    // The page of each frame that was ever taken, by MPN, and room for those of all others.
+    // The page of each frame that was ever taken, by MPN, and room for the pages of all others.
     pages: Blocks<A>,
     // The frames that were given back.
     free: Vec<u32, A>,
@@ -60,7 +60,7 @@ impl<A: Allocator> Model for Frames<A> {
 }
 
 impl<A: Allocator> Frames<A> {
-    /// As many frames as `count`, all of them free.
+    /// Makes `count` frames, all of them free.
     pub fn new(alloc: A, count: u32) -> Result<Frames<A>, FramesFault>
     where
         A: Clone,
@@ -76,7 +76,7 @@ impl<A: Allocator> Frames<A> {
         Ok(Frames { pages, free })
     }
 
-    /// The number of frames that are taken.
+    /// Returns the number of frames that are taken.
     pub fn used(&self) -> u32
         ensures value { result ≡ used self.now }
         ensures within { result ≤ length self.now }
@@ -84,14 +84,14 @@ impl<A: Allocator> Frames<A> {
         self.pages.len() - self.free.len() as u32
     }
 
-    /// The number of all frames.
+    /// Returns the number of all frames, free or taken.
     pub fn total(&self) -> u32
         ensures { result ≡ length self.now }
     {
         self.pages.capacity()
     }
 
-    /// Takes a free frame, which then holds zeros. `None` where no frame is free.
+    /// Takes a free frame, which then holds zeros. Returns `None` if no frame is free.
     pub fn take_zeroed(&mut self) -> Option<u32>
         ensures full { IsNone result ↔ (used self.old ≡ length self.old) }
         ensures none { IfNone result (self.new ≡ self.old) }
@@ -108,7 +108,7 @@ impl<A: Allocator> Frames<A> {
         Some(self.pages.add_zeroed())
     }
 
-    /// Takes a free frame, which then holds the bytes of the frame `mpn`. `None` where no frame is free.
+    /// Takes a free frame, which then holds the bytes of the frame `mpn`. Returns `None` if no frame is free.
     pub fn take_copy(&mut self, mpn: u32) -> Option<u32>
         requires { IsTaken self.old mpn }
         ensures full { IsNone result ↔ (used self.old ≡ length self.old) }
@@ -126,7 +126,7 @@ impl<A: Allocator> Frames<A> {
         Some(self.pages.add_copy(mpn))
     }
 
-    /// The bytes of a frame.
+    /// Returns the bytes of a frame.
     pub fn bytes(&self, mpn: u32) -> &Page
         requires { IsTaken self.now mpn }
         ensures value { frame self.now mpn ≡ Some result.now }
@@ -135,7 +135,7 @@ impl<A: Allocator> Frames<A> {
         self.pages.page(mpn)
     }
 
-    /// Writes `bytes` into a frame, from the place `at` on.
+    /// Writes `bytes` to a frame, from the place `at` on.
     pub fn write(&mut self, mpn: u32, at: u32, bytes: &[u8])
         requires taken { IsTaken self.old mpn }
         requires fits { at + length bytes.now ≤ PAGE_BYTES }

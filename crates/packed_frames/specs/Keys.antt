@@ -27,7 +27,7 @@ abbrev pub first_with : Key → List Entry → Option Entry
 first_with k [] = None
 first_with k (e ∷ es) = if has_key k e then Some e else first_with k es
 
--- the entries, with another in place of the first that is found by the key
+-- the entries, with another instead of the first that is found by the key
 abbrev pub with_other : Key → Entry → List Entry → List Entry
 with_other k new [] = []
 with_other k new (e ∷ es) = if has_key k e then new ∷ es else e ∷ with_other k new es
@@ -49,7 +49,7 @@ hint_parts None = None
 hint_parts (Some (Shared hash mpn count)) = None
 hint_parts (Some (Hint number guest ppn mpn)) = Some (guest, ppn, mpn)
 
--- the count in the field of a shared frame: 0 in that of a hint frame, or of none
+-- the count in the field of a shared frame: 0 for a hint frame, or for no frame
 abbrev pub field_in : Option Entry → ℕ
 field_in None = 0
 field_in (Some (Shared hash mpn count)) = count

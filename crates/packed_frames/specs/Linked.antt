@@ -1,31 +1,31 @@
 -- Lists of places that are threaded through a table of links. A code is 0 for the end of a list, and
--- n + 1 for place n; `next p` is the code that stands in place p.
+-- n + 1 for place n; `next p` is the code in place p.
 use Rattle.std.specs.Prelude.{◌≡◌, ℕ, ◌+◌, ◌≤◌, ◌<◌, Bool, true, List, [], ◌∷◌, length, Option, Some, None, if◌then◌else◌, ◌==◌, nat_lt, slice_index_or, map, replicate, slice_set as set}
 use Rattle.packed_frames.specs.declared.entry.Entry.{Entry}
 use Rattle.packed_frames.specs.Places.{no_entry}
 use Prim.Native.Nat.{suc, zero}
 
--- how often a place stands in a list
+-- how often a place is in a list
 abbrev pub times : ℕ → List ℕ → ℕ
 times p [] = 0
 times p (q ∷ qs) = (if p == q then 1 else 0) + times p qs
 
--- how often a place stands in all the lists
+-- how often a place is in all the lists together
 abbrev pub times_in : ℕ → List (List ℕ) → ℕ
 times_in p [] = 0
 times_in p (c ∷ cs) = times p c + times_in p cs
 
--- how many places stand in all the lists
+-- how many places are in all the lists together
 abbrev pub lengths : List (List ℕ) → ℕ
 lengths [] = 0
 lengths (c ∷ cs) = length c + lengths cs
 
--- the list without the place, once
+-- the list with the place removed, once
 abbrev pub without : ℕ → List ℕ → List ℕ
 without p [] = []
 without p (q ∷ qs) = if p == q then qs else q ∷ without p qs
 
--- the code of the place right before p in the list, where the code b stands before the list
+-- the code of the place right before p in the list, if b is the code before the list
 abbrev pub code_before : ℕ → ℕ → List ℕ → ℕ
 code_before p b [] = b
 code_before p b (q ∷ qs) = if p == q then b else code_before p (q + 1) qs
@@ -46,14 +46,14 @@ abbrev pub Follows : (ℕ → ℕ) → ℕ → List ℕ → Type 0
 Follows next code [] = code ≡ 0
 Follows next code (p ∷ ps) = (code ≡ p + 1) × Follows next (next p) ps
 
--- the same of each head and its list
+-- the same for each head and its list
 abbrev pub FollowAll : (ℕ → ℕ) → List ℕ → List (List ℕ) → Type 0
 FollowAll next [] [] = Unit {0}
 FollowAll next [] (c ∷ cs) = ⊥
 FollowAll next (h ∷ hs) [] = ⊥
 FollowAll next (h ∷ hs) (c ∷ cs) = Follows next h c × FollowAll next hs cs
 
--- the spare places and the chains: each place below the capacity stands in one of them, once
+-- the spare places and the chains: each place below the capacity is in exactly one of them, once
 pub record Linked (next : ℕ → ℕ) (capacity free : ℕ) (heads spare : List ℕ) (chains : List (List ℕ)) : Type 0 where
   pub spare_ends : Follows next free spare
   pub chains_end : FollowAll next heads chains
@@ -69,7 +69,7 @@ pub record Chained : Type 0 where
 abbrev pub entry_at : Chained → ℕ → Entry
 entry_at c place = slice_index_or c.entries place no_entry
 
--- a place has another entry
+-- the places with another entry in one of them
 abbrev pub with_entry_at : Chained → ℕ → Entry → Chained
 with_entry_at c place entry = record c { entries = set c.entries place entry }
 
@@ -77,7 +77,7 @@ with_entry_at c place entry = record c { entries = set c.entries place entry }
 abbrev pub chain_at : Chained → ℕ → List ℕ
 chain_at c bucket = slice_index_or c.chains bucket []
 
--- how many places stand in chains
+-- how many places are in chains
 abbrev pub used : Chained → ℕ
 used c = lengths c.chains
 
@@ -93,7 +93,7 @@ with_place c bucket place entry =
 abbrev pub without_place : Chained → ℕ → ℕ → Chained
 without_place c bucket place = record c { chains = set c.chains bucket (without place (chain_at c bucket)) }
 
--- the code in a place of a list of links
+-- the code at a place of a list of links
 abbrev pub link_in : List ℕ → ℕ → ℕ
 link_in links p = slice_index_or links p 0
 
@@ -101,14 +101,15 @@ link_in links p = slice_index_or links p 0
 abbrev pub chains_from : List ℕ → List ℕ → List (List ℕ)
 chains_from links heads = map (walk (link_in links) (length links)) heads
 
--- what the fields keep
+-- what always holds of the fields
 pub record IsKept (heads links : List ℕ) (free used : ℕ) : Type 0 where
   pub limit : length links ≤ 1048576
   pub linked : Linked (link_in links) (length links) free heads (walk (link_in links) (length links) free) (chains_from links heads)
   pub counted : lengths (chains_from links heads) ≡ used
 
 -- a search of a chain: from the code on, the links go over places of the table, the first of them that the test
--- accepts is the chain's, and what stands before a place that it accepts is what stands before it in the chain
+-- accepts is the first in the chain that it accepts, and the code before a place that it accepts is the one before it
+-- in the chain
 pub record IsSearch (links : List ℕ) (before code : ℕ) (test : ℕ → Bool) (chain : List ℕ) : Type 0 where
   pub ends : Follows (link_in links) code (walk (link_in links) (length links) code)
   pub within : (q : ℕ) → 1 ≤ times q (walk (link_in links) (length links) code) → q < length links

@@ -1,4 +1,4 @@
--- A packed frame: two big-endian words of 64 bits, whose fields stand from the most significant bit down.
+-- A packed frame: two big-endian words of 64 bits, whose fields are listed from the most significant bit down.
 use Rattle.std.specs.Prelude.{ℕ, ◌+◌, ◌*◌, ◌/◌, ◌%◌, ◌^◌, List, ◌++◌, take, drop, Option, Some, None, if◌then◌else◌, ◌==◌, nat_lt, Bool, not, false}
 use Rattle.std.specs.Int.{w64, to_be_bytes, from_be_bytes}
 use Rattle.packed_frames.specs.declared.entry.Entry.{Entry}
@@ -23,14 +23,14 @@ abbrev pub second_word : Entry → ℕ → ℕ
 second_word (Shared hash mpn count) link = tail_word mpn count link 1
 second_word (Hint key guest ppn mpn) link = tail_word mpn 0 link 0
 
--- a shared frame, where its numbers fit
+-- a shared frame, if its numbers fit
 abbrev pub packed_shared : ℕ → ℕ → ℕ → ℕ → Option Packed
 packed_shared hash mpn count link =
     if nat_lt mpn (2 ^ 24)
     then (if nat_lt link (2 ^ 23) then Some (record { entry = Shared hash mpn count; link = link }) else None)
     else None
 
--- a hint frame, where its numbers fit
+-- a hint frame, if its numbers fit
 abbrev pub packed_hint : ℕ → ℕ → ℕ → ℕ → ℕ → Option Packed
 packed_hint key guest ppn mpn link =
     if nat_lt ppn (2 ^ 24)
@@ -47,7 +47,7 @@ packed_bytes p = to_be_bytes w64 (first_word p.entry) ++ to_be_bytes w64 (second
 abbrev pub bits_of : ℕ → ℕ → ℕ → ℕ
 bits_of word low width = word / 2 ^ low % 2 ^ width
 
--- the entry of two words, which is none where the tag is 0 and the count isn't
+-- the entry in two words: none if the tag is 0 and the count isn't
 abbrev pub entry_of_words : ℕ → ℕ → Option Entry
 entry_of_words first second =
     if bits_of second 0 1 == 1
@@ -63,11 +63,11 @@ linked_entry (Some entry) link = Some (record { entry = entry; link = link })
 abbrev pub unpacked_words : ℕ → ℕ → Option Packed
 unpacked_words first second = linked_entry (entry_of_words first second) (bits_of second 1 23)
 
--- the word at a place of the bytes
+-- the word that begins at a place of the bytes
 abbrev pub word_at : List ℕ → ℕ → ℕ
 word_at bytes at = from_be_bytes w64 (take 8 (drop at bytes))
 
--- the frame of 16 bytes
+-- the frame in 16 bytes
 abbrev pub unpacked : List ℕ → Option Packed
 unpacked bytes = unpacked_words (word_at bytes 0) (word_at bytes 8)
 

@@ -10,10 +10,10 @@ use std::alloc::{AllocError, Allocator, Global};
 use std::marker::Model;
 
 /// A fixed number of frames of 16 bytes, in chains. A frame's bucket is its truncated hash modulo the
-/// number of buckets, so the frames of one truncated hash stand in one chain, whatever they are.
+/// number of buckets, so all frames with the same truncated hash, shared or hint, are in one chain.
 ///
-/// Each frame stands in one chain or is empty, and the empty ones are threaded through their links too:
-/// no entry moves when another comes or goes. All room is taken by `new`.
+/// Each frame is in one chain or is empty, and the empty ones are linked into a list too:
+/// no entry moves when another comes or goes. `new` allocates all memory.
 #[derive(Drop)]
 pub struct Chains<A: Allocator = Global> {
     places: Places<A>,
@@ -32,7 +32,7 @@ impl<A: Allocator> Model for Chains<A> {
 }
 
 impl<A: Allocator + Clone> Chains<A> {
-    /// Empty chains in `buckets` buckets, with room for `capacity` entries.
+    /// Makes empty chains in `buckets` buckets, with room for `capacity` entries.
     pub fn new(alloc: A, buckets: u32, capacity: u32) -> Result<Chains<A>, AllocError>
         requires buckets { 1 ≤ buckets }
         requires capacity { capacity ≤ 1048576 }
@@ -44,21 +44,21 @@ impl<A: Allocator + Clone> Chains<A> {
 }
 
 impl<A: Allocator> Chains<A> {
-    /// The number of entries.
+    /// Returns the number of entries.
     pub fn len(&self) -> u32
         ensures { result ≡ entry_count self.now }
     {
         self.places.len()
     }
 
-    /// The bytes of the frames, 16 each, and of the bucket heads, 4 each.
+    /// Returns how many bytes the frames, 16 each, and the bucket heads, 4 each, take together.
     pub fn bytes(&self) -> u64
         ensures { result ≡ 16 * self.now.capacity + 4 * length self.now.chains }
     {
         bytes_of(self.places.capacity(), self.buckets)
     }
 
-    /// The MPN and the count of the shared frame with this hash.
+    /// Returns the MPN and the count of the shared frame with this hash.
     pub fn find_shared(&self, hash: u64) -> Option<(u32, u16)>
         ensures found { result ≡ shared_parts (first_with (keys.Shared hash) (chain_of self.now (keys.Shared hash))) }
         ensures fits { IfSome result (λ frame. frame.0 < 2 ^ 24) }
@@ -69,7 +69,7 @@ impl<A: Allocator> Chains<A> {
         }
     }
 
-    /// The guest, the PPN and the MPN of the hint frame with this key.
+    /// Returns the guest, the PPN and the MPN of the hint frame with this key.
     pub fn find_hint(&self, key: u32) -> Option<(u8, u32, u32)>
         ensures { result ≡ hint_parts (first_with (keys.Hint key) (chain_of self.now (keys.Hint key))) }
     {
@@ -79,7 +79,7 @@ impl<A: Allocator> Chains<A> {
         }
     }
 
-    // The first entry of its chain that the key finds.
+    // Returns the first entry of the key's chain that the key finds.
     #[inline(always)]
     fn find(&self, key: Key) -> Option<Entry>
         ensures { result ≡ first_with key (chain_of self.now key) }
@@ -97,7 +97,7 @@ impl<A: Allocator> Chains<A> {
         self.places.add(bucket, entry);
     }
 
-    /// Puts an entry in the place of the first that its key finds.
+    /// Replaces the first entry that this entry's key finds by this entry.
     pub fn replace(&mut self, entry: Entry)
         requires present { IsSome (first_with (key_of entry) (chain_of self.old (key_of entry))) }
         ensures { self.new ≡ with_chain self.old (key_of entry) (with_other (key_of entry) entry (chain_of self.old (key_of entry))) }
@@ -107,8 +107,8 @@ impl<A: Allocator> Chains<A> {
         self.places.set_entry(found.place, entry);
     }
 
-    /// One page more for the shared frame with this hash, where its count stands in the frame and will fit it: a count of
-    /// 0 or of 65,535 stays. The count that stood there.
+    /// Counts one more page for the shared frame with this hash, if the count is kept in the frame and will fit it: a count
+    /// of 0 or of 65,535 stays. Returns the count that was in the frame.
     pub fn count_up(&mut self, hash: u64) -> u16
         requires present { IsSome (first_with (keys.Shared hash) (chain_of self.old (keys.Shared hash))) }
         ensures before { result ≡ field_in (first_with (keys.Shared hash) (chain_of self.old (keys.Shared hash))) }
@@ -139,8 +139,8 @@ impl<A: Allocator> Chains<A> {
         }
     }
 
-    /// One page less for the shared frame with this hash, where its count stands in the frame: a count of 0 stays, and the
-    /// frame goes with its last page. The count that stood there.
+    /// Counts one page less for the shared frame with this hash, if the count is kept in the frame: a count of 0 stays, and
+    /// the frame is removed with its last page. Returns the count that was in the frame.
     pub fn count_down(&mut self, hash: u64) -> u16
         requires present { IsSome (first_with (keys.Shared hash) (chain_of self.old (keys.Shared hash))) }
         ensures before { result ≡ field_in (first_with (keys.Shared hash) (chain_of self.old (keys.Shared hash))) }
@@ -173,7 +173,7 @@ impl<A: Allocator> Chains<A> {
         }
     }
 
-    /// Takes the first entry of its chain that the key finds away.
+    /// Removes the first entry of the key's chain that the key finds.
     pub fn remove(&mut self, key: Key)
         requires present { IsSome (first_with key (chain_of self.old key)) }
         ensures { self.new ≡ with_chain self.old key (without_first key (chain_of self.old key)) }
@@ -183,7 +183,7 @@ impl<A: Allocator> Chains<A> {
         self.places.remove(bucket, found);
     }
 
-    // The bucket of a key.
+    // Returns the bucket of a key.
     #[inline]
     fn bucket(&self, key: Key) -> usize
         ensures value { result ≡ home (length self.now.chains) key }
@@ -193,7 +193,7 @@ impl<A: Allocator> Chains<A> {
     }
 }
 
-// The bytes of so many frames, 16 each, and of so many bucket heads, 4 each.
+// Returns how many bytes these numbers of frames, 16 each, and bucket heads, 4 each, take together.
 fn bytes_of(frames: u32, heads: u32) -> u64
     ensures { result ≡ 16 * frames + 4 * heads }
 {

@@ -1,6 +1,6 @@
 use crate::U24;
 
-/// What a table knows of one frame.
+/// What a table knows about one frame.
 #[derive(Clone, Copy, Debug, PartialEq, Eq)]
 pub enum Entry {
     /// A frame that some pages share.
@@ -9,10 +9,10 @@ pub enum Entry {
         hash: u64,
         /// The frame's number within the machine.
         mpn: U24,
-        /// How many pages share it, and 0 where that doesn't fit 16 bits.
+        /// How many pages share it, or 0 if that doesn't fit in 16 bits.
         count: u16,
     },
-    /// The frame of a private page that a key was noted for.
+    /// The frame of a private page for which a key was noted.
     Hint {
         /// The key: the low 32 bits of the hash that the page's content had.
         key: u32,

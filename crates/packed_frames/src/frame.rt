@@ -1,4 +1,4 @@
-//! A frame as it lies in memory.
+//! A frame as it is in memory.
 ghost use Rattle.std.specs.Prelude.{◌≡◌, ◌<◌, ◌^◌};
 ghost use Rattle.packed_frames.specs.Keys.{has_key};
 ghost use Rattle.packed_frames.specs.Places.{with_link, with_entry};
@@ -7,7 +7,7 @@ use crate::packed::{finds, link_of, relinked};
 use crate::{Entry, Key, Packed, U23};
 use std::marker::Model;
 
-// Sixteen bytes that `Packed::read` reads.
+// Sixteen bytes that `Packed::read` can read.
 #[derive(Drop)]
 pub(crate) struct Frame {
     bytes: [u8; 16],
@@ -56,7 +56,7 @@ impl Frame {
         finds(key, &self.bytes)
     }
 
-    // The code of the next place.
+    // Returns the code of the next place.
     #[inline]
     pub(crate) fn link(&self) -> u32
         ensures value { result ≡ self.now.link }

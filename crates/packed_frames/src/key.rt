@@ -4,7 +4,7 @@ ghost use Rattle.packed_frames.specs.Keys.{truncated, key_of, shared_parts, hint
 
 use crate::Entry;
 
-/// What a frame is found by.
+/// What a table finds a frame by.
 #[derive(Clone, Copy, Debug, PartialEq, Eq)]
 pub enum Key {
     /// A shared frame, by the hash of its content.
@@ -14,7 +14,7 @@ pub enum Key {
 }
 
 impl Key {
-    // The low 32 bits of a hash, or a hint's key.
+    // Returns the low 32 bits of a hash, or a hint's key.
     pub(crate) fn truncated(self) -> u32
         ensures { result ≡ truncated self }
     {
@@ -26,7 +26,7 @@ impl Key {
 }
 
 impl Entry {
-    // What the frame is found by.
+    // Returns what the frame is found by.
     pub(crate) fn key(&self) -> Key
         ensures { result ≡ key_of self.now }
     {
@@ -36,7 +36,7 @@ impl Entry {
         }
     }
 
-    // The MPN and the count of a shared frame.
+    // Returns the MPN and the count of a shared frame.
     pub(crate) fn shared(&self) -> Option<(u32, u16)>
         ensures parts { result ≡ shared_parts (Some self.now) }
         ensures fits { IfSome result (λ frame. frame.0 < 2 ^ 24) }
@@ -47,7 +47,7 @@ impl Entry {
         }
     }
 
-    // The guest, the PPN and the MPN of a hint frame.
+    // Returns the guest, the PPN and the MPN of a hint frame.
     pub(crate) fn hint(&self) -> Option<(u8, u32, u32)>
         ensures { result ≡ hint_parts (Some self.now) }
     {

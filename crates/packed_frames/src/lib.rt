@@ -1,8 +1,8 @@
 //! Frames of 16 bytes, and chains of them.
 //!
 //! As in VMware ESX Server (C. Waldspurger, "Memory Resource Management in VMware ESX Server", OSDI
-//! 2002, section 4) the table of a page sharing machine keeps 16 bytes for each frame: what is known
-//! of a shared frame or of a hint frame, and a link to the next frame of its chain.
+//! 2002, section 4), the table of a page sharing machine keeps 16 bytes for each frame: what is known
+//! about a shared frame or a hint frame, and a link to the next frame of its chain.
 #![tactic(auto)]
 
 mod chains;

@@ -17,7 +17,7 @@ pub struct Below<const LIMIT: u32> {
 /// A number of 24 bits: an MPN or a PPN.
 pub type U24 = Below<OF_24_BITS>;
 
-/// A number of 23 bits: a link. 0 is no link, and n names the place n − 1.
+/// A number of 23 bits: a link. 0 means no link, and n means place n − 1.
 pub type U23 = Below<OF_23_BITS>;
 
 impl<const LIMIT: u32> Model for Below<LIMIT> {
@@ -36,7 +36,7 @@ impl<const LIMIT: u32> Model for Below<LIMIT> {
 }
 
 impl<const LIMIT: u32> Below<LIMIT> {
-    /// `None` where the number isn't below the limit.
+    /// Makes a number, or returns `None` if it isn't below the limit.
     pub fn new(number: u32) -> Option<Self>
         ensures { result ≡ (if nat_lt number LIMIT then Some number else None) }
     {
@@ -47,7 +47,7 @@ impl<const LIMIT: u32> Below<LIMIT> {
         }
     }
 
-    /// A number that is known to fit.
+    /// Makes a number that is known to be below the limit.
     pub fn of(number: u32) -> Self
         requires { number < LIMIT }
         ensures { result ≡ number }
@@ -55,7 +55,7 @@ impl<const LIMIT: u32> Below<LIMIT> {
         Below { number }
     }
 
-    /// The number.
+    /// Returns the number.
     pub fn get(self) -> u32
         ensures value { result ≡ self.entry }
         ensures fits { result < LIMIT }

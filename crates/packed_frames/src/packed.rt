@@ -10,14 +10,14 @@ use crate::{Entry, Key, U23, U24};
 /// An entry, and the link to the next frame of its chain.
 #[derive(Clone, Copy, Debug, PartialEq, Eq)]
 pub struct Packed {
-    /// What is known of the frame.
+    /// What is known about the frame.
     pub entry: Entry,
-    /// 0 where no frame comes next, or the next frame's place and 1.
+    /// The next frame's place plus 1, or 0 if no frame comes next.
     pub link: U23,
 }
 
 impl Packed {
-    /// A shared frame; `None` where the MPN doesn't fit 24 bits, or the link 23.
+    /// Makes a shared frame, or returns `None` if the MPN doesn't fit in 24 bits or the link in 23.
     pub fn shared(hash: u64, mpn: u32, count: u16, link: u32) -> Option<Packed>
         ensures { result ≡ packed_shared hash mpn count link }
     {
@@ -29,7 +29,7 @@ impl Packed {
         })
     }
 
-    /// A hint frame; `None` where the PPN or the MPN doesn't fit 24 bits, or the link 23.
+    /// Makes a hint frame, or returns `None` if the PPN or the MPN doesn't fit in 24 bits or the link in 23.
     pub fn hint(key: u32, guest: u8, ppn: u32, mpn: u32, link: u32) -> Option<Packed>
         ensures { result ≡ packed_hint key guest ppn mpn link }
     {
@@ -47,10 +47,10 @@ impl Packed {
         })
     }
 
-    /// The frame's bytes: two big-endian words, with their fields from the most significant bit down.
-    /// Of a shared frame the first is the hash; of a hint frame it has the key, 32 bits, the guest, 8, and
-    /// the PPN, 24. The second has the MPN, 24 bits, the count, 16 (0 in a hint frame), the link, 23, and a
-    /// tag, 1 bit, which is 1 in a shared frame.
+    /// Returns the frame's bytes: two big-endian words, whose fields are listed here from the most significant bit down.
+    /// The first word of a shared frame is the hash; that of a hint frame has the key in 32 bits, the guest in 8, and
+    /// the PPN in 24. The second word has the MPN in 24 bits, the count in 16 (0 in a hint frame), the link in 23, and a
+    /// tag in 1 bit, which is 1 in a shared frame and 0 in a hint frame.
     pub fn write(&self) -> [u8; 16]
         ensures bytes { result ≡ packed_bytes self.now }
         ensures read_back { unpacked result ≡ Some self.now }
@@ -73,7 +73,7 @@ impl Packed {
         }
     }
 
-    /// The frame of these bytes: `None` exactly where the tag is 0 and the count isn't.
+    /// Reads the frame in these bytes. Returns `None` exactly if the tag is 0 and the count isn't.
     pub fn read(bytes: &[u8; 16]) -> Option<Packed>
         ensures frame { result ≡ unpacked bytes.now }
         ensures refused { is_none result ≡ is_refused bytes.now }
@@ -104,7 +104,7 @@ impl Packed {
         Some(Packed { entry, link })
     }
 
-    // The frame of bytes that can be read.
+    // Returns the frame in bytes that can be read.
     pub(crate) fn of(bytes: &[u8; 16]) -> Packed
         requires { IsSome (unpacked bytes.now) }
         ensures { unpacked bytes.now ≡ Some result }
@@ -116,7 +116,8 @@ impl Packed {
     }
 }
 
-// Whether the key finds the entry of bytes that can be read. The first word seldom agrees by chance, the tag often.
+// Whether the key finds the entry of bytes that can be read. The first word is compared first: it seldom agrees by
+// chance, while the tag often does.
 #[inline]
 pub(crate) fn finds(key: Key, bytes: &[u8; 16]) -> bool
     requires { IsSome (unpacked bytes.now) }
@@ -130,7 +131,7 @@ pub(crate) fn finds(key: Key, bytes: &[u8; 16]) -> bool
     }
 }
 
-// The link of bytes that can be read.
+// Returns the link of bytes that can be read.
 #[inline]
 pub(crate) fn link_of(bytes: &[u8; 16]) -> u32
     requires { IsSome (unpacked bytes.now) }
@@ -140,7 +141,7 @@ pub(crate) fn link_of(bytes: &[u8; 16]) -> u32
     bits(word_at(bytes, 8), 1, 23)
 }
 
-// Bytes that can be read, with another link.
+// Returns bytes that can be read, with another link.
 #[inline]
 pub(crate) fn relinked(bytes: &[u8; 16], link: u32) -> [u8; 16]
     requires read { IsSome (unpacked bytes.now) }
@@ -152,7 +153,7 @@ pub(crate) fn relinked(bytes: &[u8; 16], link: u32) -> [u8; 16]
     bytes_of(word_at(bytes, 0), others + u64::from(link) * 2)
 }
 
-// The word of an MPN of 24 bits, a count of 16, a link of 23 and a tag of 1.
+// Returns the word of an MPN of 24 bits, a count of 16, a link of 23 and a tag of 1.
 fn tail_word(mpn: u32, count: u16, link: u32, tag: u64) -> u64
     requires mpn { mpn < 2 ^ 24 }
     requires link { link < 2 ^ 23 }
@@ -162,7 +163,7 @@ fn tail_word(mpn: u32, count: u16, link: u32, tag: u64) -> u64
     ((u64::from(mpn) * (1 << 16) + u64::from(count)) * (1 << 23) + u64::from(link)) * 2 + tag
 }
 
-// The word of a truncated hash of 32 bits, a guest of 8 and a PPN of 24.
+// Returns the word of a truncated hash of 32 bits, a guest of 8 and a PPN of 24.
 fn hint_word(key: u32, guest: u8, ppn: u32) -> u64
     requires ppn { ppn < 2 ^ 24 }
     ensures value { result ≡ hint_word key guest ppn }
@@ -170,7 +171,7 @@ fn hint_word(key: u32, guest: u8, ppn: u32) -> u64
     (u64::from(key) * (1 << 8) + u64::from(guest)) * (1 << 24) + u64::from(ppn)
 }
 
-// The bytes of two words.
+// Returns the bytes of two words.
 fn bytes_of(first: u64, second: u64) -> [u8; 16]
     ensures { result ≡ to_be_bytes w64 first ++ to_be_bytes w64 second }
 {
@@ -180,7 +181,7 @@ fn bytes_of(first: u64, second: u64) -> [u8; 16]
     bytes
 }
 
-// The word that begins at a byte.
+// Returns the word that begins at byte `at`.
 fn word_at(bytes: &[u8; 16], at: usize) -> u64
     requires { at + 8 ≤ 16 }
     ensures { result ≡ word_at bytes.now at }
@@ -189,7 +190,7 @@ fn word_at(bytes: &[u8; 16], at: usize) -> u64
     u64::from_be_bytes(*word)
 }
 
-// The field of `width` bits of a word, with `low` bits below it.
+// Returns the field of `width` bits of a word, with `low` bits below it.
 fn bits(word: u64, low: u32, width: u32) -> u32
     requires low { low < 64 }
     requires width { width ≤ 32 }

@@ -12,7 +12,7 @@ use crate::{Entry, Key, Packed, U23, U24};
 use std::alloc::{AllocError, Allocator, Global};
 use std::marker::Model;
 
-// A place of a chain, and the code of the place before it: 0 where it is the chain's first.
+// A place of a chain, and the code of the place before it, which is 0 if the place is the chain's first.
 #[derive(Clone, Copy)]
 pub(crate) struct Found {
     pub(crate) place: u32,
@@ -41,7 +41,7 @@ impl<A: Allocator> Model for Places<A> {
 }
 
 impl<A: Allocator + Clone> Places<A> {
-    // Empty chains for so many buckets, and so many places.
+    // Makes empty chains for `buckets` buckets, and `capacity` places.
     pub(crate) fn new(alloc: A, buckets: u32, capacity: u32) -> Result<Places<A>, AllocError>
         requires { capacity ≤ 1048576 }
         ensures { IfOk result (λ places. places ≡ no_chains buckets capacity) }
@@ -62,22 +62,22 @@ impl<A: Allocator + Clone> Places<A> {
 }
 
 impl<A: Allocator> Places<A> {
-    // The number of places in chains.
+    // Returns the number of places in chains.
     pub(crate) fn len(&self) -> u32
         ensures { result ≡ used self.now }
     {
         self.used
     }
 
-    // The number of places.
+    // Returns the number of places.
     pub(crate) fn capacity(&self) -> u32
         ensures { result ≡ length self.now.entries }
     {
         self.frames.len() as u32
     }
 
-    // The first place of the bucket's chain that the key finds, and what stands before it. Each caller knows which kind
-    // of key it has, and gets a search of its own.
+    // Returns the first place of the bucket's chain that the key finds, and the code before it. Inlined, because each caller
+    // knows which kind of key it has, and so gets a search of its own.
     #[inline(always)]
     pub(crate) fn find(&self, bucket: usize, key: Key) -> Option<Found>
         requires bucket { bucket < length self.now.chains }
@@ -100,7 +100,7 @@ impl<A: Allocator> Places<A> {
         None
     }
 
-    // The entry of a place.
+    // Returns the entry of a place.
     #[inline]
     pub(crate) fn entry(&self, place: u32) -> Entry
         requires { place < length self.now.entries }
@@ -119,7 +119,7 @@ impl<A: Allocator> Places<A> {
         self.frames[place as usize].set_entry(entry);
     }
 
-    // Puts an entry into an empty place, at the head of the bucket's chain.
+    // Puts an entry into an empty place, at the head of the bucket's chain, and returns the place.
     #[inline]
     pub(crate) fn add(&mut self, bucket: usize, entry: Entry) -> u32
         requires bucket { bucket < length self.old.chains }
@@ -138,7 +138,7 @@ impl<A: Allocator> Places<A> {
         place
     }
 
-    // Takes a place that was found out of the bucket's chain.
+    // Removes a place that was found from the bucket's chain.
     #[inline]
     pub(crate) fn remove(&mut self, bucket: usize, found: Found)
         requires bucket { bucket < length self.old.chains }
@@ -159,7 +159,7 @@ impl<A: Allocator> Places<A> {
     }
 }
 
-// An empty place with this link.
+// Makes an empty place with this link.
 fn empty_frame(code: u32) -> Frame
     requires { code < 2 ^ 23 }
     ensures { result ≡ record { entry = no_entry; link = code } }

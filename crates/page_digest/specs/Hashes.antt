@@ -3,11 +3,11 @@ use Rattle.std.specs.Prelude.{ℕ, ◌+◌, ◌*◌, ◌^◌, ◌==◌, if◌the
 use Rattle.std.specs.Int.{w32, w64, from_be_bytes, to_be_bytes}
 use Rattle.sha2.specs.Sha256.{sha256}
 
--- the message that is digested: the page alone under salt 0, and else the salt's four big-endian bytes and the page
+-- the message that is digested: the page alone under salt 0, and otherwise the salt's four big-endian bytes and the page
 abbrev pub salted : ℕ → List ℕ → List ℕ
 salted salt page = if salt == 0 then page else to_be_bytes w32 salt ++ page
 
--- the first eight bytes, read big-endian, of the message's SHA-256 (FIPS 180-4)
+-- the first eight bytes of the message's SHA-256 digest (FIPS 180-4), read big-endian
 unfoldable pub sha256_hash : ℕ → List ℕ → ℕ
 sha256_hash salt page = from_be_bytes w64 (take 8 (sha256 (salted salt page)))
 
@@ -15,7 +15,7 @@ sha256_hash salt page = from_be_bytes w64 (take 8 (sha256 (salted salt page)))
 abbrev pub first_byte_hash : ℕ → List ℕ → ℕ
 first_byte_hash salt page = slice_index page 0
 
--- byte 0 above byte 1, with 32 bits for the latter
+-- byte 0 above byte 1, which has the low 32 bits
 abbrev pub two_byte_hash : ℕ → List ℕ → ℕ
 two_byte_hash salt page = slice_index page 0 * 2 ^ 32 + slice_index page 1
 

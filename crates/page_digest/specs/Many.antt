@@ -2,7 +2,7 @@
 use Rattle.std.specs.Prelude.{ℕ, List, [], map, All, Option, None, Some}
 use Rattle.machine_frames.specs.FrameMap.{FrameMap, frame, IsTaken}
 
--- the bytes of a frame, none where it is free
+-- the bytes of a frame, none if it is free
 abbrev pub bytes_of : Option (List ℕ) → List ℕ
 bytes_of None = []
 bytes_of (Some bytes) = bytes

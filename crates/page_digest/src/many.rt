@@ -13,7 +13,7 @@ use std::thread;
 use std::thread::{Scope, Threads};
 use thiserror::Error;
 
-/// Why there are no hashes, in the order in which the causes are looked at.
+/// Why there are no hashes. The causes are checked in this order.
 #[derive(Clone, Copy, Debug, PartialEq, Eq, Error)]
 pub enum HashFault {
     /// The memory for the hashes or for the workers was refused.
@@ -35,11 +35,11 @@ impl From<AllocError> for HashFault {
     }
 }
 
-/// The hash of each listed frame under the salt that is listed with it, as pairs of a salt and an MPN, in order.
+/// Returns the hash of each listed frame, in order. `pairs` lists each frame's salt and MPN.
 ///
-/// As many workers as `workers` says, at most [`page_model::MAX_WORKERS`], hash parts of equal size. The calling thread
-/// is one of them, so that one worker starts no thread. All memory is taken before the first start. Where a start is
-/// refused, the threads that were started are waited for.
+/// Up to `workers` workers, at most [`page_model::MAX_WORKERS`], hash parts of equal size, though the last part may be
+/// smaller. The calling thread is one of them, so a single worker starts no thread. All memory is taken before the first
+/// thread starts. If a start is refused, the function waits for the threads that were started.
 pub fn hash_many<
     R: Threads + Wait + Sync,
     H: PageHash,
@@ -73,7 +73,7 @@ pub fn hash_many<
     )
 }
 
-/// The same in a scope, by parts of the given size. The first part is hashed here.
+/// Does the same in a scope, with parts of the given size. The calling thread hashes the first part.
 fn hash_in<
     's,
     E,
@@ -107,7 +107,7 @@ fn hash_in<
     Ok(hashes)
 }
 
-/// The tasks of further workers, with parts of so many frames each. The last part may be smaller.
+/// Makes the tasks of the other workers, with parts of `size` frames each. The last part may be smaller.
 fn new_tasks<'a, H: PageHash, A: Allocator + Clone, B: Allocator>(
     alloc: &A,
     hash: &'a H,
@@ -134,7 +134,7 @@ fn new_tasks<'a, H: PageHash, A: Allocator + Clone, B: Allocator>(
     Ok(tasks)
 }
 
-/// So many pairs from a place on, or as many as there are.
+/// Returns `size` pairs from place `from` on, or all that are left if there are fewer.
 fn part_at(pairs: &[(u32, u32)], from: usize, size: usize) -> &[(u32, u32)]
     requires { from ≤ length pairs.now }
     ensures { result.now ≡ take size (drop from pairs.now) }

@@ -1,5 +1,5 @@
-//! The message that a page is hashed by, with SHA-256's padding: 65 blocks, whether or not a salt stands before the
-//! page. All but the first and the last block are the page's own bytes and stay where they are.
+//! The message that is hashed for a page, with SHA-256's padding: 65 blocks, whether or not a salt comes before the
+//! page. All but the first and the last block are the page's own bytes and are read in place.
 ghost use Rattle.std.specs.Prelude.{◌≡◌, ◌++◌, length, take, drop};
 ghost use Rattle.std.specs.Int.{w32, to_be_bytes};
 ghost use Rattle.sha2.specs.Sha256.{padded_message, padding};
@@ -8,21 +8,21 @@ ghost use Rattle.page_digest.specs.Hashes.{salted};
 use page_model::Page;
 use sha256_lanes::Padded;
 
-// What follows a page of 4,096 bytes: a 1 bit, and the number of bits at the end.
+// The padding after a page of 4,096 bytes: a 1 bit, and at the end the number of bits.
 const PADDING: [u8; 64] = [
     0x80, 0, 0, 0, 0, 0, 0, 0, 0, 0, 0, 0, 0, 0, 0, 0, 0, 0, 0, 0, 0, 0, 0, 0, 0, 0, 0, 0, 0, 0, 0,
     0, 0, 0, 0, 0, 0, 0, 0, 0, 0, 0, 0, 0, 0, 0, 0, 0, 0, 0, 0, 0, 0, 0, 0, 0, 0, 0, 0, 0, 0, 0,
     0x80, 0,
 ];
 
-// What follows a page and a salt's four bytes, behind room for the page's last four.
+// Room for a page's last four bytes, and the padding after a salt's four bytes and the page.
 const SALTED_PADDING: [u8; 64] = [
     0, 0, 0, 0, 0x80, 0, 0, 0, 0, 0, 0, 0, 0, 0, 0, 0, 0, 0, 0, 0, 0, 0, 0, 0, 0, 0, 0, 0, 0, 0, 0,
     0, 0, 0, 0, 0, 0, 0, 0, 0, 0, 0, 0, 0, 0, 0, 0, 0, 0, 0, 0, 0, 0, 0, 0, 0, 0, 0, 0, 0, 0, 0,
     0x80, 0x20,
 ];
 
-/// A page's message under a salt.
+/// Makes a page's message under a salt.
 pub(crate) fn padded(salt: u32, page: &Page) -> Padded<'_>
     ensures value { result ≡ padded_message (salted salt page.now) }
     ensures long { length result ≡ 4160 }

@@ -1,17 +1,17 @@
-//! What can hash pages.
+//! The trait of types that hash pages.
 ghost use Rattle.std.specs.Prelude.{◌≡◌};
 ghost use Rattle.page_digest.specs.Hashes.{four_hashes};
 
 use page_model::{HashFunction, Page};
 
-/// A hash of pages that can be computed, from any thread.
+/// A hash of pages that any thread can compute.
 pub trait PageHash: HashFunction + Sync {
-    /// The type's stated function of the salt and the page's bytes. It takes no memory.
+    /// Returns the type's stated function of the salt and the page's bytes, without taking memory.
     fn hash(&self, salt: u32, page: &Page) -> u64
         ensures { result ≡ Self.hash_of salt page.now };
 
-    /// The same of four pages, each under the salt at its place. A type that hashes four pages faster together than
-    /// one by one says so here.
+    /// Does the same for four pages, each under the salt at its place. A type that hashes four pages faster together than
+    /// one by one overrides this.
     fn hash_four(&self, salts: [u32; 4], a: &Page, b: &Page, c: &Page, d: &Page) -> [u64; 4]
         ensures { result ≡ four_hashes Self.hash_of salts a.now b.now c.now d.now }
     {

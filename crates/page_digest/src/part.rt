@@ -68,7 +68,7 @@ fn push_each<H: PageHash, A: Allocator, B: Allocator>(
     }
 }
 
-/// Appends numbers that there is room for.
+/// Appends numbers for which there is room.
 pub(crate) fn append<A: Allocator>(hashes: &mut Vec<u64, A>, more: &[u64])
     requires { vec_len hashes.old + length more.now ≤ vec_capacity hashes.old }
     ensures items { hashes.new.items ≡ hashes.old.items ++ more.now }

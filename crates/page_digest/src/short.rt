@@ -1,8 +1,8 @@
-//! Weak hashes, for tests of what happens where different pages have equal hashes.
+//! Weak hashes, for tests of what happens when different pages have equal hashes.
 use crate::PageHash;
 use page_model::{HashFunction, Page};
 
-/// Byte 0 of the page. It doesn't look at the salt.
+/// Byte 0 of the page. The salt is ignored.
 #[derive(Clone, Copy, Debug, PartialEq, Eq)]
 pub struct FirstByteHash;
 
@@ -18,7 +18,7 @@ impl PageHash for FirstByteHash {
     }
 }
 
-/// Byte 0 of the page times 2^32, and byte 1: pages with equal byte 1 have one key. It doesn't look at the salt.
+/// Byte 0 of the page times 2^32, plus byte 1: pages with equal byte 1 have the same key. The salt is ignored.
 #[derive(Clone, Copy, Debug, PartialEq, Eq)]
 pub struct TwoByteHash;
 

@@ -1,4 +1,4 @@
-//! What workers are given, what they owe, and how their threads are started and joined.
+//! What workers hash and promise, and how their threads are started and joined.
 ghost use Rattle.std.specs.Prelude.{◌≡◌, ◌+◌, ◌≤◌, ◌++◌, [], All, IfSome, take, length, vec_len, vec_capacity};
 ghost use Rattle.page_digest.specs.Parts.{IsReady, hashes_of_part, parts_of, hashes_of_parts, task_parts};
 
@@ -8,7 +8,7 @@ use machine_frames::Frames;
 use std::alloc::Allocator;
 use std::thread::{Promise, PromisedHandle, Scope, Threads};
 
-/// What a worker hashes; as a promise, that what comes back are the hashes of these.
+/// What a worker hashes; as a promise, that what it returns are the hashes of these frames.
 #[derive(Drop)]
 pub(crate) struct Part<'a, H: PageHash, B: Allocator> {
     pub(crate) hash: &'a H,
@@ -22,7 +22,7 @@ impl<'a, H: PageHash, A: Allocator, B: Allocator> Promise<Vec<u64, A>> for Part<
     ghost kept_by = { λ part hashes. hashes.items ≡ hashes_of_part H.hash_of part };
 }
 
-/// What the thread of a worker is given.
+/// The task of a worker's thread.
 #[derive(Drop)]
 pub(crate) struct Task<'a, H: PageHash, A: Allocator, B: Allocator> {
     pub(crate) part: Part<'a, H, B>,
@@ -52,7 +52,7 @@ pub(crate) fn start_all<'s, E, H: PageHash, A: Allocator + Send + 's, B: Allocat
     }
 }
 
-/// Starts a worker's thread. `None` where that is refused.
+/// Starts a worker's thread. Returns `None` if that is refused.
 fn start<'s, E, H: PageHash, A: Allocator + Send + 's, B: Allocator + Sync>(
     scope: &Scope<'s, E>,
     task: Task<'s, H, A, B>,

@@ -1,4 +1,4 @@
--- What requests do to a page, which is given by its guest and its number.
+-- What requests do to a page, which is named by its guest and its number.
 use Rattle.std.specs.Prelude.{ℕ, Bool, false, ◌==◌, ◌&&◌, List}
 use Rattle.std.specs.List.{list_any}
 use Rattle.page_model.specs.declared.request.Entry.{Entry}

@@ -1,4 +1,4 @@
-//! One page that is foreseen.
+//! A page that is foreseen.
 ghost use Rattle.std.specs.Prelude.{◌≡◌};
 ghost use Rattle.std.specs.Option.{ForSome};
 
@@ -6,7 +6,7 @@ use page_digest::PageHash;
 use page_model::{Entry, PAGE_BYTES, Page, Request};
 use std::marker::{Model, PhantomData};
 
-/// The bytes that a page is expected to hold, its salt, and their hash once it was computed.
+/// The bytes that a page is expected to hold, its salt, and their hash once it is computed.
 ///
 /// A contract sees a `Foreseen`.
 #[derive(Drop)]
@@ -36,7 +36,7 @@ impl<H: PageHash> Forecast<H> {
     ghost use Rattle.page_model.specs.declared.limits.TheConstants.{PAGE_BYTES};
     ghost use Rattle.page_forecasts.specs.Forecasts.{Expects, expected, hash_for, hashed, left, left_by};
 
-    /// A page of zeros, whose hash wasn't computed.
+    /// Makes a forecast of a page of zeros, whose hash isn't computed.
     #[tactic(auto, unfolding(page_model::specs::Pages::blank))]
     pub(crate) fn new() -> Forecast<H>
         ensures { result ≡ expected 0 None }
@@ -49,22 +49,22 @@ impl<H: PageHash> Forecast<H> {
         }
     }
 
-    /// The salt.
+    /// Returns the salt.
     pub(crate) fn salt(&self) -> u32
         ensures { result ≡ self.now.salt }
     {
         self.salt
     }
 
-    /// The bytes.
+    /// Returns the bytes.
     pub(crate) fn bytes(&self) -> &Page
         ensures { result.now ≡ self.now.bytes }
     {
         &self.bytes
     }
 
-    /// Foresees a page: what it will hold, and whether it will be mapped, once these requests are served. It has this salt, and
-    /// now these bytes, or none where it is unmapped. Tells whether it will be mapped.
+    /// Foresees what a page will hold once these requests are served, and returns whether it will be mapped then. It has this
+    /// salt, and now these bytes, or none if it is unmapped.
     pub(crate) fn foresee(
         &mut self,
         salt: u32,
@@ -80,7 +80,7 @@ impl<H: PageHash> Forecast<H> {
         self.serve_all(before, guest, ppn, bytes.is_some())
     }
 
-    /// Begins anew, with a page of these bytes, or one of zeros.
+    /// Starts over, with a page of these bytes, or one of zeros.
     #[tactic(auto, unfolding(page_model::specs::Pages::blank))]
     fn begin(&mut self, salt: u32, bytes: Option<&Page>)
         ensures { self.new ≡ expected salt (option_map (λ page. page.now) bytes.entry) }
@@ -93,7 +93,7 @@ impl<H: PageHash> Forecast<H> {
         }
     }
 
-    /// Foresees what these requests do to a page. Tells whether it is mapped after them.
+    /// Foresees what these requests do to a page. Returns whether it is mapped after them.
     fn serve_all(&mut self, requests: &[Entry], guest: u8, ppn: u32, is_mapped: bool) -> bool
         ensures { (salt : ℕ) (page : Option (List ℕ)) → Expects self.old salt is_mapped page
             → Expects self.new salt result (left_by requests.now guest ppn page) }
@@ -107,7 +107,7 @@ impl<H: PageHash> Forecast<H> {
         is_mapped
     }
 
-    /// Foresees what one of a guest's requests does to a page of it. Tells whether the page is mapped after it.
+    /// Foresees what one request of a guest does to one of its pages. Returns whether the page is mapped after it.
     fn serve(&mut self, request: &Request, ppn: u32, is_mapped: bool) -> bool
         ensures { (salt : ℕ) (page : Option (List ℕ)) → Expects self.old salt is_mapped page
             → Expects self.new salt result (left request.now ppn page) }
@@ -151,7 +151,7 @@ impl<H: PageHash> Forecast<H> {
         self.hash = Some(code);
     }
 
-    /// The hash, where it was computed, of a page that holds what was foreseen.
+    /// Returns the hash of a page that holds what was foreseen, if the hash was computed.
     pub(crate) fn hash_of(&self, salt: u32, bytes: &Page) -> Option<u64>
         ensures known { result ≡ hash_for salt bytes.now self.now }
         ensures right { IfSome result (λ code. code ≡ H.hash_of salt bytes.now) }

@@ -4,12 +4,12 @@ use page_digest::PageHash;
 use page_model::{Entry, Page};
 use std::marker::Model;
 
-/// How many pages are foreseen at most: with the one that is proposed they are as many as are hashed at once.
+/// The most pages that are foreseen: together with the proposed one, as many as are hashed at once.
 pub const FORECASTS: usize = 3;
 
-/// Pages that are foreseen, three at most. Those of before stay until others take their places.
+/// Pages that are foreseen, at most three. Earlier ones stay until others replace them.
 ///
-/// A contract sees a list of three of `Foreseen`.
+/// A contract sees a list of three `Foreseen`.
 #[derive(Drop)]
 pub struct Forecasts<H: PageHash> {
     first: Forecast<H>,
@@ -32,7 +32,7 @@ impl<H: PageHash> Forecasts<H> {
     ghost use Rattle.page_forecasts.specs.Forecasts.{expected, hashed, known_hash, left_by};
     ghost use Rattle.page_forecasts.specs.declared.forecasts.TheConstants.{FORECASTS};
 
-    /// Nothing is foreseen: three pages of zeros, and no hash.
+    /// Makes forecasts with nothing foreseen: three pages of zeros, and no hash.
     pub fn new() -> Forecasts<H>
         ensures { result ≡ expected 0 None ∷ expected 0 None ∷ expected 0 None ∷ [] }
     {
@@ -43,11 +43,10 @@ impl<H: PageHash> Forecasts<H> {
         }
     }
 
-    /// Foresees a page, at place 0, 1 or 2: what it will hold, and whether it will be mapped, once these requests are served
-    /// that come before its proposal. It has this salt, and now these bytes, or none where it is unmapped. That a store may find
-    /// no frame isn't foreseen.
+    /// Foresees a page, at place 0, 1 or 2: what it will hold once the requests `before` its proposal are served. It has this
+    /// salt, and now these bytes, or none if it is unmapped. That a store may find no frame isn't foreseen.
     ///
-    /// Tells whether it will be mapped. Its hash isn't computed yet.
+    /// Returns whether the page will be mapped then. Its hash isn't computed yet.
     pub fn foresee(
         &mut self,
         place: usize,
@@ -68,7 +67,7 @@ impl<H: PageHash> Forecasts<H> {
         }
     }
 
-    /// The hash of a page of this salt and these bytes, where it was foreseen and its hash computed.
+    /// Returns the hash of a page with this salt and these bytes, if it was foreseen and its hash computed.
     pub fn hash_of(&self, salt: u32, bytes: &Page) -> Option<u64>
         ensures known { result ≡ known_hash self.now salt bytes.now }
         ensures right { IfSome result (λ code. code ≡ H.hash_of salt bytes.now) }
@@ -82,7 +81,7 @@ impl<H: PageHash> Forecasts<H> {
         self.third.hash_of(salt, bytes)
     }
 
-    /// The hash of a page, computed at once with those of the pages that are foreseen, which are kept.
+    /// Returns the hash of a page, computed together with the hashes of the foreseen pages, which are kept.
     pub fn hash_beside(&mut self, hash: &H, salt: u32, bytes: &Page) -> u64
         ensures page { result ≡ H.hash_of salt bytes.now }
         ensures kept { self.new ≡ map (hashed H.hash_of) self.old }

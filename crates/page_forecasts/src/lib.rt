@@ -1,7 +1,8 @@
-//! What pages will hold when they are proposed, as far as the next requests tell, and the hashes of that, computed before.
+//! What pages will hold when they are proposed, as far as the next requests show, and the hashes of that, computed ahead
+//! of time.
 //!
-//! A forecast is a guess about bytes, and its hash is that of the bytes that were guessed. It serves for a page only where the
-//! page has come to hold those bytes, which is looked at then. So nothing depends on what was foreseen, but time.
+//! A forecast is a guess about bytes, and its hash is the hash of the guessed bytes. It's used for a page only if the page
+//! then holds exactly those bytes, which is checked. So what was foreseen affects nothing but time.
 #![tactic(auto)]
 
 mod forecast;

@@ -4,14 +4,14 @@ ghost use Rattle.page_forecasts.specs.Requests as requests;
 
 use page_model::{Entry, Request};
 
-/// Whether these requests store to a page or release it.
+/// Whether one of these requests stores to the page or releases it.
 pub fn is_changed(entries: &[Entry], guest: u8, ppn: u32) -> bool
     ensures { result ≡ requests.is_changed entries.now guest ppn }
 {
     entries.iter().any(|entry| entry.guest == guest && changes(&entry.request, ppn))
 }
 
-/// Whether these requests propose a page.
+/// Whether one of these requests proposes the page.
 pub fn is_proposed(entries: &[Entry], guest: u8, ppn: u32) -> bool
     ensures { result ≡ requests.is_proposed entries.now guest ppn }
 {

@@ -1,4 +1,4 @@
--- A guest's entries by themselves, and what the guest reads there.
+-- A guest's entries on a machine of its own, and what the guest reads there.
 use Rattle.std.specs.Prelude.{◌≡◌, ℕ, Bool, true, false, if◌then◌else◌, List, [], ◌∷◌, map, Some, slice_get}
 use Rattle.std.specs.List.{list_any}
 use Rattle.page_model.specs.Pages.{State}
@@ -25,25 +25,25 @@ is_load (Release ppn) = false
 is_load Count = false
 is_load Close = false
 
--- of the verdicts, one for each request, those of the loads
+-- the verdicts of the loads, from these requests and their verdicts, one for each request
 abbrev pub loads_told : List Request → List Verdict → List Verdict
 loads_told [] verdicts = []
 loads_told (r ∷ rs) [] = []
 loads_told (r ∷ rs) (v ∷ verdicts) = if is_load r then v ∷ loads_told rs verdicts else loads_told rs verdicts
 
--- a machine with this guest only, with its own salt and pages and with one frame for each of its pages
+-- a machine with only this guest, with its salt and its pages, and with one frame for each page
 abbrev pub lone : Shape → State
 lone shape = empty_state shape.pages (shape ∷ [])
 
--- these requests as a journal of that machine, whose one guest is guest 0
+-- these requests as a journal of that machine, whose only guest is guest 0
 abbrev pub by_itself : List Request → List Entry
 by_itself rs = map (λ r. record { guest = 0; request = r }) rs
 
--- a guest's entries by themselves
+-- a guest's entries, as a journal of that machine
 abbrev pub alone : ℕ → List Entry → List Entry
 alone guest es = by_itself (asked guest es)
 
--- where no store of the guest was refused a frame, its loads are answered as when its entries are replayed by themselves
+-- if no store of the guest was refused a frame, its loads are answered as when its entries alone are replayed
 abbrev pub LoadsAsAlone : List Entry → ℕ → Type 0
 LoadsAsAlone es guest =
     (hash : ℕ → List ℕ → ℕ) (total : ℕ) (shapes : List Shape) (shape : Shape) → slice_get shapes guest ≡ Some shape →
@@ -51,7 +51,7 @@ LoadsAsAlone es guest =
     list_any is_no_frame (answers hash s guest es) ≡ false →
     loads_told (asked guest es) (answers hash s guest es) ≡ loads_told (asked guest es) (verdicts_of hash (lone shape) (alone guest es))
 
--- and each byte of its pages reads at the end as it does there
+-- and at the end each byte of its pages reads as it does there
 abbrev pub PagesAsAlone : List Entry → ℕ → Type 0
 PagesAsAlone es guest =
     (hash : ℕ → List ℕ → ℕ) (total : ℕ) (shapes : List Shape) (shape : Shape) → slice_get shapes guest ≡ Some shape →

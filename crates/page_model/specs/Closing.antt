@@ -36,10 +36,10 @@ is_closed (v.Released freed) = false
 is_closed (v.Totals report) = false
 is_closed v.Closed = true
 
--- whether a `Close` stands among the requests
+-- whether a `Close` is among the requests
 abbrev pub has_close : List Request → Bool
 has_close requests = list_any is_close requests
 
--- whether a `Closed` stands among the verdicts
+-- whether a `Closed` is among the verdicts
 abbrev pub has_closed : List Verdict → Bool
 has_closed verdicts = list_any is_closed verdicts

@@ -1,5 +1,5 @@
--- What passes between the guests and the merger, one event after another. Verdicts stand here by the places of their
--- entries in the journal, so a world of events is the same for every hash, number of frames and ring capacity.
+-- What passes between the guests and the merger, one event after another. A verdict is represented by the place of its
+-- entry in the journal, so a world of events is the same for every hash, number of frames and ring capacity.
 use Rattle.std.specs.Prelude.{◌≡◌, ℕ, ◌<◌, ◌≤◌, ◌==◌, false, if◌then◌else◌, List, [], ◌∷◌, ◌++◌, length, take, drop, map, Some, slice_get}
 use Rattle.page_model.specs.Closing.{has_close}
 use Rattle.page_model.specs.Journal.{places}
@@ -30,11 +30,11 @@ pub record World : Type 0 where
 abbrev pub start : World
 start = record { traffic = λ guest. no_traffic; journal = [] }
 
--- what comes next in ys after as many as xs has: one element, or none
+-- the element of ys that comes after as many elements as xs has, or none
 abbrev pub next : {X : Type 0} → List X → List X → List X
 next xs ys = take 1 (drop (length xs) ys)
 
--- the guest sends a request, unless it sent a close before
+-- the guest sends a request, unless it has sent a close
 abbrev pub sends : Request → Traffic → Traffic
 sends r t = record { sent = if has_close t.sent then t.sent else t.sent ++ r ∷ []; taken = t.taken; given = t.given; got = t.got }
 
@@ -58,8 +58,8 @@ at_guest guest change traffic other = if other == guest then change (traffic oth
 abbrev pub entries_of : ℕ → List Request → List Entry
 entries_of guest rs = map (λ r. record { guest = guest; request = r }) rs
 
--- One event. What is taken goes to the journal as well, and what can be given is the places of the guest's entries
--- there. An event that has nothing to move changes nothing.
+-- One event. What is taken also goes to the journal, and what can be given is the places of the guest's entries
+-- there. An event with nothing to move changes nothing.
 abbrev pub happens : World → Event → World
 happens w (Send guest r) = record { traffic = at_guest guest (sends r) w.traffic; journal = w.journal }
 happens w (Take guest) = record { traffic = at_guest guest takes w.traffic; journal = w.journal ++ entries_of guest (next (w.traffic guest).taken (w.traffic guest).sent) }
@@ -71,7 +71,7 @@ abbrev pub world_from : World → List Event → World
 world_from w [] = w
 world_from w (e ∷ es) = world_from (happens w e) es
 
--- the world that these events leave
+-- the world after these events
 abbrev pub world_after : List Event → World
 world_after es = world_from start es
 
@@ -84,8 +84,8 @@ pub record Begins {X : Type 0} (xs ys : List X) : Type 0 where
 abbrev pub ClosesLast : List Request → Type 0
 ClosesLast rs = (front : List Request) (last : Request) → front ++ last ∷ [] ≡ rs → has_close front ≡ false
 
--- Where guest a had got its kth place before guest b's mth request was sent, both counted from 0,
--- a's kth place stands before b's mth.
+-- If guest a had got its kth place before guest b's mth request was sent, both counted from 0,
+-- a's kth place comes before b's mth.
 abbrev pub GotBeforeSent : List Event → Type 0
 GotBeforeSent es =
     (n a b k m p q : ℕ) →
@@ -94,6 +94,6 @@ GotBeforeSent es =
     k < length (early.traffic a).got → length (early.traffic b).sent ≤ m →
     slice_get (places a journal) k ≡ Some p → slice_get (places b journal) m ≡ Some q → p < q
 
--- events of which most come before they have something to move
+-- events most of which come before they have anything to move
 abbrev pub out_of_order : List Event
 out_of_order = Get 0 ∷ Take 0 ∷ Send 0 Count ∷ Take 0 ∷ Get 0 ∷ Give 0 ∷ Get 0 ∷ []

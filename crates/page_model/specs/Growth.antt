@@ -3,7 +3,7 @@ use Rattle.std.specs.Prelude.{◌≡◌, ℕ, ◌≤◌, List, length, take}
 use Rattle.page_model.specs.Replay.{Shape, empty_state, state_after, verdicts_of}
 use Rattle.page_model.specs.declared.request.Entry.{Entry}
 
--- more of the journal never leaves fewer entries
+-- a longer beginning of the journal never leaves fewer entries
 abbrev pub EntriesNeverFall : List Entry → Type 0
 EntriesNeverFall es =
     (hash : ℕ → List ℕ → ℕ) (total : ℕ) (shapes : List Shape) (m n : ℕ) → m ≤ n →
@@ -16,7 +16,7 @@ OneVerdictEach es =
     (hash : ℕ → List ℕ → ℕ) (total : ℕ) (shapes : List Shape) →
     length (verdicts_of hash (empty_state total shapes) es) ≡ length es
 
--- the first n entries have the verdicts by themselves that they have in the whole journal: later entries change none
+-- the first n entries alone have the same verdicts as in the whole journal: later entries change none
 abbrev pub VerdictsStay : List Entry → Type 0
 VerdictsStay es =
     (hash : ℕ → List ℕ → ℕ) (total : ℕ) (shapes : List Shape) (n : ℕ) →

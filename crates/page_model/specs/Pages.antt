@@ -6,8 +6,8 @@ use Rattle.std.specs.Str.{bytes_eq}
 use Rattle.page_model.specs.Parts.{Totals}
 use Rattle.page_model.specs.declared.limits.TheConstants.{PAGE_BYTES}
 
--- One page of a guest. It is unmapped and has no frame; or private, with a frame of its own and maybe a hint
--- under a key; or shared, with a frame that pages of equal content share. So hints stand on private pages alone.
+-- One page of a guest. It is unmapped, with no frame; or private, with a frame of its own and perhaps a hint
+-- under a key; or shared, with a frame that pages of equal content share. So only private pages have hints.
 -- X is what a mapped page holds: its bytes in the model, its machine page number in a core.
 pub data SlotOf (X : Type 0) : Type 0 where
   Unmapped : SlotOf X
@@ -18,7 +18,7 @@ pub data SlotOf (X : Type 0) : Type 0 where
 abbrev pub Slot : Type 0
 Slot = SlotOf (List ℕ)
 
--- a guest: its salt, and its pages by their physical page numbers (PPN). Pages are shared between guests of equal salt only
+-- a guest: its salt, and its pages by their physical page numbers (PPN). Only guests with equal salts share pages
 pub record GuestOf (X : Type 0) : Type 0 where
   pub salt : ℕ
   pub slots : List (SlotOf X)
@@ -78,7 +78,7 @@ has_hint key (Private bytes None) = false
 has_hint key (Private bytes (Some own)) = own == key
 has_hint key (Shared bytes) = false
 
--- a shared page of a guest with the salt own whose content is this salt and these bytes. Content is the pair of both
+-- a shared page, of a guest with the salt own, whose content is this salt and these bytes: a content is the pair of both
 abbrev pub is_shared_as : ℕ → List ℕ → ℕ → Slot → Bool
 is_shared_as salt bytes own Unmapped = false
 is_shared_as salt bytes own (Private others hint) = false
@@ -90,11 +90,11 @@ is_shared_under hash code own Unmapped = false
 is_shared_under hash code own (Private others hint) = false
 is_shared_under hash code own (Shared others) = hash own others == code
 
--- how many pages pass a test of their guest's salt and of the page
+-- how many pages pass a test on their guest's salt and the page
 abbrev pub count_pages : (ℕ → Slot → Bool) → List Guest → ℕ
 count_pages p guests = sum_by (λ g. count_by (p g.salt) g.slots) guests
 
--- whether some page passes a test of its guest's salt and of the page
+-- whether some page passes a test on its guest's salt and the page
 abbrev pub any_page : (ℕ → Slot → Bool) → List Guest → Bool
 any_page p guests = list_any (λ g. list_any (p g.salt) g.slots) guests
 
@@ -102,8 +102,8 @@ any_page p guests = list_any (λ g. list_any (p g.salt) g.slots) guests
 abbrev pub peers : ℕ → List ℕ → List Guest → ℕ
 peers salt bytes guests = count_pages (is_shared_as salt bytes) guests
 
--- how many contents the shared pages among slots have that no shared page among the later guests has: of the pages
--- with one content only the last counts
+-- how many contents the shared pages among slots have that no shared page of the later guests has: of pages with the
+-- same content only the last counts
 abbrev pub distinct_in : ℕ → List Slot → List Guest → ℕ
 distinct_in salt [] later = 0
 distinct_in salt (Unmapped ∷ slots) later = distinct_in salt slots later
@@ -120,26 +120,26 @@ distinct (g ∷ guests) = distinct_in g.salt g.slots guests + distinct guests
 abbrev pub used : List Guest → ℕ
 used guests = count_pages (λ _. is_private) guests + distinct guests
 
--- the number of the first slot that passes, where the first slot's number is n
+-- the number of the first slot that passes the test, if the first slot's number is n
 abbrev pub slot_from : (Slot → Bool) → ℕ → List Slot → Option ℕ
 slot_from p n [] = None
 slot_from p n (slot ∷ slots) = if p slot then Some n else slot_from p (n + 1) slots
 
--- the page ppn of guest n where there is one, and else a later page
+-- the page ppn of guest n if there is one, and otherwise a later page
 abbrev pub or_else : ℕ → Option ℕ → Option (ℕ × ℕ) → Option (ℕ × ℕ)
 or_else n (Some ppn) later = Some (n, ppn)
 or_else n None later = later
 
--- the guest and the number of the first page that passes, where the first guest's number is n
+-- the guest and the number of the first page that passes the test, if the first guest's number is n
 abbrev pub page_from : (Slot → Bool) → ℕ → List Guest → Option (ℕ × ℕ)
 page_from p n [] = None
 page_from p n (g ∷ guests) = or_else n (slot_from p 0 g.slots) (page_from p (n + 1) guests)
 
--- the guest and the number of the first page that passes
+-- the guest and the number of the first page that passes the test
 abbrev pub find_page : (Slot → Bool) → List Guest → Option (ℕ × ℕ)
 find_page p guests = page_from p 0 guests
 
--- a page after its guest's salt, where the guest has a page of this number
+-- the guest's salt and the page, if the guest has a page with this number
 abbrev pub page_at : {X : Type 0} → List (GuestOf X) → ℕ → ℕ → Option (ℕ × SlotOf X)
 page_at guests guest ppn = option_and_then (λ g. option_map (λ slot. (g.salt, slot)) (slice_get g.slots ppn)) (slice_get guests guest)
 
@@ -149,7 +149,7 @@ with_slot [] guest ppn slot = []
 with_slot (g ∷ guests) zero ppn slot = record { salt = g.salt; slots = slice_set g.slots ppn slot } ∷ guests
 with_slot (g ∷ guests) (suc guest) ppn slot = g ∷ with_slot guests guest ppn slot
 
--- the numbers of a report after this many requests. What is reclaimed is the mapped pages less the frames in use
+-- the numbers of a report after this many requests. Reclaimed is the mapped pages minus the frames in use
 abbrev pub totals : ℕ → List Guest → Totals
 totals entries guests = record {
   entries = entries;

@@ -1,4 +1,4 @@
--- Stores, loads, reports and machines as contracts see them: their parts, with no fact about them.
+-- Stores, loads, reports and machines as contracts see them: just their parts, with no facts about them.
 use Rattle.std.specs.Prelude.{ℕ, List}
 
 -- a store of bytes at a place of page ppn

@@ -1,4 +1,4 @@
--- What stands at a guest's places in a journal.
+-- What is at a guest's places in a journal.
 use Rattle.std.specs.Prelude.{◌≡◌, ℕ, ◌<◌, List, map, Some, slice_get}
 use Rattle.page_model.specs.Replay.{Shape, empty_state, verdicts_of}
 use Rattle.page_model.specs.Journal.{places, asked, answers}
@@ -9,7 +9,7 @@ use Rattle.page_model.specs.declared.request.Request.{Request}
 abbrev pub entry_of : ℕ → Request → Entry
 entry_of guest r = record { guest = guest; request = r }
 
--- at each of the guest's places stands its entry with its request of the same number
+-- at each of the guest's places is its entry, with its request of the same number
 abbrev pub PlacesHoldRequests : List Entry → ℕ → Type 0
 PlacesHoldRequests es guest = map (slice_get es) (places guest es) ≡ map (λ r. Some (entry_of guest r)) (asked guest es)
 
@@ -20,7 +20,7 @@ PlacesHoldAnswers es guest =
     let s = empty_state total shapes in
     map (slice_get (verdicts_of hash s es)) (places guest es) ≡ map Some (answers hash s guest es)
 
--- each entry of the guest stands at one of its places
+-- each entry of the guest is at one of its places
 abbrev pub AllArePlaced : List Entry → ℕ → Type 0
 AllArePlaced es guest = (p : ℕ) (r : Request) → slice_get es p ≡ Some (entry_of guest r) → (k : ℕ) × (slice_get (places guest es) k ≡ Some p)
 

@@ -9,7 +9,7 @@ use Rattle.page_model.specs.declared.request.Entry.{Entry}
 abbrev pub report_after : (ℕ → List ℕ → ℕ) → ℕ → List Shape → List Entry → Totals
 report_after hash total shapes es = let s = state_after hash (empty_state total shapes) es in totals s.entries s.guests
 
--- what the numbers of a report are to each other
+-- how the numbers of a report are related
 pub record AddUp (r : Totals) : Type 0 where
   pub reclaimed : r.reclaimed + r.frames ≡ r.mapped
   pub shared : r.shared ≤ r.mapped
@@ -23,6 +23,6 @@ ReportAddsUp es = (hash : ℕ → List ℕ → ℕ) (total : ℕ) (shapes : List
 abbrev pub ReportCountsEntries : List Entry → Type 0
 ReportCountsEntries es = (hash : ℕ → List ℕ → ℕ) (total : ℕ) (shapes : List Shape) → (report_after hash total shapes es).entries ≡ length es
 
--- no more frames are in use after this journal than the machine has, be they none
+-- after this journal at most as many frames are in use as the machine has, even if it has none
 abbrev pub FramesSuffice : List Entry → Type 0
 FramesSuffice es = (hash : ℕ → List ℕ → ℕ) (total : ℕ) (shapes : List Shape) → used (state_after hash (empty_state total shapes) es).guests ≤ total

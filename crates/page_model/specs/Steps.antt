@@ -1,5 +1,5 @@
 -- What each request does to the pages, and its verdict: one definition for each request, and for a proposal one for
--- each of its decisions. They look for pages by content alone, and know no frames.
+-- each of its decisions. They look for pages by content alone, and don't mention frames.
 use Rattle.std.specs.Prelude.{ℕ, ◌+◌, ◌%◌, ◌^◌, ◌==◌, true, ◌&&◌, if◌then◌else◌, List, take, drop, Option, Some, None}
 use Rattle.std.specs.Str.{bytes_eq}
 use Rattle.page_model.specs.Pages.{Slot, Unmapped, Private, Shared, Guest, State, blank, bytes_of, written, has_hint, is_shared_as, is_shared_under, any_page, peers, used, find_page, page_at, with_slot, totals}
@@ -21,9 +21,9 @@ stays guests verdict = record { guests = guests; verdict = verdict }
 abbrev pub sets : List Guest → ℕ → ℕ → Slot → Verdict → Outcome
 sets guests guest ppn slot verdict = record { guests = with_slot guests guest ppn slot; verdict = verdict }
 
--- A store of bytes at a place of a page that holds slot. A shared page is copied before it is written, unless the
--- page is the last with its content: then the frame is its own again. A store that needs a frame where all are in use
--- changes nothing. A private page's hint stays, and may become stale by the store.
+-- A store of bytes at a place of a page that holds slot. A shared page is copied before it is written, unless it is
+-- the last with its content: then the frame is its own again. A store that needs a frame when all are in use
+-- changes nothing. A private page's hint stays, and the store may make it stale.
 unfoldable pub stored : ℕ → List Guest → ℕ → ℕ → ℕ → List ℕ → ℕ → Slot → Outcome
 stored total guests guest ppn at bytes salt Unmapped =
     if used guests == total
@@ -41,13 +41,13 @@ stored total guests guest ppn at bytes salt (Shared old) =
 abbrev pub key_of : ℕ → ℕ
 key_of code = code % 2 ^ 32
 
--- a page's own hint, which goes where it is not under the key of the present bytes
+-- a page's own hint, which is dropped if it is not under the key of the present bytes
 abbrev pub kept_hint : ℕ → Option ℕ → Option ℕ
 kept_hint key None = None
 kept_hint key (Some own) = if own == key then Some own else None
 
 -- Another page, with the content other_salt and others, holds the hint under the key. Its present content is hashed
--- again: where the key is another one, the hint is stale and this page takes its place. Otherwise both contents are
+-- again: if that has another key, the hint is stale and this page becomes the hint instead. Otherwise both contents are
 -- compared in full: equal ones are shared, and a false match makes this page ineligible.
 unfoldable pub weighed : (ℕ → List ℕ → ℕ) → List Guest → ℕ → ℕ → ℕ → List ℕ → ℕ → ℕ → ℕ → ℕ → List ℕ → Outcome
 weighed hash guests guest ppn salt bytes key other place other_salt others =
@@ -57,17 +57,17 @@ weighed hash guests guest ppn salt bytes key other place other_salt others =
     else stays guests v.Ineligible)
     else sets (with_slot guests other place (Private others None)) guest ppn (Private bytes (Some key)) v.Replaced
 
--- what f gives for a guest's salt and page, and no page where there is none
+-- what f returns for a guest's salt and page, and `NoPage` if there is no such page
 abbrev pub on_page : List Guest → (ℕ → Slot → Outcome) → Option (ℕ × Slot) → Outcome
 on_page guests f None = stays guests v.NoPage
 on_page guests f (Some (salt, slot)) = f salt slot
 
--- what f gives at a page of a guest
+-- what f returns for a page of a guest
 abbrev pub at_page : List Guest → ℕ → ℕ → (ℕ → Slot → Outcome) → Outcome
 at_page guests guest ppn f = on_page guests f (page_at guests guest ppn)
 
--- By the page that holds the hint under the key: with none this page becomes the hint, and where it is this page it
--- stays so.
+-- What happens depends on the page that holds the hint under the key: if none does, this page becomes the hint, and if
+-- this page does, it stays the hint.
 unfoldable pub held : (ℕ → List ℕ → ℕ) → List Guest → ℕ → ℕ → ℕ → List ℕ → ℕ → Option (ℕ × ℕ) → Outcome
 held hash guests guest ppn salt bytes key None = sets guests guest ppn (Private bytes (Some key)) v.Hinted
 held hash guests guest ppn salt bytes key (Some (other, place)) =
@@ -75,12 +75,12 @@ held hash guests guest ppn salt bytes key (Some (other, place)) =
     then stays guests v.Kept
     else at_page guests other place (λ other_salt slot. weighed hash guests guest ppn salt bytes key other place other_salt (bytes_of slot))
 
--- no shared page has the hash of this page, so hints are looked for
+-- no shared page has the hash of this page, so a hint is looked for
 unfoldable pub offered : (ℕ → List ℕ → ℕ) → List Guest → ℕ → ℕ → ℕ → List ℕ → ℕ → Outcome
 offered hash guests guest ppn salt bytes key = held hash guests guest ppn salt bytes key (find_page (has_hint key) guests)
 
--- A private page is matched with the shared pages: it joins those of the same content, and a shared page of another
--- content with the same hash makes it ineligible.
+-- A private page is matched with the shared pages: it joins those with the same content, and otherwise a shared page of
+-- other content with the same hash makes it ineligible.
 unfoldable pub matched : (ℕ → List ℕ → ℕ) → List Guest → ℕ → ℕ → ℕ → List ℕ → ℕ → Outcome
 matched hash guests guest ppn salt bytes code =
     let joined = with_slot guests guest ppn (Shared bytes) in
@@ -90,7 +90,8 @@ matched hash guests guest ppn salt bytes code =
     then stays guests v.Ineligible
     else offered hash guests guest ppn salt bytes (key_of code)
 
--- a proposal of a page that holds slot: only a private page is looked at, and a hint of its own under another key goes first
+-- a proposal of a page that holds slot: only a private page is considered, and first its own hint, if under another key, is
+-- dropped
 unfoldable pub proposed : (ℕ → List ℕ → ℕ) → List Guest → ℕ → ℕ → ℕ → Slot → Outcome
 proposed hash guests guest ppn salt Unmapped = stays guests v.Unmapped
 proposed hash guests guest ppn salt (Shared bytes) = stays guests v.Already
@@ -98,7 +99,7 @@ proposed hash guests guest ppn salt (Private bytes hint) =
     let code = hash salt bytes in
     matched hash (with_slot guests guest ppn (Private bytes (kept_hint (key_of code) hint))) guest ppn salt bytes code
 
--- a release of a page that holds slot: the frame is free again where the page was private or the last of its content
+-- a release of a page that holds slot: the frame is free again if the page was private or the last with its content
 unfoldable pub released : List Guest → ℕ → ℕ → ℕ → Slot → Outcome
 released guests guest ppn salt Unmapped = stays guests v.Unmapped
 released guests guest ppn salt (Private bytes hint) = sets guests guest ppn Unmapped (v.Released true)
@@ -108,7 +109,7 @@ released guests guest ppn salt (Shared bytes) = sets guests guest ppn Unmapped (
 abbrev pub loaded : List Guest → ℕ → ℕ → Slot → Outcome
 loaded guests at len slot = stays guests (v.Bytes (record { items = take len (drop at (bytes_of slot)) }))
 
--- a request of a guest in the state that counts it already among the entries
+-- a request of a guest, in a state that already counts it among the entries
 unfoldable pub answered : (ℕ → List ℕ → ℕ) → State → ℕ → Request → Outcome
 answered hash s guest (Propose ppn) = at_page s.guests guest ppn (λ salt slot. proposed hash s.guests guest ppn salt slot)
 answered hash s guest (Store r) = at_page s.guests guest r.ppn (λ salt slot. stored s.total s.guests guest r.ppn r.at r.bytes salt slot)

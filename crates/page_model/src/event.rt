@@ -1,9 +1,9 @@
 //! What passes between a guest and the merger.
 use crate::Request;
 
-/// One step of a guest or of the merger, by the guest's number.
+/// One step of a guest, or of the merger for a guest, with the guest's number.
 ///
-/// An event that has nothing to move changes nothing: a take before a send, a give before a take, a get
+/// An event with nothing to move changes nothing: a take before a send, a give before a take, a get
 /// before a give, a send after a close.
 #[derive(Clone, Debug, PartialEq, Eq, Drop)]
 pub enum Event {
@@ -13,6 +13,6 @@ pub enum Event {
     Take(u8),
     /// The merger gives the guest the verdict of its next request in the journal.
     Give(u8),
-    /// The guest gets the next verdict that was given.
+    /// The guest gets the next of the verdicts that were given.
     Get(u8),
 }

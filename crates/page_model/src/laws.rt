@@ -1,4 +1,5 @@
-//! Laws of the definitions, for every journal, machine and hash. Their bodies are empty: the proof is all.
+//! Laws of the definitions, for every journal, machine and hash. The functions' bodies are empty: the contract is
+//! all there is.
 ghost use Rattle.std.specs.Prelude.{◌≡◌, ℕ, [], ◌∷◌};
 ghost use Rattle.page_model.specs.declared.limits.TheConstants.{PAGE_BYTES, MAX_ACCESS_BYTES, MAX_GUESTS, MAX_PAGES, MAX_FRAMES, MAX_RING_CAPACITY, MAX_ENTRIES, MAX_WORKERS, MAX_WATCHES, MAX_TEXT_BYTES};
 ghost use Rattle.page_model.specs.Stored.{ReadsLastStored};
@@ -14,12 +15,12 @@ ghost use Rattle.page_model.specs.Events.{Begins, ClosesLast, world_after, GotBe
 
 use crate::{Entry, Event, Request, Verdict};
 
-/// After every journal, each page reads the bytes last stored to it, and zeros where none were.
+/// After every journal, each page reads as the bytes last stored to it, and as zeros where none were stored.
 pub fn last_stored_law(entries: &[Entry])
     ensures { ReadsLastStored entries.now }
 {}
 
-/// What a guest reads shows nothing of the other guests or of sharing: where none of its stores was refused
+/// What a guest reads shows nothing of the other guests or of sharing: if none of its stores was refused
 /// a frame, it reads what it would read on a machine of its own.
 pub fn alone_law(entries: &[Entry], guest: u8)
     ensures loads { LoadsAsAlone entries.now guest }
@@ -31,14 +32,14 @@ pub fn entries_law(entries: &[Entry])
     ensures { EntriesNeverFall entries.now }
 {}
 
-/// Each entry has one verdict, which later entries don't change.
+/// Each entry has one verdict, and later entries don't change it.
 pub fn verdicts_law(entries: &[Entry])
     ensures each { OneVerdictEach entries.now }
     ensures stay { VerdictsStay entries.now }
 {}
 
-/// A guest's places in a journal are those of all its entries, rising; its requests and its answers are what was asked
-/// there and the verdicts there.
+/// A guest's places in a journal are those of all its entries, in rising order; its requests are the ones at those
+/// places, and its answers are the verdicts there.
 pub fn places_law(entries: &[Entry], guest: u8)
     ensures asked { PlacesHoldRequests entries.now guest }
     ensures answers { PlacesHoldAnswers entries.now guest }
@@ -46,51 +47,52 @@ pub fn places_law(entries: &[Entry], guest: u8)
     ensures rise { PlacesRise entries.now guest }
 {}
 
-/// After every journal the report counts each entry, what is reclaimed and the frames in use make up the
-/// mapped pages, and neither more pages are shared than mapped nor more hints stand than frames are in use.
+/// After every journal the report counts each entry, and in it `reclaimed` plus `frames` is `mapped`, `shared` is at most
+/// `mapped`, and `hints` is at most `frames`.
 pub fn report_law(entries: &[Entry])
     ensures sums { ReportAddsUp entries.now }
     ensures entries { ReportCountsEntries entries.now }
 {}
 
-/// A machine never uses more frames than it has, however few these are.
+/// A machine never uses more frames than it has, however few it has.
 pub fn frames_law(entries: &[Entry])
     ensures { FramesSuffice entries.now }
 {}
 
-/// In every state the mapped pages have no more different contents than frames are in use, and just as many where
-/// each page whose content occurs more than once is shared: no sharing does better, and sharing all equal pages does as well.
+/// In every state the mapped pages have at most as many different contents as frames are in use, and exactly as many
+/// if each mapped page whose content occurs more than once is shared: no sharing does better, and sharing all equal pages
+/// is just as good.
 pub fn least_frames_law()
     ensures least { NeedsAFrameEach }
     ensures exact { SharingAllIsLeast }
 {}
 
-/// No key ever stands as a hint twice.
+/// No key ever has two hints.
 pub fn hints_law(entries: &[Entry])
     ensures { OneHintAKey entries.now }
 {}
 
-/// A proposal, whatever its verdict, changes nothing that any guest reads.
+/// Whatever its verdict, a proposal changes nothing that any guest reads.
 pub fn proposal_law(guest: u8, ppn: u32)
     ensures bytes { KeepsBytes guest ppn }
     ensures loads { KeepsLoads guest ppn }
 {}
 
-/// Of two pages with equal content whose key no other content has, both are shared after a proposal of the
-/// one and right after it a proposal of the other.
+/// If two pages have equal content, and no other content has its key, both are shared once they were proposed, one
+/// right after the other.
 pub fn equal_pages_law(entries: &[Entry])
     ensures { EqualPagesShare entries.now }
 {}
 
-/// Two equal pages stay unshared where a page of another content is the hint under their key, though its hash is
-/// another one.
+/// Two equal pages stay unshared if a page with other content is the hint under their key, even though its hash
+/// differs.
 pub fn key_clash()
     ensures { verdicts_of first_two three_pages clashing ≡ Verdict.Mapped ∷ Verdict.Hinted ∷ Verdict.Mapped ∷ Verdict.Mapped ∷ Verdict.Ineligible ∷ Verdict.Ineligible ∷ [] }
 {}
 
-/// In whatever order guests send and get and the merger takes and gives, each list of a guest's traffic is a
-/// beginning of the one before it, nothing follows a close, and what one guest got before another sent
-/// stands before it in the journal.
+/// In whatever order guests send and get, and the merger takes and gives, each list of a guest's traffic is a
+/// beginning of the one before it, nothing follows a close, and an entry whose verdict one guest got before another
+/// guest sent a request comes before that request in the journal.
 pub fn schedule_law(events: &[Event])
     ensures taken { (guest : ℕ) → let w = world_after events.now in Begins (w.traffic guest).taken (w.traffic guest).sent }
     ensures journal { (guest : ℕ) → let w = world_after events.now in (w.traffic guest).taken ≡ asked guest w.journal }
@@ -106,7 +108,7 @@ pub fn events_out_of_order()
     ensures journal { (world_after out_of_order).journal ≡ record { guest = 0; request = Request.Count } ∷ [] }
 {}
 
-/// Each limit is its number.
+/// Each limit is this number.
 pub fn limits_law()
     ensures page { PAGE_BYTES ≡ 4096 }
     ensures access { MAX_ACCESS_BYTES ≡ 64 }

@@ -1,8 +1,8 @@
 //! What a page sharing machine is: its requests, verdicts and reports, its limits, and, in `specs/`,
-//! the definitions that every contract of the project is stated by.
+//! the definitions that every contract of the project is stated in.
 //!
 //! The rules are those of content-based page sharing in VMware ESX Server (C. Waldspurger, "Memory
-//! Resource Management in VMware ESX Server", OSDI 2002, section 4). `docs/MODEL.md` tells them in words.
+//! Resource Management in VMware ESX Server", OSDI 2002, section 4). `docs/MODEL.md` puts them into words.
 #![tactic(auto)]
 
 mod event;

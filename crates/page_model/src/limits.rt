@@ -1,4 +1,4 @@
-//! The greatest sizes of a machine. Each least size is 1, but those of watches and texts, which are 0.
+//! The greatest sizes of a machine. The least is 1 for each, except for watches and texts, where it is 0.
 
 /// The bytes of one page.
 pub type Page = [u8; PAGE_BYTES];
@@ -9,19 +9,19 @@ pub const PAGE_BYTES: usize = 4096;
 /// The most bytes of one store or load.
 pub const MAX_ACCESS_BYTES: usize = 64;
 
-/// The most guests of a machine.
+/// The most guests that a machine has.
 pub const MAX_GUESTS: usize = 64;
 
-/// The most pages of all guests together.
+/// The most pages that all guests have together.
 pub const MAX_PAGES: u32 = 1_048_576;
 
-/// The most frames of machine memory.
+/// The most frames that machine memory has.
 pub const MAX_FRAMES: u32 = 1_048_576;
 
-/// The most items that a ring holds.
+/// The most items that a ring can hold.
 pub const MAX_RING_CAPACITY: u32 = 65_536;
 
-/// The most entries of a journal.
+/// The most entries that a journal has.
 pub const MAX_ENTRIES: u32 = 16_777_216;
 
 /// The most threads that hash pages.

@@ -28,14 +28,14 @@ impl Model for LoadReq {
 }
 
 impl LoadReq {
-    /// The number of the page.
+    /// Returns the number of the page.
     pub fn ppn(&self) -> u32
         ensures { result ≡ self.now.ppn }
     {
         self.ppn
     }
 
-    /// The place of the first byte within the page.
+    /// Returns the place of the first byte within the page.
     pub fn at(&self) -> u32
         ensures at { result ≡ self.now.at }
         ensures within { result + self.now.len ≤ PAGE_BYTES }
@@ -43,7 +43,7 @@ impl LoadReq {
         self.at
     }
 
-    /// How many bytes are asked for.
+    /// Returns how many bytes are asked for.
     pub fn len(&self) -> u32
         ensures len { result ≡ self.now.len }
         ensures some { 1 ≤ result }

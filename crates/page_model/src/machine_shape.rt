@@ -1,4 +1,4 @@
-//! The frames, pages and salts of a machine, once they are known to be within the limits.
+//! The frames, pages and salts of a machine, known to be within the limits.
 ghost use Rattle.std.specs.Prelude.{◌≡◌, ◌+◌, ◌≤◌, ◌↔◌, IfOk, IsTrue, MatchResult, sum};
 ghost use Rattle.page_model.specs.Limits.{AreLimits, ArePages, NoShapeFor};
 
@@ -8,8 +8,8 @@ use thiserror::Error;
 
 /// A machine's frames, and each guest's number of pages and salt.
 ///
-/// There are 1 to 1,048,576 frames, and 1 to 64 guests with a salt each. Each guest has 1 page at least, and all
-/// together have at most 1,048,576. Whoever holds a shape need not look at that again.
+/// There are 1 to 1,048,576 frames, and 1 to 64 guests with a salt each. Each guest has at least 1 page, and all
+/// together have at most 1,048,576. Code that holds a shape needn't check that again.
 #[derive(Debug, Drop)]
 pub struct MachineShape<'a> {
     frames: u32,
@@ -29,13 +29,13 @@ impl<'a> Model for MachineShape<'a> {
     ghost invariant = { λ m. AreLimits m.frames m.pages.now m.salts.now };
 }
 
-/// Why there is no machine of this shape, in the order in which the causes are looked at.
+/// Why there is no machine of this shape. The causes are checked in this order.
 #[derive(Clone, Copy, Debug, PartialEq, Eq, Error)]
 pub enum ShapeFault {
     /// 0 frames, or more than 1,048,576.
     #[error("give the machine 1 to 1,048,576 frames")]
     Frames,
-    /// No guest, more than 64, or not as many salts as guests.
+    /// No guest, more than 64 guests, or not one salt for each guest.
     #[error("give the machine 1 to 64 guests, with a salt each")]
     Guests,
     /// A guest with no page, or more than 1,048,576 pages in total.
@@ -43,7 +43,7 @@ pub enum ShapeFault {
     Pages,
 }
 
-/// Whether each guest has a page, and all together at most 1,048,576.
+/// Whether each guest has at least 1 page, and all together have at most 1,048,576.
 fn are_pages(pages: &[u32]) -> bool
     ensures { IsTrue result ↔ ArePages pages.now }
 {
@@ -58,7 +58,7 @@ fn are_pages(pages: &[u32]) -> bool
 }
 
 impl<'a> MachineShape<'a> {
-    /// The shape of a machine with this many frames, where guest i has `pages[i]` pages and the salt `salts[i]`.
+    /// Makes the shape of a machine with this many frames, in which guest i has `pages[i]` pages and the salt `salts[i]`.
     pub fn new(
         frames: u32,
         pages: &'a [u32],
@@ -83,7 +83,7 @@ impl<'a> MachineShape<'a> {
         })
     }
 
-    /// The frames of machine memory.
+    /// Returns how many frames machine memory has.
     pub fn frames(&self) -> u32
         ensures frames { result ≡ self.now.frames }
         ensures limits { AreLimits self.now.frames self.now.pages self.now.salts }
@@ -91,7 +91,7 @@ impl<'a> MachineShape<'a> {
         self.frames
     }
 
-    /// Each guest's number of pages, guest 0 first.
+    /// Returns each guest's number of pages, guest 0 first.
     pub fn pages(&self) -> &'a [u32]
         ensures pages { result.now ≡ self.now.pages }
         ensures limits { AreLimits self.now.frames self.now.pages self.now.salts }
@@ -99,7 +99,7 @@ impl<'a> MachineShape<'a> {
         self.pages
     }
 
-    /// Each guest's salt, guest 0 first.
+    /// Returns each guest's salt, guest 0 first.
     pub fn salts(&self) -> &'a [u32]
         ensures salts { result.now ≡ self.now.salts }
         ensures limits { AreLimits self.now.frames self.now.pages self.now.salts }

@@ -5,8 +5,7 @@ use std::marker::Model;
 
 /// How many requests, pages and frames there are.
 ///
-/// Reclaimed and frames in use make up the mapped pages; no more pages are shared than mapped, and no
-/// more pages are hints than frames are in use.
+/// `reclaimed` plus `frames` is `mapped`, `shared` is at most `mapped`, and `hints` is at most `frames`.
 #[derive(Clone, Copy, Debug, PartialEq, Eq)]
 pub struct Report {
     entries: u32,
@@ -31,7 +30,7 @@ impl Model for Report {
 }
 
 impl Report {
-    /// A report of these numbers. What is reclaimed is the mapped pages less the frames in use.
+    /// Makes a report of these numbers, in which `reclaimed` is `mapped` minus `frames`.
     pub fn new(entries: u32, mapped: u32, shared: u32, frames: u32, hints: u32) -> Self
         requires frames { frames ≤ mapped }
         requires shared { shared ≤ mapped }
@@ -48,42 +47,42 @@ impl Report {
         }
     }
 
-    /// The requests so far.
+    /// Returns the number of requests so far.
     pub fn entries(&self) -> u32
         ensures { result ≡ self.now.entries }
     {
         self.entries
     }
 
-    /// The pages that have a frame, their own or a shared one.
+    /// Returns the number of pages that have a frame, their own or a shared one.
     pub fn mapped(&self) -> u32
         ensures { result ≡ self.now.mapped }
     {
         self.mapped
     }
 
-    /// The pages that have a shared frame.
+    /// Returns the number of pages that have a shared frame.
     pub fn shared(&self) -> u32
         ensures { result ≡ self.now.shared }
     {
         self.shared
     }
 
-    /// The frames in use.
+    /// Returns the number of frames in use.
     pub fn frames(&self) -> u32
         ensures { result ≡ self.now.frames }
     {
         self.frames
     }
 
-    /// The frames that sharing saves: mapped pages less frames in use.
+    /// Returns the number of frames that sharing saves: mapped pages minus frames in use.
     pub fn reclaimed(&self) -> u32
         ensures { result ≡ self.now.reclaimed }
     {
         self.reclaimed
     }
 
-    /// The pages that are hints.
+    /// Returns the number of pages that are hints.
     pub fn hints(&self) -> u32
         ensures { result ≡ self.now.hints }
     {

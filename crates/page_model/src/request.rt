@@ -1,4 +1,4 @@
-//! What a guest asks.
+//! What a guest asks for.
 ghost use Rattle.std.specs.Prelude.{◌≡◌, ◌+◌, ◌≤◌, ⊤, length, IfOk, MatchResult};
 ghost use Rattle.page_model.specs.Closing.{is_close};
 ghost use Rattle.page_model.specs.Faults.{Fits, RefusedFor};
@@ -9,7 +9,7 @@ use arrayvec::ArrayVec;
 use std::alloc::AllocError;
 use thiserror::Error;
 
-/// What a guest asks. A page is named by its physical page number (PPN), counted from 0.
+/// What a guest asks for. A page is named by its physical page number (PPN), counted from 0.
 #[derive(Debug, PartialEq, Eq, Drop)]
 pub enum Request {
     /// Look for pages with the same content, and share a frame with them.
@@ -18,26 +18,26 @@ pub enum Request {
     Store(StoreReq),
     /// Read bytes of a page.
     Load(LoadReq),
-    /// Give up a page's frame: from then on it reads as zeros.
+    /// Give up a page's frame: from then on the page reads as zeros.
     Release(u32),
-    /// Tell what the machine counts.
+    /// Report what the machine counts.
     Count,
     /// The guest's last request.
     Close,
 }
 
-/// Why there is no such store or load, in the order in which the causes are looked at.
+/// Why there is no such store or load. The causes are checked in this order.
 #[derive(Clone, Copy, Debug, PartialEq, Eq, Error)]
 pub enum RequestFault {
-    /// No byte, or more than 64.
+    /// No bytes, or more than 64.
     #[error("a store or load is of 1 to 64 bytes: split a longer one")]
     Length,
-    /// The last byte would stand past the page's end.
+    /// The last byte would be past the page's end.
     #[error("a store or load ends within its page of 4,096 bytes: split it at the page's end")]
     Crosses,
 }
 
-/// The same request once more. It takes no memory, so it never fails.
+/// Makes an equal request. That takes no memory, so it never fails.
 impl Clone for Request {
     ghost is_clone = { λ request copy. copy ≡ request };
 
@@ -56,7 +56,7 @@ impl Clone for Request {
 }
 
 impl Request {
-    /// A store of these bytes to page `ppn` from place `at` on.
+    /// Makes a store of these bytes to page `ppn`, from place `at` on.
     pub fn store(ppn: u32, at: u32, bytes: &[u8]) -> Result<Request, RequestFault>
         ensures ok { IfOk result (λ r. r ≡ Request.Store (record { ppn = ppn; at = at; bytes = bytes.now })) }
         ensures fault { MatchResult result (λ _. Fits at (length bytes.now)) (λ f. RefusedFor at (length bytes.now) f) }
@@ -80,7 +80,7 @@ impl Request {
         }
     }
 
-    /// A load of `len` bytes of page `ppn` from place `at` on.
+    /// Makes a load of `len` bytes of page `ppn`, from place `at` on.
     pub fn load(ppn: u32, at: u32, len: u32) -> Result<Request, RequestFault>
         ensures ok { IfOk result (λ r. r ≡ Request.Load (record { ppn = ppn; at = at; len = len })) }
         ensures fault { MatchResult result (λ _. Fits at len) (λ f. RefusedFor at len f) }
@@ -102,7 +102,7 @@ impl Request {
     }
 }
 
-/// One entry of a journal: a request and the number of the guest who asks.
+/// One entry of a journal: a request, and the number of the guest that made it.
 #[derive(Clone, Debug, PartialEq, Eq, Drop)]
 pub struct Entry {
     pub guest: u8,

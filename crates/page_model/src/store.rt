@@ -5,7 +5,7 @@ use crate::limits::{MAX_ACCESS_BYTES, PAGE_BYTES};
 use arrayvec::ArrayVec;
 use std::marker::Model;
 
-/// A store: 1 to 64 bytes for a place within one page.
+/// A store of 1 to 64 bytes to a place within one page.
 #[derive(Clone, Debug, PartialEq, Eq, Drop)]
 pub struct StoreReq {
     pub(crate) ppn: u32,
@@ -29,14 +29,14 @@ impl Model for StoreReq {
 }
 
 impl StoreReq {
-    /// The number of the page.
+    /// Returns the number of the page.
     pub fn ppn(&self) -> u32
         ensures { result ≡ self.now.ppn }
     {
         self.ppn
     }
 
-    /// The place of the first byte within the page.
+    /// Returns the place of the first byte within the page.
     pub fn at(&self) -> u32
         ensures at { result ≡ self.now.at }
         ensures within { result + length self.now.bytes ≤ PAGE_BYTES }
@@ -44,7 +44,7 @@ impl StoreReq {
         self.at
     }
 
-    /// The bytes that are stored.
+    /// Returns the bytes to store.
     pub fn bytes(&self) -> &[u8]
         ensures bytes { result.now ≡ self.now.bytes }
         ensures some { 1 ≤ length self.now.bytes }

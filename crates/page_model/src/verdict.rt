@@ -1,4 +1,4 @@
-//! What a guest is told.
+//! What a guest gets as an answer.
 ghost use Rattle.std.specs.Prelude.{◌≡◌};
 ghost use Rattle.page_model.specs.Closing.{is_closed};
 
@@ -11,39 +11,39 @@ use arrayvec::ArrayVec;
 pub enum Verdict {
     /// The request named no page of the guest.
     NoPage,
-    /// The page has no frame: there was nothing to propose or to release.
+    /// The page has no frame, so there was nothing to propose or to release.
     Unmapped,
-    /// A proposal of a page that is shared already.
+    /// The proposed page is shared already.
     Already,
-    /// The page now shares the frame of equal shared pages: how many pages share it, this one among them.
+    /// The page now shares the frame of equal shared pages: this many pages share it, including this one.
     Joined(u32),
-    /// The page and the hint page, which was equal, now share one frame.
+    /// The page and the hint page, which was equal to it, now share one frame.
     Paired,
-    /// No page was found, so this page is the hint under its key.
+    /// No match was found, so this page is now the hint under its key.
     Hinted,
-    /// The page was the hint under its key already.
+    /// The page was already the hint under its key.
     Kept,
-    /// The hint under the key was stale, and this page took its place.
+    /// The hint under the key was stale, and this page replaced it.
     Replaced,
     /// Another content has the same hash or key: the page stays as it is.
     Ineligible,
     /// A store gave the page a frame.
     Mapped,
-    /// A store to a page with a frame of its own.
+    /// The page, which has a frame of its own, was written.
     Stored,
-    /// A store gave the page a copy of the shared frame; the other pages keep theirs.
+    /// A store gave the page a copy of the shared frame; the other pages keep the shared one.
     Copied,
-    /// A store through the last page of a shared frame, which is the page's own again.
+    /// The last page of a shared frame was written, and the frame is the page's own again.
     Taken,
     /// A store that needed a frame found none free, and nothing changed.
     NoFrame,
     /// The bytes that a load asked for.
     Bytes(ArrayVec<u8, MAX_ACCESS_BYTES>),
-    /// The page gave up its frame: whether the frame is free now.
+    /// The page gave up its frame. Holds whether the frame is free now.
     Released(bool),
-    /// What the machine counts, this request among its entries.
+    /// What the machine counts, including this request.
     Totals(Report),
-    /// The guest asks nothing more.
+    /// The guest makes no more requests.
     Closed,
 }
 

@@ -1,23 +1,23 @@
 //! An allocator for tests, which refuses some of the requests for memory and passes on the rest.
 //!
-//! What it counts stands in atomics, of which no contract can tell. So its calls have no clauses but those of
-//! `Allocator`, which are proved: what it grants is a block of the inner allocator, which is handed back there.
+//! Its counts are in atomics, about which no contract can say anything. So its functions have no clauses but those of
+//! `Allocator`, which are proved: what it grants is a block of the inner allocator, which is returned there.
 #![tactic(auto)]
 
 use std::alloc::{AllocError, Allocator, Global};
 use std::sync::atomic::{AtomicU64, Ordering};
 
-/// An allocator that refuses some requests, by their numbers from 0 on.
+/// An allocator that refuses some requests, which are numbered from 0.
 ///
-/// What allocates is given a `&` to it, which is an allocator too and may go to other threads. A collection that
-/// grows makes a request each time, since it is given a new block.
+/// Code that allocates gets a `&` to it, which is an allocator too and can go to other threads. A collection makes a
+/// request each time it grows, since it gets a new block.
 #[derive(Drop)]
 pub struct Refusing<B: Allocator = Global> {
     inner: B,
     requests: Requests,
 }
 
-// What was asked for, granted and handed back, and which requests are refused.
+// What was asked for, granted and returned, and which requests are refused.
 #[derive(Drop)]
 struct Requests {
     asked: AtomicU64,
@@ -29,7 +29,7 @@ struct Requests {
 }
 
 impl Requests {
-    // Counts one more request, of so many bytes, and answers whether it is refused.
+    // Counts one more request, of `size` bytes, and returns whether it is refused.
     fn refuses_next(&self, size: usize) -> bool {
         self.bytes.fetch_add(size as u64, Ordering::SeqCst);
         let number = self.asked.fetch_add(1, Ordering::SeqCst);
@@ -42,14 +42,14 @@ impl Requests {
         false
     }
 
-    // Counts one more block that was handed back.
+    // Counts one more block that was returned.
     fn take_back(&self) {
         self.returned.fetch_add(1, Ordering::SeqCst);
     }
 }
 
 impl<B: Allocator> Refusing<B> {
-    /// Refuses the request number `first`, counted from 0, and `more` further ones.
+    /// Makes an allocator that refuses request number `first`, counted from 0, and the next `more` requests.
     pub fn new(inner: B, first: u64, more: u64) -> Refusing<B> {
         Refusing {
             inner,
@@ -64,23 +64,23 @@ impl<B: Allocator> Refusing<B> {
         }
     }
 
-    /// From now on refuses each request.
+    /// Refuses every request from now on.
     pub fn refuse_all(&self) {
         self.requests.first_refused.store(0, Ordering::SeqCst);
         self.requests.more_refused.store(u64::MAX, Ordering::SeqCst);
     }
 
-    /// Whether a request was refused so far.
+    /// Whether any request was refused so far.
     pub fn has_refused(&self) -> bool {
         self.requests.asked.load(Ordering::SeqCst) > self.requests.granted.load(Ordering::SeqCst)
     }
 
-    /// How many bytes were asked for so far, by all requests together, modulo 2^64.
+    /// Returns how many bytes all requests so far asked for together, modulo 2^64.
     pub fn bytes_asked(&self) -> u64 {
         self.requests.bytes.load(Ordering::SeqCst)
     }
 
-    /// Whether each block that was granted has been handed back.
+    /// Whether each block that was granted has been returned.
     pub fn holds_nothing(&self) -> bool {
         self.requests.granted.load(Ordering::SeqCst)
             == self.requests.returned.load(Ordering::SeqCst)

@@ -2,7 +2,7 @@ use super::*;
 use std::test::Fail;
 use std::thread;
 
-// Requests 1 and 2 are refused, and another thread hands back what request 3 was granted.
+// Requests 1 and 2 are refused, and another thread returns the block that request 3 was granted.
 #[test]
 fn two_of_four_requests(rt: HostRuntime) -> Result<(), Fail> {
     let heap: &'static Refusing = Box::leak(Box::new(rt.alloc(), Refusing::new(rt.alloc(), 1, 1))?);

@@ -1,4 +1,4 @@
--- The hash of a message that has its padding already.
+-- The hash of a message that is already padded.
 use Rattle.std.specs.Prelude.{ℕ, ◌/◌, List, length, take}
 use Rattle.std.specs.Int.{w64, from_be_bytes}
 use Rattle.sha2.specs.Sha256.{digest_bytes, hash_after, initial_hash_256}
@@ -7,6 +7,6 @@ use Rattle.sha2.specs.Sha256.{digest_bytes, hash_after, initial_hash_256}
 abbrev pub hash_value : List ℕ → List ℕ
 hash_value padded = hash_after initial_hash_256 padded (length padded / 64)
 
--- the first eight bytes, read big-endian, of the message's digest
+-- the first eight bytes of the message's digest, read big-endian
 unfoldable pub leading_number : List ℕ → ℕ
 leading_number padded = from_be_bytes w64 (take 8 (digest_bytes (hash_value padded) 8))

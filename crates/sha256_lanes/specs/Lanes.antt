@@ -5,7 +5,7 @@ use Rattle.std.specs.Prelude.{ℕ, zero, suc, List, map, slice_index}
 abbrev pub lane : ℕ → List (List ℕ) → List ℕ
 lane j vectors = map (λ v. slice_index v j) vectors
 
--- the one of four that stands at place j
+-- the one of four at place j
 abbrev pub one_of : {A : Type 0} → ℕ → A → A → A → A → A
 one_of zero a b c d = a
 one_of (suc zero) a b c d = b

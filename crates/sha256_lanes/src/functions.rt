@@ -1,7 +1,7 @@
 //! The functions of FIPS 180-4, 4.1.2, that rotate a word, in each lane.
 //!
-//! Each rotation begins from the word itself. Rotating what was rotated takes a copy less, but has each step wait for
-//! the one before it, and in a row of rounds that costs more.
+//! Each rotation starts from the word itself. Rotating a rotated word would save a copy, but then each step has to wait
+//! for the one before it, and in a row of rounds that costs more.
 ghost use Rattle.std.specs.Prelude.{◌≡◌, ℕ, ◌<◌, slice_index};
 ghost use Rattle.sha2.specs.Sha256.{big_sigma0, big_sigma1, small_sigma0, small_sigma1};
 

@@ -10,7 +10,7 @@ use crate::schedule::{Words, fill};
 use crate::vectors::add;
 use std::simd::u32x4;
 
-/// Of each of four messages the first eight bytes, read big-endian, of its SHA-256 digest.
+/// Returns, for each of four messages, the first eight bytes of its SHA-256 digest, read big-endian.
 pub fn hash_four(a: &Padded<'_>, b: &Padded<'_>, c: &Padded<'_>, d: &Padded<'_>) -> [u64; 4]
     requires b { length b.now ≡ length a.now }
     requires c { length c.now ≡ length a.now }
@@ -32,7 +32,7 @@ pub fn hash_four(a: &Padded<'_>, b: &Padded<'_>, c: &Padded<'_>, d: &Padded<'_>)
     leading_numbers(&state)
 }
 
-// The initial hash value (FIPS 180-4, 5.3.3) in each lane.
+// Returns the initial hash value (FIPS 180-4, 5.3.3) in each lane.
 fn initial() -> State
     ensures { (j : ℕ) → j < 4 → lane j result ≡ initial_hash_256 }
 {
@@ -48,8 +48,8 @@ fn initial() -> State
     ]
 }
 
-// Takes the next block of each message into its hash value. `words` is room for the schedules. Inlined, so that the
-// compiler sees where that room is aligned.
+// Updates the hash value of each message with its next block. `words` is room for the schedules. Inlined, so that the
+// compiler sees how that room is aligned.
 #[inline(always)]
 fn absorb(state: &mut State, words: &mut Words, a: &[u8], b: &[u8], c: &[u8], d: &[u8])
     requires a { length a.now ≡ 64 }
@@ -64,7 +64,7 @@ fn absorb(state: &mut State, words: &mut Words, a: &[u8], b: &[u8], c: &[u8], d:
     *state = sum(*state, after);
 }
 
-// The sums of the words at each place (FIPS 180-4, 6.2.2, step 4).
+// Returns the sums of the words at each place (FIPS 180-4, 6.2.2, step 4).
 #[inline(always)]
 fn sum(x: State, y: State) -> State
     ensures { (j : ℕ) → j < 4 → lane j result ≡ add_state (lane j x) (lane j y) }
@@ -81,7 +81,7 @@ fn sum(x: State, y: State) -> State
     ]
 }
 
-// The first two words of each hash value, as one number.
+// Returns the first two words of each hash value as one number.
 fn leading_numbers(state: &State) -> [u64; 4]
     ensures len { length result ≡ 4 }
     ensures each { (j : ℕ) → j < 4

@@ -1,8 +1,8 @@
 //! SHA-256 of four messages at once.
 //!
-//! Each 32-bit word of FIPS 180-4's computation is a vector of four, with a lane for each message, so that one
-//! instruction does the work of four. The messages are [`Padded`] by the caller to as many blocks each, and all but
-//! their first and last blocks are read where they stand.
+//! Each 32-bit word of FIPS 180-4's computation becomes a vector of four, with a lane for each message, so one
+//! instruction does the work of four. The caller pads the messages ([`Padded`]) to the same number of blocks, and all but
+//! their first and last blocks are read in place.
 #![tactic(auto)]
 
 mod functions;

@@ -1,4 +1,4 @@
-//! Messages that end at a block's edge.
+//! Messages that are whole blocks, padding included.
 ghost use Rattle.std.specs.Prelude.{◌≡◌, ◌≤◌, ◌<◌, ◌+◌, ◌*◌, ◌%◌, ◌++◌, length, take, drop};
 
 use std::marker::Model;
@@ -6,10 +6,10 @@ use std::marker::Model;
 /// How many bytes a block has.
 pub const BLOCK_BYTES: usize = 64;
 
-/// A message with its padding: a first and a last block, and between them any number of whole blocks that stay where
-/// they are.
+/// A message with its padding: a first and a last block, and between them any number of whole blocks that are used in
+/// place.
 ///
-/// A contract sees the bytes of all of them.
+/// A contract sees the bytes of all the blocks.
 #[derive(Drop)]
 pub struct Padded<'a> {
     first: [u8; BLOCK_BYTES],
@@ -28,7 +28,7 @@ impl<'a> Model for Padded<'a> {
 }
 
 impl<'a> Padded<'a> {
-    /// The message of these blocks in turn.
+    /// Makes the message of these blocks, in this order.
     pub fn new(first: [u8; BLOCK_BYTES], middle: &'a [u8], last: [u8; BLOCK_BYTES]) -> Padded<'a>
         requires { length middle.now % 64 ≡ 0 }
         ensures { result ≡ first ++ middle.now ++ last }
@@ -40,7 +40,7 @@ impl<'a> Padded<'a> {
         }
     }
 
-    /// How many blocks there are.
+    /// Returns how many blocks there are.
     pub(crate) fn blocks(&self) -> usize
         ensures all { 64 * result ≡ length self.now }
         ensures some { 0 < result }
@@ -48,7 +48,7 @@ impl<'a> Padded<'a> {
         self.middle.len() / BLOCK_BYTES + 2
     }
 
-    /// The block with so many before it.
+    /// Returns the block that has `n` blocks before it.
     pub(crate) fn block(&self, n: usize) -> &[u8]
         requires { 64 * (n + 1) ≤ length self.now }
         ensures value { result.now ≡ take 64 (drop (n * 64) self.now) }

@@ -8,10 +8,10 @@ use crate::schedule::Words;
 use crate::vectors::{add, choose, majority};
 use std::simd::u32x4;
 
-/// A word of each message's hash value or of its working variables.
+/// The eight words of each message's hash value or of its working variables.
 pub(crate) type State = [u32x4; 8];
 
-// The constants of FIPS 180-4, 4.2.2, four times each, so that one load gives one in each lane. In a `const` the table
+// The constants of FIPS 180-4, 4.2.2, four times each, so that one load fills each lane. As a `const` the table
 // would be built anew at each use.
 static CONSTANTS: [[u32; 4]; 64] = [
     [0x428a_2f98; 4],
@@ -80,7 +80,7 @@ static CONSTANTS: [[u32; 4]; 64] = [
     [0xc671_78f2; 4],
 ];
 
-/// The working variables after all rounds.
+/// Returns the working variables after all rounds.
 #[inline(always)]
 pub(crate) fn all_rounds(start: &State, words: &Words) -> State
     ensures { (j : ℕ) → j < 4 → lane j result ≡ rounds (lane j start.now) (lane j words.now) 64 }
@@ -92,7 +92,7 @@ pub(crate) fn all_rounds(start: &State, words: &Words) -> State
     state
 }
 
-// After eight rounds each variable stands in its own place again, so none is moved.
+// Does eight rounds. After these each variable is in its own place again, so none is moved.
 #[inline(always)]
 fn eight_rounds(state: &mut State, words: &Words, t: usize)
     requires { t + 8 ≤ 64 }

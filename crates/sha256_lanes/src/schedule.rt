@@ -24,7 +24,7 @@ pub(crate) fn fill(words: &mut Words, a: &[u8], b: &[u8], c: &[u8], d: &[u8])
     extend(words);
 }
 
-// The first 16 words are the block's own.
+// Writes the first 16 words, which are the block's own.
 #[inline(always)]
 fn begin(words: &mut Words, a: &[u8], b: &[u8], c: &[u8], d: &[u8])
     requires a { length a.now ≡ 64 }
@@ -38,7 +38,7 @@ fn begin(words: &mut Words, a: &[u8], b: &[u8], c: &[u8], d: &[u8])
     }
 }
 
-// Four words of each block are read together: those of a block as one vector, which then are parted by their places.
+// Writes four words in each lane. The four words of a block are read as one vector, and the four vectors are transposed.
 #[inline(always)]
 fn take_four(words: &mut Words, a: &[u8], b: &[u8], c: &[u8], d: &[u8], t: usize)
     requires few { t + 4 ≤ 16 }
@@ -62,7 +62,7 @@ fn take_four(words: &mut Words, a: &[u8], b: &[u8], c: &[u8], d: &[u8], t: usize
     words[t + 3] = y;
 }
 
-// The four words from a block's byte `at` on.
+// Returns the four words from a block's byte `at` on.
 #[inline(always)]
 fn words_at(block: &[u8], at: usize) -> u32x4
     requires { at + 16 ≤ length block.now }
@@ -71,7 +71,7 @@ fn words_at(block: &[u8], at: usize) -> u32x4
     big_endian(u8x16::from_slice(&block[at..]))
 }
 
-// The other 48 follow from those before them.
+// Writes the other 48 words, which follow from those before them.
 #[inline(always)]
 fn extend(words: &mut Words)
     ensures { (j : ℕ) → j < 4 → (block : List ℕ) → Schedules (lane j words.old) block 16
@@ -82,7 +82,7 @@ fn extend(words: &mut Words)
     }
 }
 
-// Of four words in a row each finds in registers what the one before it had read.
+// Writes four words in a row: each finds in registers what the one before it read.
 #[inline(always)]
 fn extend_by_four(words: &mut Words, t: usize)
     requires low { 16 ≤ t }

@@ -1,5 +1,4 @@
--- What a contract sees of a `Table`: how many entries fit, the shared frames by hash, and the hint
--- frames by key.
+-- What a contract sees of a `Table`: how many entries fit, the shared frames by hash, and the hint frames by key.
 use Rattle.std.specs.Prelude.{ℕ, ◌+◌, Option, Some, None, sum_by, count_by, refl, ◌-◌, if◌then◌else◌, ◌==◌, nat_lt, nat_le}
 use Rattle.std.specs.Ordering.{nat_cmp}
 use Rattle.std.specs.Coded.{Coded, code_by, coded×, coded_ℕ}
@@ -57,11 +56,11 @@ entry_count t = map.len t.shared + map.len t.hints
 abbrev pub references : TableMaps → ℕ
 references t = sum_by (λ e. e.1.count) (map.entries t.shared)
 
--- how many counts don't fit a field of 16 bits
+-- how many counts don't fit in a field of 16 bits
 abbrev pub extended : TableMaps → ℕ
 extended t = count_by (λ e. nat_lt 65535 e.1.count) (map.entries t.shared)
 
--- the field of a frame with this count, which is 0 where the count doesn't fit it
+-- the field of a frame with this count, which is 0 if the count doesn't fit in it
 abbrev pub field_of : ℕ → ℕ
 field_of count = if nat_le count 65535 then count else 0
 
@@ -72,7 +71,7 @@ abbrev pub count_of : Option SharedFrame → ℕ
 count_of None = 0
 count_of (Some frame) = frame.count
 
--- how many pages share the frame with this hash: 0 where there is none
+-- how many pages share the frame with this hash: 0 if there is no such frame
 abbrev pub count_at : TableMaps → ℕ → ℕ
 count_at t hash = count_of (shared_at t hash)
 
@@ -80,19 +79,19 @@ abbrev pub recounted : SharedMap → ℕ → Option SharedFrame → ℕ → Shar
 recounted m hash None count = m
 recounted m hash (Some frame) count = map.insert m hash (record { mpn = frame.mpn; count = count })
 
--- the frame with this hash has this count
+-- the table after the frame with this hash got this count
 abbrev pub with_count : TableMaps → ℕ → ℕ → TableMaps
 with_count t hash count = record t { shared = recounted t.shared hash (shared_at t hash) count }
 
--- one page less shares the frame with this hash, which goes with the last
+-- the table after one page less shares the frame with this hash, which is removed with its last page
 abbrev pub with_one_less : TableMaps → ℕ → TableMaps
 with_one_less t hash =
     if count_at t hash == 1 then record t { shared = map.remove t.shared hash } else with_count t hash (count_at t hash - 1)
 
--- a hint stands under the key
+-- the table with this hint under the key
 abbrev pub with_hint : TableMaps → ℕ → ℕ → ℕ → ℕ → TableMaps
 with_hint t key guest ppn mpn = record t { hints = map.insert t.hints key (record { guest = guest; ppn = ppn; mpn = mpn }) }
 
--- no hint stands under the key
+-- the table with no hint under the key
 abbrev pub without_hint : TableMaps → ℕ → TableMaps
 without_hint t key = record t { hints = map.remove t.hints key }

@@ -2,7 +2,7 @@
 ghost use Rattle.std.specs.Prelude.{◌≤◌};
 ghost use Rattle.share_table.specs.Buckets.{IsGreatestPower};
 
-// The greatest power of two that is at most the capacity.
+// Returns the greatest power of two that is at most the capacity.
 pub(crate) fn bucket_count(capacity: u32) -> u32
     requires { 1 ≤ capacity }
     ensures { IsGreatestPower capacity result }

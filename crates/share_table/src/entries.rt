@@ -1,6 +1,6 @@
-//! What a table knows of its frames.
+//! What a table knows about its frames.
 
-/// A page that a key was noted for, and the frame that it had then.
+/// A page for which a key was noted, and the frame that it had then.
 #[derive(Clone, Copy, Debug, PartialEq, Eq)]
 pub struct HintFrame {
     /// The guest's number.
@@ -11,7 +11,7 @@ pub struct HintFrame {
     pub mpn: u32,
 }
 
-// A shared frame. Its field is the count of its pages, or `EXTENDED`.
+// A shared frame. Its field is the number of its pages, or `EXTENDED`.
 #[derive(Clone, Copy)]
 pub(crate) struct SharedEntry {
     pub(crate) hash: u64,
@@ -19,7 +19,7 @@ pub(crate) struct SharedEntry {
     pub(crate) field: u16,
 }
 
-// The field of a frame whose count does not fit it, and stands in the overflow table.
+// The field of a frame whose count doesn't fit in it, and is in the overflow table.
 pub(crate) const EXTENDED: u16 = 0;
 
 // A count above 65,535.

@@ -1,4 +1,4 @@
-//! Where frames stand in the chains.
+//! Searches for frames in the chains.
 ghost use Rattle.std.specs.Prelude.{◌≡◌, ◌<◌, ◌^◌, IfSome};
 ghost use Rattle.packed_frames.specs.declared.key.Key.TheVariants as keys;
 ghost use Rattle.packed_frames.specs.Keys.{first_with};
@@ -9,7 +9,7 @@ use crate::entries::{HintFrame, SharedEntry};
 use packed_frames::Chains;
 use std::alloc::Allocator;
 
-// The shared frame with this hash.
+// Returns the shared frame with this hash.
 pub(crate) fn shared_frame<A: Allocator>(chains: &Chains<A>, hash: u64) -> Option<SharedEntry>
     ensures found { result ≡ value_of shared_of (first_with (keys.Shared hash) (chain_of chains.now (keys.Shared hash))) }
     ensures hash { IfSome result (λ e. e.hash ≡ hash) }
@@ -21,7 +21,7 @@ pub(crate) fn shared_frame<A: Allocator>(chains: &Chains<A>, hash: u64) -> Optio
     }
 }
 
-// The hint frame with this key.
+// Returns the hint frame with this key.
 pub(crate) fn hint_frame<A: Allocator>(chains: &Chains<A>, key: u32) -> Option<HintFrame>
     ensures { result ≡ value_of hint_of (first_with (keys.Hint key) (chain_of chains.now (keys.Hint key))) }
 {

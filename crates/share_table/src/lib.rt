@@ -1,12 +1,12 @@
 //! The table of a page sharing machine: shared frames by the hash of their content, and hint frames
 //! by key.
 //!
-//! A shared frame is one whose content some pages share. Its count is the number of these pages. A
-//! hint frame is that of a private page, under a key that the page's content had when it was noted.
+//! A shared frame is one that some pages share. Its count is the number of these pages. A hint frame
+//! is that of a private page, under the key that the page's content had when the key was noted.
 //!
 //! As in VMware ESX Server (C. Waldspurger, "Memory Resource Management in VMware ESX Server", OSDI
-//! 2002, section 4) a shared frame has a field of 16 bits for its count, and the few counts that do
-//! not fit it stand in an overflow table.
+//! 2002, section 4), a shared frame has a field of 16 bits for its count, and the few counts that don't
+//! fit in it are in an overflow table.
 #![tactic(auto)]
 
 mod buckets;
@@ -30,8 +30,8 @@ use wide::WideCounts;
 
 /// The shared frames by hash, and the hint frames by key.
 ///
-/// MPNs and PPNs have 24 bits. All counts together are at most 1,048,576, so at most sixteen of them
-/// are above 65,535. All room is taken when the table is made, and no other call takes memory.
+/// MPNs and PPNs have 24 bits. The sum of all counts is at most 1,048,576, so at most 16 of them
+/// are above 65,535. All memory is allocated when the table is made, and no other call allocates.
 #[derive(Drop)]
 pub struct Table<A: Allocator = Global> {
     chains: Chains<A>,
@@ -54,7 +54,7 @@ impl<A: Allocator> Model for Table<A> {
 }
 
 impl<A: Allocator + Clone> Table<A> {
-    /// An empty table with room for `capacity` entries.
+    /// Makes an empty table with room for `capacity` entries.
     pub fn new(alloc: A, capacity: u32) -> Result<Table<A>, AllocError>
         requires least { 1 ≤ capacity }
         requires most { capacity ≤ 1048576 }
@@ -70,7 +70,7 @@ impl<A: Allocator + Clone> Table<A> {
 }
 
 impl<A: Allocator> Table<A> {
-    /// The number of entries of both kinds.
+    /// Returns the number of entries of both kinds.
     pub fn len(&self) -> u32
         ensures value { result ≡ entry_count self.now }
         ensures room { result ≤ self.now.capacity }
@@ -78,7 +78,7 @@ impl<A: Allocator> Table<A> {
         self.chains.len()
     }
 
-    /// The sum of the counts of all shared frames.
+    /// Returns the sum of the counts of all shared frames.
     pub fn references(&self) -> u32
         ensures value { result ≡ references self.now }
         ensures limit { result ≤ 1048576 }
@@ -86,7 +86,7 @@ impl<A: Allocator> Table<A> {
         self.references
     }
 
-    /// The number of counts that do not fit a field of 16 bits.
+    /// Returns the number of counts that don't fit in a field of 16 bits.
     pub fn extended(&self) -> u32
         ensures value { result ≡ extended self.now }
         ensures limit { result ≤ 16 }
@@ -94,9 +94,9 @@ impl<A: Allocator> Table<A> {
         self.wide.len() as u32
     }
 
-    /// The bytes of all room that the entries lie in: 16 for each frame, and 4 for each bucket head, of which there are as
-    /// many as the greatest power of two up to the capacity. At most 20 for each frame are under 0.5 % of the 4,096 that it
-    /// has.
+    /// Returns how many bytes the room for the entries takes: 16 for each frame, and 4 for each bucket head. The number of
+    /// bucket heads is the greatest power of two that is at most the capacity. So it's at most 20 bytes for each frame,
+    /// which is under 0.5 % of the frame's 4,096.
     pub fn bytes(&self) -> u64
         ensures exact { IsRoom self.now.capacity result }
         ensures most { result ≤ 20 * self.now.capacity }
@@ -104,7 +104,7 @@ impl<A: Allocator> Table<A> {
         self.chains.bytes()
     }
 
-    /// The MPN and the count of the shared frame with this hash.
+    /// Returns the MPN and the count of the shared frame with this hash.
     pub fn find_shared(&self, hash: u64) -> Option<(u32, u32)>
         ensures { result ≡ option_map (λ frame. (frame.mpn, frame.count)) (shared_at self.now hash) }
     {
@@ -112,7 +112,7 @@ impl<A: Allocator> Table<A> {
         Some((entry.mpn, self.wide.count_of(entry)))
     }
 
-    /// The count of the shared frame with this hash: 0 where there is none.
+    /// Returns the count of the shared frame with this hash, or 0 if there is none.
     pub fn count(&self, hash: u64) -> u32
         ensures { result ≡ count_at self.now hash }
     {
@@ -122,7 +122,7 @@ impl<A: Allocator> Table<A> {
         }
     }
 
-    /// The 16-bit field of the shared frame with this hash: its count up to 65,535, and 0 above.
+    /// Returns the 16-bit field of the shared frame with this hash: its count if that is at most 65,535, and 0 otherwise.
     pub fn field(&self, hash: u64) -> Option<u16>
         ensures { result ≡ option_map (λ frame. field_of frame.count) (shared_at self.now hash) }
     {
@@ -130,7 +130,7 @@ impl<A: Allocator> Table<A> {
         Some(entry.field)
     }
 
-    /// Adds a shared frame, of two pages.
+    /// Adds a frame that two pages share.
     pub fn add_shared(&mut self, hash: u64, mpn: u32)
         requires absent { shared_at self.old hash ≡ None }
         requires room { entry_count self.old < self.old.capacity }
@@ -146,7 +146,7 @@ impl<A: Allocator> Table<A> {
         self.references += 2;
     }
 
-    /// One more page shares the frame with this hash. The new count.
+    /// Counts one more page that shares the frame with this hash, and returns the new count.
     pub fn join(&mut self, hash: u64) -> u32
         requires present { IsSome (shared_at self.old hash) }
         requires references { references self.old < 1048576 }
@@ -161,7 +161,7 @@ impl<A: Allocator> Table<A> {
         u32::from(field) + 1
     }
 
-    // The same, however wide the count is.
+    // Does the same, however wide the count is.
     fn join_wide(&mut self, hash: u64) -> u32
         requires present { IsSome (shared_at self.old hash) }
         requires references { references self.old < 1048576 }
@@ -180,7 +180,8 @@ impl<A: Allocator> Table<A> {
         count
     }
 
-    /// One page less shares the frame with this hash, which goes with the last. The count left.
+    /// Counts one page less that shares the frame with this hash, and removes the frame with its last page. Returns the
+    /// count that is left.
     pub fn leave(&mut self, hash: u64) -> u32
         requires present { IsSome (shared_at self.old hash) }
         ensures count { result + 1 ≡ count_at self.old hash }
@@ -194,7 +195,7 @@ impl<A: Allocator> Table<A> {
         u32::from(field) - 1
     }
 
-    // The same, where the count stands in the overflow table.
+    // Does the same for a count in the overflow table.
     fn leave_wide(&mut self, hash: u64) -> u32
         requires present { IsSome (shared_at self.old hash) }
         requires wide { 65536 ≤ count_at self.old hash }
@@ -213,7 +214,7 @@ impl<A: Allocator> Table<A> {
         count
     }
 
-    /// The hint frame with this key.
+    /// Returns the hint frame with this key.
     pub fn find_hint(&self, key: u32) -> Option<HintFrame>
         ensures { result ≡ hint_at self.now key }
     {
@@ -236,7 +237,7 @@ impl<A: Allocator> Table<A> {
         });
     }
 
-    /// Takes the hint frame with this key away.
+    /// Removes the hint frame with this key.
     pub fn drop_hint(&mut self, key: u32)
         requires present { IsSome (hint_at self.old key) }
         ensures { self.new ≡ without_hint self.old key }

@@ -1,4 +1,4 @@
-//! The overflow table: counts that do not fit a frame's field.
+//! The overflow table: counts that don't fit in a frame's field.
 ghost use Rattle.std.specs.Prelude.{◌≡◌, ◌≤◌, ◌==◌, IsSome, Some, position};
 ghost use Rattle.std.specs.FinMap as map;
 ghost use Rattle.share_table.specs.Stored.{widened, Agrees, rewidened};
@@ -52,7 +52,7 @@ impl WideCounts {
         self.entries[place].count
     }
 
-    // Puts the count under the hash, in the place of an earlier one.
+    // Puts the count under the hash, replacing an earlier one.
     fn put(&mut self, hash: u64, count: u32)
         requires { map.len (map.insert self.old hash count) ≤ 16 }
         ensures { self.new ≡ map.insert self.old hash count }
@@ -71,7 +71,7 @@ impl WideCounts {
         self.entries.remove(place);
     }
 
-    /// The count of a shared frame.
+    /// Returns the count of a shared frame.
     pub(crate) fn count_of(&self, entry: SharedEntry) -> u32
         requires { Agrees (Some entry) (map.get self.now entry.hash) }
         ensures { result ≡ widened entry.field (map.get self.now entry.hash) }
@@ -83,7 +83,7 @@ impl WideCounts {
         }
     }
 
-    /// Keeps a new count of a shared frame where it does not fit the frame's field, and answers the field.
+    /// Returns the field for a new count of a shared frame, and keeps the count here if it doesn't fit in the field.
     pub(crate) fn store(&mut self, entry: SharedEntry, count: u32) -> u16
         requires agrees { Agrees (Some entry) (map.get self.old entry.hash) }
         requires room { map.len (rewidened self.old entry.hash entry.field count) ≤ 16 }
@@ -105,7 +105,7 @@ impl WideCounts {
     }
 }
 
-// Where a hash's count stands.
+// Returns where a hash's count is.
 fn wide_place(entries: &[WideCount], hash: u64) -> Option<usize>
     ensures { result ≡ position (λ e. e.hash == hash) entries.now }
 {
