@@ -25,6 +25,8 @@ import time
 TOP = pathlib.Path(__file__).resolve().parent.parent
 TABLE = TOP / "out/gate.tsv"
 PROGRAM = "crates/pageshare/out/pageshare"
+# The most memory that a check takes, in KiB, with some room.
+CHECK = 5_000_000
 STEPS = [
     ("rt ci", ["rt", "ci"]),
     ("edits' test", ["checks/edits_test.py"]),
@@ -80,6 +82,12 @@ class Watch(threading.Thread):
         return "tests" if "--test" in words else "proof"
 
 
+def lanes():
+    """How many checks `rt ci` is to run side by side, each with one job, since each further job of a check reads all libraries anew."""
+    free = int(re.search(r"MemAvailable:\s+(\d+)", pathlib.Path("/proc/meminfo").read_text())[1])
+    return max(1, min(len(os.sched_getaffinity(0)), free // CHECK))
+
+
 def used_so_far():
     used = resource.getrusage(resource.RUSAGE_CHILDREN)
     return used.ru_utime + used.ru_stime
@@ -87,8 +95,8 @@ def used_so_far():
 
 def run_step(words):
     """Runs a step, passes on what it prints, and returns how many passed and how many failed by its last line."""
-    counts = None
-    with subprocess.Popen(words, cwd=TOP, stdin=subprocess.DEVNULL, stdout=subprocess.PIPE, text=True, errors="replace") as ran:
+    counts, how = None, {"cwd": TOP, "stdin": subprocess.DEVNULL, "stdout": subprocess.PIPE, "text": True, "errors": "replace"}
+    with subprocess.Popen(words, env={**os.environ, "RT_JOBS": str(lanes())}, **how) as ran:
         for line in ran.stdout:
             found = CLOSING.match(line.rstrip("\n"))
             if found:
