@@ -1,24 +1,47 @@
 //! Orders of events, each played through in one call.
 use event_world::World;
-use page_model::{Entry, Event, Request};
+use page_model::{Entry, Event, Request, RequestFault};
+use std::alloc::AllocError;
+use std::process::Abort;
 use std::test::Fail;
+
+/// Plays these events, of guests that the world has.
+fn play(rt: &impl Abort, world: &mut World, events: &[Event]) -> Result<(), AllocError> {
+    for event in events {
+        let (Event::Send(guest, _) | Event::Take(guest) | Event::Give(guest) | Event::Get(guest)) =
+            event;
+        assert!(rt; usize::from(*guest) < world.guests());
+        world.happen(event)?;
+    }
+    Ok(())
+}
+
+/// Returns how many requests this guest sent, how many were taken, and how many verdicts were given and got.
+fn counts(rt: &impl Abort, world: &World, guest: u8) -> [usize; 4] {
+    assert!(rt; usize::from(guest) < world.guests());
+    let traffic = world.traffic(guest);
+    [
+        traffic.sent().len(),
+        traffic.taken().len(),
+        traffic.given().len(),
+        traffic.got().len(),
+    ]
+}
 
 #[test]
 fn events_out_of_order(rt: HostRuntime) -> Result<(), Fail> {
     let mut world = World::new(rt.alloc(), 1)?;
-    assert_eq!(rt; world.guests(), 1);
-    world.happen(&Event::Get(0))?;
-    world.happen(&Event::Take(0))?;
-    world.happen(&Event::Send(0, Request::Count))?;
-    world.happen(&Event::Take(0))?;
-    world.happen(&Event::Get(0))?;
-    world.happen(&Event::Give(0))?;
-    world.happen(&Event::Get(0))?;
-    let traffic = world.traffic(0);
-    assert_eq!(rt; traffic.sent(), [Request::Count].as_slice());
-    assert_eq!(rt; traffic.taken(), [Request::Count].as_slice());
-    assert_eq!(rt; traffic.given(), [0].as_slice());
-    assert_eq!(rt; traffic.got(), [0].as_slice());
+    let events = [
+        Event::Get(0),
+        Event::Take(0),
+        Event::Send(0, Request::Count),
+        Event::Take(0),
+        Event::Get(0),
+        Event::Give(0),
+        Event::Get(0),
+    ];
+    play(&rt, &mut world, &events)?;
+    assert_eq!(rt; counts(&rt, &world, 0), [1, 1, 1, 1]);
     let entry = Entry {
         guest: 0,
         request: Request::Count,
@@ -27,37 +50,46 @@ fn events_out_of_order(rt: HostRuntime) -> Result<(), Fail> {
     Ok(())
 }
 
-#[test]
-fn each_request_goes_through_once(rt: HostRuntime) -> Result<(), Fail> {
-    let requests = [
+/// One request of each kind, the close last.
+fn requests() -> Result<[Request; 6], RequestFault> {
+    Ok([
         Request::Propose(3),
         Request::store(3, 5, b"hi")?,
         Request::load(3, 5, 2)?,
         Request::Release(3),
         Request::Count,
         Request::Close,
-    ];
+    ])
+}
+
+/// Whether what this guest sent was taken, given and got, each once and in order.
+fn goes_through(rt: &impl Abort, world: &World, guest: u8, places: &[usize]) -> bool {
+    assert!(rt; usize::from(guest) < world.guests());
+    let traffic = world.traffic(guest);
+    traffic.taken() == traffic.sent() && traffic.given() == places && traffic.got() == places
+}
+
+#[test]
+fn each_request_goes_through_once(rt: HostRuntime) -> Result<(), Fail> {
     let mut world = World::new(rt.alloc(), 2)?;
-    for request in requests {
-        assert_eq!(rt; world.guests(), 2);
-        world.happen(&Event::Send(1, request))?;
+    for request in requests()? {
+        play(&rt, &mut world, &[Event::Send(1, request)])?;
     }
-    assert_eq!(rt; world.guests(), 2);
-    world.happen(&Event::Send(1, Request::Count))?;
-    world.happen(&Event::Send(0, Request::Close))?;
-    world.happen(&Event::Take(0))?;
+    let others = [
+        Event::Send(1, Request::Count),
+        Event::Send(0, Request::Close),
+        Event::Take(0),
+    ];
+    play(&rt, &mut world, &others)?;
     for _ in 0..7 {
-        assert_eq!(rt; world.guests(), 2);
-        world.happen(&Event::Take(1))?;
-        world.happen(&Event::Give(1))?;
-        world.happen(&Event::Get(1))?;
+        play(
+            &rt,
+            &mut world,
+            &[Event::Take(1), Event::Give(1), Event::Get(1)],
+        )?;
     }
-    assert_eq!(rt; world.guests(), 2);
-    let traffic = world.traffic(1);
-    assert_eq!(rt; traffic.sent().len(), 6);
-    assert_eq!(rt; traffic.taken(), traffic.sent());
-    assert_eq!(rt; traffic.given(), [1, 2, 3, 4, 5, 6].as_slice());
-    assert_eq!(rt; traffic.got(), traffic.given());
+    assert_eq!(rt; counts(&rt, &world, 1), [6, 6, 6, 6]);
+    assert!(rt; goes_through(&rt, &world, 1, &[1, 2, 3, 4, 5, 6]));
     assert_eq!(rt; world.journal().len(), 7);
     Ok(())
 }
