@@ -1,8 +1,8 @@
 -- What a round does to the ends, one visit and one verdict after the other.
-use Rattle.std.proofs.Common.{◌≡◌, ℕ, zero, suc, ◌+◌, ◌-◌, ◌<◌, ◌≤◌, Bool, true, false, List, [], ◌∷◌, ◌++◌, length, get_or, set, take, drop, All, refl, ap, sym, subst, ◌∙◌, arith, ⊎_elim, append_assoc}
+use Rattle.std.proofs.Common.{◌≡◌, ℕ, zero, suc, ◌+◌, ◌-◌, ◌<◌, ◌≤◌, true, false, List, [], ◌∷◌, ◌++◌, length, get_or, set, take, drop, All, refl, ap, sym, subst, ◌∙◌, arith, ◌⊎◌, inl, inr, ⊎_elim, append_assoc}
 use Rattle.std.specs.Prelude.{nat_eq}
 use Rattle.std.proofs.lemmas.Grind.{common_steps}
-use Rattle.std.proofs.lemmas.Bool.{eqb-true, cases_Bool}
+use Rattle.std.proofs.lemmas.Bool.{eqb-true, eqb-false, cases_Bool}
 use Rattle.std.proofs.lemmas.List.{get_or-set_same, append-nil, length-append, length-set, length-map, take_more, drop_more}
 use Rattle.std.proofs.Math.Seq.{get_or-append_seam, drop-append_seam, take-length}
 use mathlib.Core.List.{IsPrefix}
@@ -20,8 +20,8 @@ use Rattle.share_rings.specs.Ends.{end_taken, end_given, end_known, end_free, en
 use Rattle.merge_machine.specs.Ahead.{GaveOne}
 use Rattle.merge_machine.specs.Kept.{Keeps}
 use Rattle.merge_machine.specs.Machines.{opening}
-use Rattle.merge_machine.specs.Rounds.{Passed, EachPassed}
-use Rattle.merge_machine.specs.Taking.{entries_of, Visits, TookSo, Took, Owes, EachOwes, ServedSo, AllAnswered}
+use Rattle.merge_machine.specs.Rounds.{Passed, EachPassed, IsExhausted}
+use Rattle.merge_machine.specs.Taking.{entries_of, Visits, TookSo, Took, AreExhausted, OnlyGave, Owes, EachOwes, ServedSo, AllAnswered}
 use Rattle.merge_machine.proofs.Lists.{maps_at}
 use Rattle.merge_machine.proofs.Ends.{state_after_push}
 use Rattle.merge_machine.proofs.Openings.{opening_after}
@@ -70,74 +70,102 @@ module _ {A : Type 0} where
   }
 
   -- nothing was taken yet
-  pub took_none : (ends : List (MergerEnd A)) (journal : List Entry) (owed : List ℕ) → ((i : ℕ) → i < length ends → get_or owed i 0 ≡ 0) → TookSo ends ends journal journal owed
-  took_none ends journal owed none = record {
+  pub took_none : (ends : List (MergerEnd A)) (journal : List Entry) (owed : List ℕ) → TookSo ends ends journal journal owed owed
+  took_none ends journal owed = record {
     entries = [];
     grew = sym (append-nil journal);
     size = refl;
     members = λ i d l. absurd (omega (arith, l));
     each = λ i d l. passed_none (get_or ends i d);
-    owed_is = none;
-    slots = λ i d l. omega arith;
+    owed_is = λ i l. omega arith;
+    slots = λ i d l low. low;
   }
 
-  -- one visit more
-  pub took_more : (ends0 ends : List (MergerEnd A)) (journal0 journal journal' : List Entry) (owed : List ℕ) (g n : ℕ) (e e' : MergerEnd A) → TookSo ends0 ends journal0 journal owed → g < length ends → g < length owed → e ≡ get_or ends g e
-      → Visits g (get_or owed g 0) n e e' journal journal' → TookSo ends0 (set ends g e') journal0 journal' (set owed g (get_or owed g 0 + n))
-  took_more ends0 ends journal0 journal journal' owed g n e e' t l lo at v =
+  -- what one visit took
+  pub visit_took : (ends : List (MergerEnd A)) (journal journal' : List Entry) (owed : List ℕ) (g n : ℕ) (e e' : MergerEnd A) → g < length ends → g < length owed → e ≡ get_or ends g e → Visits g (get_or owed g 0) n e e' journal journal'
+      → TookSo ends (set ends g e') journal journal' owed (set owed g (get_or owed g 0 + n))
+  visit_took ends journal journal' owed g n e e' l lo at v =
       let es = entries_of g v.more in
-      let l0 : g < length ends0 = omega (arith, l, t.size) in
-      let mine : asked g (t.entries ++ es) ≡ asked g t.entries ++ v.more = asked-append g t.entries es ∙ ap (λ z. asked g t.entries ++ z) (own g v.more) in
-      let theirs : (i : ℕ) → nat_eq g i ≡ false → asked i (t.entries ++ es) ≡ asked i t.entries = λ i miss. asked-append i t.entries es ∙ (ap (λ z. asked i t.entries ++ z) (others g i v.more miss) ∙ append-nil (asked i t.entries)) in
-      let count : length (asked g t.entries ++ v.more) ≡ get_or owed g 0 + n = omega (arith, length-append (asked g t.entries) v.more, t.owed_is g l0, v.is) in
+      let now : ℕ = get_or owed g 0 + n in
       record {
-        entries = t.entries ++ es;
-        grew = v.grew ∙ (ap (λ z. z ++ es) t.grew ∙ append_assoc journal0 t.entries es);
-        size = length-set ends g e' ∙ t.size;
-        members = all_append (λ x. x.guest < length ends0) t.entries es t.members (members_of g (length ends0) v.more l0);
+        entries = es;
+        grew = v.grew;
+        size = length-set ends g e';
+        members = members_of g (length ends) v.more l;
         each = λ i d below. ⊎_elim
             (λ (hit : nat_eq g i ≡ true).
             let is : g ≡ i = eqb-true g i hit in
-            let P : ℕ → Type 0 = λ j. Passed (asked j (t.entries ++ es)) [] (get_or ends0 j d) (get_or (set ends g e') j d) in
-            let before : Passed (asked g t.entries) [] (get_or ends0 g d) e = subst (λ x. Passed (asked g t.entries) [] (get_or ends0 g d) x) (here ends g e d at l) (t.each g d l0) in
-            subst P is (rw (mine, get_or-set_same ends g e' d l) (passed_on (asked g t.entries) v.more [] [] (get_or ends0 g d) e e' before v.passed)))
+            let P : ℕ → Type 0 = λ j. Passed (asked j es) [] (get_or ends j d) (get_or (set ends g e') j d) in
+            subst P is (rw (own g v.more, get_or-set_same ends g e' d l, here ends g e d at l) v.passed))
             (λ (miss : nat_eq g i ≡ false).
             let other : get_or (set ends g e') i d ≡ get_or ends i d = grind (arith, common_steps) in
-            rw (theirs i miss, other) (t.each i d below))
+            rw (others g i v.more miss, other) (passed_none (get_or ends i d)))
             (cases_Bool (nat_eq g i));
         owed_is = λ i below. ⊎_elim
             (λ (hit : nat_eq g i ≡ true).
             let is : g ≡ i = eqb-true g i hit in
-            let P : ℕ → Type 0 = λ j. get_or (set owed g (get_or owed g 0 + n)) j 0 ≡ length (asked j (t.entries ++ es)) in
-            subst P is (rw (mine, get_or-set_same owed g (get_or owed g 0 + n) 0 lo) (sym count)))
+            let P : ℕ → Type 0 = λ j. get_or (set owed g now) j 0 ≡ get_or owed j 0 + length (asked j es) in
+            subst P is (rw (own g v.more, get_or-set_same owed g now 0 lo) (ap (λ m. get_or owed g 0 + m) v.is)))
             (λ (miss : nat_eq g i ≡ false).
-            let other : get_or (set owed g (get_or owed g 0 + n)) i 0 ≡ get_or owed i 0 = grind (arith, common_steps) in
-            rw (theirs i miss, other) (t.owed_is i below))
+            let other : get_or (set owed g now) i 0 ≡ get_or owed i 0 = grind (arith, common_steps) in
+            rw (others g i v.more miss, other) (omega arith))
             (cases_Bool (nat_eq g i));
         slots = λ i d below. ⊎_elim
             (λ (hit : nat_eq g i ≡ true).
             let is : g ≡ i = eqb-true g i hit in
-            let P : ℕ → Type 0 = λ j. length (asked j (t.entries ++ es)) ≤ end_free (get_or (set ends g e') j d) in
-            let had : length (asked g t.entries) ≤ end_free e = subst (λ x. length (asked g t.entries) ≤ end_free x) (here ends g e d at l) (t.slots g d l0) in
-            let low : get_or owed g 0 ≤ end_free e = omega (arith, had, t.owed_is g l0) in
-            subst P is (rw (mine, get_or-set_same ends g e' d l) (omega (arith, count, v.slot low))))
+            let P : ℕ → Type 0 = λ j. get_or owed j 0 ≤ end_free (get_or ends j d) → get_or (set owed g now) j 0 ≤ end_free (get_or (set ends g e') j d) in
+            subst P is (rw (get_or-set_same ends g e' d l, get_or-set_same owed g now 0 lo, here ends g e d at l) v.slot))
             (λ (miss : nat_eq g i ≡ false).
             let other : get_or (set ends g e') i d ≡ get_or ends i d = grind (arith, common_steps) in
-            rw (theirs i miss, other) (t.slots i d below))
+            let debt : get_or (set owed g now) i 0 ≡ get_or owed i 0 = grind (arith, common_steps) in
+            rw (other, debt) (λ low. low))
             (cases_Bool (nat_eq g i));
       }
 
-  -- all are taken
-  pub took_all : (most : ℕ) (ends0 ends : List (MergerEnd A)) (journal0 journal : List Entry) (owed : List ℕ) → (t : TookSo ends0 ends journal0 journal owed) → length journal ≤ length journal0 + most → Took most ends0 ends journal0 journal
-  took_all most ends0 ends journal0 journal owed t few = record {
-    entries = t.entries;
-    grew = t.grew;
-    count = omega (arith, few, ap length t.grew, length-append journal0 t.entries);
-    size = t.size;
-    members = t.members;
-    each = t.each;
-    slots = t.slots;
+  -- one taking after another
+  pub took_on : (ends0 ends1 ends2 : List (MergerEnd A)) (journal0 journal1 journal2 : List Entry) (owed0 owed1 owed2 : List ℕ) → TookSo ends0 ends1 journal0 journal1 owed0 owed1 → TookSo ends1 ends2 journal1 journal2 owed1 owed2 → TookSo ends0 ends2 journal0 journal2 owed0 owed2
+  took_on ends0 ends1 ends2 journal0 journal1 journal2 owed0 owed1 owed2 t u = record {
+    entries = t.entries ++ u.entries;
+    grew = u.grew ∙ (ap (λ z. z ++ u.entries) t.grew ∙ append_assoc journal0 t.entries u.entries);
+    size = u.size ∙ t.size;
+    members = all_append (λ x. x.guest < length ends0) t.entries u.entries t.members (subst (λ (n : ℕ). All (λ x. x.guest < n) u.entries) t.size u.members);
+    each = λ i d l. subst (λ (rs : List Request). Passed rs [] (get_or ends0 i d) (get_or ends2 i d)) (sym (asked-append i t.entries u.entries))
+        (passed_on (asked i t.entries) (asked i u.entries) [] [] (get_or ends0 i d) (get_or ends1 i d) (get_or ends2 i d) (t.each i d l) (u.each i d (omega (arith, l, t.size))));
+    owed_is = λ i l. omega (arith, t.owed_is i l, u.owed_is i (omega (arith, l, t.size)), ap length (asked-append i t.entries u.entries), length-append (asked i t.entries) (asked i u.entries));
+    slots = λ i d l low. u.slots i d (omega (arith, l, t.size)) (t.slots i d l low);
   }
+
+  -- what a visit leaves to take at the guests that were visited before, and at its own
+  pub exhausted_more : (ends : List (MergerEnd A)) (owed : List ℕ) (g : ℕ) (e e' : MergerEnd A) → AreExhausted g owed ends → g < length ends → g < length owed → IsExhausted (get_or owed g 0) e' → AreExhausted (g + 1) (set owed g (get_or owed g 0 + 0)) (set ends g e')
+  exhausted_more ends owed g e e' before l lo left i d below = ⊎_elim
+      (λ (hit : nat_eq g i ≡ true).
+      let is : g ≡ i = eqb-true g i hit in
+      let P : ℕ → Type 0 = λ j. IsExhausted (get_or (set owed g (get_or owed g 0 + 0)) j 0) (get_or (set ends g e') j d) in
+      let none : get_or owed g 0 + 0 ≡ get_or owed g 0 = omega arith in
+      subst P is (rw (get_or-set_same ends g e' d l, get_or-set_same owed g (get_or owed g 0 + 0) 0 lo, none) left))
+      (λ (miss : nat_eq g i ≡ false).
+      let other : get_or (set ends g e') i d ≡ get_or ends i d = grind (arith, common_steps) in
+      let debt : get_or (set owed g (get_or owed g 0 + 0)) i 0 ≡ get_or owed i 0 = grind (arith, common_steps) in
+      rw (other, debt) (before i d (omega (arith, below, eqb-false g i miss))))
+      (cases_Bool (nat_eq g i))
+
+  -- all are taken
+  pub took_all : (most : ℕ) (ends0 ends : List (MergerEnd A)) (journal0 journal : List Entry) (owed0 owed : List ℕ) → (t : TookSo ends0 ends journal0 journal owed0 owed) → ((i : ℕ) → i < length ends0 → get_or owed0 i 0 ≡ 0) → length journal ≤ length journal0 + most
+      → (length journal < length journal0 + most → AreExhausted (length ends0) owed ends) → Took most ends0 ends journal0 journal
+  took_all most ends0 ends journal0 journal owed0 owed t none few left =
+      let grew : length journal ≡ length journal0 + length t.entries = ap length t.grew ∙ length-append journal0 t.entries in
+      record {
+        entries = t.entries;
+        grew = t.grew;
+        count = omega (arith, few, grew);
+        size = t.size;
+        members = t.members;
+        each = t.each;
+        slots = λ i d l. omega (arith, t.slots i d l (omega (arith, none i l)), t.owed_is i l, none i l);
+        exhausted = λ less i d l.
+            let owes : get_or owed i 0 ≡ length (asked i t.entries) = omega (arith, t.owed_is i l, none i l) in
+            subst (λ (n : ℕ). IsExhausted n (get_or ends i d)) owes (left (omega (arith, less, grew)) i d l);
+      }
 
   -- the first of the requests that are owed is the first without a verdict
   pub unanswered : (r : Request) (rest : List Request) (e : MergerEnd A) → Owes (r ∷ rest) e → IsUnanswered e (is_close r)
@@ -150,7 +178,7 @@ module _ {A : Type 0} where
   has_slot r rest e o = omega (arith, o.slots)
 
   gave_passed : (v : Verdict) (e e' : MergerEnd A) → GaveOne v e e' → Passed [] (v ∷ []) e e'
-  gave_passed v e e' w = record { name = w.name; capacity = w.capacity; taken = w.taken ∙ sym (append-nil (end_taken e)); given = w.given; known = ([], append-nil (end_known e) ∙ sym w.known); free = w.free }
+  gave_passed v e e' w = record { name = w.name; capacity = w.capacity; taken = w.taken ∙ sym (append-nil (end_taken e)); given = w.given; known = ([], append-nil (end_known e) ∙ sym w.known); free = omega (arith, w.free) }
 
   gave_owes : (r : Request) (rest : List Request) (v : Verdict) (e e' : MergerEnd A) → Owes (r ∷ rest) e → GaveOne v e e' → Owes rest e'
   gave_owes r rest v e e' o w = record {
@@ -162,7 +190,10 @@ module _ {A : Type 0} where
 
   -- nothing was answered yet
   pub served_none : (hash : ℕ → List ℕ → ℕ) (s : State) (entries : List Entry) (ends : List (MergerEnd A)) → ((i : ℕ) (d : MergerEnd A) → i < length ends → Owes (asked i entries) (get_or ends i d)) → ServedSo hash s entries 0 ends ends
-  served_none hash s entries ends owes = record { size = refl; each = λ i d l. passed_none (get_or ends i d); owes = owes }
+  served_none hash s entries ends owes = record { size = refl; each = λ i d l. passed_none (get_or ends i d); only = λ i d l. (refl, omega arith); owes = owes }
+
+  gave_only : (vs : List Verdict) (v : Verdict) (a b c : MergerEnd A) → OnlyGave vs a b → GaveOne v b c → OnlyGave (vs ++ v ∷ []) a c
+  gave_only vs v a b c o w = (w.known ∙ o.0, omega (arith, o.1, w.free, length-append vs (v ∷ [])))
 
   -- the next one is owed by its guest's end
   pub owes_next : (hash : ℕ → List ℕ → ℕ) (s : State) (entries : List Entry) (n : ℕ) (ends0 ends : List (MergerEnd A)) (x : Entry) (e : MergerEnd A) → ServedSo hash s entries n ends0 ends → n < length entries → x ≡ get_or entries n x → x.guest < length ends → e ≡ get_or ends x.guest e
@@ -195,6 +226,17 @@ module _ {A : Type 0} where
             (λ (miss : nat_eq x.guest i ≡ false).
             let other : get_or (set ends x.guest e') i d ≡ get_or ends i d = grind (arith, common_steps) in
             rw (more, answers_miss hash s i (take n entries) x miss, other) (t.each i d below))
+            (cases_Bool (nat_eq x.guest i));
+        only = λ i d below. ⊎_elim
+            (λ (hit : nat_eq x.guest i ≡ true).
+            let is : x.guest ≡ i = eqb-true x.guest i hit in
+            let hit' : nat_eq x.guest x.guest ≡ true = grind arith in
+            let P : ℕ → Type 0 = λ j. OnlyGave (answers hash s j (take (n + 1) entries)) (get_or ends0 j d) (get_or (set ends x.guest e') j d) in
+            let before : OnlyGave (answers hash s x.guest (take n entries)) (get_or ends0 x.guest d) e = subst (λ y. OnlyGave (answers hash s x.guest (take n entries)) (get_or ends0 x.guest d) y) (here ends x.guest e d at g) (t.only x.guest d g0) in
+            subst P is (rw (more, answers_hit hash s x.guest (take n entries) x hit', get_or-set_same ends x.guest e' d g) (gave_only (answers hash s x.guest (take n entries)) v (get_or ends0 x.guest d) e e' before w)))
+            (λ (miss : nat_eq x.guest i ≡ false).
+            let other : get_or (set ends x.guest e') i d ≡ get_or ends i d = grind (arith, common_steps) in
+            rw (more, answers_miss hash s i (take n entries) x miss, other) (t.only i d below))
             (cases_Bool (nat_eq x.guest i));
         owes = λ i d below. ⊎_elim
             (λ (hit : nat_eq x.guest i ≡ true).
@@ -234,8 +276,8 @@ follows journal0 journal entries e =
 module _ {A : Type 0} where
   -- nothing was taken, and the end may have looked at its rings
   pub visits_none : (guest owed : ℕ) (before after : MergerEnd A) (journal : List Entry) → end_name after ≡ end_name before → end_capacity after ≡ end_capacity before → end_taken after ≡ end_taken before → end_given after ≡ end_given before
-      → IsPrefix (end_known before) (end_known after) → end_free before ≤ end_free after → owed < 4294967296 → Visits guest owed 0 before after journal journal
-  visits_none guest owed before after journal name capacity taken given known free small = record {
+      → IsPrefix (end_known before) (end_known after) → end_free before ≤ end_free after → owed < 4294967296 → IsExhausted owed after → Visits guest owed 0 before after journal journal
+  visits_none guest owed before after journal name capacity taken given known free small left = record {
     more = [];
     is = refl;
     one = omega arith;
@@ -243,6 +285,7 @@ module _ {A : Type 0} where
     slot = λ low. omega (arith, low, free);
     small = omega (arith, small);
     grew = sym (append-nil journal);
+    exhausted = λ none. left;
   }
 
   pub known_same : (before after : MergerEnd A) → end_known after ≡ end_known before → IsPrefix (end_known before) (end_known after)
@@ -279,6 +322,21 @@ module _ {A : Type 0} where
       let all : Passed [] (answers hash s i entries) (get_or ends1 i d) (get_or ends2 i d) = subst (λ (es : List Entry). Passed [] (answers hash s i es) (get_or ends1 i d) (get_or ends2 i d)) (take-length entries) (served.each i d l1) in
       subst (λ (rs : List Request). Passed rs (answers hash s i entries) (get_or ends0 i d) (get_or ends2 i d)) (append-nil (asked i entries))
       (passed_on (asked i entries) [] [] (answers hash s i entries) (get_or ends0 i d) (get_or ends1 i d) (get_or ends2 i d) (took i d l) all)
+
+  -- where no more could be taken, none can be once all is answered
+  pub exhausted_served : (hash : ℕ → List ℕ → ℕ) (s : State) (entries : List Entry) (ends1 ends2 : List (MergerEnd A)) (i : ℕ) (d : MergerEnd A) → ServedSo hash s entries (length entries) ends1 ends2 → i < length ends1 → IsExhausted (length (asked i entries)) (get_or ends1 i d) → IsExhausted 0 (get_or ends2 i d)
+  exhausted_served hash s entries ends1 ends2 i d served l left =
+      let all : take (length entries) entries ≡ entries = take-length entries in
+      let p = served.each i d l in let only = served.only i d l in
+      let gave : length (answers hash s i (take (length entries) entries)) ≡ length (asked i entries) = ap (λ (es : List Entry). length (answers hash s i es)) all ∙ length-answers hash s i entries in
+      let taken : end_taken (get_or ends2 i d) ≡ end_taken (get_or ends1 i d) = p.taken ∙ append-nil (end_taken (get_or ends1 i d)) in
+      ⊎_elim
+      (λ (closed : has_close (end_taken (get_or ends1 i d)) ≡ true). inl (ap has_close taken ∙ closed))
+      (λ (rest : (end_free (get_or ends1 i d) ≤ length (asked i entries)) ⊎ (end_known (get_or ends1 i d) ≡ [])). inr (⊎_elim
+      (λ (few : end_free (get_or ends1 i d) ≤ length (asked i entries)). inl (omega (arith, few, only.1, gave)))
+      (λ (none : end_known (get_or ends1 i d) ≡ []). inr (only.0 ∙ none))
+      rest))
+      left
 
   pub all_answered : (hash : ℕ → List ℕ → ℕ) (machine : State) (ends : List (MergerEnd A)) (journal : List Entry) → Keeps hash machine ends journal → AllAnswered ends
   all_answered hash machine ends journal k i d l = let h = k i d l in ap length h.1 ∙ (length-answers hash machine i journal ∙ sym (ap length h.0))

@@ -35,7 +35,7 @@ module _ {A : Type 0} where
     pub taken : end_taken after ≡ end_taken before
     pub given : end_given after ≡ end_given before ++ verdict ∷ []
     pub known : end_known after ≡ end_known before
-    pub free : end_free before ≤ end_free after + 1
+    pub free : end_free before ≡ end_free after + 1
 
   -- the first of the causes that fits, in the order in which they are checked; full is whether the journal has no room
   abbrev pub Finds : Bool → MergerEnd A → MergerEnd A → Ahead → Type 0

@@ -1,5 +1,5 @@
 //! A round of the merger.
-ghost use Rattle.std.specs.Prelude.{◌≡◌, ◌+◌, ◌≤◌, length, vec_capacity};
+ghost use Rattle.std.specs.Prelude.{◌≡◌, ◌+◌, ◌≤◌, ◌⊎◌, length, vec_capacity};
 ghost use Rattle.merge_core.specs.Shown.{state_of};
 ghost use Rattle.merge_machine.specs.Rounds.{has_open};
 ghost use Rattle.merge_machine.specs.Taking.{AllAnswered, Done};
@@ -24,7 +24,8 @@ impl<H: PageHash, A: Allocator + Sync> Merger<H, A> {
 
     /// Serves several requests: visits guests 0, 1, .. in turn, skipping those that have ended, and takes one request at each
     /// visit, as [`step`](Merger::step) does, until `limit` requests are taken, a whole turn finds none, or the journal has no
-    /// room for more; then applies and answers them in that order. Returns how many there were.
+    /// room for more; then applies and answers them in that order. Returns how many there were. So a guest that doesn't take
+    /// its verdicts keeps no other guest from being served.
     ///
     /// A request is taken only if a slot for its verdict is free beyond those for the verdicts that its guest is owed. The
     /// hashes of proposed pages are computed ahead, four at a time and, if there are enough of them, by several workers: at
@@ -111,7 +112,8 @@ pub(crate) fn is_any_open<A: Allocator>(ends: &[MergerEnd<A>]) -> bool
 
 /// Returns the lesser of two numbers.
 fn lesser(a: u32, b: u32) -> u32
-    ensures { (result ≤ a) × (result ≤ b) }
+    ensures least { (result ≤ a) × (result ≤ b) }
+    ensures one { (result ≡ a) ⊎ (result ≡ b) }
 {
     if a < b { a } else { b }
 }

@@ -1,6 +1,6 @@
 //! Taking a round's requests.
 ghost use Rattle.std.specs.Prelude.{◌≡◌, ◌+◌, ◌<◌, ◌≤◌, length, replicate, vec_capacity};
-ghost use Rattle.merge_machine.specs.Taking.{Took, TookSo, Visits};
+ghost use Rattle.merge_machine.specs.Taking.{AreExhausted, Took, TookSo, Visits};
 
 use page_model::Entry;
 use share_rings::MergerEnd;
@@ -21,17 +21,33 @@ pub(crate) fn take_requests<A: Allocator>(
 {
     // How many verdicts each guest is owed.
     let mut owed = no_debts();
-    let guests = ends.len();
     let full = journal.len() + most;
-    let mut seen = journal.len();
-    for visit in 0..guests * (most + 1) {
-        let guest = visit % guests;
-        if guest == 0 && visit > 0 {
-            if journal.len() == seen {
-                return;
-            }
-            seen = journal.len();
+    for _turn in 0..most + 1 {
+        let before = journal.len();
+        take_turn(ends, journal, &mut owed, full);
+        if journal.len() == before {
+            return;
         }
+    }
+}
+
+/// Visits each guest once, guest 0 first, until the journal has `full` entries.
+fn take_turn<A: Allocator>(
+    ends: &mut Vec<MergerEnd<A>, A>,
+    journal: &mut Vec<Entry, A>,
+    owed: &mut [u32; 64],
+    full: usize,
+)
+    requires few { length ends.old.items ≤ 64 }
+    requires within { length journal.old.items ≤ full }
+    requires room { full ≤ vec_capacity journal.old }
+    ensures took { TookSo ends.old.items ends.new.items journal.old.items journal.new.items owed.old owed.new }
+    ensures within { length journal.new.items ≤ full }
+    ensures exhausted { length journal.new.items ≡ length journal.old.items → length journal.old.items < full → AreExhausted (length ends.old.items) owed.new ends.new.items }
+    ensures owed { length owed.new ≡ 64 }
+    ensures capacity { vec_capacity journal.new ≡ vec_capacity journal.old }
+{
+    for guest in 0..ends.len() {
         if journal.len() >= full {
             return;
         }

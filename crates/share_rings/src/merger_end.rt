@@ -43,13 +43,14 @@ impl<A: Allocator> MergerEnd<A> {
         self.verdicts.slots() as u32
     }
 
-    /// Takes the next request, if one is seen. `None` changes nothing, and is the answer once `Close` was taken.
+    /// Takes the next request, if one is seen. `None` changes nothing, and is the answer once `Close` was taken. Before
+    /// that, `None` says that no request is known.
     pub fn take(&mut self) -> Option<Request>
         ensures pair { end_name self.new ≡ end_name self.old }
         ensures capacity { end_capacity self.new ≡ end_capacity self.old }
         ensures taken { MatchOption result (end_taken self.new ≡ end_taken self.old) (λ r. end_taken self.new ≡ end_taken self.old ++ r ∷ []) }
         ensures closed { has_close (end_taken self.old) ≡ true → IsNone result × (self.new ≡ self.old) }
-        ensures known { has_close (end_taken self.old) ≡ false → MatchOption result (end_known self.old ≡ []) (λ r. IsPrefix (end_known self.old) (r ∷ end_known self.new)) }
+        ensures known { has_close (end_taken self.old) ≡ false → MatchOption result ((end_known self.old ≡ []) × (end_known self.new ≡ [])) (λ r. IsPrefix (end_known self.old) (r ∷ end_known self.new)) }
         ensures given { end_given self.new ≡ end_given self.old }
         ensures free { end_free self.new ≡ end_free self.old }
     {
@@ -72,7 +73,7 @@ impl<A: Allocator> MergerEnd<A> {
         ensures given { end_given self.new ≡ end_given self.old ++ verdict ∷ [] }
         ensures taken { end_taken self.new ≡ end_taken self.old }
         ensures known { end_known self.new ≡ end_known self.old }
-        ensures free { end_free self.old ≤ end_free self.new + 1 }
+        ensures free { end_free self.old ≡ end_free self.new + 1 }
     {
         self.ended = verdict.is_closed();
         self.verdicts.push_reserved(verdict);

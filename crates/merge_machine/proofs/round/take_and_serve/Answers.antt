@@ -1,10 +1,9 @@
-use Rattle.std.proofs.Common.{◌≡◌, ◌+◌, ◌-◌, ◌++◌, ℕ, List, length, take, drop, ap, sym, subst, ◌∙◌, arith}
-use Rattle.page_model.specs.Pages.{State}
+use Rattle.std.proofs.Common.{◌≡◌, ◌-◌, ◌++◌, List, length, take, drop, ap, sym, subst, ◌∙◌, arith}
 use Rattle.page_model.specs.Replay.{state_after}
 use Rattle.page_model.specs.declared.request.Entry.{Entry}
 use Rattle.merge_core.specs.Shown.{state_of}
 use Rattle.merge_machine.specs.Taking.{ServedSo}
-use Rattle.merge_machine.proofs.Rounds.{follows, taken_served}
+use Rattle.merge_machine.proofs.Rounds.{follows, taken_served, exhausted_served}
 use Rattle.merge_machine.proofs.round.take_and_serve.Goals as goal
 
 pub returns-clause-done : goal.returns-clause-done
@@ -24,6 +23,7 @@ returns-clause-done g c =
       grew = t.grew;
       size = passed.size ∙ t.size;
       members = t.members;
+      exhausted = λ less i d l. exhausted_served hash s t.entries c.take_requests.new.ends.items c.serve_taken.new.ends.items i d passed (omega (arith, l, t.size)) (t.exhausted (omega (arith, less, count)) i d l);
       each = taken_served hash s t.entries c.args.ends.now.items c.take_requests.new.ends.items c.serve_taken.new.ends.items t.size t.each passed;
       memory = served.memory ∙ ap (λ (es : List Entry). state_after hash s es) same;
       counted = omega (arith, served.counted, count);

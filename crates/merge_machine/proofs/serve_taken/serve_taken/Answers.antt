@@ -1,4 +1,4 @@
-use Rattle.std.proofs.Common.{◌≡◌, ◌<◌, ℕ, length, take, get_or, refl, ap, subst, sym, ◌∙◌, arith}
+use Rattle.std.proofs.Common.{◌≡◌, ◌<◌, length, take, refl, ap, subst, sym, ◌∙◌, arith}
 use Rattle.page_model.specs.Pages.{State}
 use Rattle.page_model.specs.Steps.{step}
 use Rattle.page_model.specs.Replay.{state_after}

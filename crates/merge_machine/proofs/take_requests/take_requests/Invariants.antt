@@ -1,11 +1,13 @@
-use Rattle.std.proofs.Common.{◌≡◌, ◌≤◌, ◌+◌, length, vec_capacity}
+use Rattle.std.proofs.Common.{◌≡◌, ◌≤◌, ◌+◌, length, replicate, vec_capacity}
 use Rattle.merge_machine.specs.Taking.{TookSo}
 use Rattle.merge_machine.proofs.take_requests.take_requests.Given as goal
 
-abbrev pub invariant-loop-visit : goal.invariant-loop-visit
-invariant-loop-visit g l = record {
-  took : TookSo l.fn.ends.items l.ends.items l.fn.journal.items l.journal.items l.owed;
+-- each turn so far took a request
+abbrev pub invariant-loop-turn : goal.invariant-loop-turn
+invariant-loop-turn g l = record {
+  took : TookSo l.fn.ends.items l.ends.items l.fn.journal.items l.journal.items (replicate 64 0) l.owed;
   owed : length l.owed ≡ 64;
   within : length l.journal.items ≤ length l.fn.journal.items + l.most;
+  least : length l.fn.journal.items + l._turn ≤ length l.journal.items;
   capacity : vec_capacity l.journal ≡ vec_capacity l.fn.journal;
 }

@@ -1,4 +1,4 @@
-use Rattle.std.proofs.Common.{◌≡◌, ◌+◌, ◌<◌, ◌++◌, ℕ, List, length, refl, ap, sym, ◌∙◌, arith}
+use Rattle.std.proofs.Common.{◌≡◌, ◌+◌, ◌<◌, length, refl, ap, sym, ◌∙◌, arith}
 use Rattle.std.proofs.lemmas.List.{length-append}
 use Rattle.std.proofs.lemmas.List.Elements.{All-append}
 use Rattle.page_model.specs.Pages.{State}
@@ -27,7 +27,7 @@ invariant_of-self-2 g c =
       guests = done.guests ∙ (m.guests ∙ sym done.size);
       few = omega (arith, done.size, m.few);
       counted = omega (arith, done.counted, m.counted, grew);
-      within = omega (arith, grew, done.count, done.few, c.lesser.ensures.1, c.room-room.ensures);
+      within = omega (arith, grew, done.count, done.few, c.lesser.ensures.least.1, c.room-room.ensures);
       room = (omega (arith, c.take_and_serve.ensures.capacity, m.room.0), m.room.1);
     }
 
