@@ -1,6 +1,7 @@
 //! Room for a script's requests, taken before its lines are read.
-ghost use Rattle.std.specs.Prelude.{◌≡◌, ◌≤◌, [], length, replicate, IfErr, IfOk};
+ghost use Rattle.std.specs.Prelude.{◌≡◌, ◌+◌, ◌*◌, ◌≤◌, [], length, replicate, sum, IfErr, IfOk};
 ghost use Rattle.journal_text.specs.declared.fault.TextFault.TheVariants.{OutOfMemory};
+ghost use Rattle.journal_text.specs.declared.room.TheConstants.{LEAST_LINE_BYTES};
 ghost use Rattle.script_text.specs.Views.{lists_of};
 
 use journal_text::TextFault;
@@ -9,8 +10,11 @@ use journal_text::word::{cut, first_word, number};
 use page_model::{MAX_GUESTS, Request};
 use std::alloc::Allocator;
 
-/// Returns, for each guest, how many lines of the text may be requests of it. A scan counts as one of them.
-fn count_lines(text: &[u8]) -> [usize; MAX_GUESTS] {
+/// Returns, for each guest, how many lines of the text may be requests of it. A scan counts as one of them. However many
+/// line feeds a text has, there are no more such lines than the shortest ones would be.
+fn count_lines(text: &[u8]) -> [usize; MAX_GUESTS]
+    ensures few { sum result * (LEAST_LINE_BYTES + 1) ≤ length text.now }
+{
     let mut counts = [0; MAX_GUESTS];
     let mut rest = text;
     while let Some((line, more)) = cut(b'\n', rest) {
@@ -23,7 +27,9 @@ fn count_lines(text: &[u8]) -> [usize; MAX_GUESTS] {
 }
 
 /// Counts a line for the guest whose number is its first word.
-fn count_line(counts: &mut [usize; MAX_GUESTS], line: &[u8]) {
+fn count_line(counts: &mut [usize; MAX_GUESTS], line: &[u8])
+    ensures one { sum counts.new ≤ sum counts.old + 1 }
+{
     let (first, _rest) = first_word(line);
     if let Ok(guest) = number(first) {
         if (guest as usize) < MAX_GUESTS {
