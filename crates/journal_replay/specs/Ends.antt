@@ -1,6 +1,6 @@
 -- Readers and writers: when a call on one failed, and what reading all and writing all do to their bytes.
-use Rattle.std.specs.Prelude.{ℕ, ◌<◌, ◌^◌, ◌==◌, ◌&&◌, ◌++◌, ◌≡◌, nat_lt, is_some, Bool, true, false, List, length, take, Option, Result, Ok, Err, IfSome}
-use Rattle.std.specs.Io.KnownBytes.{Appends}
+use Rattle.std.specs.Prelude.{ℕ, ◌<◌, ◌≤◌, ◌^◌, ◌==◌, ◌&&◌, ◌++◌, ◌≡◌, nat_lt, is_some, Bool, true, false, List, length, take, Option, Result, Ok, Err, IfSome}
+use Rattle.std.specs.Io.KnownBytes.{Appends, Consumes}
 use Rattle.journal_replay.specs.declared.ends.Noted.{Noted}
 use Rattle.journal_text.specs.declared.fault.TextFault.{TextFault}
 use Rattle.journal_text.specs.declared.fault.TextFault.TheVariants as faults
@@ -21,6 +21,10 @@ write_failed (Err e) bytes = true
 -- known bytes grew by a front of these bytes
 abbrev pub AppendsFront : Option (List ℕ) → Option (List ℕ) → List ℕ → Type 0
 AppendsFront old new bytes = (n : ℕ) × Appends old new (take n bytes)
+
+-- at most this many bytes were read
+abbrev pub ReadsUpTo : ℕ → Option (List ℕ) → Option (List ℕ) → Type 0
+ReadsUpTo most old new = (bytes : List ℕ) × Consumes old new bytes × (length bytes ≤ most)
 
 -- known bytes grew by what comes before `ahead` in a whole text
 pub record Sends (old new : Option (List ℕ)) (ahead whole : List ℕ) : Type 0 where

@@ -2,7 +2,7 @@
 ghost use Rattle.std.specs.Prelude.{◌≡◌, ◌+◌, ◌<◌, ◌≤◌, ◌++◌, ◌^◌, ◌||◌, ℕ, List, Option, Bool, true, false, length, vec_len, is_err, is_some, IfOk, IfErr, IfSome, OnOk, OnErr};
 ghost use Rattle.std.specs.Io.{ReadsAtMost, WritesAtMost};
 ghost use Rattle.std.specs.Io.KnownBytes.{Appends, Keeps, ReadConsumes, WriteAppends};
-ghost use Rattle.journal_replay.specs.Ends.{inner_of, failed_of, write_failed, tells_read, AppendsFront, NotRead};
+ghost use Rattle.journal_replay.specs.Ends.{inner_of, failed_of, write_failed, tells_read, AppendsFront, NotRead, ReadsUpTo};
 
 use journal_text::TextFault;
 use page_model::MAX_TEXT_BYTES;
@@ -131,7 +131,8 @@ fn room<A: Allocator>(alloc: A, len: usize) -> Result<Vec<u8, A>, TextFault>
     Ok(vec![in alloc; 0; len]?)
 }
 
-/// Reads all that a reader has. An `Err` is `Read`, `Long` or `OutOfMemory`.
+/// Reads all that a reader has. An `Err` is `Read`, `Long` or `OutOfMemory`. `Read` comes only where a read fails before
+/// the text is too long.
 pub fn read_all<R: Source, A: Allocator + Clone>(
     alloc: A,
     reader: &mut R,
@@ -141,6 +142,7 @@ pub fn read_all<R: Source, A: Allocator + Clone>(
     ensures short { IfOk result (λ text. length text.items ≤ 2 ^ 26) }
     ensures failed { R.has_failed reader.new ≡ tells_read result }
     ensures err { IfErr result (λ e. NotRead (R.remaining reader.old) e) }
+    ensures read { IfErr result (λ e. e ≡ TextFault.Read → ReadsUpTo (2 ^ 26) (R.remaining reader.old) (R.remaining reader.new)) }
 {
     let mut text = Vec::new(alloc.clone()?);
     let mut piece = room(alloc, PIECE_BYTES)?;

@@ -1,6 +1,6 @@
 use Rattle.std.proofs.Common.{◌≡◌, ◌^◌, ◌<◌, ◌++◌, [], length, take, arith, length-append}
 use Rattle.std.specs.Io.KnownBytes.{Consumes}
-use Rattle.std.proofs.KnownBytes.{Consumes-trans}
+use Rattle.std.proofs.KnownBytes.{Consumes-trans, Consumes-kept}
 use Rattle.journal_replay.proofs.Known.{read_end, read_more}
 use Rattle.journal_replay.proofs.ends.read_all.Goals as goal
 
@@ -20,3 +20,7 @@ returns-then-n-len-clause-err g c =
     let all : Consumes (remaining c.args.reader.now) (remaining c.read.new.self) (text ++ got) = Consumes-trans _ _ _ text got c.loop-piece.invariant.got c.in-Ok.ensures.bytes.0 in
     let above : 2 ^ 26 < length (text ++ got) = omega (arith, length-append text got, c.in-Ok.ensures.bound, c.loop-piece.text.ok.0, c.len.ensures) in
     read_more (remaining c.args.reader.now) (remaining c.read.new.self) (2 ^ 26) (text ++ got) all above
+
+pub returns-in-Err-clause-read : goal.returns-in-Err-clause-read
+returns-in-Err-clause-read g c same =
+    (c.loop-piece.text.items, Consumes-kept _ _ _ c.loop-piece.text.items c.loop-piece.invariant.got c.in-Err.ensures.bytes, omega (arith, c.loop-piece.invariant.short, c.loop-piece.text.ok.0))
