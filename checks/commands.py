@@ -8,7 +8,7 @@ PROGRAM is by default out/pageshare (`make build`). Nothing is built here. Print
 
 The cases: each command on the worked texts below examples/, from a file and from standard input; each text at fault in faults.py,
 and each front of a journal and of a script; texts that are too long; inputs that can't be opened or read, outputs that take
-nothing, too little memory, no room for a thread's stack; words that are no command line, help and the version; estimates of small
+nothing, too little memory, no room for a thread's stack; texts of many requests; words that are no command line, help and the version; estimates of small
 images, and each cause for which there is none; and what a terminal is told.
 
 A worked text is NAME.journal or NAME.script, and what a command is to write of it stands beside it as NAME.COMMAND: NAME.replay,
@@ -114,6 +114,23 @@ def journals():
     numbers = "mapped 0 shared 0 frames 0 reclaimed 0 hints 0\n"
     totals = "".join(f"0 totals entries {n} {numbers}" for n in range(1, count + 1))
     expect("replay, a long output", ["replay"], text, 0, f"{totals}report entries {count} {numbers}", "")
+
+
+def many_requests():
+    """More requests than a list grows to by steps that tests of a few see: memory for them is taken, and it isn't wanting."""
+    zeros = "mapped 0 shared 0 frames 0 reclaimed 0 hints 0\n"
+    count = 1_000_000
+    journal = faults.ONE_PAGE + "0 load 0 0 1\n" * count + f"end {count}\n"
+    expect("replay, a million requests", ["replay"], journal, 0, "0 bytes 00\n" * count + f"report entries {count} {zeros}", "")
+    count = 200_000
+    head = f"pageshare script 1\nframes 1\npages 1\nring 64\njournal {count + 1}\n"
+    for what, lines, verdict in [
+        ("requests", "0 load 0 0 1\n" * count + f"end {count}\n", "bytes 00"),
+        ("proposals of one scan", f"0 scan sequential {count}\nend 1\n", "unmapped"),
+    ]:
+        due = f"0 {verdict}\n" * count + f"0 closed\nreport entries {count + 1} {zeros}"
+        for command in ["serial", "run"]:
+            expect(f"{command}, 200,000 {what}", [command], head + lines, 0, due, "")
 
 
 def is_clean(done):
@@ -358,6 +375,7 @@ def main():
     with tempfile.TemporaryDirectory() as name:
         folder = pathlib.Path(name)
         journals()
+        many_requests()
         scripts()
         texts_at_fault()
         ends_and_limits(folder)
