@@ -1,26 +1,40 @@
 //! A port that is dropped before it was closed.
-use crate::makes::{both, new_machine};
-use merge_run::Step;
-use page_model::Verdict;
+use crate::answers::{CLOSED, DONE, ENDED, IDLE, SENT, verdict_code};
+use crate::makes::{Merging, load, new_machine, step};
+use share_rings::{ClosedPort, Port};
+use std::alloc::Global;
+use std::process::Abort;
 use std::test::Fail;
 
-// The other guest is served to its end. The first has no closed port, so the machine can't be settled.
+/// The dropped port's request is served, and then there is none.
+fn serve_dropped(rt: &impl Abort, merger: &mut Merging<Global>, dropped: Port) {
+    let mut dropped = dropped;
+    assert_eq!(rt; load(&mut dropped), SENT);
+    drop(dropped);
+    assert_eq!(rt; step(rt, merger, 1), DONE);
+    assert_eq!(rt; step(rt, merger, 1), IDLE);
+}
+
+/// The other guest is served to its end.
+fn serve_other(rt: &impl Abort, merger: &mut Merging<Global>, port: ClosedPort) {
+    let mut port = port;
+    assert_eq!(rt; step(rt, merger, 0), DONE);
+    assert_eq!(rt; step(rt, merger, 0), ENDED);
+    assert_eq!(rt; verdict_code(port.verdict()), CLOSED);
+    assert!(rt; port.drained());
+    assert_eq!(rt; merger.journal().len(), 2);
+}
+
+// The second guest has no closed port, so the machine can't be settled.
 #[test]
 fn port_dropped_without_a_close(rt: HostRuntime) -> Result<(), Fail> {
-    let (mut merger, ports) = new_machine(rt.alloc(), 1, &[1, 1], 4, 4)?;
-    let (first, mut second) = both(ports).ok_or("not two ports")?;
-    assert_eq!(rt; second.load(0, 0, 1), Ok(()));
-    drop(second);
-    assert_eq!(rt; merger.step(1), Ok(Step::Done));
-    assert_eq!(rt; merger.step(1), Ok(Step::Idle));
-    let Ok(mut first) = first.close() else {
+    let (mut merger, mut ports) = new_machine(rt.alloc(), 1, &[1, 1], 4, 4)?;
+    let second = ports.pop().ok_or("no second port")?;
+    serve_dropped(&rt, &mut merger, second);
+    let first = ports.pop().ok_or("no first port")?;
+    let Ok(first) = first.close() else {
         return Err(Fail::from("busy at the close"));
     };
-    assert_eq!(rt; merger.step(0), Ok(Step::Done));
-    assert_eq!(rt; merger.step(0), Ok(Step::Ended));
-    assert_eq!(rt; first.verdict(), Some(Verdict::Closed));
-    assert!(rt; first.drained());
-    assert_eq!(rt; merger.journal().len(), 2);
-    drop(merger);
+    serve_other(&rt, &mut merger, first);
     Ok(())
 }

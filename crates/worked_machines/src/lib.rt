@@ -3,6 +3,10 @@
 #![tactic(auto)]
 
 #[cfg(test)]
+mod answers;
+#[cfg(test)]
+mod course;
+#[cfg(test)]
 mod dropped;
 #[cfg(test)]
 mod early;
@@ -13,7 +17,11 @@ mod makes;
 #[cfg(test)]
 mod one_slot;
 #[cfg(test)]
+mod ports;
+#[cfg(test)]
 mod refused;
+#[cfg(test)]
+mod rounds;
 #[cfg(test)]
 mod sharing;
 #[cfg(test)]

@@ -1,94 +1,137 @@
 //! Which machines can be made, and a journal that is full.
-use crate::makes::{byte, new_machine, numbers, only};
-use merge_run::{Config, Fault, JournalFull, Machine, Step};
+use crate::answers::{BUSY, BYTE, CLOSED, DONE, ENDED, FULL, NOTHING, SENT};
+use crate::course::Call::{Close, Entries, Guest, Step};
+use crate::course::{new_course, play};
+use crate::ports::Ask::{Count, Load, Verdict};
+use merge_run::{Config, Fault, Machine};
 use page_digest::Sha256Hash;
-use page_model::{MAX_ENTRIES, MAX_FRAMES, MAX_PAGES, MAX_RING_CAPACITY, Verdict};
-use share_rings::SendFault;
+use page_model::{MAX_ENTRIES, MAX_FRAMES, MAX_PAGES, MAX_RING_CAPACITY};
+use std::alloc::{AllocError, Global};
 use std::test::Fail;
 
-/// A machine's numbers, and why it can't be made.
-type Limit<'a> = (u32, &'a [u32], &'a [u32], u32, u32, Option<Fault>);
+/// The numbers of a machine: its frames, its guests, the pages of each guest but the last, the pages of the last, the
+/// salts, and the lengths of rings and journal.
+type Numbers = [u32; 7];
+
+/// Returns the pages of each guest.
+fn pages_of(alloc: Global, guests: u32, each: u32, last: u32) -> Result<Vec<u32>, AllocError> {
+    if guests == 0 {
+        return Ok(Vec::new(alloc));
+    }
+    let mut pages = vec![in alloc; each; guests as usize - 1]?;
+    pages.push(last)?;
+    Ok(pages)
+}
+
+fn config_of(alloc: Global, numbers: Numbers) -> Result<Config, AllocError> {
+    let [frames, guests, each, last, salts, ring, journal] = numbers;
+    let pages = pages_of(alloc, guests, each, last)?;
+    let salts = vec![in alloc; 0u32; salts as usize]?;
+    Ok(Config {
+        frames,
+        pages,
+        salts,
+        ring,
+        journal,
+    })
+}
+
+/// Returns why there is no machine of these numbers, and `None` if there is one.
+fn cause_of(alloc: Global, numbers: Numbers) -> Option<Fault> {
+    let Ok(config) = config_of(alloc, numbers) else {
+        return Some(Fault::OutOfMemory);
+    };
+    match Machine::new(alloc, &config, Sha256Hash) {
+        Ok(_) => None,
+        Err(fault) => Some(fault),
+    }
+}
 
 #[test]
-fn limits_of_a_machine(rt: HostRuntime) -> Result<(), Fail> {
-    let many = vec![in rt.alloc(); 1u32; 65]?;
-    let many = many.as_slice();
-    let limits: [Limit; 19] = [
-        (0, &[], &[], 1, 1, Some(Fault::Frames)),
-        (0, &[1], &[], 0, 0, Some(Fault::Frames)),
-        (MAX_FRAMES + 1, &[1], &[0], 1, 1, Some(Fault::Frames)),
-        (1, &[], &[], 1, 1, Some(Fault::Guests)),
-        (1, many, many, 1, 1, Some(Fault::Guests)),
-        (1, &[1], &[], 1, 1, Some(Fault::Guests)),
-        (1, &[1], &[0, 0], 1, 1, Some(Fault::Guests)),
-        (1, &[0], &[], 0, 0, Some(Fault::Guests)),
-        (1, &[1, 0], &[0, 0], 1, 1, Some(Fault::Pages)),
-        (1, &[MAX_PAGES, 1], &[0, 0], 0, 0, Some(Fault::Pages)),
-        (1, &[1], &[0], 0, 1, Some(Fault::Ring)),
-        (1, &[1], &[0], MAX_RING_CAPACITY + 1, 0, Some(Fault::Ring)),
-        (1, &[1], &[0], 1, 0, Some(Fault::Journal)),
-        (1, &[1], &[0], 1, MAX_ENTRIES + 1, Some(Fault::Journal)),
-        (1, &[1], &[0], MAX_RING_CAPACITY, 1, None),
-        (1, &[1], &[0], 1, MAX_ENTRIES, None),
-        (1, &[1], &[0], 1, 1, None),
-        (1, &[MAX_PAGES], &[0], 1, 1, None),
-        (1, &many[..64], &many[..64], 1, 1, None),
+fn limits_of_frames_rings_and_journals(rt: HostRuntime) {
+    let limits = [
+        ([0, 1, 1, 1, 0, 0, 0], Some(Fault::Frames)),
+        ([MAX_FRAMES + 1, 1, 1, 1, 1, 1, 1], Some(Fault::Frames)),
+        ([1, 1, 1, 1, 1, 0, 1], Some(Fault::Ring)),
+        ([1, 1, 1, 1, 1, MAX_RING_CAPACITY + 1, 0], Some(Fault::Ring)),
+        ([1, 1, 1, 1, 1, 1, 0], Some(Fault::Journal)),
+        ([1, 1, 1, 1, 1, 1, MAX_ENTRIES + 1], Some(Fault::Journal)),
+        ([1, 1, 1, 1, 1, MAX_RING_CAPACITY, 1], None),
+        ([1, 1, 1, 1, 1, 1, MAX_ENTRIES], None),
+        ([1, 1, 1, 1, 1, 1, 1], None),
     ];
-    for (frames, pages, salts, ring, journal, fault) in limits {
-        let config = Config {
-            frames,
-            pages: Vec::from_slice(rt.alloc(), pages)?,
-            salts: Vec::from_slice(rt.alloc(), salts)?,
-            ring,
-            journal,
-        };
-        let answer = Machine::new(rt.alloc(), &config, Sha256Hash).err();
-        assert_eq!(rt; answer, fault, "{frames} {pages:?} {ring} {journal}");
+    for (numbers, fault) in limits {
+        assert_eq!(rt; cause_of(rt.alloc(), numbers), fault, "{numbers:?}");
     }
-    Ok(())
+}
+
+#[test]
+fn limits_of_guests_and_pages(rt: HostRuntime) {
+    let limits = [
+        ([0, 0, 0, 0, 0, 1, 1], Some(Fault::Frames)),
+        ([1, 0, 0, 0, 0, 1, 1], Some(Fault::Guests)),
+        ([1, 65, 1, 1, 65, 1, 1], Some(Fault::Guests)),
+        ([1, 1, 1, 1, 0, 1, 1], Some(Fault::Guests)),
+        ([1, 1, 1, 1, 2, 1, 1], Some(Fault::Guests)),
+        ([1, 1, 0, 0, 0, 0, 0], Some(Fault::Guests)),
+        ([1, 2, 1, 0, 2, 1, 1], Some(Fault::Pages)),
+        ([1, 2, MAX_PAGES, 1, 2, 0, 0], Some(Fault::Pages)),
+        ([1, 1, 0, MAX_PAGES, 1, 1, 1], None),
+        ([1, 64, 1, 1, 64, 1, 1], None),
+    ];
+    for (numbers, fault) in limits {
+        assert_eq!(rt; cause_of(rt.alloc(), numbers), fault, "{numbers:?}");
+    }
 }
 
 // The longest rings hold as many items as they should.
 #[test]
 fn longest_ring(rt: HostRuntime) -> Result<(), Fail> {
-    let (mut merger, ports) = new_machine(rt.alloc(), 1, &[1], MAX_RING_CAPACITY, 1)?;
-    let mut port = only(ports).ok_or("not one port")?;
-    for n in 0..MAX_RING_CAPACITY {
-        assert_eq!(rt; port.count(), Ok(()), "at {n}");
+    let mut course = new_course(rt.alloc(), 1, &[1], MAX_RING_CAPACITY, 1)?;
+    for _ in 0..MAX_RING_CAPACITY {
+        course = play(&rt, course, &[(Guest(0, Count), SENT)]);
     }
-    assert_eq!(rt; port.count(), Err(SendFault::Busy));
-    assert_eq!(rt; merger.step(0), Ok(Step::Done));
-    assert_eq!(rt; port.count(), Ok(()));
+    let rows = [
+        (Guest(0, Count), BUSY),
+        (Step(0), DONE),
+        (Guest(0, Count), SENT),
+    ];
+    drop(play(&rt, course, &rows));
     Ok(())
 }
 
 // A full journal is answered before a verdict that is still to be received, and changes nothing.
 #[test]
 fn full_journal(rt: HostRuntime) -> Result<(), Fail> {
-    let (mut merger, ports) = new_machine(rt.alloc(), 1, &[1], 1, 1)?;
-    let mut port = only(ports).ok_or("not one port")?;
-    assert_eq!(rt; port.load(0, 0, 1), Ok(()));
-    assert_eq!(rt; merger.step(0), Ok(Step::Done));
-    assert_eq!(rt; port.load(0, 0, 1), Ok(()));
-    assert_eq!(rt; merger.step(0), Err(JournalFull));
-    assert_eq!(rt; merger.journal().len(), 1);
-    assert_eq!(rt; numbers(&merger.report()), [1, 0, 0, 0, 0, 0]);
-    assert_eq!(rt; port.verdict(), Some(byte(0)));
-    assert_eq!(rt; port.verdict(), None);
-    assert_eq!(rt; merger.step(0), Err(JournalFull));
+    let course = new_course(rt.alloc(), 1, &[1], 1, 1)?;
+    let rows = [
+        (Guest(0, Load(0)), SENT),
+        (Step(0), DONE),
+        (Guest(0, Load(0)), SENT),
+        (Step(0), FULL),
+        (Entries, 1),
+    ];
+    let course = play(&rt, course, &rows);
+    assert_eq!(rt; course.numbers(), [1, 0, 0, 0, 0, 0]);
+    let rows = [
+        (Guest(0, Verdict), BYTE),
+        (Guest(0, Verdict), NOTHING),
+        (Step(0), FULL),
+    ];
+    drop(play(&rt, course, &rows));
     Ok(())
 }
 
 // A guest that has ended is answered so, though the journal is full.
 #[test]
 fn full_journal_after_the_close(rt: HostRuntime) -> Result<(), Fail> {
-    let (mut merger, ports) = new_machine(rt.alloc(), 1, &[1], 1, 1)?;
-    let port = only(ports).ok_or("not one port")?;
-    let Ok(mut port) = port.close() else {
-        return Err(Fail::from("busy at the close"));
-    };
-    assert_eq!(rt; merger.step(0), Ok(Step::Done));
-    assert_eq!(rt; merger.step(0), Ok(Step::Ended));
-    assert_eq!(rt; port.verdict(), Some(Verdict::Closed));
+    let course = new_course(rt.alloc(), 1, &[1], 1, 1)?;
+    let rows = [
+        (Close, SENT),
+        (Step(0), DONE),
+        (Step(0), ENDED),
+        (Guest(0, Verdict), CLOSED),
+    ];
+    drop(play(&rt, course, &rows));
     Ok(())
 }

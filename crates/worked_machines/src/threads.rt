@@ -1,13 +1,14 @@
 //! Two guests in their own threads, and the merger in the test's.
-ghost use Rattle.std.specs.Prelude.{◌≡◌, IfSome};
+ghost use Rattle.std.specs.Prelude.{◌≡◌, ◌∷◌, [], IfOk, IfSome};
 ghost use Rattle.share_rings.specs.Ends.{port_name, closed_name};
 ghost use Rattle.merge_run.specs.View.{end_names, ends_of, guest_count};
 
-use crate::makes::{Merging, both, byte, list_of_both, new_machine, numbers};
+use crate::answers::{BYTE, CLOSED, NOTHING, numbers, verdict_code};
+use crate::makes::{Merging, new_machine};
 use merge_run::{Step, settle};
 use page_model::Verdict;
 use share_rings::{ClosedPort, Port};
-use std::alloc::Global;
+use std::alloc::{AllocError, Global};
 use std::snapshot::Snapshot;
 use std::test::Fail;
 use std::thread;
@@ -43,18 +44,41 @@ impl Promise<Option<Guest>> for SamePort {
     ghost kept_by = { λ promise result. IfSome result (λ guest. closed_name guest.port ≡ port_name promise.0.value) };
 }
 
+/// Returns the ports of two guests.
+fn both(ports: Vec<Port>) -> Option<(Port, Port)>
+    ensures { IfSome result (λ (first, second). ports.items ≡ first ∷ second ∷ []) }
+{
+    let mut ports = ports;
+    let second = ports.pop()?;
+    let first = ports.pop()?;
+    if !ports.is_empty() {
+        return None;
+    }
+    Some((first, second))
+}
+
+/// Returns the list of two guests' ports.
+fn list_of_both(
+    alloc: Global,
+    first: ClosedPort,
+    second: ClosedPort,
+) -> Result<Vec<ClosedPort>, AllocError>
+    ensures { IfOk result (λ ports. ports.items ≡ first ∷ second ∷ []) }
+{
+    let mut ports = Vec::with_capacity(alloc, 2)?;
+    ports.push_reserved(first);
+    ports.push_reserved(second);
+    Ok(ports)
+}
+
 type Running = PromisedHandle<Option<Guest>, SamePort>;
 
 fn count(verdict: Option<Verdict>, tally: &mut Tally) {
-    let Some(verdict) = verdict else {
-        return;
-    };
-    if verdict == byte(0) && tally.closed == 0 {
-        tally.zeros = tally.zeros.wrapping_add(1);
-    } else if verdict == Verdict::Closed {
-        tally.closed = tally.closed.wrapping_add(1);
-    } else {
-        tally.others = tally.others.wrapping_add(1);
+    match verdict_code(verdict) {
+        NOTHING => {}
+        BYTE if tally.closed == 0 => tally.zeros = tally.zeros.wrapping_add(1),
+        CLOSED => tally.closed = tally.closed.wrapping_add(1),
+        _ => tally.others = tally.others.wrapping_add(1),
     }
 }
 

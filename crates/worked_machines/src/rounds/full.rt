@@ -1,0 +1,32 @@
+//! Rounds at a full journal.
+use crate::answers::{DONE, SENT};
+use crate::course::Call::{Close, Entries, Guest, Step};
+use crate::course::{new_course, play};
+use crate::ports::Ask::{Drained, Load};
+use merge_run::JournalFull;
+use std::test::Fail;
+
+#[test]
+fn open_guest(rt: HostRuntime) -> Result<(), Fail> {
+    let course = new_course(rt.alloc(), 1, &[1], 1, 1)?;
+    let rows = [
+        (Guest(0, Load(0)), SENT),
+        (Step(0), DONE),
+        (Guest(0, Load(0)), SENT),
+    ];
+    let mut course = play(&rt, course, &rows);
+    assert_eq!(rt; course.round(&rt, rt.alloc(), 1, 4), Err(JournalFull));
+    drop(play(&rt, course, &[(Entries, 1)]));
+    Ok(())
+}
+
+#[test]
+fn ended_guest(rt: HostRuntime) -> Result<(), Fail> {
+    let mut course = new_course(rt.alloc(), 1, &[1], 1, 1)?;
+    assert_eq!(rt; course.round(&rt, rt.alloc(), 1, 4), Ok(0));
+    let mut course = play(&rt, course, &[(Close, SENT)]);
+    assert_eq!(rt; course.round(&rt, rt.alloc(), 1, 4), Ok(1));
+    assert_eq!(rt; course.round(&rt, rt.alloc(), 1, 4), Ok(0));
+    drop(play(&rt, course, &[(Guest(0, Drained), 0)]));
+    Ok(())
+}

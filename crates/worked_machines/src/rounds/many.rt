@@ -1,0 +1,69 @@
+//! Forty proposals in one round, enough for a second worker.
+use crate::answers::{HINTED, MAPPED, SENT};
+use crate::course::Call::Guest;
+use crate::course::{Course, new_course, play};
+use crate::ports::Ask::{Propose, StorePair, Verdict};
+use refusing::Refusing;
+use std::process::Abort;
+use std::sync::Wait;
+use std::test::Fail;
+use std::thread::Threads;
+
+const MOST_GROWTHS: u64 = 100;
+
+const PAGES: u8 = 40;
+
+/// Stores other bytes to each page.
+fn store_all(rt: &impl Abort, course: Course) -> Course {
+    let mut course = course;
+    for page in 0..PAGES {
+        let store = StorePair(u32::from(page), [0x41, page]);
+        course = play(rt, course, &[(Guest(0, store), SENT)]);
+    }
+    course
+}
+
+/// Takes the verdict of each store, and proposes each page.
+fn propose_all(rt: &impl Abort, course: Course) -> Course {
+    let mut course = course;
+    for page in 0..PAGES {
+        let propose = Propose(u32::from(page));
+        let rows = [(Guest(0, Verdict), MAPPED), (Guest(0, propose), SENT)];
+        course = play(rt, course, &rows);
+    }
+    course
+}
+
+/// Takes the verdict of each proposal.
+fn take_all(rt: &impl Abort, course: Course) -> Course {
+    let mut course = course;
+    for _ in 0..PAGES {
+        course = play(rt, course, &[(Guest(0, Verdict), HINTED)]);
+    }
+    course
+}
+
+/// Serves the stores in one round, and the proposals in another, whatever memory there is for lists.
+fn serve_all<R: Threads + Wait + Sync + Abort>(rt: &R, lists: &Refusing, course: Course) {
+    let mut course = store_all(rt, course);
+    assert_eq!(rt; course.round(rt, lists, 2, 64), Ok(40));
+    let mut course = propose_all(rt, course);
+    assert_eq!(rt; course.round(rt, lists, 2, 64), Ok(40));
+    let course = take_all(rt, course);
+    assert_eq!(rt; course.numbers(), [80, 40, 0, 40, 0, 40]);
+}
+
+// Each growth of the rounds' lists is refused in turn.
+#[test]
+fn many_proposals(rt: HostRuntime) -> Result<(), Fail> {
+    for n in 0..MOST_GROWTHS {
+        let heap = Refusing::new(rt.alloc(), n, 0);
+        let course = new_course(rt.alloc(), 40, &[40], 64, 100)?;
+        serve_all(&rt, &heap, course);
+        assert!(rt; heap.holds_nothing(), "at {n}");
+        if !heap.has_refused() {
+            return Ok(());
+        }
+    }
+    Err(Fail::from("each run was refused"))
+}

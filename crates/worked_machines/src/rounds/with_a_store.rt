@@ -1,0 +1,74 @@
+//! A round in which a store follows a proposal of its page, and another proposal follows the store.
+use crate::answers::{DONE, HINTED, MAPPED, SENT, STORED};
+use crate::course::Call::{Guest, Step};
+use crate::course::{Course, new_course, play};
+use crate::ports::Ask::{Propose, Store, Verdict};
+use merge_run::Fault;
+use refusing::Refusing;
+use std::alloc::{Allocator, Global};
+use std::process::Abort;
+use std::sync::Wait;
+use std::test::Fail;
+use std::thread::Threads;
+
+const MOST_GROWTHS: u64 = 100;
+
+/// Makes two pages that hold the same, and four requests that wait.
+fn waiting(rt: &impl Abort, alloc: Global) -> Result<Course, Fault> {
+    let course = new_course(alloc, 2, &[2], 8, 8)?;
+    let rows = [
+        (Guest(0, Store(0, b'A')), SENT),
+        (Guest(0, Store(1, b'A')), SENT),
+        (Step(0), DONE),
+        (Step(0), DONE),
+        (Guest(0, Verdict), MAPPED),
+        (Guest(0, Verdict), MAPPED),
+        (Guest(0, Propose(0)), SENT),
+        (Guest(0, Store(0, b'B')), SENT),
+        (Guest(0, Propose(0)), SENT),
+        (Guest(0, Propose(1)), SENT),
+    ];
+    Ok(play(rt, course, &rows))
+}
+
+/// Serves all four in one round, whatever memory there is for lists.
+fn serve_four<R: Threads + Wait + Sync + Abort, B: Allocator + Clone + Send>(
+    rt: &R,
+    lists: B,
+    course: Course,
+    workers: u32,
+) {
+    let mut course = course;
+    assert_eq!(rt; course.round(rt, lists, workers, 4), Ok(4));
+    let rows = [
+        (Guest(0, Verdict), HINTED),
+        (Guest(0, Verdict), STORED),
+        (Guest(0, Verdict), HINTED),
+        (Guest(0, Verdict), HINTED),
+    ];
+    let course = play(rt, course, &rows);
+    assert_eq!(rt; course.numbers(), [6, 2, 0, 2, 0, 2]);
+}
+
+#[test]
+fn round_with_a_store(rt: HostRuntime) -> Result<(), Fail> {
+    for workers in [1u32, 4] {
+        let course = waiting(&rt, rt.alloc())?;
+        serve_four(&rt, rt.alloc(), course, workers);
+    }
+    Ok(())
+}
+
+#[test]
+fn refused_growth(rt: HostRuntime) -> Result<(), Fail> {
+    for n in 0..MOST_GROWTHS {
+        let heap = Refusing::new(rt.alloc(), n, 0);
+        let course = waiting(&rt, rt.alloc())?;
+        serve_four(&rt, &heap, course, 4);
+        assert!(rt; heap.holds_nothing(), "at {n}");
+        if !heap.has_refused() {
+            return Ok(());
+        }
+    }
+    Err(Fail::from("each run was refused"))
+}
