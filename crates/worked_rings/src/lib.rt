@@ -5,11 +5,15 @@
 #[cfg(test)]
 mod alone;
 #[cfg(test)]
+mod closing;
+#[cfg(test)]
 mod pairs;
 #[cfg(test)]
 mod refused;
 #[cfg(test)]
 mod scans;
+#[cfg(test)]
+mod sends;
 #[cfg(test)]
 mod serving;
 #[cfg(test)]

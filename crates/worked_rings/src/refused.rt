@@ -2,37 +2,17 @@
 ghost use Rattle.std.specs.Prelude.{◌≡◌, [], IfOk};
 ghost use Rattle.share_rings.specs.Ends.{port_name, end_name, end_taken, end_given};
 
+use crate::closing::close_is_answered;
+use crate::scans::numbers;
+use crate::sends::{SLOTS, fill, refuses_each};
 use crate::serving::serve;
-use page_model::Request;
 use refusing::Refusing;
-use share_rings::{Meeting, MergerEnd, Port, RingFault, Scan, SendFault, meet, ring_pair};
+use share_rings::{MergerEnd, Port, RingFault, Scan, ring_pair};
 use std::alloc::Allocator;
 use std::process::Abort;
 use std::test::Fail;
 
 const MOST: u64 = 100;
-
-const SLOTS: u32 = 6;
-
-// Makes each call that sends, once with room and once without, and provokes each fault of a request.
-fn send_each<A: Allocator>(rt: &impl Abort, port: &mut Port<A>)
-    ensures { port_name port.new ≡ port_name port.old }
-{
-    assert!(rt; port.send(Request::Count).is_ok());
-    assert_eq!(rt; port.propose(0), Ok(()));
-    assert_eq!(rt; port.store(0, 0, &[0x41]), Ok(()));
-    assert_eq!(rt; port.load(0, 0, 1), Ok(()));
-    assert_eq!(rt; port.release(0), Ok(()));
-    assert_eq!(rt; port.count(), Ok(()));
-    assert!(rt; port.send(Request::Count).is_err());
-    assert_eq!(rt; port.propose(0), Err(SendFault::Busy));
-    assert_eq!(rt; port.store(0, 0, &[0x41]), Err(SendFault::Busy));
-    assert_eq!(rt; port.load(0, 0, 1), Err(SendFault::Busy));
-    assert_eq!(rt; port.release(0), Err(SendFault::Busy));
-    assert_eq!(rt; port.count(), Err(SendFault::Busy));
-    assert_eq!(rt; port.store(0, 4096, &[0x41]), Err(SendFault::Crosses));
-    assert_eq!(rt; port.load(0, 0, 0), Err(SendFault::Length));
-}
 
 // Tries a close when the ring is full: the port comes back.
 fn close_full<A: Allocator>(port: Port<A>) -> Result<Port<A>, Fail>
@@ -62,25 +42,18 @@ fn every_call<A: Allocator>(
     requires pair { port_name port ≡ end_name end }
     requires fresh { (end_taken end ≡ []) × (end_given end ≡ []) }
 {
-    send_each(rt, &mut port);
+    fill(rt, &mut port);
+    refuses_each(rt, &mut port);
     let mut port = close_full(port)?;
     serve(&mut end, SLOTS + 1);
     assert!(rt; !end.ended());
     get_each(rt, &mut port);
-    let Ok(mut port) = port.close() else {
+    let Ok(port) = port.close() else {
         return Err(Fail::from("busy, though all was taken"));
     };
-    assert_eq!(rt; meet(&mut port, &mut end), Meeting::Running);
-    serve(&mut end, 1);
-    assert!(rt; end.ended());
-    assert_eq!(rt; meet(&mut port, &mut end), Meeting::Undrained);
-    assert!(rt; port.verdict().is_some());
-    assert!(rt; port.drained());
-    assert_eq!(rt; meet(&mut port, &mut end), Meeting::Met);
-    assert!(rt; port.verdict().is_none());
-    assert!(rt; end.take().is_none());
-    assert_eq!(rt; Scan::sequential(2).next(), 0);
-    assert_eq!(rt; Scan::random(0, 1000).next(), 107);
+    close_is_answered(rt, port, end, SLOTS)?;
+    assert_eq!(rt; numbers(Scan::sequential(2)), [0, 1, 0]);
+    assert_eq!(rt; numbers(Scan::random(0, 1000))[0], 107);
     Ok(())
 }
 
