@@ -3,6 +3,7 @@ use crate::censuses::pages::{Memory, counted, guest_of};
 use page_census::{CopiesClass, Guest, TotalNumbers};
 use page_digest::FirstByteHash;
 use std::alloc::{AllocError, Global};
+use std::process::Abort;
 use std::test::Fail;
 
 // Zeros make two contents of three copies each, one of them in two guests.
@@ -38,19 +39,19 @@ const COPIES: [CopiesClass; 3] = [
     },
 ];
 
-fn four_guests(alloc: Global) -> Result<Vec<Guest<Memory>>, AllocError> {
+fn four_guests(rt: &impl Abort, alloc: Global) -> Result<Vec<Guest<Memory>>, AllocError> {
     let (a, b, c, d) = (Some(1), Some(2), Some(3), Some(4));
     let mut guests = Vec::with_capacity(alloc, 4)?;
-    guests.push_reserved(guest_of(alloc, 5, &[None, None, a, a, a, b, b], 7)?);
-    guests.push_reserved(guest_of(alloc, 5, &[None, b, b, c, c, c, c, c, d], 9)?);
-    guests.push_reserved(guest_of(alloc, 6, &[None, None, None, a], 4)?);
-    guests.push_reserved(guest_of(alloc, 8, &[], 0)?);
+    guests.push_reserved(guest_of(rt, alloc, 5, &[None, None, a, a, a, b, b], 7)?);
+    guests.push_reserved(guest_of(rt, alloc, 5, &[None, b, b, c, c, c, c, c, d], 9)?);
+    guests.push_reserved(guest_of(rt, alloc, 6, &[None, None, None, a], 4)?);
+    guests.push_reserved(guest_of(rt, alloc, 8, &[], 0)?);
     Ok(guests)
 }
 
 #[test]
 fn three_to_five_copies(rt: HostRuntime) -> Result<(), Fail> {
-    let guests = four_guests(rt.alloc())?;
+    let guests = four_guests(&rt, rt.alloc())?;
     let told = counted(&rt, rt.alloc(), 3, &FirstByteHash, &guests);
     assert_eq!(rt; told.total, TOTAL);
     assert_eq!(rt; told.copies.as_slice(), COPIES.as_slice());

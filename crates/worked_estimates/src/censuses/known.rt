@@ -1,9 +1,9 @@
 //! The census of a few pages, counted by hand.
-use crate::censuses::pages::{Memory, Quiet, ZeroHash, counted, guest_of};
-use page_census::{CensusFault, CopiesClass, FoldHash, Guest, GuestNumbers, TotalNumbers, census};
+use crate::censuses::pages::{Memory, ZeroHash, census_of, counted, guest_of};
+use page_census::{CensusFault, CopiesClass, FoldHash, Guest, GuestNumbers, TotalNumbers};
 use page_digest::{FirstByteHash, PageHash, Sha256Hash};
 use refusing::Refusing;
-use std::alloc::Global;
+use std::alloc::{AllocError, Global};
 use std::process::Abort;
 use std::test::Fail;
 use std::thread::Threads;
@@ -71,12 +71,16 @@ const MOST_REQUESTS: u64 = 100;
 
 // Pages a, b and c begin with the same byte. Guests 0 and 1 have one salt, guest 2 another. Of guest 1, only the first
 // `readable` pages can be read.
-fn three_guests(alloc: Global, readable: u32) -> Result<Vec<Guest<Memory>>, Fail> {
+fn three_guests(
+    rt: &impl Abort,
+    alloc: Global,
+    readable: u32,
+) -> Result<Vec<Guest<Memory>>, AllocError> {
     let (a, b, c) = (Some(1), Some(2), Some(3));
     let mut guests = Vec::with_capacity(alloc, 3)?;
-    guests.push_reserved(guest_of(alloc, 0, &[None, a, b, a], 4)?);
-    guests.push_reserved(guest_of(alloc, 0, &[a, None, c, c], readable)?);
-    guests.push_reserved(guest_of(alloc, 1, &[a, None, None, b], 4)?);
+    guests.push_reserved(guest_of(rt, alloc, 0, &[None, a, b, a], 4)?);
+    guests.push_reserved(guest_of(rt, alloc, 0, &[a, None, c, c], readable)?);
+    guests.push_reserved(guest_of(rt, alloc, 1, &[a, None, None, b], 4)?);
     Ok(guests)
 }
 
@@ -86,7 +90,7 @@ fn counts<R: Threads + Abort + Sync, H: PageHash>(
     hash: &H,
     workers: u32,
 ) -> Result<(), Fail> {
-    let guests = three_guests(alloc, 4)?;
+    let guests = three_guests(rt, alloc, 4)?;
     let told = counted(rt, alloc, workers, hash, &guests);
     assert_eq!(rt; told.guests.as_slice(), GUESTS.as_slice());
     assert_eq!(rt; told.total, TOTAL);
@@ -116,8 +120,8 @@ fn by_no_hash(rt: HostRuntime) -> Result<(), Fail> {
 
 #[test]
 fn unreadable(rt: HostRuntime) -> Result<(), Fail> {
-    let guests = three_guests(rt.alloc(), 3)?;
-    let told = census(&rt, rt.alloc(), 4, &Sha256Hash, &guests, &Quiet);
+    let guests = three_guests(&rt, rt.alloc(), 3)?;
+    let told = census_of(&rt, rt.alloc(), 4, &Sha256Hash, &guests);
     assert!(rt; matches!(told, Err(CensusFault::Read(1, _))));
     Ok(())
 }
@@ -129,7 +133,7 @@ fn total_by<R: Threads + Abort + Sync, H: PageHash>(
     hash: &H,
     guests: &[Guest<Memory>],
 ) -> Option<TotalNumbers> {
-    match census(rt, heap, 4, hash, guests, &Quiet) {
+    match census_of(rt, heap, 4, hash, guests) {
         Ok(told) => Some(told.total),
         Err(CensusFault::OutOfMemory) => None,
         Err(_) => panic!(rt; "another fault"),
@@ -142,7 +146,7 @@ fn refuses_in_turn<R: Threads + Abort + Sync, H: PageHash>(
     alloc: Global,
     hash: &H,
 ) -> Result<(), Fail> {
-    let guests = three_guests(alloc, 4)?;
+    let guests = three_guests(rt, alloc, 4)?;
     for n in 0..MOST_REQUESTS {
         let heap = Refusing::new(alloc, n, 0);
         let total = total_by(rt, &heap, hash, &guests);

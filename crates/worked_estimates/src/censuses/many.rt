@@ -3,6 +3,7 @@ use crate::censuses::pages::{Memory, counted, guest_of};
 use page_census::{CopiesClass, Guest, GuestNumbers, TotalNumbers};
 use page_digest::Sha256Hash;
 use std::alloc::{AllocError, Global};
+use std::process::Abort;
 use std::test::Fail;
 
 // 50 different pages, four times each.
@@ -43,21 +44,21 @@ const NONE: TotalNumbers = TotalNumbers {
 };
 
 /// Makes two guests of 200 pages each, under two salts.
-fn two_guests(alloc: Global) -> Result<Vec<Guest<Memory>>, AllocError> {
+fn two_guests(rt: &impl Abort, alloc: Global) -> Result<Vec<Guest<Memory>>, AllocError> {
     let mut lasts = [None; 200];
     for n in 0..200u8 {
         lasts[n as usize] = Some(n % 50);
     }
     let mut guests = Vec::with_capacity(alloc, 2)?;
-    guests.push_reserved(guest_of(alloc, 7, &lasts, 200)?);
-    guests.push_reserved(guest_of(alloc, 9, &lasts, 200)?);
+    guests.push_reserved(guest_of(rt, alloc, 7, &lasts, 200)?);
+    guests.push_reserved(guest_of(rt, alloc, 9, &lasts, 200)?);
     Ok(guests)
 }
 
 // The same pages under two salts are different contents.
 #[test]
 fn in_parts(rt: HostRuntime) -> Result<(), Fail> {
-    let guests = two_guests(rt.alloc())?;
+    let guests = two_guests(&rt, rt.alloc())?;
     for workers in 1..6 {
         let told = counted(&rt, rt.alloc(), workers, &Sha256Hash, &guests);
         assert_eq!(rt;

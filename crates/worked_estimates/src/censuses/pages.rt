@@ -1,10 +1,10 @@
 //! Guests whose pages are in memory, and hashes and progress for tests.
-ghost use Rattle.std.specs.Prelude.{◌<◌, ◌^◌, length, vec_len};
+ghost use Rattle.std.specs.Prelude.{◌<◌, ◌^◌, vec_len};
 
-use page_census::{CensusNumbers, Guest, PageSource, Progress, census};
+use page_census::{CensusFault, CensusNumbers, Guest, PageSource, Progress, census};
 use page_digest::PageHash;
 use page_model::{HashFunction, Page};
-use std::alloc::{AllocError, Global};
+use std::alloc::{AllocError, Allocator, Global};
 use std::process::Abort;
 use std::thread::Threads;
 
@@ -55,8 +55,8 @@ impl PageHash for ZeroHash {
     }
 }
 
-/// Ignores all progress.
-pub struct Quiet;
+// Ignores all progress.
+struct Quiet;
 
 impl Progress for Quiet {
     fn advance(&self, _pages: usize) {}
@@ -74,13 +74,13 @@ fn page_of(last: Option<u8>) -> Page {
 
 /// Makes a guest with a page for each of these last bytes. Only the first `readable` of them can be read.
 pub fn guest_of(
+    rt: &impl Abort,
     alloc: Global,
     salt: u32,
     lasts: &[Option<u8>],
     readable: u32,
-) -> Result<Guest<Memory>, AllocError>
-    requires { length lasts.now < 2 ^ 32 }
-{
+) -> Result<Guest<Memory>, AllocError> {
+    assert!(rt; lasts.len() < 1 << 32);
     let mut pages = Vec::with_capacity(alloc, lasts.len())?;
     for last in lasts {
         pages.push_reserved(page_of(*last));
@@ -91,6 +91,18 @@ pub fn guest_of(
     })
 }
 
+/// Makes a census of these guests, by this many workers.
+pub fn census_of<R: Threads + Abort + Sync, H: PageHash, A: Allocator + Clone + Send + Sync>(
+    rt: &R,
+    alloc: A,
+    workers: u32,
+    hash: &H,
+    guests: &[Guest<Memory>],
+) -> Result<CensusNumbers<A>, CensusFault<Unreadable>> {
+    assert!(rt; workers >= 1);
+    census(rt, alloc, workers, hash, guests, &Quiet)
+}
+
 /// Returns what a census of these guests counts, by this many workers.
 pub fn counted<R: Threads + Abort + Sync, H: PageHash>(
     rt: &R,
@@ -99,8 +111,7 @@ pub fn counted<R: Threads + Abort + Sync, H: PageHash>(
     hash: &H,
     guests: &[Guest<Memory>],
 ) -> CensusNumbers<Global> {
-    assert!(rt; workers >= 1);
-    census(rt, alloc, workers, hash, guests, &Quiet)
+    census_of(rt, alloc, workers, hash, guests)
         .ok()
         .expect(rt, "a census")
 }

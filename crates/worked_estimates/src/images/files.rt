@@ -100,23 +100,31 @@ pub fn core_file(alloc: Global, len: usize, headers: &[Told]) -> Result<Memory, 
 
 /// Puts the header of a core with `count` program headers.
 fn put_header(bytes: &mut [u8], count: u64) {
-    put(bytes, 0, 4, 0x464c_457f);
-    put(bytes, 4, 1, 2);
-    put(bytes, 5, 1, 1);
-    put(bytes, 16, 2, 4);
-    put(bytes, 32, 8, 64);
-    put(bytes, 40, 8, 0);
-    put(bytes, 54, 2, 56);
-    put(bytes, 56, 2, count);
-    put(bytes, 58, 2, 0);
+    for (at, len, number) in [
+        (0, 4, 0x464c_457f),
+        (4, 1, 2),
+        (5, 1, 1),
+        (16, 2, 4),
+        (32, 8, 64),
+        (40, 8, 0),
+        (54, 2, 56),
+        (56, 2, count),
+        (58, 2, 0),
+    ] {
+        put(bytes, at, len, number);
+    }
 }
 
 /// Puts a program header at a place.
 fn put_program_header(bytes: &mut [u8], at: usize, header: &Told) {
-    put(bytes, at, 4, u64::from(header.kind));
-    put(bytes, at.wrapping_add(8), 8, header.offset);
-    put(bytes, at.wrapping_add(32), 8, header.file_bytes);
-    put(bytes, at.wrapping_add(40), 8, header.memory_bytes);
+    for (place, len, number) in [
+        (0, 4, u64::from(header.kind)),
+        (8, 8, header.offset),
+        (32, 8, header.file_bytes),
+        (40, 8, header.memory_bytes),
+    ] {
+        put(bytes, at.wrapping_add(place), len, number);
+    }
 }
 
 /// Whether a page is `len` bytes of the file from a place on, and zeros behind them.
@@ -134,6 +142,16 @@ pub fn is_page(page: &Page, from: usize, len: usize) -> bool {
     true
 }
 
+/// Whether pages of an image can be read, from number `first` on. Fills them.
+pub fn can_read<A: Allocator + Sync>(
+    image: &Image<Memory, A>,
+    first: u32,
+    pages: &mut [Page],
+) -> bool {
+    let end = u64::from(first) + pages.len() as u64;
+    end <= u64::from(image.count()) && image.read(first, pages).is_ok()
+}
+
 /// Whether the pages of an image are these parts of its file, a place and a length each, read at once and one by one.
 pub fn has_pages<A: Allocator + Sync>(
     alloc: Global,
@@ -145,11 +163,11 @@ pub fn has_pages<A: Allocator + Sync>(
     }
     let mut pages = vec![in alloc; [7; PAGE_BYTES]; parts.len()]?;
     let mut page = [[7; PAGE_BYTES]; 1];
-    if image.read(0, &mut pages).is_err() {
+    if !can_read(image, 0, &mut pages) {
         return Ok(false);
     }
     for (n, (from, len)) in parts.iter().enumerate() {
-        if image.read(n as u32, &mut page).is_err() {
+        if !can_read(image, n as u32, &mut page) {
             return Ok(false);
         }
         if !is_page(&pages[n], *from, *len) || !is_page(&page[0], *from, *len) {
@@ -161,8 +179,16 @@ pub fn has_pages<A: Allocator + Sync>(
 
 /// Whether a raw file has these pages.
 pub fn raw_has_pages(alloc: Global, file: Memory, parts: &[(usize, usize)]) -> Result<bool, Fail> {
-    let image = Image::raw(alloc, file).map_err(|_| "fault")?;
+    let image = Image::raw(alloc, file)?;
     Ok(has_pages(alloc, &image, parts)?)
+}
+
+/// Opens an image of a file.
+pub fn open<A: Allocator + Clone>(
+    alloc: A,
+    file: Memory,
+) -> Result<Image<Memory, A>, ImageFault<Unreadable>> {
+    Image::open(alloc, file)
 }
 
 /// Whether a file opens as an image of these pages.
@@ -171,13 +197,13 @@ pub fn opened_has_pages(
     file: Memory,
     parts: &[(usize, usize)],
 ) -> Result<bool, Fail> {
-    let image = Image::open(alloc, file).map_err(|_| "fault")?;
+    let image = open(alloc, file)?;
     Ok(has_pages(alloc, &image, parts)?)
 }
 
 /// Whether a file is refused with this fault.
 pub fn fails(alloc: Global, file: Memory, fault: FormFault) -> bool {
-    match Image::open(alloc, file) {
+    match open(alloc, file) {
         Err(ImageFault::Form(form)) => form == fault,
         Err(ImageFault::Read(_)) => false,
         Err(ImageFault::OutOfMemory) => false,
@@ -187,7 +213,7 @@ pub fn fails(alloc: Global, file: Memory, fault: FormFault) -> bool {
 
 /// Whether a read of a file fails while it is opened.
 pub fn is_unreadable(alloc: Global, file: Memory) -> bool {
-    match Image::open(alloc, file) {
+    match open(alloc, file) {
         Err(ImageFault::Form(_)) => false,
         Err(ImageFault::Read(_)) => true,
         Err(ImageFault::OutOfMemory) => false,

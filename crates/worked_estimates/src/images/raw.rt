@@ -22,16 +22,12 @@ fn is_cut<R: Abort>(
 #[test]
 fn cut_into_pages(rt: HostRuntime) -> Result<(), Fail> {
     is_cut(&rt, rt.alloc(), 0, &[])?;
-    is_cut(&rt, rt.alloc(), 1, &[(0, 1)])?;
-    is_cut(&rt, rt.alloc(), 4095, &[(0, 4095)])?;
-    is_cut(&rt, rt.alloc(), 4096, &[(0, 4096)])?;
+    for len in [1, 4095, 4096] {
+        is_cut(&rt, rt.alloc(), len, &[(0, len)])?;
+    }
     is_cut(&rt, rt.alloc(), 4097, &[(0, 4096), (4096, 1)])?;
-    is_cut(
-        &rt,
-        rt.alloc(),
-        12288,
-        &[(0, 4096), (4096, 4096), (8192, 4096)],
-    )
+    let three = [(0, 4096), (4096, 4096), (8192, 4096)];
+    is_cut(&rt, rt.alloc(), 12288, &three)
 }
 
 #[test]

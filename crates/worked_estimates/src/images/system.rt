@@ -15,7 +15,7 @@ fn a_run(rt: HostRuntime) -> Result<(), Fail> {
     let bytes = plain_file(rt.alloc(), 12293)?.bytes;
     fs::write(&rt, NAME, bytes.as_slice())?;
     let file = FileBytes::new(fs::open(&rt, NAME)?)?;
-    let image = Image::raw(rt.alloc(), file).map_err(|_| "fault")?;
+    let image = Image::raw(rt.alloc(), file)?;
     assert_eq!(rt; image.count(), 4);
     let mut pages = [[7; PAGE_BYTES]; 4];
     image.read(0, &mut pages)?;

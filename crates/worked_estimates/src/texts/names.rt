@@ -1,47 +1,60 @@
 //! Names of images as they are shown.
 use census_text::{PlainName, ShortName, XmlName};
+use std::alloc::{AllocError, Global};
+use std::fmt::Display;
 use std::test::Fail;
+
+/// Names, and how each is shown plainly, in XML, and in short.
+const NAMES: [[&str; 4]; 7] = [
+    ["a.raw", "a.raw", "a.raw", "a.raw"],
+    ["", "", "", ""],
+    [
+        "<a & 'b' \"c\">",
+        "<a & 'b' \"c\">",
+        "&lt;a &amp; &apos;b&apos; &quot;c&quot;&gt;",
+        "&lt;a &amp; &apos;b&apos; &quot;c&quot;&gt;",
+    ],
+    [
+        "a\nb\u{1b}[2J\u{fffe}\u{85}",
+        "a\u{fffd}b\u{fffd}[2J\u{fffd}\u{fffd}",
+        "a\u{fffd}b\u{fffd}[2J\u{fffd}\u{fffd}",
+        "a\u{fffd}b\u{fffd}[2J\u{fffd}\u{fffd}",
+    ],
+    [
+        "1234567890123456789012",
+        "1234567890123456789012",
+        "1234567890123456789012",
+        "1234567890123456789012",
+    ],
+    [
+        "/1234567890123456789012",
+        "/1234567890123456789012",
+        "/1234567890123456789012",
+        "\u{2026}234567890123456789012",
+    ],
+    [
+        "\u{65e5}\u{672c}\u{8a9e}/a/b/c/d/e/f/g/h.raw",
+        "\u{65e5}\u{672c}\u{8a9e}/a/b/c/d/e/f/g/h.raw",
+        "\u{65e5}\u{672c}\u{8a9e}/a/b/c/d/e/f/g/h.raw",
+        "\u{2026}/a/b/c/d/e/f/g/h.raw",
+    ],
+];
+
+/// Whether a name is shown as this text.
+fn is_shown(alloc: Global, name: &impl Display, text: &str) -> Result<bool, AllocError> {
+    Ok(format!(in alloc; "{name}")?.as_str() == text)
+}
 
 #[test]
 fn shown_names(rt: HostRuntime) -> Result<(), Fail> {
     let alloc = rt.alloc();
-    for (name, plain, xml, short) in [
-        ("a.raw", "a.raw", "a.raw", "a.raw"),
-        ("", "", "", ""),
-        (
-            "<a & 'b' \"c\">",
-            "<a & 'b' \"c\">",
-            "&lt;a &amp; &apos;b&apos; &quot;c&quot;&gt;",
-            "&lt;a &amp; &apos;b&apos; &quot;c&quot;&gt;",
-        ),
-        (
-            "a\nb\u{1b}[2J\u{fffe}\u{85}",
-            "a\u{fffd}b\u{fffd}[2J\u{fffd}\u{fffd}",
-            "a\u{fffd}b\u{fffd}[2J\u{fffd}\u{fffd}",
-            "a\u{fffd}b\u{fffd}[2J\u{fffd}\u{fffd}",
-        ),
-        (
-            "1234567890123456789012",
-            "1234567890123456789012",
-            "1234567890123456789012",
-            "1234567890123456789012",
-        ),
-        (
-            "/1234567890123456789012",
-            "/1234567890123456789012",
-            "/1234567890123456789012",
-            "\u{2026}234567890123456789012",
-        ),
-        (
-            "\u{65e5}\u{672c}\u{8a9e}/a/b/c/d/e/f/g/h.raw",
-            "\u{65e5}\u{672c}\u{8a9e}/a/b/c/d/e/f/g/h.raw",
-            "\u{65e5}\u{672c}\u{8a9e}/a/b/c/d/e/f/g/h.raw",
-            "\u{2026}/a/b/c/d/e/f/g/h.raw",
-        ),
-    ] {
-        assert_eq!(rt; format!(in alloc; "{}", PlainName(name))?.as_str(), plain);
-        assert_eq!(rt; format!(in alloc; "{}", XmlName(name))?.as_str(), xml);
-        assert_eq!(rt; format!(in alloc; "{}", ShortName(name))?.as_str(), short);
+    for [name, plain, xml, short] in NAMES {
+        let is_shown_so = [
+            is_shown(alloc, &PlainName(name), plain)?,
+            is_shown(alloc, &XmlName(name), xml)?,
+            is_shown(alloc, &ShortName(name), short)?,
+        ];
+        assert_eq!(rt; is_shown_so, [true; 3], "{name}");
     }
     Ok(())
 }

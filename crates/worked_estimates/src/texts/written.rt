@@ -2,6 +2,8 @@
 use crate::texts::numbers::{COPIES, GUESTS, NOTHING, TOTAL};
 use census_text::{Estimate, GuestLine, guest_lines, json_text, picture_text, table_text};
 use page_census::GuestNumbers;
+use std::alloc::{AllocError, Global};
+use std::process::Abort;
 use std::test::Fail;
 
 const TABLE: [&str; 16] = [
@@ -29,10 +31,15 @@ const OBJECT: &str =
 const EMPTY: &str =
     "{\"page_bytes\":4096,\"guests\":[{\"image\":\"a\\\"\\\\\\n\u{65e5}\",\"salt\":4294967295,\"pages\":0,\"zero\":0,\"distinct\":0,\"shared\":0,\"alone\":0}],\"total\":{\"pages\":0,\"zero\":0,\"shared\":0,\"frames\":0,\"reclaimed\":0,\"zero_reclaimed\":0,\"between\":0},\"copies\":[]}";
 
+/// Makes the lines of two guests with these images.
+fn lines<'a>(alloc: Global, images: &[&'a str]) -> Result<Vec<GuestLine<'a>>, AllocError> {
+    guest_lines(alloc, images, &[0, 7], &GUESTS)
+}
+
 #[test]
-fn two_guests(rt: HostRuntime) -> Result<(), Fail> {
+fn table_of_two_guests(rt: HostRuntime) -> Result<(), Fail> {
     let alloc = rt.alloc();
-    let guests = guest_lines(alloc, &["web.core", "db.core"], &[0, 7], &GUESTS)?;
+    let guests = lines(alloc, &["web.core", "db.core"])?;
     let estimate = Estimate {
         guests: &guests,
         total: TOTAL,
@@ -44,6 +51,18 @@ fn two_guests(rt: HostRuntime) -> Result<(), Fail> {
     }
     assert_eq!(rt; table.as_str().lines().count(), TABLE.len());
     assert!(rt; table.as_str().ends_with("guests\n"));
+    Ok(())
+}
+
+#[test]
+fn object_of_two_guests(rt: HostRuntime) -> Result<(), Fail> {
+    let alloc = rt.alloc();
+    let guests = lines(alloc, &["web.core", "db.core"])?;
+    let estimate = Estimate {
+        guests: &guests,
+        total: TOTAL,
+        copies: &COPIES,
+    };
     assert_eq!(rt; json_text(alloc, &estimate)?.as_str(), OBJECT);
     Ok(())
 }
@@ -88,13 +107,19 @@ fn no_page(rt: HostRuntime) -> Result<(), Fail> {
 #[test]
 fn picture(rt: HostRuntime) -> Result<(), Fail> {
     let alloc = rt.alloc();
-    let guests = guest_lines(alloc, &["<web>", "db.core"], &[0, 7], &GUESTS)?;
+    let guests = lines(alloc, &["<web>", "db.core"])?;
     let estimate = Estimate {
         guests: &guests,
         total: TOTAL,
         copies: &COPIES,
     };
     let text = picture_text(alloc, &estimate)?;
+    has_parts(&rt, text.as_str());
+    Ok(())
+}
+
+/// Checks what is in the picture.
+fn has_parts(rt: &impl Abort, text: &str) {
     for part in [
         "<svg xmlns=\"http://www.w3.org/2000/svg\" ",
         ">425 MiB of 512 MiB could be reclaimed (83.0 %): 355 MiB are zeros, 23 MiB are between guests<",
@@ -108,8 +133,7 @@ fn picture(rt: HostRuntime) -> Result<(), Fail> {
         ">1 content<",
         ">16072 contents<",
     ] {
-        assert!(rt; text.as_str().contains(part), "{part}");
+        assert!(rt; text.contains(part), "{part}");
     }
-    assert!(rt; text.as_str().ends_with("</svg>\n"));
-    Ok(())
+    assert!(rt; text.ends_with("</svg>\n"));
 }

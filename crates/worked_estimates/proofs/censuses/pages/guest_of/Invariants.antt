@@ -2,4 +2,4 @@ use Rattle.std.proofs.Common.{◌≡◌, ◌≤◌, length, vec_len, vec_capacit
 use Rattle.worked_estimates.proofs.censuses.pages.guest_of.Given as goal
 
 abbrev pub invariant-loop-last : goal.invariant-loop-last
-invariant-loop-last l = (vec_len l.pages ≡ l.last-index) × (length l.lasts ≤ vec_capacity l.pages)
+invariant-loop-last g l = (vec_len l.pages ≡ l.last-index) × (length l.lasts ≤ vec_capacity l.pages)
