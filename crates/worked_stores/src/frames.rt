@@ -2,11 +2,19 @@
 ghost use Rattle.machine_frames.specs.FrameMap.{IsTaken};
 
 use machine_frames::{Frames, FramesFault};
-use page_model::MAX_FRAMES;
+use page_model::{MAX_FRAMES, PAGE_BYTES, Page};
 use refusing::Refusing;
 use std::alloc::Allocator;
 use std::process::Abort;
 use std::test::Fail;
+
+/// Makes frames, of which no more is known.
+pub(crate) fn new_frames<A: Allocator + Clone>(
+    alloc: A,
+    count: u32,
+) -> Result<Frames<A>, FramesFault> {
+    Frames::new(alloc, count)
+}
 
 fn are_refused<A: Allocator>(made: Result<Frames<A>, FramesFault>) -> bool {
     matches!(made, Err(FramesFault::Frames))
@@ -14,90 +22,125 @@ fn are_refused<A: Allocator>(made: Result<Frames<A>, FramesFault>) -> bool {
 
 #[test]
 fn limits(rt: HostRuntime) {
-    assert!(rt; are_refused(Frames::new(rt.alloc(), 0)));
-    assert!(rt; are_refused(Frames::new(rt.alloc(), MAX_FRAMES + 1)));
-    assert!(rt; Frames::new(rt.alloc(), 1).is_ok());
+    assert!(rt; are_refused(new_frames(rt.alloc(), 0)));
+    assert!(rt; are_refused(new_frames(rt.alloc(), MAX_FRAMES + 1)));
+    assert!(rt; new_frames(rt.alloc(), 1).is_ok());
+}
+
+/// Takes a frame, and writes its last byte.
+fn write_end<A: Allocator>(rt: &impl Abort, frames: &mut Frames<A>) {
+    let mpn = frames.take_zeroed().expect(rt, "full");
+    frames.write(mpn, 4095, &[0x43]);
+    assert_eq!(rt; (frames.bytes(mpn)[4095], frames.used()), (0x43, 1));
 }
 
 // The most frames that there can be: their room is reserved, and the memory of only one is touched.
 #[test]
 fn most_frames(rt: HostRuntime) -> Result<(), Fail> {
-    let mut frames = Frames::new(rt.alloc(), MAX_FRAMES).map_err(|_| "no frames")?;
+    let mut frames = new_frames(rt.alloc(), MAX_FRAMES)?;
     assert_eq!(rt; (frames.total(), frames.used()), (MAX_FRAMES, 0));
-    let mpn = frames.take_zeroed().ok_or("full")?;
-    frames.write(mpn, 4095, &[0x43]);
-    assert_eq!(rt; frames.bytes(mpn)[4095], 0x43);
-    assert_eq!(rt; frames.used(), 1);
+    write_end(&rt, &mut frames);
     Ok(())
 }
 
-// Takes, writes, copies and gives back, on two frames.
-fn two_frames<R: Abort, A: Allocator>(rt: &R, mut frames: Frames<A>) -> Result<(), Fail> {
-    let a = frames.take_zeroed().ok_or("full")?;
-    frames.write(a, 0, &[0x41]);
-    let b = frames.take_copy(a).ok_or("full")?;
-    assert!(rt; frames.bytes(a) == frames.bytes(b));
-    assert_eq!(rt; frames.bytes(b)[0], 0x41);
+/// Takes a frame whose first byte is then 0x41, and a copy of it.
+fn take_two<A: Allocator>(rt: &impl Abort, frames: &mut Frames<A>) -> (u32, u32)
+    ensures letter { IsTaken frames.new result.0 }
+    ensures copy { IsTaken frames.new result.1 }
+{
+    let letter = frames.take_zeroed().expect(rt, "full");
+    frames.write(letter, 0, &[0x41]);
+    let copy = frames.take_copy(letter).expect(rt, "full");
+    (letter, copy)
+}
+
+fn is_blank(page: &Page) -> bool {
+    *page == [0; PAGE_BYTES]
+}
+
+/// Gives back one of two frames, both taken, and takes it again.
+fn take_again<A: Allocator>(rt: &impl Abort, frames: &mut Frames<A>, mpn: u32)
+    requires { IsTaken frames.old mpn }
+{
     assert!(rt; frames.take_zeroed().is_none());
-    frames.give_back(a);
-    let again = frames.take_zeroed().ok_or("full")?;
-    assert!(rt; *frames.bytes(again) == [0; 4096]);
-    assert_eq!(rt; frames.used(), 2);
-    assert_eq!(rt; frames.total(), 2);
-    Ok(())
+    frames.give_back(mpn);
+    let again = frames.take_zeroed().expect(rt, "full");
+    assert!(rt; is_blank(frames.bytes(again)));
+    assert_eq!(rt; (frames.used(), frames.total()), (2, 2));
+}
+
+/// Takes, writes, copies and gives back, on two frames.
+fn use_two<A: Allocator>(rt: &impl Abort, frames: &mut Frames<A>) {
+    let (letter, copy) = take_two(rt, frames);
+    assert!(rt; frames.bytes(letter) == frames.bytes(copy));
+    assert_eq!(rt; frames.bytes(copy)[0], 0x41);
+    take_again(rt, frames, letter);
 }
 
 #[test]
 fn frames(rt: HostRuntime) -> Result<(), Fail> {
-    let frames = Frames::new(rt.alloc(), 2).map_err(|_| "no frames")?;
-    two_frames(&rt, frames)
+    let mut frames = new_frames(rt.alloc(), 2)?;
+    use_two(&rt, &mut frames);
+    Ok(())
 }
 
-// Takes another frame, fills its end and gives it back.
-fn use_another<A: Allocator>(frames: &mut Frames<A>, mpn: u32) -> Result<(), Fail>
+/// Takes another frame, fills its end and gives it back.
+fn use_another<A: Allocator>(rt: &impl Abort, frames: &mut Frames<A>, mpn: u32)
     requires { IsTaken frames.old mpn }
     ensures { IsTaken frames.new mpn }
 {
-    let other = frames.take_zeroed().ok_or("full")?;
+    let other = frames.take_zeroed().expect(rt, "full");
     frames.write(other, 4095, &[0x42]);
     frames.give_back(other);
-    Ok(())
+}
+
+/// Copies the only frame that is taken, of two, into the other, whose last byte was another before.
+fn copy_over<A: Allocator>(rt: &impl Abort, frames: &mut Frames<A>, mpn: u32)
+    requires { IsTaken frames.old mpn }
+{
+    assert_eq!(rt; frames.used(), 1);
+    let copy = frames.take_copy(mpn).expect(rt, "full");
+    assert_eq!(rt; (frames.bytes(copy)[4095], frames.used()), (0, 2));
+    assert!(rt; frames.take_copy(copy).is_none());
+}
+
+/// Takes a frame, and copies it into one that was used and given back.
+fn copy_into_used<A: Allocator>(rt: &impl Abort, frames: &mut Frames<A>) {
+    let mpn = frames.take_zeroed().expect(rt, "full");
+    use_another(rt, frames, mpn);
+    copy_over(rt, frames, mpn);
 }
 
 // A frame that was given back with other bytes is taken again as a copy.
 #[test]
 fn copied_again(rt: HostRuntime) -> Result<(), Fail> {
-    let mut frames = Frames::new(rt.alloc(), 2).map_err(|_| "no frames")?;
-    let a = frames.take_zeroed().ok_or("full")?;
-    use_another(&mut frames, a)?;
-    assert_eq!(rt; frames.used(), 1);
-    let b = frames.take_copy(a).ok_or("full")?;
-    assert_eq!(rt; frames.bytes(b)[4095], 0);
-    assert_eq!(rt; frames.used(), 2);
-    assert!(rt; frames.take_copy(b).is_none());
+    let mut frames = new_frames(rt.alloc(), 2)?;
+    copy_into_used(&rt, &mut frames);
     Ok(())
 }
 
 const MOST_REQUESTS: u64 = 100;
 
+/// Makes two frames and uses them. Returns whether there was memory for that.
+fn uses_two(rt: &impl Abort, heap: &Refusing) -> bool {
+    match new_frames(heap, 2) {
+        Ok(mut frames) => {
+            use_two(rt, &mut frames);
+            true
+        }
+        Err(FramesFault::OutOfMemory) => false,
+        Err(FramesFault::Frames) => panic!(rt; "two frames are not too many"),
+    }
+}
+
 // Request number n is refused, with n counting up until a run has no refusal.
 #[test]
-fn refused_growth(rt: HostRuntime) -> Result<(), Fail> {
+fn refused_growth(rt: HostRuntime) {
     let mut whole_at = None;
     for n in 0..MOST_REQUESTS {
         let heap = Refusing::new(rt.alloc(), n, 0);
-        let is_made = match Frames::new(&heap, 2) {
-            Ok(frames) => {
-                assert!(rt; !heap.has_refused(), "at {n}");
-                two_frames(&rt, frames)?;
-                true
-            }
-            Err(FramesFault::OutOfMemory) => {
-                assert!(rt; heap.has_refused(), "at {n}");
-                false
-            }
-            Err(FramesFault::Frames) => panic!(rt; "at {n}"),
-        };
+        let is_made = uses_two(&rt, &heap);
+        assert!(rt; heap.has_refused() != is_made, "at {n}");
         assert!(rt; heap.holds_nothing(), "at {n}");
         if is_made {
             whole_at = Some(n);
@@ -105,18 +148,15 @@ fn refused_growth(rt: HostRuntime) -> Result<(), Fail> {
         }
     }
     assert_eq!(rt; whole_at, Some(4));
-    Ok(())
 }
 
 // Once the frames are made, no call takes memory.
 #[test]
-fn no_memory_after_new(rt: HostRuntime) -> Result<(), Fail> {
+fn no_memory_after_new(rt: HostRuntime) {
     let heap = Refusing::new(rt.alloc(), 4, u64::MAX);
-    let frames = Frames::new(&heap, 2).map_err(|_| "no frames")?;
-    two_frames(&rt, frames)?;
+    assert!(rt; uses_two(&rt, &heap));
     assert!(rt; !heap.has_refused());
     assert!(rt; heap.holds_nothing());
-    Ok(())
 }
 
 #[test]

@@ -61,7 +61,7 @@ fn by_two_workers(rt: HostRuntime) -> Result<(), Fail> {
     };
     let two = two_frames(heap)?;
     let pairs = pairs_of(heap, &two, 2)?;
-    let hashes = hash_many(&rt, heap, 2, &hash, &two.frames, &pairs).map_err(|_| "refused")?;
+    let hashes = hash_many(&rt, heap, 2, &hash, &two.frames, &pairs)?;
     assert_eq!(rt; hashes.as_slice(), [0, 0x41].as_slice());
     assert!(rt; !hash.missed.load(Ordering::SeqCst));
     Ok(())

@@ -1,8 +1,9 @@
 //! Frames and lists of them.
-ghost use Rattle.std.specs.Prelude.{◌≡◌, IfOk};
+ghost use Rattle.std.specs.Prelude.{IfOk};
 ghost use Rattle.machine_frames.specs.FrameMap.{IsTaken};
 ghost use Rattle.page_digest.specs.Many.{AreTaken};
 
+use crate::frames::new_frames;
 use machine_frames::Frames;
 use std::alloc::{AllocError, Allocator};
 use std::test::Fail;
@@ -13,13 +14,12 @@ pub(crate) struct Two<A: Allocator> {
     pub(crate) frames: Frames<A>,
     pub(crate) blank: u32,
     pub(crate) letter: u32,
+    ghost blank_taken: { IsTaken frames blank },
+    ghost letter_taken: { IsTaken frames letter },
 }
 
-pub(crate) fn two_frames<A: Allocator + Clone>(alloc: A) -> Result<Two<A>, Fail>
-    ensures blank { IfOk result (λ two. IsTaken two.frames two.blank) }
-    ensures letter { IfOk result (λ two. IsTaken two.frames two.letter) }
-{
-    let mut frames = Frames::new(alloc, 2).map_err(|_| "no frames")?;
+pub(crate) fn two_frames<A: Allocator + Clone>(alloc: A) -> Result<Two<A>, Fail> {
+    let mut frames = new_frames(alloc, 2)?;
     let blank = frames.take_zeroed().ok_or("full")?;
     let letter = frames.take_zeroed().ok_or("full")?;
     frames.write(letter, 0, &[0x41]);
@@ -37,8 +37,6 @@ pub(crate) fn pairs_of<A: Allocator, B: Allocator>(
     two: &Two<A>,
     count: u8,
 ) -> Result<Vec<(u32, u32), B>, AllocError>
-    requires blank { IsTaken two.now.frames two.now.blank }
-    requires letter { IsTaken two.now.frames two.now.letter }
     ensures { IfOk result (λ pairs. AreTaken two.now.frames pairs.items) }
 {
     let mut pairs = Vec::with_capacity(alloc, usize::from(count))?;
@@ -50,8 +48,6 @@ pub(crate) fn pairs_of<A: Allocator, B: Allocator>(
 }
 
 fn frame_of<A: Allocator>(two: &Two<A>, n: u8) -> u32
-    requires blank { IsTaken two.now.frames two.now.blank }
-    requires letter { IsTaken two.now.frames two.now.letter }
     ensures { IsTaken two.now.frames result }
 {
     if n % 2 == 0 { two.blank } else { two.letter }

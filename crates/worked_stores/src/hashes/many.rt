@@ -1,10 +1,9 @@
 //! Many frames, hashed by several workers.
-ghost use Rattle.std.specs.Prelude.{◌≤◌};
-
 use crate::hashes::makes::{pairs_of, two_frames};
 use page_digest::{HashFault, PageHash, Sha256Hash, hash_many};
 use refusing::Refusing;
 use std::alloc::{Allocator, Global};
+use std::process::Abort;
 use std::sync::Wait;
 use std::test::Fail;
 use std::thread::Threads;
@@ -17,57 +16,87 @@ const LETTER: u64 = 0x9aab_2ec0_0da3_0c5d;
 // More requests than a call makes.
 const MOST_REQUESTS: u64 = 100;
 
-// Returns the hashes of `count` frames.
-fn hashes_of<R: Threads + Wait + Sync, A: Allocator + Clone + Send>(
+/// Returns the hashes of `count` frames.
+fn hashes_of<R: Threads + Wait + Abort + Sync, A: Allocator + Clone + Send>(
     rt: &R,
     lists: Global,
     alloc: A,
     workers: u32,
     count: u8,
-) -> Result<Result<Vec<u64, A>, HashFault>, Fail>
-    requires { (1 ≤ workers) × (workers ≤ 64) }
-{
+) -> Result<Result<Vec<u64, A>, HashFault>, Fail> {
+    assert!(rt; workers >= 1);
+    assert!(rt; workers <= 64);
     let two = two_frames(lists)?;
     let pairs = pairs_of(lists, &two, count)?;
     Ok(hash_many(rt, alloc, workers, &Sha256Hash, &two.frames, &pairs))
 }
 
+/// Returns the hashes of `count` frames, with memory for all that is asked for.
+fn all_hashes<R: Threads + Wait + Abort + Sync>(
+    rt: &R,
+    alloc: Global,
+    workers: u32,
+    count: u8,
+) -> Result<Vec<u64>, Fail> {
+    Ok(hashes_of(rt, alloc, alloc, workers, count)??)
+}
+
 #[test]
 fn frames(rt: HostRuntime) -> Result<(), Fail> {
-    let heap: Global = rt.alloc();
     for workers in [1, 4] {
-        let none = hashes_of(&rt, heap, heap, workers, 0)?.map_err(|_| "refused")?;
+        let none = all_hashes(&rt, rt.alloc(), workers, 0)?;
         assert_eq!(rt; none.len(), 0);
-        let both = hashes_of(&rt, heap, heap, workers, 2)?.map_err(|_| "refused")?;
+        let both = all_hashes(&rt, rt.alloc(), workers, 2)?;
         assert_eq!(rt; both.as_slice(), [BLANK, LETTER].as_slice());
     }
     Ok(())
 }
 
+/// Checks hashes of the two frames in turn, under the salts of `pairs_of`, against each alone.
+fn are_as_alone(rt: &impl Abort, hashes: &[u64]) {
+    let mut page = [0; 4096];
+    let mut n = 0u32;
+    for hash in hashes {
+        page[0] = if n % 2 == 0 { 0 } else { 0x41 };
+        assert_eq!(rt;
+            *hash,
+            Sha256Hash.hash((n / 2).wrapping_mul(9), &page),
+            "at {n}"
+        );
+        n = n.wrapping_add(1);
+    }
+}
+
 // Parts of whole fours and of less, under several salts.
 #[test]
 fn as_each_alone(rt: HostRuntime) -> Result<(), Fail> {
-    let heap: Global = rt.alloc();
-    let mut blank = [0; 4096];
     for workers in 1..8 {
-        let hashes = hashes_of(&rt, heap, heap, workers, 23)?.map_err(|_| "refused")?;
+        let hashes = all_hashes(&rt, rt.alloc(), workers, 23)?;
         assert_eq!(rt; hashes.len(), 23);
-        for n in 0..23u32 {
-            blank[0] = if n % 2 == 0 { 0 } else { 0x41 };
-            let alone = Sha256Hash.hash(n / 2 * 9, &blank);
-            assert_eq!(rt; hashes.get(n as usize), Some(&alone), "at {n}");
-        }
+        are_as_alone(&rt, &hashes);
     }
     Ok(())
 }
 
 #[test]
 fn most_workers(rt: HostRuntime) -> Result<(), Fail> {
-    let heap: Global = rt.alloc();
-    let hashes = hashes_of(&rt, heap, heap, 64, 64)?.map_err(|_| "refused")?;
+    let hashes = all_hashes(&rt, rt.alloc(), 64, 64)?;
     assert_eq!(rt; hashes.len(), 64);
     assert_eq!(rt; hashes.get(1), Some(&LETTER));
     Ok(())
+}
+
+/// Returns how many hashes there are of six frames by four workers, and the first. Returns none if memory is refused.
+fn six_hashes<R: Threads + Wait + Abort + Sync>(
+    rt: &R,
+    lists: Global,
+    heap: &Refusing,
+) -> Result<Option<(usize, u64)>, Fail> {
+    match hashes_of(rt, lists, heap, 4, 6)? {
+        Ok(hashes) => Ok(Some((hashes.len(), hashes.first().copied().unwrap_or(0)))),
+        Err(HashFault::OutOfMemory) => Ok(None),
+        Err(HashFault::NoThread) => panic!(rt; "no thread"),
+    }
 }
 
 // Request number n is refused, with n counting up until a run has no refusal. `NoThread` doesn't occur, since starting
@@ -77,20 +106,12 @@ fn refused_in_turn(rt: HostRuntime) -> Result<(), Fail> {
     let mut whole_at = None;
     for n in 0..MOST_REQUESTS {
         let heap = Refusing::new(rt.alloc(), n, 0);
-        match hashes_of(&rt, rt.alloc(), &heap, 4, 6)? {
-            Ok(hashes) => {
-                assert!(rt; !heap.has_refused(), "at {n}");
-                assert_eq!(rt; hashes.len(), 6);
-                assert_eq!(rt; hashes.get(0), Some(&BLANK));
-                whole_at = Some(n);
-            }
-            Err(fault) => {
-                assert!(rt; heap.has_refused(), "at {n}");
-                assert_eq!(rt; fault, HashFault::OutOfMemory, "at {n}");
-            }
-        }
+        let hashes = six_hashes(&rt, rt.alloc(), &heap)?;
+        assert!(rt; heap.has_refused() == hashes.is_none(), "at {n}");
         assert!(rt; heap.holds_nothing(), "at {n}");
-        if whole_at.is_some() {
+        if hashes.is_some() {
+            assert_eq!(rt; hashes, Some((6, BLANK)));
+            whole_at = Some(n);
             break;
         }
     }
