@@ -1,5 +1,6 @@
 //! The count of requests, and the last page of a shared frame.
-use crate::asks::{Ask, core_of, numbers, serve, share_three, told};
+use crate::asks::{Answer, Ask, core_of, numbers, serve, share_three, told};
+use merge_core::Core;
 use page_digest::Sha256Hash;
 use page_model::Verdict;
 use std::alloc::Global;
@@ -13,7 +14,7 @@ fn counted_anew(rt: &impl Abort, alloc: Global) -> ([u32; 2], [[u32; 6]; 3]) {
     let (count, before) = (core.entries(), numbers(&core));
     core.restart_count();
     let (anew, after) = (core.entries(), numbers(&core));
-    serve(rt, &mut core, &[(1, Ask::Store(0, b'B'), Verdict::Copied)]);
+    serve(rt, &mut core, &[(1, Ask::Store(0, b'B'), Answer::Copied)]);
     ([count, anew], [before, after, numbers(&core)])
 }
 
@@ -21,10 +22,16 @@ fn counted_anew(rt: &impl Abort, alloc: Global) -> ([u32; 2], [[u32; 6]; 3]) {
 #[test]
 fn count_anew(rt: HostRuntime) {
     let (counts, [shared, anew, copied]) = counted_anew(&rt, rt.alloc());
-    assert_eq!(rt; counts, [6, 0]);
-    assert_eq!(rt; shared, [6, 3, 3, 1, 2, 0]);
-    assert_eq!(rt; anew, [0, 3, 3, 1, 2, 0]);
-    assert_eq!(rt; copied, [1, 3, 2, 2, 1, 0]);
+    assert!(rt; counts == [6, 0]);
+    assert!(rt; shared == [6, 3, 3, 1, 2, 0]);
+    assert!(rt; anew == [0, 3, 3, 1, 2, 0]);
+    assert!(rt; copied == [1, 3, 2, 2, 1, 0]);
+}
+
+/// Whether a count of guest 0 gets the report that the machine has then.
+fn counts_report(rt: &impl Abort, core: &mut Core<Sha256Hash>) -> bool {
+    let verdict = told(rt, core, 0, Ask::Count);
+    verdict == Verdict::Totals(core.report())
 }
 
 /// Makes a machine of two frames, both of which are taken when their last page is stored to. Returns whether a count
@@ -32,18 +39,18 @@ fn count_anew(rt: HostRuntime) {
 fn filled(rt: &impl Abort, alloc: Global) -> (bool, [u32; 6]) {
     let mut core = core_of(rt, alloc, 2, &[3], Sha256Hash);
     let lines = [
-        (0, Ask::Store(0, b'A'), Verdict::Mapped),
-        (0, Ask::Store(1, b'A'), Verdict::Mapped),
-        (0, Ask::Propose(0), Verdict::Hinted),
-        (0, Ask::Propose(1), Verdict::Paired),
-        (0, Ask::Store(2, b'C'), Verdict::Mapped),
-        (0, Ask::Store(0, b'D'), Verdict::NoFrame),
-        (0, Ask::Release(0), Verdict::Released(false)),
-        (0, Ask::Store(1, b'E'), Verdict::Taken),
+        (0, Ask::Store(0, b'A'), Answer::Mapped),
+        (0, Ask::Store(1, b'A'), Answer::Mapped),
+        (0, Ask::Propose(0), Answer::Hinted),
+        (0, Ask::Propose(1), Answer::Paired),
+        (0, Ask::Store(2, b'C'), Answer::Mapped),
+        (0, Ask::Store(0, b'D'), Answer::NoFrame),
+        (0, Ask::Release(0), Answer::Released(false)),
+        (0, Ask::Store(1, b'E'), Answer::Taken),
     ];
     serve(rt, &mut core, &lines);
-    let answer = told(rt, &mut core, 0, Ask::Count);
-    (answer == Verdict::Totals(core.report()), numbers(&core))
+    let counts = counts_report(rt, &mut core);
+    (counts, numbers(&core))
 }
 
 /// A full machine still takes a store through the last page of a shared frame.

@@ -1,23 +1,23 @@
 //! Pages that are hashed together with a proposed one, as the requests in sight will leave them.
-use crate::asks::{Ask, Line, core_of, request_of, serve};
+use crate::asks::{Answer, Ask, Line, answer_of, core_of, request_of, store_all};
 use crate::hashes::{Calls, Fours};
 use merge_core::Core;
 use page_digest::PageHash;
-use page_model::{Entry, Verdict};
-use std::alloc::{AllocError, Allocator, Global};
+use page_model::Entry;
+use std::alloc::{Allocator, Global};
 use std::process::Abort;
-use std::test::Fail;
 
 /// Returns the requests of these lines.
-fn entries_of(rt: &impl Abort, alloc: Global, lines: &[Line]) -> Result<Vec<Entry>, AllocError> {
+fn entries_of(rt: &impl Abort, alloc: Global, lines: &[Line]) -> Vec<Entry> {
     let mut entries = Vec::new(alloc);
     for (guest, ask, _) in lines {
-        entries.push(Entry {
-            guest: *guest,
-            request: request_of(rt, *ask),
-        })?;
+        let guest = *guest;
+        let request = request_of(rt, *ask);
+        entries
+            .push(Entry { guest, request })
+            .expect(rt, "memory for the entries");
     }
-    Ok(entries)
+    entries
 }
 
 /// Serves the first of these entries, with the others in sight.
@@ -25,12 +25,26 @@ fn told_ahead<H: PageHash, A: Allocator>(
     rt: &impl Abort,
     core: &mut Core<H, A>,
     entries: &[Entry],
-) -> Verdict {
+) -> Answer {
     assert!(rt; !entries.is_empty());
     let Entry { guest, request } = &entries[0];
     assert!(rt; *guest < core.guests());
     assert!(rt; core.entries() < 1_000_000);
-    core.apply_ahead(*guest, request, &entries[1..])
+    answer_of(&core.apply_ahead(*guest, request, &entries[1..]))
+}
+
+/// Serves these entries, each with all that come after it in sight, and compares the answers.
+fn serve_entries<H: PageHash, A: Allocator>(
+    rt: &impl Abort,
+    core: &mut Core<H, A>,
+    entries: &[Entry],
+    lines: &[Line],
+) {
+    for (at, (_, _, answer)) in lines.iter().enumerate() {
+        assert!(rt; at < entries.len());
+        let told = told_ahead(rt, core, &entries[at..]);
+        assert!(rt; told == *answer, "line {at}");
+    }
 }
 
 /// Serves these lines, each with all that come after it in sight.
@@ -39,83 +53,85 @@ fn serve_ahead<H: PageHash, A: Allocator>(
     alloc: Global,
     core: &mut Core<H, A>,
     lines: &[Line],
-) -> Result<(), AllocError> {
-    let entries = entries_of(rt, alloc, lines)?;
-    for (at, (_, _, verdict)) in lines.iter().enumerate() {
-        assert!(rt; at < entries.len());
-        let answer = told_ahead(rt, core, &entries[at..]);
-        assert!(rt; answer == *verdict, "{answer:?} for {verdict:?}");
-    }
-    Ok(())
+) {
+    serve_entries(rt, core, &entries_of(rt, alloc, lines), lines);
+}
+
+/// Serves only the first of these lines, with the others in sight.
+fn serve_first<H: PageHash, A: Allocator>(
+    rt: &impl Abort,
+    alloc: Global,
+    core: &mut Core<H, A>,
+    lines: &[Line],
+) {
+    assert!(rt; !lines.is_empty());
+    serve_entries(rt, core, &entries_of(rt, alloc, lines), &lines[..1]);
 }
 
 /// Returns how many pages are hashed alone, and how many as one of four at once, when these lines are served on a new
 /// machine of two guests with eight pages each.
-fn hashed(rt: &impl Abort, alloc: Global, lines: &[Line]) -> Result<(u32, u32), AllocError> {
+fn hashed(rt: &impl Abort, alloc: Global, lines: &[Line]) -> (u32, u32) {
     let calls = Calls::new();
     let mut core = core_of(rt, alloc, 16, &[8, 8], Fours(&calls));
-    serve_ahead(rt, alloc, &mut core, lines)?;
-    Ok(calls.both())
+    serve_ahead(rt, alloc, &mut core, lines);
+    calls.both()
 }
 
 /// Each page is stored to and then proposed, with two guests in turn: four are hashed at once, then the last one alone.
 #[test]
-fn stored_and_proposed(rt: HostRuntime) -> Result<(), Fail> {
+fn stored_and_proposed(rt: HostRuntime) {
     let lines = [
-        (0, Ask::Store(0, b'A'), Verdict::Mapped),
-        (0, Ask::Propose(0), Verdict::Hinted),
-        (1, Ask::Store(0, b'B'), Verdict::Mapped),
-        (1, Ask::Propose(0), Verdict::Hinted),
-        (0, Ask::Store(1, b'C'), Verdict::Mapped),
-        (0, Ask::Store(1, b'B'), Verdict::Stored),
-        (0, Ask::Propose(1), Verdict::Paired),
-        (1, Ask::Store(1, b'D'), Verdict::Mapped),
-        (1, Ask::Propose(1), Verdict::Hinted),
-        (0, Ask::Store(2, b'E'), Verdict::Mapped),
-        (0, Ask::Propose(2), Verdict::Hinted),
+        (0, Ask::Store(0, b'A'), Answer::Mapped),
+        (0, Ask::Propose(0), Answer::Hinted),
+        (1, Ask::Store(0, b'B'), Answer::Mapped),
+        (1, Ask::Propose(0), Answer::Hinted),
+        (0, Ask::Store(1, b'C'), Answer::Mapped),
+        (0, Ask::Store(1, b'B'), Answer::Stored),
+        (0, Ask::Propose(1), Answer::Paired),
+        (1, Ask::Store(1, b'D'), Answer::Mapped),
+        (1, Ask::Propose(1), Answer::Hinted),
+        (0, Ask::Store(2, b'E'), Answer::Mapped),
+        (0, Ask::Propose(2), Answer::Hinted),
     ];
-    assert_eq!(rt; hashed(&rt, rt.alloc(), &lines)?, (1, 4));
-    Ok(())
+    assert_eq!(rt; hashed(&rt, rt.alloc(), &lines), (1, 4));
 }
 
 /// Pages at rest are hashed four at once, before those that are stored to first.
 #[test]
-fn at_rest(rt: HostRuntime) -> Result<(), Fail> {
+fn at_rest(rt: HostRuntime) {
     let lines = [
-        (0, Ask::Store(0, b'A'), Verdict::Mapped),
-        (0, Ask::Store(1, b'B'), Verdict::Mapped),
-        (0, Ask::Store(2, b'C'), Verdict::Mapped),
-        (0, Ask::Store(3, b'D'), Verdict::Mapped),
-        (0, Ask::Propose(0), Verdict::Hinted),
-        (0, Ask::Store(4, b'E'), Verdict::Mapped),
-        (0, Ask::Propose(4), Verdict::Hinted),
-        (0, Ask::Propose(1), Verdict::Hinted),
-        (0, Ask::Propose(2), Verdict::Hinted),
-        (0, Ask::Propose(3), Verdict::Hinted),
+        (0, Ask::Store(0, b'A'), Answer::Mapped),
+        (0, Ask::Store(1, b'B'), Answer::Mapped),
+        (0, Ask::Store(2, b'C'), Answer::Mapped),
+        (0, Ask::Store(3, b'D'), Answer::Mapped),
+        (0, Ask::Propose(0), Answer::Hinted),
+        (0, Ask::Store(4, b'E'), Answer::Mapped),
+        (0, Ask::Propose(4), Answer::Hinted),
+        (0, Ask::Propose(1), Answer::Hinted),
+        (0, Ask::Propose(2), Answer::Hinted),
+        (0, Ask::Propose(3), Answer::Hinted),
     ];
-    assert_eq!(rt; hashed(&rt, rt.alloc(), &lines)?, (1, 4));
-    Ok(())
+    assert_eq!(rt; hashed(&rt, rt.alloc(), &lines), (1, 4));
 }
 
 /// A page that is released and stored to anew is foreseen as it will be then. A page needs no hash if it will be
 /// unmapped, if there is no such page, or if it is shared and not stored to.
 #[test]
-fn released(rt: HostRuntime) -> Result<(), Fail> {
+fn released(rt: HostRuntime) {
     let lines = [
-        (0, Ask::StoreTwo(1, [b'A', b'B']), Verdict::Mapped),
-        (0, Ask::Store(0, b'A'), Verdict::Mapped),
-        (0, Ask::Propose(0), Verdict::Hinted),
-        (0, Ask::Release(1), Verdict::Released(true)),
-        (0, Ask::Propose(1), Verdict::Unmapped),
-        (0, Ask::Store(2, b'C'), Verdict::Mapped),
-        (0, Ask::Release(2), Verdict::Released(true)),
-        (0, Ask::Store(2, b'A'), Verdict::Mapped),
-        (0, Ask::Propose(2), Verdict::Paired),
-        (0, Ask::Propose(2), Verdict::Already),
-        (0, Ask::Propose(9), Verdict::NoPage),
+        (0, Ask::StoreTwo(1, [b'A', b'B']), Answer::Mapped),
+        (0, Ask::Store(0, b'A'), Answer::Mapped),
+        (0, Ask::Propose(0), Answer::Hinted),
+        (0, Ask::Release(1), Answer::Released(true)),
+        (0, Ask::Propose(1), Answer::Unmapped),
+        (0, Ask::Store(2, b'C'), Answer::Mapped),
+        (0, Ask::Release(2), Answer::Released(true)),
+        (0, Ask::Store(2, b'A'), Answer::Mapped),
+        (0, Ask::Propose(2), Answer::Paired),
+        (0, Ask::Propose(2), Answer::Already),
+        (0, Ask::Propose(9), Answer::NoPage),
     ];
-    assert_eq!(rt; hashed(&rt, rt.alloc(), &lines)?, (0, 4));
-    Ok(())
+    assert_eq!(rt; hashed(&rt, rt.alloc(), &lines), (0, 4));
 }
 
 /// Returns the same two numbers for a machine of one guest with four pages, twice: after the first line of those in
@@ -125,33 +141,30 @@ fn hashed_otherwise(
     alloc: Global,
     sight: &[Line],
     came: &[Line],
-) -> Result<[(u32, u32); 2], AllocError> {
+) -> [(u32, u32); 2] {
     let calls = Calls::new();
     let mut core = core_of(rt, alloc, 4, &[4], Fours(&calls));
-    serve(rt, &mut core, &[(0, Ask::Store(0, b'A'), Verdict::Mapped)]);
-    let entries = entries_of(rt, alloc, sight)?;
-    let answer = told_ahead(rt, &mut core, &entries);
-    assert_eq!(rt; answer, Verdict::Hinted);
+    store_all(rt, &mut core, 0);
+    serve_first(rt, alloc, &mut core, sight);
     let first = calls.both();
-    serve_ahead(rt, alloc, &mut core, came)?;
-    Ok([first, calls.both()])
+    serve_ahead(rt, alloc, &mut core, came);
+    [first, calls.both()]
 }
 
 /// The requests that come differ from those in sight: the page is hashed anew, and the verdicts are those of what came.
 #[test]
-fn other_requests_come(rt: HostRuntime) -> Result<(), Fail> {
+fn other_requests_come(rt: HostRuntime) {
     let sight = [
-        (0, Ask::Propose(0), Verdict::Hinted),
-        (0, Ask::Store(1, b'B'), Verdict::Mapped),
-        (0, Ask::Propose(1), Verdict::Hinted),
+        (0, Ask::Propose(0), Answer::Hinted),
+        (0, Ask::Store(1, b'B'), Answer::Mapped),
+        (0, Ask::Propose(1), Answer::Hinted),
     ];
     let came = [
-        (0, Ask::Store(1, b'A'), Verdict::Mapped),
-        (0, Ask::Propose(1), Verdict::Paired),
-        (0, Ask::Store(2, b'B'), Verdict::Mapped),
-        (0, Ask::Propose(2), Verdict::Hinted),
+        (0, Ask::Store(1, b'A'), Answer::Mapped),
+        (0, Ask::Propose(1), Answer::Paired),
+        (0, Ask::Store(2, b'B'), Answer::Mapped),
+        (0, Ask::Propose(2), Answer::Hinted),
     ];
-    let counts = hashed_otherwise(&rt, rt.alloc(), &sight, &came)?;
+    let counts = hashed_otherwise(&rt, rt.alloc(), &sight, &came);
     assert_eq!(rt; counts, [(0, 4), (0, 8)]);
-    Ok(())
 }

@@ -1,8 +1,7 @@
 //! Which frame each page has, before and after requests.
-use crate::asks::{Ask, Line, SHARE_THREE, core_of, frame, numbers, serve};
+use crate::asks::{Answer, Ask, Line, SHARE_THREE, core_of, frame, numbers, serve};
 use merge_core::Core;
 use page_digest::Sha256Hash;
-use page_model::Verdict;
 use std::alloc::Global;
 use std::process::Abort;
 
@@ -26,11 +25,12 @@ fn taken(core: &Core<Sha256Hash>) -> [u32; 2] {
     [frames.used(), frames.total()]
 }
 
-/// Returns the first and the last byte of a page.
-fn bytes(rt: &impl Abort, core: &Core<Sha256Hash>, guest: u8, ppn: u32) -> [u8; 2] {
+/// Returns a byte of a page.
+fn byte(rt: &impl Abort, core: &Core<Sha256Hash>, guest: u8, ppn: u32, at: u32) -> u8 {
     assert!(rt; guest < core.guests());
     assert!(rt; ppn < core.pages(guest));
-    [core.read(guest, ppn, 0), core.read(guest, ppn, 4095)]
+    assert!(rt; at < 4096);
+    core.read(guest, ppn, at)
 }
 
 fn pages(rt: &impl Abort, core: &Core<Sha256Hash>, guest: u8) -> u32 {
@@ -51,7 +51,7 @@ fn look(rt: &impl Abort, core: &mut Core<Sha256Hash>, lines: &[Line]) -> Seen {
         taken: taken(core),
         guests: core.guests(),
         pages: pages(rt, core, 1),
-        bytes: bytes(rt, core, 1, 0),
+        bytes: [byte(rt, core, 1, 0, 0), byte(rt, core, 1, 0, 4095)],
     }
 }
 
@@ -65,17 +65,15 @@ fn seen_after(rt: &impl Abort, alloc: Global, a: &[Line], b: &[Line], c: &[Line]
 
 #[test]
 fn one_frame(rt: HostRuntime) {
-    let copied = [(1, Ask::Store(0, b'B'), Verdict::Copied)];
-    let released = [(1, Ask::Release(0), Verdict::Released(true))];
+    let copied = [(1, Ask::Store(0, b'B'), Answer::Copied)];
+    let released = [(1, Ask::Release(0), Answer::Released(true))];
     let [shared, apart, gone] = seen_after(&rt, rt.alloc(), &SHARE_THREE, &copied, &released);
-    assert_eq!(rt; shared.report, [6, 3, 3, 1, 2, 0]);
-    let [one, same, third] = shared.frames;
-    assert!(rt; one.is_some());
-    assert_eq!(rt; [same, third], [one, one]);
-    assert_eq!(rt; shared.taken, [1, 3]);
-    let [_, _, other] = apart.frames;
+    let one = shared.frames[0];
+    assert!(rt; one.is_some() && shared.frames == [one, one, one]);
+    assert!(rt; shared.report == [6, 3, 3, 1, 2, 0] && shared.taken == [1, 3]);
+    let other = apart.frames[2];
     assert!(rt; other.is_some() && other != one);
-    assert_eq!(rt; gone.frames[2], None);
+    assert!(rt; gone.frames[2].is_none());
 }
 
 /// The page that was the hint keeps its frame when another pairs with it, and so does the last page of a shared frame
@@ -83,29 +81,29 @@ fn one_frame(rt: HostRuntime) {
 #[test]
 fn frames_stay(rt: HostRuntime) {
     let hinted = [
-        (0, Ask::Store(0, b'A'), Verdict::Mapped),
-        (0, Ask::Store(1, b'A'), Verdict::Mapped),
-        (1, Ask::Store(0, b'B'), Verdict::Mapped),
-        (0, Ask::Propose(0), Verdict::Hinted),
+        (0, Ask::Store(0, b'A'), Answer::Mapped),
+        (0, Ask::Store(1, b'A'), Answer::Mapped),
+        (1, Ask::Store(0, b'B'), Answer::Mapped),
+        (0, Ask::Propose(0), Answer::Hinted),
     ];
-    let paired = [(0, Ask::Propose(1), Verdict::Paired)];
+    let paired = [(0, Ask::Propose(1), Answer::Paired)];
     let left = [
-        (0, Ask::Release(0), Verdict::Released(false)),
-        (0, Ask::Store(1, b'C'), Verdict::Taken),
-        (1, Ask::Store(0, b'D'), Verdict::Stored),
+        (0, Ask::Release(0), Answer::Released(false)),
+        (0, Ask::Store(1, b'C'), Answer::Taken),
+        (1, Ask::Store(0, b'D'), Answer::Stored),
     ];
     let [before, shared, after] = seen_after(&rt, rt.alloc(), &hinted, &paired, &left);
     let [hint, _, alone] = before.frames;
-    assert_eq!(rt; shared.frames, [hint, hint, alone]);
-    assert_eq!(rt; after.frames, [None, hint, alone]);
+    assert!(rt; shared.frames == [hint, hint, alone]);
+    assert!(rt; after.frames == [None, hint, alone]);
 }
 
 #[test]
 fn read(rt: HostRuntime) {
     let [before, after, _] = seen_after(&rt, rt.alloc(), &[], &SHARE_THREE, &[]);
-    assert_eq!(rt; (before.guests, before.pages), (2, 1));
-    assert_eq!(rt; before.bytes[0], 0);
-    assert_eq!(rt; after.report, [6, 3, 3, 1, 2, 0]);
-    assert_eq!(rt; (after.guests, after.pages), (2, 1));
-    assert_eq!(rt; after.bytes, [0x41, 0]);
+    assert!(rt; before.guests == 2 && before.pages == 1);
+    assert!(rt; before.bytes == [0, 0]);
+    assert!(rt; after.report == [6, 3, 3, 1, 2, 0]);
+    assert!(rt; after.guests == 2 && after.pages == 1);
+    assert!(rt; after.bytes == [0x41, 0]);
 }

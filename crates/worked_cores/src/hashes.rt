@@ -1,13 +1,12 @@
 //! How often pages are hashed.
 ghost use Rattle.std.specs.Prelude.{slice_index};
 
-use crate::asks::{Ask, Line, core_of, serve, share_three, store_each};
+use crate::asks::{Answer, Ask, Line, core_of, first_pages, serve, share_three, store_each};
 use page_digest::PageHash;
-use page_model::{HashFunction, Page, Verdict};
-use std::alloc::{AllocError, Global};
+use page_model::{HashFunction, Page};
+use std::alloc::Global;
 use std::process::Abort;
 use std::sync::atomic::{AtomicU32, Ordering};
-use std::test::Fail;
 
 /// Hashes to the first byte, and counts its calls.
 #[derive(Drop)]
@@ -24,70 +23,68 @@ impl PageHash for Counted<'_> {
     }
 }
 
-/// Returns how often pages were hashed when three pages had come to share a frame, and after each of these parts,
-/// served in turn.
-fn calls_after(rt: &impl Abort, alloc: Global, parts: &[&[Line]]) -> Result<Vec<u32>, AllocError> {
+/// Returns how often pages were hashed when three pages had come to share a frame, and after each of two parts, served in
+/// turn.
+fn calls_after(rt: &impl Abort, alloc: Global, first: &[Line], second: &[Line]) -> [u32; 3] {
     let calls = AtomicU32::new(0);
     let mut core = core_of(rt, alloc, 3, &[2, 1], Counted(&calls));
     share_three(rt, &mut core);
-    let mut counts = Vec::new(alloc);
-    counts.push(calls.load(Ordering::SeqCst))?;
-    for lines in parts {
-        serve(rt, &mut core, lines);
-        counts.push(calls.load(Ordering::SeqCst))?;
-    }
-    Ok(counts)
+    let shared = calls.load(Ordering::SeqCst);
+    serve(rt, &mut core, first);
+    let served = calls.load(Ordering::SeqCst);
+    serve(rt, &mut core, second);
+    [shared, served, calls.load(Ordering::SeqCst)]
 }
 
 /// Each page is hashed once as long as its bytes stay the same: neither a proposal of an unchanged page, nor a match,
 /// nor leaving a shared frame hashes it again, and an equal hint page is never hashed.
 #[test]
-fn known_hashes(rt: HostRuntime) -> Result<(), Fail> {
+fn known_hashes(rt: HostRuntime) {
     let unchanged = [
-        (0, Ask::Propose(0), Verdict::Already),
-        (1, Ask::Release(0), Verdict::Released(false)),
-        (0, Ask::Release(1), Verdict::Released(false)),
-        (0, Ask::Store(0, b'B'), Verdict::Taken),
+        (0, Ask::Propose(0), Answer::Already),
+        (1, Ask::Release(0), Answer::Released(false)),
+        (0, Ask::Release(1), Answer::Released(false)),
+        (0, Ask::Store(0, b'B'), Answer::Taken),
     ];
     let changed = [
-        (0, Ask::Propose(0), Verdict::Hinted),
-        (0, Ask::Propose(0), Verdict::Kept),
-        (0, Ask::Store(1, b'B'), Verdict::Mapped),
-        (0, Ask::Store(0, b'C'), Verdict::Stored),
-        (0, Ask::Store(0, b'B'), Verdict::Stored),
-        (0, Ask::Propose(1), Verdict::Paired),
+        (0, Ask::Propose(0), Answer::Hinted),
+        (0, Ask::Propose(0), Answer::Kept),
+        (0, Ask::Store(1, b'B'), Answer::Mapped),
+        (0, Ask::Store(0, b'C'), Answer::Stored),
+        (0, Ask::Store(0, b'B'), Answer::Stored),
+        (0, Ask::Propose(1), Answer::Paired),
     ];
-    let counts = calls_after(&rt, rt.alloc(), &[&unchanged, &changed])?;
-    assert_eq!(rt; counts.as_slice(), [3, 3, 5].as_slice());
-    Ok(())
+    let counts = calls_after(&rt, rt.alloc(), &unchanged, &changed);
+    assert_eq!(rt; counts, [3, 3, 5]);
 }
+
+const FIVE_STORES: [Line; 5] = [
+    (0, Ask::Store(0, b'A'), Answer::Mapped),
+    (0, Ask::Store(1, b'B'), Answer::Mapped),
+    (0, Ask::Store(2, b'C'), Answer::Mapped),
+    (0, Ask::Store(3, b'D'), Answer::Mapped),
+    (0, Ask::Store(4, b'E'), Answer::Mapped),
+];
 
 /// Returns how often pages were hashed once these pages' hashes were noted, after stores to five pages of six; once
 /// they were noted again and three of them proposed; and once another was stored to and proposed.
 fn calls_noted(rt: &impl Abort, alloc: Global, pages: &[(u8, u32)]) -> [u32; 3] {
     let calls = AtomicU32::new(0);
     let mut core = core_of(rt, alloc, 5, &[6], Counted(&calls));
-    let stores = [
-        (0, Ask::Store(0, b'A'), Verdict::Mapped),
-        (0, Ask::Store(1, b'B'), Verdict::Mapped),
-        (0, Ask::Store(2, b'C'), Verdict::Mapped),
-        (0, Ask::Store(3, b'D'), Verdict::Mapped),
-        (0, Ask::Store(4, b'E'), Verdict::Mapped),
-    ];
-    serve(rt, &mut core, &stores);
+    serve(rt, &mut core, &FIVE_STORES);
     core.note_hashes(pages);
     let noted = calls.load(Ordering::SeqCst);
     core.note_hashes(pages);
     let proposals = [
-        (0, Ask::Propose(0), Verdict::Hinted),
-        (0, Ask::Propose(1), Verdict::Hinted),
-        (0, Ask::Propose(4), Verdict::Hinted),
+        (0, Ask::Propose(0), Answer::Hinted),
+        (0, Ask::Propose(1), Answer::Hinted),
+        (0, Ask::Propose(4), Answer::Hinted),
     ];
     serve(rt, &mut core, &proposals);
     let proposed = calls.load(Ordering::SeqCst);
     let changed = [
-        (0, Ask::Store(0, b'F'), Verdict::Stored),
-        (0, Ask::Propose(0), Verdict::Hinted),
+        (0, Ask::Store(0, b'F'), Answer::Stored),
+        (0, Ask::Propose(0), Answer::Hinted),
     ];
     serve(rt, &mut core, &changed);
     [noted, proposed, calls.load(Ordering::SeqCst)]
@@ -160,19 +157,18 @@ impl PageHash for Fours<'_> {
 
 /// Returns how many of `count` pages are hashed alone, and how many as one of four at once, when their hashes are
 /// noted.
-fn noted(rt: &impl Abort, alloc: Global, count: u32) -> Result<(u32, u32), AllocError> {
+fn noted(rt: &impl Abort, alloc: Global, count: u32) -> (u32, u32) {
     let calls = Calls::new();
     let mut core = core_of(rt, alloc, 9, &[9], Fours(&calls));
-    let pages = store_each(rt, alloc, &mut core, count)?;
-    core.note_hashes(&pages);
-    Ok(calls.both())
+    store_each(rt, &mut core, count);
+    core.note_hashes(&first_pages(rt, alloc, count));
+    calls.both()
 }
 
 // Of the pages that are noted ahead, each four are hashed at once, the last four too; those left over, alone.
 #[test]
-fn noted_four_at_once(rt: HostRuntime) -> Result<(), Fail> {
+fn noted_four_at_once(rt: HostRuntime) {
     for (pages, at_once, left) in [(3, 0, 3), (4, 4, 0), (7, 4, 3), (8, 8, 0), (9, 8, 1)] {
-        assert_eq!(rt; noted(&rt, rt.alloc(), pages)?, (left, at_once), "{pages}");
+        assert_eq!(rt; noted(&rt, rt.alloc(), pages), (left, at_once), "{pages}");
     }
-    Ok(())
 }

@@ -1,8 +1,8 @@
 //! Which machines can be made, and the largest ones.
-use crate::asks::{Ask, Line, core_of, frame, numbers, serve};
+use crate::asks::{Answer, Ask, Line, core_of, frame, numbers, serve, store_all};
 use merge_core::{Core, CoreFault};
 use page_digest::FirstByteHash;
-use page_model::{MAX_FRAMES, MAX_GUESTS, MAX_PAGES, MachineShape, Verdict};
+use page_model::{MAX_FRAMES, MAX_GUESTS, MAX_PAGES, MachineShape};
 use std::alloc::Global;
 use std::process::Abort;
 use std::test::Fail;
@@ -61,9 +61,9 @@ fn greatest_served(
 fn most_frames_and_pages(rt: HostRuntime) -> Result<(), Fail> {
     let last = MAX_PAGES - 1;
     let lines = [
-        (0, Ask::Store(last, b'A'), Verdict::Mapped),
-        (0, Ask::Propose(last), Verdict::Hinted),
-        (0, Ask::Store(MAX_PAGES, b'A'), Verdict::NoPage),
+        (0, Ask::Store(last, b'A'), Answer::Mapped),
+        (0, Ask::Propose(last), Answer::Hinted),
+        (0, Ask::Store(MAX_PAGES, b'A'), Answer::NoPage),
     ];
     let served = greatest_served(&rt, rt.alloc(), &lines, last)?;
     assert_eq!(rt; served, ([3, 1, 0, 1, 0, 1], true, MAX_FRAMES));
@@ -75,18 +75,12 @@ fn most_frames_and_pages(rt: HostRuntime) -> Result<(), Fail> {
 fn all_propose(rt: &impl Abort, alloc: Global) -> [u32; 6] {
     let pages = [MAX_PAGES / 64; MAX_GUESTS];
     let mut core = core_of(rt, alloc, 64, &pages, FirstByteHash);
-    for guest in 0..64 {
-        serve(
-            rt,
-            &mut core,
-            &[(guest, Ask::Store(7, b'A'), Verdict::Mapped)],
-        );
-    }
+    store_all(rt, &mut core, 7);
     for guest in 0..64 {
         let wanted = match guest {
-            0 => Verdict::Hinted,
-            1 => Verdict::Paired,
-            n => Verdict::Joined(u32::from(n) + 1),
+            0 => Answer::Hinted,
+            1 => Answer::Paired,
+            n => Answer::Joined(u32::from(n) + 1),
         };
         serve(rt, &mut core, &[(guest, Ask::Propose(7), wanted)]);
     }

@@ -1,8 +1,7 @@
 //! Each growth of memory refused in turn.
-use crate::asks::{Ask, serve, share_three};
+use crate::asks::{Answer, Ask, serve, share_three};
 use merge_core::{Core, CoreFault};
 use page_digest::Sha256Hash;
-use page_model::Verdict;
 use refusing::Refusing;
 use std::alloc::Allocator;
 use std::process::Abort;
@@ -17,7 +16,7 @@ fn served<B: Allocator>(rt: &impl Abort, heap: &Refusing<B>) -> (Option<CoreFaul
             let has_refused = heap.has_refused();
             heap.refuse_all();
             share_three(rt, &mut core);
-            serve(rt, &mut core, &[(1, Ask::Store(0, b'B'), Verdict::Copied)]);
+            serve(rt, &mut core, &[(1, Ask::Store(0, b'B'), Answer::Copied)]);
             (None, has_refused)
         }
         Err(fault) => (Some(fault), heap.has_refused()),
@@ -31,12 +30,11 @@ fn refused_growth(rt: HostRuntime) {
         let heap = Refusing::new(rt.alloc(), n, 0);
         let (fault, has_refused) = served(&rt, &heap);
         assert!(rt; heap.holds_nothing(), "at {n}");
-        if fault.is_none() {
-            assert!(rt; !has_refused, "at {n}");
+        if !has_refused {
+            assert!(rt; fault.is_none());
             return;
         }
-        assert_eq!(rt; fault, Some(CoreFault::OutOfMemory), "at {n}");
-        assert!(rt; has_refused, "at {n}");
+        assert!(rt; fault == Some(CoreFault::OutOfMemory), "at {n}");
     }
     assert!(rt; false, "no growth is the last");
 }

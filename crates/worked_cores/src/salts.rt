@@ -1,57 +1,70 @@
 //! Pages are shared only between guests of equal salt.
-use crate::asks::{Ask, numbers, told};
+use crate::asks::{Answer, Ask, numbers, serve, store_all};
 use merge_core::Core;
 use page_digest::{FirstByteHash, PageHash, Sha256Hash};
-use page_model::Verdict;
-use std::alloc::Allocator;
+use std::alloc::Global;
 use std::process::Abort;
-use std::test::Fail;
 
-/// Guests of one page each, with these salts: each stores the same byte, then each proposes.
-fn salted_row<H: PageHash + Drop, A: Allocator + Clone>(
+/// Lets each guest propose its page 0, and compares the answers.
+fn propose_all<H: PageHash>(rt: &impl Abort, core: &mut Core<H>, answers: &[Answer]) {
+    assert!(rt; usize::from(core.guests()) == answers.len());
+    for (guest, answer) in (0..core.guests()).zip(answers) {
+        serve(rt, core, &[(guest, Ask::Propose(0), *answer)]);
+    }
+}
+
+/// Guests of one page each, with these salts: each stores the same byte, then each proposes. Returns the report.
+fn salted_row<H: PageHash + Drop>(
     rt: &impl Abort,
-    alloc: A,
+    alloc: Global,
     hash: H,
     frames: u32,
     salts: &[u32],
-    verdicts: &[Verdict],
-) -> Result<[u32; 6], Fail> {
+    answers: &[Answer],
+) -> [u32; 6] {
     let ones = [1; 4];
     assert!(rt; salts.len() <= 4);
-    let mut core = Core::new(alloc, frames, &ones[..salts.len()], salts, hash)?;
-    for guest in 0..core.guests() {
-        let answer = told(rt, &mut core, guest, Ask::Store(0, b'A'));
-        assert_eq!(rt; answer, Verdict::Mapped);
-    }
-    for (guest, verdict) in (0..core.guests()).zip(verdicts) {
-        let answer = told(rt, &mut core, guest, Ask::Propose(0));
-        assert!(rt; answer == *verdict, "{answer:?} for {verdict:?}");
-    }
-    Ok(numbers(&core))
+    let mut core = Core::new(alloc, frames, &ones[..salts.len()], salts, hash)
+        .ok()
+        .expect(rt, "a core");
+    store_all(rt, &mut core, 0);
+    propose_all(rt, &mut core, answers);
+    numbers(&core)
 }
 
 #[test]
-fn salted(rt: HostRuntime) -> Result<(), Fail> {
+fn two_guests(rt: HostRuntime) {
     let alloc = rt.alloc();
-    let rt = &rt;
-    let apart = [Verdict::Hinted, Verdict::Hinted];
-    let paired = [Verdict::Hinted, Verdict::Paired];
-    let refused = [Verdict::Hinted, Verdict::Ineligible];
-    let _report = salted_row(rt, alloc, Sha256Hash, 2, &[1, 2], &apart)?;
-    let _report = salted_row(rt, alloc, Sha256Hash, 2, &[1, 1], &paired)?;
-    let _report = salted_row(rt, alloc, FirstByteHash, 2, &[1, 2], &refused)?;
-    // *salts 1 2 1*
-    let verdicts = [Verdict::Hinted, Verdict::Hinted, Verdict::Paired];
-    let report = salted_row(rt, alloc, Sha256Hash, 3, &[1, 2, 1], &verdicts)?;
+    let apart = [Answer::Hinted, Answer::Hinted];
+    let report = salted_row(&rt, alloc, Sha256Hash, 2, &[1, 2], &apart);
+    assert_eq!(rt; report, [4, 2, 0, 2, 0, 2]);
+    let paired = [Answer::Hinted, Answer::Paired];
+    let report = salted_row(&rt, alloc, Sha256Hash, 2, &[1, 1], &paired);
+    assert_eq!(rt; report, [4, 2, 2, 1, 1, 0]);
+}
+
+#[test]
+fn hash_without_salt(rt: HostRuntime) {
+    let refused = [Answer::Hinted, Answer::Ineligible];
+    let report = salted_row(&rt, rt.alloc(), FirstByteHash, 2, &[1, 2], &refused);
+    assert_eq!(rt; report, [4, 2, 0, 2, 0, 1]);
+}
+
+#[test]
+fn salts_1_2_1(rt: HostRuntime) {
+    let answers = [Answer::Hinted, Answer::Hinted, Answer::Paired];
+    let report = salted_row(&rt, rt.alloc(), Sha256Hash, 3, &[1, 2, 1], &answers);
     assert_eq!(rt; report, [6, 3, 2, 2, 1, 1]);
-    // *salts 1 1 2 2*
-    let verdicts = [
-        Verdict::Hinted,
-        Verdict::Paired,
-        Verdict::Hinted,
-        Verdict::Paired,
+}
+
+#[test]
+fn salts_1_1_2_2(rt: HostRuntime) {
+    let answers = [
+        Answer::Hinted,
+        Answer::Paired,
+        Answer::Hinted,
+        Answer::Paired,
     ];
-    let report = salted_row(rt, alloc, Sha256Hash, 4, &[1, 1, 2, 2], &verdicts)?;
+    let report = salted_row(&rt, rt.alloc(), Sha256Hash, 4, &[1, 1, 2, 2], &answers);
     assert_eq!(rt; report, [8, 4, 4, 2, 2, 0]);
-    Ok(())
 }

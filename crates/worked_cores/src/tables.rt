@@ -1,8 +1,7 @@
 //! What the table shows, and a frame that more pages share than a 16-bit count can hold.
-use crate::asks::{Ask, Line, core_of, frame, numbers, serve};
+use crate::asks::{Answer, Ask, Line, core_of, frame, numbers, serve};
 use merge_core::Core;
 use page_digest::{FirstByteHash, PageHash, Sha256Hash};
-use page_model::Verdict;
 use share_table::HintFrame;
 use std::alloc::Global;
 use std::process::Abort;
@@ -48,14 +47,14 @@ fn table_shows_core(rt: HostRuntime) -> Result<(), Fail> {
     page[0] = 0x41;
     let code = Sha256Hash.hash(0, &page);
     let hinted = [
-        (0, Ask::Store(0, b'A'), Verdict::Mapped),
-        (0, Ask::Store(1, b'A'), Verdict::Mapped),
-        (1, Ask::Store(0, b'A'), Verdict::Mapped),
-        (0, Ask::Propose(0), Verdict::Hinted),
+        (0, Ask::Store(0, b'A'), Answer::Mapped),
+        (0, Ask::Store(1, b'A'), Answer::Mapped),
+        (1, Ask::Store(0, b'A'), Answer::Mapped),
+        (0, Ask::Propose(0), Answer::Hinted),
     ];
     let joined = [
-        (0, Ask::Propose(1), Verdict::Paired),
-        (1, Ask::Propose(0), Verdict::Joined(3)),
+        (0, Ask::Propose(1), Answer::Paired),
+        (1, Ask::Propose(0), Answer::Joined(3)),
     ];
     let (mpn, before, after) = shown_after(&rt, rt.alloc(), code, &hinted, &joined);
     let mpn = mpn.ok_or("unmapped")?;
@@ -77,12 +76,12 @@ fn share_all(rt: &impl Abort, alloc: Global, pages: u32) -> [[u32; 6]; 2] {
     let mut core = core_of(rt, alloc, 2, &[pages], FirstByteHash);
     for ppn in 0..pages {
         let verdict = match ppn {
-            0 => Verdict::Hinted,
-            1 => Verdict::Paired,
-            n => Verdict::Joined(n + 1),
+            0 => Answer::Hinted,
+            1 => Answer::Paired,
+            n => Answer::Joined(n + 1),
         };
         let lines = [
-            (0, Ask::Store(ppn, b'A'), Verdict::Mapped),
+            (0, Ask::Store(ppn, b'A'), Answer::Mapped),
             (0, Ask::Propose(ppn), verdict),
         ];
         serve(rt, &mut core, &lines);
@@ -91,7 +90,7 @@ fn share_all(rt: &impl Abort, alloc: Global, pages: u32) -> [[u32; 6]; 2] {
     serve(
         rt,
         &mut core,
-        &[(0, Ask::Release(0), Verdict::Released(false))],
+        &[(0, Ask::Release(0), Answer::Released(false))],
     );
     [before, numbers(&core)]
 }
