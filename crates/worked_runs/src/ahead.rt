@@ -1,17 +1,17 @@
 //! A run whose round has enough proposals for a second worker, with each growth of memory refused in turn.
-ghost use Rattle.std.specs.Prelude.{◌≡◌};
-
+use crate::answers::Answer;
 use crate::makes::{Ask, Numbers};
 use crate::plain::{Outcome, got, ran};
 use merge_run::{Gate, RunFault};
 use page_digest::PageHash;
-use page_model::{HashFunction, Page, Verdict};
+use page_model::{HashFunction, Page};
 use refusing::Refusing;
-use std::alloc::{AllocError, Allocator, Global};
+use std::alloc::{AllocError, Global};
 use std::process::Abort;
+use std::sync::Wait;
 use std::sync::atomic::{AtomicBool, Ordering};
 use std::test::Fail;
-use std::thread;
+use std::thread::{self, Threads};
 
 const TRIES: u64 = 1 << 30;
 
@@ -109,33 +109,34 @@ fn script(alloc: Global) -> Result<Vec<Ask>, AllocError> {
     Ok(asks)
 }
 
-/// Returns the expected verdict of request number `nth`.
-fn due(nth: usize) -> Verdict {
+/// Returns the expected answer to request number `nth`.
+fn due(nth: usize) -> Answer {
     if nth < PAGES {
-        Verdict::Mapped
+        Answer::Mapped
     } else if nth < REQUESTS {
-        Verdict::Hinted
+        Answer::Hinted
     } else {
-        Verdict::Closed
+        Answer::Closed
     }
 }
 
-fn check_whole<A: Allocator>(rt: &impl Abort, ran: &Outcome<A>) {
-    let verdicts = got(ran, 0);
-    assert_eq!(rt; ran.verdicts.len(), 1);
-    assert_eq!(rt; verdicts.len(), REQUESTS + 1);
-    for nth in 0..verdicts.len() {
-        assert!(rt; verdicts[nth] == due(nth), "verdict {nth}");
+fn check_whole(rt: &impl Abort, ran: &Outcome) {
+    assert_eq!(rt; ran.answers.len(), 1);
+    let answers = &ran.answers[0];
+    assert_eq!(rt; answers.len(), REQUESTS + 1);
+    for nth in 0..answers.len() {
+        assert!(rt; answers[nth] == due(nth), "verdict {nth}");
     }
     assert_eq!(rt; ran.report, [83, 41, 0, 41, 0, 41]);
 }
 
-// The run's nth request for memory is refused, with n counting up until a run has no refusal. Before the first whole
-// run, each refusal is reported. The later ones are of a round, whose memory is for its workers alone: they change
-// nothing, and there are some, so the run serves by rounds.
-#[test]
-fn rounds_refused_in_turn(rt: HostRuntime) -> Result<(), Fail> {
-    let asks = script(rt.alloc())?;
+/// Runs the script with memory from `heap`. Returns why there is no such run; if there is one, it is whole.
+fn fault_of_run<R: Threads + Wait + Sync + Abort>(
+    rt: &R,
+    alloc: Global,
+    heap: &Refusing,
+    script: &[Ask],
+) -> Option<RunFault> {
     let numbers = Numbers {
         frames: 41,
         pages: &[41],
@@ -143,33 +144,44 @@ fn rounds_refused_in_turn(rt: HostRuntime) -> Result<(), Fail> {
         ring: RING,
         journal: 83,
     };
+    let meeting = Meeting::new();
+    let hash = Waiting { meeting: &meeting };
+    match ran(rt, alloc, heap, &numbers, &[script], hash, &meeting) {
+        Ok(ran) => {
+            assert!(rt; !meeting.missed.load(Ordering::SeqCst));
+            check_whole(rt, &ran);
+            None
+        }
+        Err(fault) => Some(fault),
+    }
+}
+
+// The run's nth request for memory is refused, with n counting up until a run has no refusal. Before the first whole
+// run, each refusal is reported. The later ones are of a round, whose memory is for its workers alone: they change
+// nothing, and there are some, so the run serves by rounds.
+#[test]
+fn rounds_refused_in_turn(rt: HostRuntime) -> Result<(), Fail> {
+    let script = script(rt.alloc())?;
     let mut whole_though_refused = 0u32;
-    let mut has_ended = false;
     for n in 0..MOST {
         let heap = Refusing::new(rt.alloc(), BEFORE + n, 0);
-        let meeting = Meeting::new();
-        let hash = Waiting { meeting: &meeting };
-        match ran(&rt, &heap, &numbers, &[&asks], hash, &meeting) {
-            Ok(ran) => {
-                assert!(rt; !meeting.missed.load(Ordering::SeqCst), "at {n}");
-                check_whole(&rt, &ran);
-                has_ended = !heap.has_refused();
-                whole_though_refused = whole_though_refused.wrapping_add(u32::from(
-                    heap.has_refused(),
-                ));
+        let fault = fault_of_run(&rt, rt.alloc(), &heap, &script);
+        assert!(rt; heap.holds_nothing(), "at {n}");
+        match fault {
+            None if heap.has_refused() => {
+                whole_though_refused = whole_though_refused.wrapping_add(1);
             }
-            Err(fault) => {
+            None => {
+                assert!(rt; whole_though_refused > 0);
+                return Ok(());
+            }
+            Some(fault) => {
                 assert!(rt; heap.has_refused(), "at {n}");
                 assert_eq!(rt; fault, RunFault::OutOfMemory, "at {n}");
                 assert_eq!(rt; whole_though_refused, 0, "at {n}");
             }
         }
-        assert!(rt; heap.holds_nothing(), "at {n}");
-        if has_ended {
-            break;
-        }
     }
-    assert!(rt; has_ended);
-    assert!(rt; whole_though_refused > 0);
+    assert!(rt; false, "no growth is the last");
     Ok(())
 }

@@ -1,8 +1,8 @@
 //! Guests that send only their closes, and machines without guests.
+use crate::answers::Answer;
 use crate::makes::Numbers;
 use crate::plain::{fault_of, got, replayed};
 use merge_run::{JournalFull, OpenGate, RunFault};
-use page_model::Verdict;
 use std::test::Fail;
 
 #[test]
@@ -15,9 +15,9 @@ fn empty_scripts(rt: HostRuntime) -> Result<(), Fail> {
         journal: 2,
     };
     let ran = replayed(&rt, rt.alloc(), &numbers, &[&[], &[]], &OpenGate)?;
-    assert_eq!(rt; ran.verdicts.len(), 2);
-    assert_eq!(rt; got(&ran, 0), [Verdict::Closed].as_slice());
-    assert_eq!(rt; got(&ran, 1), [Verdict::Closed].as_slice());
+    assert_eq!(rt; ran.answers.len(), 2);
+    assert!(rt; got(&ran, 0, &[Answer::Closed]));
+    assert!(rt; got(&ran, 1, &[Answer::Closed]));
     assert_eq!(rt; ran.report, [2, 0, 0, 0, 0, 0]);
     Ok(())
 }

@@ -4,6 +4,8 @@
 #[cfg(test)]
 mod ahead;
 #[cfg(test)]
+mod answers;
+#[cfg(test)]
 mod counting;
 #[cfg(test)]
 mod empty;

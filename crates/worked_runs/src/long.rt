@@ -1,35 +1,40 @@
 //! A script that is much longer than its rings.
+use crate::answers::Answer;
 use crate::makes::{Ask, Numbers};
 use crate::plain::{got, replayed};
-use arrayvec::ArrayVec;
 use merge_run::OpenGate;
-use page_model::Verdict;
+use std::alloc::{AllocError, Global};
 use std::test::Fail;
 
 const REQUESTS: u8 = 50;
 
-fn byte(byte: u8) -> Verdict {
-    let mut bytes = ArrayVec::new();
-    bytes.push(byte);
-    Verdict::Bytes(bytes)
+/// Returns stores of one byte after another, each followed by a load.
+fn script(alloc: Global) -> Result<Vec<Ask>, AllocError> {
+    let mut asks = Vec::new(alloc);
+    for n in 0..REQUESTS / 2 {
+        asks.extend_from_slice(&[Ask::Store(0, n), Ask::Load(0)])?;
+    }
+    Ok(asks)
+}
+
+/// Returns the answers to them.
+fn wanted(alloc: Global) -> Result<Vec<Answer>, AllocError> {
+    let mut answers = Vec::new(alloc);
+    for n in 0..REQUESTS / 2 {
+        let stored = if n == 0 {
+            Answer::Mapped
+        } else {
+            Answer::Stored
+        };
+        answers.extend_from_slice(&[stored, Answer::Byte(n)])?;
+    }
+    answers.push(Answer::Closed)?;
+    Ok(answers)
 }
 
 // Alternate stores and loads, over rings of one item each.
 #[test]
 fn fifty_requests_over_one_slot(rt: HostRuntime) -> Result<(), Fail> {
-    let mut asks = Vec::new(rt.alloc());
-    let mut wanted = Vec::new(rt.alloc());
-    for n in 0..REQUESTS / 2 {
-        asks.push(Ask::Store(0, n))?;
-        asks.push(Ask::Load(0))?;
-        wanted.push(if n == 0 {
-            Verdict::Mapped
-        } else {
-            Verdict::Stored
-        })?;
-        wanted.push(byte(n))?;
-    }
-    wanted.push(Verdict::Closed)?;
     let numbers = Numbers {
         frames: 1,
         pages: &[1],
@@ -37,8 +42,9 @@ fn fifty_requests_over_one_slot(rt: HostRuntime) -> Result<(), Fail> {
         ring: 1,
         journal: u32::from(REQUESTS) + 1,
     };
+    let asks = script(rt.alloc())?;
     let ran = replayed(&rt, rt.alloc(), &numbers, &[&asks], &OpenGate)?;
-    assert_eq!(rt; got(&ran, 0), wanted.as_slice());
+    assert!(rt; got(&ran, 0, &wanted(rt.alloc())?));
     assert_eq!(rt; ran.report, [51, 1, 0, 1, 0, 0]);
     Ok(())
 }

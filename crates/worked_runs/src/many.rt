@@ -1,12 +1,7 @@
 //! The most guests that there can be, with a thousand requests each.
-ghost use Rattle.std.specs.Prelude.{◌≡◌, false, All, length, IfOk};
-ghost use Rattle.share_rings.specs.Closing.{has_close};
-ghost use Rattle.merge_run.specs.Runs.{CanBeRun};
-
-use crate::makes::{Ask, Numbers, Setting, config_of, request_of};
-use crate::plain::replayed_setting;
+use crate::makes::{Ask, Numbers};
+use crate::plain::replayed;
 use merge_run::OpenGate;
-use page_model::Request;
 use std::alloc::{AllocError, Global};
 use std::test::Fail;
 
@@ -39,25 +34,28 @@ fn ask(guest: u32, n: u32) -> Ask {
     }
 }
 
-fn script(alloc: Global, guest: u32) -> Result<Vec<Request>, AllocError>
-    ensures { IfOk result (λ script. has_close script.items ≡ false) }
-{
-    let mut script = Vec::with_capacity(alloc, REQUESTS as usize)?;
+fn script(alloc: Global, guest: u32) -> Result<Vec<Ask>, AllocError> {
+    let mut script = Vec::new(alloc);
     for n in 0..REQUESTS {
-        script.push_reserved(request_of(ask(guest, n)));
+        script.push(ask(guest, n))?;
     }
     Ok(script)
 }
 
-fn scripts(alloc: Global) -> Result<Vec<Vec<Request>>, AllocError>
-    ensures each { IfOk result (λ scripts. length scripts.items ≡ 64) }
-    ensures plain { IfOk result (λ scripts. All (λ script. has_close script.items ≡ false) scripts.items) }
-{
-    let mut scripts = Vec::with_capacity(alloc, GUESTS as usize)?;
+fn scripts(alloc: Global) -> Result<Vec<Vec<Ask>>, AllocError> {
+    let mut scripts = Vec::new(alloc);
     for guest in 0..GUESTS {
-        scripts.push_reserved(script(alloc, guest)?);
+        scripts.push(script(alloc, guest)?)?;
     }
     Ok(scripts)
+}
+
+fn slices(alloc: Global, scripts: &[Vec<Ask>]) -> Result<Vec<&[Ask]>, AllocError> {
+    let mut slices = Vec::new(alloc);
+    for script in scripts {
+        slices.push(script.as_slice())?;
+    }
+    Ok(slices)
 }
 
 /// Returns one salt for guests of even numbers, and another for those of odd numbers.
@@ -69,30 +67,21 @@ fn salts() -> [u32; 64] {
     salts
 }
 
-fn setting(alloc: Global, journal: u32) -> Result<Setting<Global>, AllocError>
-    ensures { IfOk result (λ setting. CanBeRun setting.config setting.scripts.items) }
-{
-    let pages = [PAGES; 64];
-    let salts = salts();
-    let numbers = Numbers {
-        frames: FRAMES,
-        pages: &pages,
-        salts: &salts,
-        ring: RING,
-        journal,
-    };
-    let config = config_of(alloc, &numbers)?;
-    let scripts = scripts(alloc)?;
-    Ok(Setting { config, scripts })
-}
-
 // Each run ends, though there are many more threads than processors.
 #[test]
 fn most_guests(rt: HostRuntime) -> Result<(), Fail> {
     let journal = GUESTS * (REQUESTS + 1);
+    let numbers = Numbers {
+        frames: FRAMES,
+        pages: &[PAGES; 64],
+        salts: &salts(),
+        ring: RING,
+        journal,
+    };
+    let scripts = scripts(rt.alloc())?;
+    let asks = slices(rt.alloc(), &scripts)?;
     for _ in 0..RUNS {
-        let setting = setting(rt.alloc(), journal)?;
-        let ran = replayed_setting(&rt, rt.alloc(), setting, &OpenGate)?;
+        let ran = replayed(&rt, rt.alloc(), &numbers, &asks, &OpenGate)?;
         assert_eq!(rt; ran.journal, journal as usize);
     }
     Ok(())

@@ -1,8 +1,8 @@
 //! Two guests that wait for each other, so that the run ends only if each has its own thread.
+use crate::answers::Answer;
 use crate::makes::{Ask, Numbers};
 use crate::plain::{fault_of, got, replayed};
 use merge_run::{Gate, JournalFull, RunFault};
-use page_model::Verdict;
 use std::sync::atomic::{AtomicBool, Ordering};
 use std::test::Fail;
 use std::thread;
@@ -96,12 +96,11 @@ fn guests_that_wait_for_each_other(rt: HostRuntime) -> Result<(), Fail> {
     let ran = replayed(&rt, rt.alloc(), &numbers, &[&SCRIPT, &SCRIPT], &gate)?;
     assert!(rt; !gate.has_failed());
     assert!(rt; gate.is_over());
-    let hinted = [Verdict::Mapped, Verdict::Hinted, Verdict::Closed];
-    let paired = [Verdict::Mapped, Verdict::Paired, Verdict::Closed];
-    let (first, second) = (got(&ran, 0), got(&ran, 1));
-    let first_leads = first == hinted.as_slice() && second == paired.as_slice();
-    let second_leads = first == paired.as_slice() && second == hinted.as_slice();
-    assert!(rt; first_leads || second_leads, "{first:?} {second:?}");
+    let hinted = [Answer::Mapped, Answer::Hinted, Answer::Closed];
+    let paired = [Answer::Mapped, Answer::Paired, Answer::Closed];
+    let first_leads = got(&ran, 0, &hinted) && got(&ran, 1, &paired);
+    let second_leads = got(&ran, 0, &paired) && got(&ran, 1, &hinted);
+    assert!(rt; first_leads || second_leads);
     assert_eq!(rt; ran.report, [6, 2, 2, 1, 1, 0]);
     Ok(())
 }

@@ -3,11 +3,12 @@
 ghost use Rattle.std.specs.Prelude.{◌≡◌};
 ghost use Rattle.merge_run.specs.Runs.{CanBeRun};
 
+use crate::answers::{Answer, lists_of};
 use crate::makes::{Ask, Numbers, Setting, setting_of};
 use crate::replays::check_replay;
 use merge_run::{Config, Finished, Gate, OpenGate, RunFault, run};
 use page_digest::{PageHash, Sha256Hash};
-use page_model::{Report, Request, Verdict};
+use page_model::{Report, Request};
 use refusing::Refusing;
 use std::alloc::{Allocator, Global};
 use std::process::Abort;
@@ -17,41 +18,41 @@ use std::thread::Threads;
 
 /// What a test compares of a run.
 #[derive(Drop)]
-pub struct Outcome<A: Allocator = Global> {
-    /// Each guest's verdicts, oldest first, and guest 0's list first.
-    pub verdicts: Vec<Vec<Verdict, A>, A>,
+pub struct Outcome {
+    /// Each guest's answers, oldest first, and guest 0's list first.
+    pub answers: Vec<Vec<Answer>>,
     /// The report's numbers: entries, mapped, shared, frames, reclaimed, hints.
     pub report: [u32; 6],
     /// How many entries the journal has.
     pub journal: usize,
 }
 
-/// Returns a guest's verdicts, oldest first; none if there is no such guest.
-pub fn got<A: Allocator>(ran: &Outcome<A>, guest: usize) -> &[Verdict] {
-    match ran.verdicts.get(guest) {
-        Some(list) => list,
-        None => &[],
+/// Whether there is such a guest, and these are its answers, oldest first.
+pub fn got(ran: &Outcome, guest: usize, answers: &[Answer]) -> bool {
+    match ran.answers.get(guest) {
+        Some(list) => list.as_slice() == answers,
+        None => false,
     }
 }
 
-/// Returns how often a verdict is in the lists of all guests.
-pub fn times_got(ran: &Outcome, verdict: &Verdict) -> u32 {
+/// Returns how often an answer is in the lists of all guests.
+pub fn times_got(ran: &Outcome, answer: Answer) -> u32 {
     let mut times = 0u32;
-    for list in &ran.verdicts {
-        times = times.wrapping_add(times_in(list, verdict));
+    for list in &ran.answers {
+        times = times.wrapping_add(times_in(list, answer));
     }
     times
 }
 
-fn times_in(list: &[Verdict], verdict: &Verdict) -> u32 {
+fn times_in(list: &[Answer], answer: Answer) -> u32 {
     let mut times = 0u32;
     for other in list {
-        times = times.wrapping_add(u32::from(other == verdict));
+        times = times.wrapping_add(u32::from(*other == answer));
     }
     times
 }
 
-fn numbers(report: &Report) -> [u32; 6] {
+pub fn numbers(report: &Report) -> [u32; 6] {
     [
         report.entries(),
         report.mapped(),
@@ -62,13 +63,15 @@ fn numbers(report: &Report) -> [u32; 6] {
     ]
 }
 
-fn compared<H: PageHash + Drop, A: Allocator>(finished: Finished<H, A>) -> Outcome<A> {
-    let report = numbers(&finished.settled.report());
-    let journal = finished.settled.journal().len();
+fn compared<H: PageHash + Drop, A: Allocator>(
+    rt: &impl Abort,
+    alloc: Global,
+    finished: &Finished<H, A>,
+) -> Outcome {
     Outcome {
-        verdicts: finished.verdicts,
-        report,
-        journal,
+        answers: lists_of(alloc, &finished.verdicts).expect(rt, "memory for the answers"),
+        report: numbers(&finished.settled.report()),
+        journal: finished.settled.journal().len(),
     }
 }
 
@@ -91,7 +94,7 @@ fn run_plainly<
     run(rt, alloc, config, hash, scripts, gate)
 }
 
-/// Runs these scripts, with all memory from one allocator.
+/// Runs these scripts. All memory of the run is from `heap`, and that of the answers from `alloc`.
 pub fn ran<
     R: Threads + Wait + Sync + Abort,
     H: PageHash + Drop,
@@ -99,15 +102,16 @@ pub fn ran<
     G: Gate + Sync,
 >(
     rt: &R,
-    alloc: A,
+    alloc: Global,
+    heap: A,
     numbers: &Numbers<'_>,
     asks: &[&[Ask]],
     hash: H,
     gate: &G,
-) -> Result<Outcome<A>, RunFault> {
-    let Setting { config, scripts } = setting_of(rt, alloc, numbers, asks);
-    let finished = run_plainly(rt, alloc, &config, hash, scripts, gate)?;
-    Ok(compared(finished))
+) -> Result<Outcome, RunFault> {
+    let Setting { config, scripts } = setting_of(rt, heap, numbers, asks);
+    let finished = run_plainly(rt, heap, &config, hash, scripts, gate)?;
+    Ok(compared(rt, alloc, &finished))
 }
 
 /// Returns why there is no such run under SHA-256.
@@ -118,7 +122,7 @@ pub fn fault_of<R: Threads + Wait + Sync + Abort, G: Gate + Sync>(
     asks: &[&[Ask]],
     gate: &G,
 ) -> Option<RunFault> {
-    ran(rt, alloc, numbers, asks, Sha256Hash, gate).err()
+    ran(rt, alloc, alloc, numbers, asks, Sha256Hash, gate).err()
 }
 
 /// Returns the same when all memory is refused once the scripts are made.
@@ -141,21 +145,8 @@ pub fn replayed<R: Threads + Wait + Sync + Abort, G: Gate + Sync>(
     asks: &[&[Ask]],
     gate: &G,
 ) -> Result<Outcome, Fail> {
-    let setting = setting_of(rt, alloc, numbers, asks);
-    replayed_setting(rt, alloc, setting, gate)
-}
-
-/// Does the same for a setting.
-pub fn replayed_setting<R: Threads + Wait + Sync + Abort, G: Gate + Sync>(
-    rt: &R,
-    alloc: Global,
-    setting: Setting<Global>,
-    gate: &G,
-) -> Result<Outcome, Fail>
-    requires { CanBeRun setting.config setting.scripts.items }
-{
-    let Setting { config, scripts } = setting;
+    let Setting { config, scripts } = setting_of(rt, alloc, numbers, asks);
     let finished = run_plainly(rt, alloc, &config, Sha256Hash, scripts, gate)?;
     check_replay(rt, alloc, &config, &finished)?;
-    Ok(compared(finished))
+    Ok(compared(rt, alloc, &finished))
 }

@@ -1,37 +1,38 @@
 //! Memory that is refused to a run.
+use crate::answers::Answer;
 use crate::makes::{Ask, Numbers};
 use crate::plain::{Outcome, got, ran};
 use merge_run::{OpenGate, RunFault};
 use page_digest::Sha256Hash;
-use page_model::Verdict;
 use refusing::Refusing;
-use std::alloc::Allocator;
+use std::alloc::Global;
 use std::process::Abort;
-use std::test::Fail;
+use std::sync::Wait;
+use std::thread::Threads;
 
 const MOST: u64 = 200;
 
 // The requests before those of the run: the two lists of the configuration, and three for the scripts.
 const BEFORE: u64 = 5;
 
-// Only guest 1 proposes, so each order gives these verdicts.
+// Only guest 1 proposes, so each order gives these answers.
 const FIRST: [Ask; 1] = [Ask::Store(0, 0x41)];
 
 const SECOND: [Ask; 2] = [Ask::Store(0, 0x41), Ask::Propose(0)];
 
-fn check_whole<A: Allocator>(rt: &impl Abort, ran: &Outcome<A>) {
-    let first = [Verdict::Mapped, Verdict::Closed];
-    let second = [Verdict::Mapped, Verdict::Hinted, Verdict::Closed];
-    assert_eq!(rt; ran.verdicts.len(), 2);
-    assert_eq!(rt; got(ran, 0), first.as_slice());
-    assert_eq!(rt; got(ran, 1), second.as_slice());
+fn check_whole(rt: &impl Abort, ran: &Outcome) {
+    assert_eq!(rt; ran.answers.len(), 2);
+    assert!(rt; got(ran, 0, &[Answer::Mapped, Answer::Closed]));
+    assert!(rt; got(ran, 1, &[Answer::Mapped, Answer::Hinted, Answer::Closed]));
     assert_eq!(rt; ran.report, [5, 2, 0, 2, 0, 1]);
 }
 
-// The run's nth request for memory is refused, with n counting up until a run has no refusal. `NoThread` doesn't occur,
-// since starting a thread asks the system for memory, and no allocator of a caller.
-#[test]
-fn run_refused_in_turn(rt: HostRuntime) -> Result<(), Fail> {
+/// Runs the scripts with memory from `heap`. Returns why there is no such run; if there is one, it is whole.
+fn fault_of_run<R: Threads + Wait + Sync + Abort>(
+    rt: &R,
+    alloc: Global,
+    heap: &Refusing,
+) -> Option<RunFault> {
     let numbers = Numbers {
         frames: 2,
         pages: &[1, 1],
@@ -39,26 +40,37 @@ fn run_refused_in_turn(rt: HostRuntime) -> Result<(), Fail> {
         ring: 1,
         journal: 5,
     };
-    let mut whole_at = None;
+    match ran(
+        rt,
+        alloc,
+        heap,
+        &numbers,
+        &[&FIRST, &SECOND],
+        Sha256Hash,
+        &OpenGate,
+    ) {
+        Ok(ran) => {
+            check_whole(rt, &ran);
+            None
+        }
+        Err(fault) => Some(fault),
+    }
+}
+
+// The run's nth request for memory is refused, with n counting up until a run has no refusal. `NoThread` doesn't occur,
+// since starting a thread asks the system for memory, and no allocator of a caller.
+#[test]
+fn run_refused_in_turn(rt: HostRuntime) {
     for n in 0..MOST {
         let heap = Refusing::new(rt.alloc(), BEFORE + n, 0);
-        let scripts: [&[Ask]; 2] = [&FIRST, &SECOND];
-        match ran(&rt, &heap, &numbers, &scripts, Sha256Hash, &OpenGate) {
-            Ok(ran) => {
-                assert!(rt; !heap.has_refused(), "at {n}");
-                check_whole(&rt, &ran);
-                whole_at = Some(n);
-            }
-            Err(fault) => {
-                assert!(rt; heap.has_refused(), "at {n}");
-                assert_eq!(rt; fault, RunFault::OutOfMemory, "at {n}");
-            }
-        }
+        let fault = fault_of_run(&rt, rt.alloc(), &heap);
         assert!(rt; heap.holds_nothing(), "at {n}");
-        if whole_at.is_some() {
-            break;
+        if fault.is_none() {
+            assert!(rt; !heap.has_refused(), "at {n}");
+            return;
         }
+        assert!(rt; heap.has_refused(), "at {n}");
+        assert_eq!(rt; fault, Some(RunFault::OutOfMemory), "at {n}");
     }
-    assert!(rt; whole_at.is_some());
-    Ok(())
+    assert!(rt; false, "no growth is the last");
 }

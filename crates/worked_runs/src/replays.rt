@@ -1,4 +1,5 @@
 //! A run's journal, replayed on one thread.
+use crate::plain::numbers;
 use merge_core::{Core, CoreFault};
 use merge_run::{Config, Finished};
 use page_digest::Sha256Hash;
@@ -33,21 +34,31 @@ fn apply(rt: &impl Abort, core: &mut Core<Sha256Hash>, entry: &Entry) -> Verdict
     core.apply(entry.guest, &entry.request)
 }
 
-/// Returns each guest's verdicts, and the core after the last entry.
+/// Appends a verdict to the guest's list.
+fn keep(
+    rt: &impl Abort,
+    lists: &mut Vec<Vec<Verdict>>,
+    guest: usize,
+    verdict: Verdict,
+) -> Result<(), AllocError> {
+    assert!(rt; guest < lists.len());
+    lists[guest].push(verdict)?;
+    Ok(())
+}
+
+/// Returns each guest's verdicts.
 fn apply_all(
     rt: &impl Abort,
     alloc: Global,
-    config: &Config,
+    core: &mut Core<Sha256Hash>,
     journal: &[Entry],
-) -> Result<(Core<Sha256Hash>, Vec<Vec<Verdict>>), Fail> {
-    let mut core = new_core(alloc, config)?;
-    let mut lists = empty_lists(alloc, config.pages.len())?;
+) -> Result<Vec<Vec<Verdict>>, AllocError> {
+    let mut lists = empty_lists(alloc, usize::from(core.guests()))?;
     for entry in journal {
-        let verdict = apply(rt, &mut core, entry);
-        let list = lists.get_mut(entry.guest as usize).ok_or("no guest")?;
-        list.push(verdict)?;
+        let verdict = apply(rt, core, entry);
+        keep(rt, &mut lists, usize::from(entry.guest), verdict)?;
     }
-    Ok((core, lists))
+    Ok(lists)
 }
 
 /// Checks that a fresh core that applies the journal entry by entry gives each guest's verdicts and the report.
@@ -57,8 +68,12 @@ pub fn check_replay(
     config: &Config,
     finished: &Finished<Sha256Hash>,
 ) -> Result<(), Fail> {
-    let (core, lists) = apply_all(rt, alloc, config, finished.settled.journal())?;
+    let mut core = new_core(alloc, config)?;
+    let lists = apply_all(rt, alloc, &mut core, finished.settled.journal())?;
     assert!(rt; lists == finished.verdicts);
-    assert_eq!(rt; core.report(), finished.settled.report());
+    assert_eq!(rt;
+        numbers(&core.report()),
+        numbers(&finished.settled.report())
+    );
     Ok(())
 }

@@ -1,8 +1,8 @@
 //! Pages of one content are shared only between guests of one salt.
+use crate::answers::Answer;
 use crate::makes::{Ask, Numbers};
 use crate::plain::{got, replayed, times_got};
 use merge_run::OpenGate;
-use page_model::Verdict;
 use std::test::Fail;
 
 // Guests 0 and 2 may propose in either order: the first of them gets a hint, and the other pairs with it.
@@ -23,11 +23,11 @@ fn one_page_each(rt: HostRuntime) -> Result<(), Fail> {
         &[&script, &script, &script],
         &OpenGate,
     )?;
-    let alone = [Verdict::Mapped, Verdict::Hinted, Verdict::Closed];
-    assert_eq!(rt; got(&ran, 1), alone.as_slice());
-    assert_eq!(rt; times_got(&ran, &Verdict::Mapped), 3);
-    assert_eq!(rt; times_got(&ran, &Verdict::Hinted), 2);
-    assert_eq!(rt; times_got(&ran, &Verdict::Paired), 1);
+    let alone = [Answer::Mapped, Answer::Hinted, Answer::Closed];
+    assert!(rt; got(&ran, 1, &alone));
+    assert_eq!(rt; times_got(&ran, Answer::Mapped), 3);
+    assert_eq!(rt; times_got(&ran, Answer::Hinted), 2);
+    assert_eq!(rt; times_got(&ran, Answer::Paired), 1);
     assert_eq!(rt; ran.report, [9, 3, 2, 2, 1, 1]);
     Ok(())
 }
@@ -56,18 +56,18 @@ fn two_pages_each(rt: HostRuntime) -> Result<(), Fail> {
         &OpenGate,
     )?;
     let alone = [
-        Verdict::Mapped,
-        Verdict::Mapped,
-        Verdict::Hinted,
-        Verdict::Paired,
-        Verdict::Closed,
+        Answer::Mapped,
+        Answer::Mapped,
+        Answer::Hinted,
+        Answer::Paired,
+        Answer::Closed,
     ];
-    assert_eq!(rt; got(&ran, 1), alone.as_slice());
-    assert_eq!(rt; times_got(&ran, &Verdict::Mapped), 6);
-    assert_eq!(rt; times_got(&ran, &Verdict::Hinted), 2);
-    assert_eq!(rt; times_got(&ran, &Verdict::Paired), 2);
-    assert_eq!(rt; times_got(&ran, &Verdict::Joined(3)), 1);
-    assert_eq!(rt; times_got(&ran, &Verdict::Joined(4)), 1);
+    assert!(rt; got(&ran, 1, &alone));
+    assert_eq!(rt; times_got(&ran, Answer::Mapped), 6);
+    assert_eq!(rt; times_got(&ran, Answer::Hinted), 2);
+    assert_eq!(rt; times_got(&ran, Answer::Paired), 2);
+    assert_eq!(rt; times_got(&ran, Answer::Joined(3)), 1);
+    assert_eq!(rt; times_got(&ran, Answer::Joined(4)), 1);
     assert_eq!(rt; ran.report, [15, 6, 6, 2, 4, 0]);
     Ok(())
 }
