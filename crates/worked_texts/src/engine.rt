@@ -79,9 +79,65 @@ impl Ended {
     }
 }
 
+/// Returns the answer of an engine that starts no thread, as `threaded` would give it.
+fn unthreaded(answer: Result<(), TextFault>) -> Result<(), ThreadedFault> {
+    match answer {
+        Ok(()) => Ok(()),
+        Err(fault) => Err(ThreadedFault::Text(fault)),
+    }
+}
+
+fn by_replay<A: Allocator + Copy, R: Read + Drop, W: Write + Drop, H: PageHash + Drop>(
+    heap: A,
+    reader: R,
+    writer: W,
+    hash: H,
+) -> Ended {
+    let mut source = Noted::new(reader);
+    let mut sink = Noted::new(writer);
+    let answer = replay(heap, &mut source, &mut sink, hash);
+    Ended {
+        answer: unthreaded(answer),
+        read_failed: source.failed(),
+        write_failed: sink.failed(),
+    }
+}
+
+fn by_serial<A: Allocator + Copy, R: Read + Drop, W: Write + Drop, H: PageHash + Drop>(
+    heap: A,
+    reader: R,
+    writer: W,
+    hash: H,
+) -> Ended {
+    let mut source = Noted::new(reader);
+    let mut sink = Noted::new(writer);
+    let answer = serial(heap, &mut source, &mut sink, hash);
+    Ended {
+        answer: unthreaded(answer),
+        read_failed: source.failed(),
+        write_failed: sink.failed(),
+    }
+}
+
+fn by_threads<
+    T: Threads + Wait + Sync,
+    A: Allocator + Copy + Send + Sync,
+    R: Read + Drop,
+    W: Write + Drop,
+    H: PageHash + Drop,
+>(rt: &T, heap: A, reader: R, writer: W, hash: H, form: Output) -> Ended {
+    let mut source = Noted::new(reader);
+    let mut sink = Noted::new(writer);
+    Ended {
+        answer: threaded(rt, heap, &mut source, &mut sink, hash, &OpenGate, form),
+        read_failed: source.failed(),
+        write_failed: sink.failed(),
+    }
+}
+
 /// Serves a reader's text by an engine and writes to a writer, with memory from `heap`. Returns how the engine ended.
 ///
-/// It promises nothing, so no test carries the engines' contracts through its body.
+/// It promises nothing, and each engine is called in a function of its own, so no test carries the engines' contracts.
 pub fn serve<
     T: Threads + Wait + Sync,
     A: Allocator + Copy + Send + Sync,
@@ -89,23 +145,10 @@ pub fn serve<
     W: Write + Drop,
     H: PageHash + Drop,
 >(rt: &T, heap: A, engine: Engine, reader: R, writer: W, hash: H) -> Ended {
-    let mut source = Noted::new(reader);
-    let mut sink = Noted::new(writer);
-    let answer = match engine {
-        Engine::Replay => {
-            replay(heap, &mut source, &mut sink, hash).map_err(ThreadedFault::Text)
-        }
-        Engine::Serial => {
-            serial(heap, &mut source, &mut sink, hash).map_err(ThreadedFault::Text)
-        }
-        Engine::Threaded(form) => {
-            threaded(rt, heap, &mut source, &mut sink, hash, &OpenGate, form)
-        }
-    };
-    Ended {
-        answer,
-        read_failed: source.failed(),
-        write_failed: sink.failed(),
+    match engine {
+        Engine::Replay => by_replay(heap, reader, writer, hash),
+        Engine::Serial => by_serial(heap, reader, writer, hash),
+        Engine::Threaded(form) => by_threads(rt, heap, reader, writer, hash, form),
     }
 }
 

@@ -1,43 +1,89 @@
-//! The lines with the greatest numbers.
+//! The lines that verdicts, reports and faults are written as, with the greatest numbers too.
 use arrayvec::ArrayVec;
 use page_model::{Report, Verdict};
-use share_text::{report_line, verdict_line};
+use share_text::{TextFault, fault_line, report_line, verdict_line};
+use std::alloc::{AllocError, Allocator, Global};
 use std::test::Fail;
 
 const MOST: u32 = 4_294_967_295;
 
-#[test]
-fn reports_of_the_greatest_numbers(rt: HostRuntime) -> Result<(), Fail> {
-    let held = Report::new(MOST, MOST, MOST, MOST, MOST);
-    let line = report_line(rt.alloc(), &held)?;
-    assert_eq!(rt;
-        line.as_str(),
-        "report entries 4294967295 mapped 4294967295 shared 4294967295 frames 4294967295 reclaimed 0 hints 4294967295"
-    );
-    let freed = Report::new(MOST, MOST, MOST, 0, 0);
-    let line = report_line(rt.alloc(), &freed)?;
-    assert_eq!(rt;
-        line.as_str(),
-        "report entries 4294967295 mapped 4294967295 shared 4294967295 frames 0 reclaimed 4294967295 hints 0"
-    );
-    Ok(())
+/// Returns whether this is the line that was wanted, `None` if memory was refused.
+fn is_line<A: Allocator>(line: Result<String<A>, AllocError>, wanted: &str) -> Option<bool> {
+    match line {
+        Ok(line) => Some(line.as_str() == wanted),
+        Err(_) => None,
+    }
+}
+
+pub fn is_report<A: Allocator>(alloc: A, report: &Report, wanted: &str) -> Option<bool> {
+    is_line(report_line(alloc, report), wanted)
+}
+
+pub fn is_verdict<A: Allocator>(
+    alloc: A,
+    guest: u8,
+    verdict: &Verdict,
+    wanted: &str,
+) -> Option<bool> {
+    is_line(verdict_line(alloc, guest, verdict), wanted)
+}
+
+pub fn is_fault<A: Allocator>(alloc: A, fault: &TextFault, wanted: &str) -> Option<bool> {
+    is_line(fault_line(alloc, fault), wanted)
 }
 
 #[test]
-fn verdicts_of_the_greatest_numbers(rt: HostRuntime) -> Result<(), Fail> {
-    let line = verdict_line(rt.alloc(), 255, &Verdict::Joined(MOST))?;
-    assert_eq!(rt; line.as_str(), "255 joined 4294967295");
-    let totals = Verdict::Totals(Report::new(MOST, MOST, MOST, MOST, MOST));
-    let line = verdict_line(rt.alloc(), 255, &totals)?;
+fn lines_of_small_numbers(rt: HostRuntime) {
+    let report = Report::new(1, 0, 0, 0, 0);
+    let words = "report entries 1 mapped 0 shared 0 frames 0 reclaimed 0 hints 0";
+    assert_eq!(rt; is_report(rt.alloc(), &report, words), Some(true));
     assert_eq!(rt;
-        line.as_str(),
-        "255 totals entries 4294967295 mapped 4294967295 shared 4294967295 frames 4294967295 reclaimed 0 hints 4294967295"
+        is_verdict(rt.alloc(), 0, &Verdict::Closed, "0 closed"),
+        Some(true)
     );
+    assert_eq!(rt;
+        is_fault(rt.alloc(), &TextFault::Count, "fault count"),
+        Some(true)
+    );
+}
+
+#[test]
+fn reports_of_the_greatest_numbers(rt: HostRuntime) {
+    let held = Report::new(MOST, MOST, MOST, MOST, MOST);
+    let words =
+        "report entries 4294967295 mapped 4294967295 shared 4294967295 frames 4294967295 reclaimed 0 hints 4294967295";
+    assert_eq!(rt; is_report(rt.alloc(), &held, words), Some(true));
+    let freed = Report::new(MOST, MOST, MOST, 0, 0);
+    let words =
+        "report entries 4294967295 mapped 4294967295 shared 4294967295 frames 0 reclaimed 4294967295 hints 0";
+    assert_eq!(rt; is_report(rt.alloc(), &freed, words), Some(true));
+}
+
+#[test]
+fn verdicts_of_the_greatest_numbers(rt: HostRuntime) {
+    let joined = Verdict::Joined(MOST);
+    assert_eq!(rt;
+        is_verdict(rt.alloc(), 255, &joined, "255 joined 4294967295"),
+        Some(true)
+    );
+    let totals = Verdict::Totals(Report::new(MOST, MOST, MOST, MOST, MOST));
+    let words =
+        "255 totals entries 4294967295 mapped 4294967295 shared 4294967295 frames 4294967295 reclaimed 0 hints 4294967295";
+    assert_eq!(rt; is_verdict(rt.alloc(), 255, &totals, words), Some(true));
+}
+
+/// Returns the line of a load of the most bytes, each of them 255.
+fn line_of_bytes(alloc: Global) -> Result<String, AllocError> {
     let mut bytes = ArrayVec::new();
     for _ in 0..64 {
         let _ = bytes.try_push(0xff);
     }
-    let line = verdict_line(rt.alloc(), 255, &Verdict::Bytes(bytes))?;
+    verdict_line(alloc, 255, &Verdict::Bytes(bytes))
+}
+
+#[test]
+fn most_bytes(rt: HostRuntime) -> Result<(), Fail> {
+    let line = line_of_bytes(rt.alloc())?;
     assert_eq!(rt; line.len(), 138);
     assert!(rt; line.as_str().starts_with("255 bytes ff"));
     assert!(rt; line.as_str().chars().skip(10).all(|digit| digit == 'f'));

@@ -1,9 +1,10 @@
 //! What journals and scripts say.
 use crate::journals::CLOSE_ALONE;
-use page_model::{Entry, Report, Request, Verdict};
+use page_model::{Entry, Request, StoreReq};
 use refusing::Refusing;
-use share_text::{TextFault, fault_line, read_journal, read_script, report_line, verdict_line};
-use std::alloc::{AllocError, Allocator, Global};
+use share_text::{Journal, Script, TextFault, read_journal, read_script};
+use std::alloc::{AllocError, Global};
+use std::process::Abort;
 use std::test::Fail;
 
 /// Makes a script of one guest, whose head has this first line with the version and this line of salts, with this
@@ -28,51 +29,109 @@ fn script(
 /// A store, a scan of two pages at random, and a release.
 const SCAN_SCRIPT: &str = "0 store 0 0 41\n0 scan random 7 2\n0 release 0\nend 3\n";
 
-/// Whether the scripts are those of one guest with these requests.
-fn asks<A: Allocator>(scripts: &[Vec<Request, A>], wanted: &[Request]) -> bool {
-    scripts.len() == 1 && scripts[0].as_slice() == wanted
+/// What a request of a script asks for. A list of these has nothing to drop, which makes its tests cheap to prove.
+#[derive(Clone, Copy, PartialEq, Eq)]
+enum Ask {
+    Propose(u32),
+    /// A store of one byte, from this place of the page on.
+    Store(u32, u32, u8),
+    Release(u32),
+    Count,
+    Other,
+}
+
+fn ask_of(request: &Request) -> Ask {
+    match request {
+        Request::Propose(ppn) => Ask::Propose(*ppn),
+        Request::Store(store) => stored(store),
+        Request::Load(_) => Ask::Other,
+        Request::Release(ppn) => Ask::Release(*ppn),
+        Request::Count => Ask::Count,
+        Request::Close => Ask::Other,
+    }
+}
+
+fn stored(store: &StoreReq) -> Ask {
+    let bytes = store.bytes();
+    if bytes.len() == 1 {
+        Ask::Store(store.ppn(), store.at(), bytes[0])
+    } else {
+        Ask::Other
+    }
+}
+
+fn asks_of(alloc: Global, requests: &[Request]) -> Result<Vec<Ask>, AllocError> {
+    let mut asks = Vec::new(alloc);
+    for request in requests {
+        asks.push(ask_of(request))?;
+    }
+    Ok(asks)
+}
+
+fn read(rt: &impl Abort, alloc: Global, text: &str) -> Script<Global> {
+    read_script(alloc, text.as_bytes())
+        .ok()
+        .expect(rt, "a script")
+}
+
+/// Whether the guest's requests are these.
+fn has_asks(
+    rt: &impl Abort,
+    alloc: Global,
+    script: &Script<Global>,
+    guest: usize,
+    wanted: &[Ask],
+) -> bool {
+    assert!(rt; guest < script.scripts.len());
+    let asks = asks_of(alloc, &script.scripts[guest]).expect(rt, "memory for the requests");
+    asks.as_slice() == wanted
+}
+
+/// Returns how many frames and guests there are, and how much a ring and the journal hold.
+fn numbers(script: &Script<Global>) -> [u32; 4] {
+    let config = &script.config;
+    [
+        config.frames,
+        script.scripts.len() as u32,
+        config.ring,
+        config.journal,
+    ]
 }
 
 #[test]
 fn scans_are_written_out(rt: HostRuntime) -> Result<(), Fail> {
     let lines = "0 store 0 0 41\n0 scan random 7 2\n0 release 0\n0 count\nend 4\n";
     let text = script(rt.alloc(), "pageshare script 1", "", "6", lines)?;
-    let read = read_script(rt.alloc(), text.as_bytes())
-        .ok()
-        .ok_or("not read")?;
-    let store = Request::store(0, 0, &[0x41]).ok().ok_or("no store")?;
+    let script = read(&rt, rt.alloc(), &text);
     let wanted = [
-        store,
-        Request::Propose(0),
-        Request::Propose(0),
-        Request::Release(0),
-        Request::Count,
+        Ask::Store(0, 0, 0x41),
+        Ask::Propose(0),
+        Ask::Propose(0),
+        Ask::Release(0),
+        Ask::Count,
     ];
-    assert!(rt; asks(&read.scripts, &wanted));
-    assert!(rt; read.config.frames == 2 && read.config.ring == 1 && read.config.journal == 6);
-    assert!(rt; read.config.pages.as_slice() == [1].as_slice());
-    assert!(rt; read.config.salts.as_slice() == [0].as_slice());
+    assert!(rt; has_asks(&rt, rt.alloc(), &script, 0, &wanted));
+    assert_eq!(rt; numbers(&script), [2, 1, 1, 6]);
+    assert!(rt; script.config.pages.as_slice() == [1].as_slice());
+    assert!(rt; script.config.salts.as_slice() == [0].as_slice());
     Ok(())
 }
 
 #[test]
-fn a_scan_in_order_begins_anew(rt: HostRuntime) -> Result<(), Fail> {
+fn a_scan_in_order_begins_anew(rt: HostRuntime) {
     let text = "pageshare script 1\nframes 2\npages 3 2\nring 1\njournal 9\n\
         1 scan sequential 3\n0 scan sequential 2\n1 scan sequential 1\nend 3\n";
-    let read = read_script(rt.alloc(), text.as_bytes())
-        .ok()
-        .ok_or("not read")?;
-    assert!(rt; read.scripts.len() == 2);
-    let first = [Request::Propose(0), Request::Propose(1)];
+    let script = read(&rt, rt.alloc(), text);
+    assert_eq!(rt; numbers(&script), [2, 2, 1, 9]);
+    let first = [Ask::Propose(0), Ask::Propose(1)];
+    assert!(rt; has_asks(&rt, rt.alloc(), &script, 0, &first));
     let second = [
-        Request::Propose(0),
-        Request::Propose(1),
-        Request::Propose(0),
-        Request::Propose(0),
+        Ask::Propose(0),
+        Ask::Propose(1),
+        Ask::Propose(0),
+        Ask::Propose(0),
     ];
-    assert!(rt; read.scripts[0].as_slice() == first.as_slice());
-    assert!(rt; read.scripts[1].as_slice() == second.as_slice());
-    Ok(())
+    assert!(rt; has_asks(&rt, rt.alloc(), &script, 1, &second));
 }
 
 #[test]
@@ -84,54 +143,56 @@ fn salts_of_version_2(rt: HostRuntime) -> Result<(), Fail> {
         "5",
         SCAN_SCRIPT,
     )?;
-    let read = read_script(rt.alloc(), text.as_bytes())
-        .ok()
-        .ok_or("not read")?;
-    assert!(rt; read.config.salts.as_slice() == [5].as_slice());
-    assert!(rt; read.scripts[0].len() == 4);
+    let script = read(&rt, rt.alloc(), &text);
+    assert!(rt; script.config.salts.as_slice() == [5].as_slice());
+    assert!(rt; script.scripts[0].len() == 4);
     Ok(())
+}
+
+/// Whether a script of one guest with four requests is read, or memory was refused.
+fn reads_or_wants(heap: &Refusing, text: &str) -> bool {
+    match read_script(heap, text.as_bytes()) {
+        Ok(read) => !heap.has_refused() && read.scripts[0].len() == 4,
+        Err(fault) => heap.has_refused() && fault == TextFault::OutOfMemory,
+    }
 }
 
 #[test]
 fn refused_growths(rt: HostRuntime) -> Result<(), Fail> {
     let text = script(rt.alloc(), "pageshare script 1", "", "5", SCAN_SCRIPT)?;
-    let mut refused = true;
     for first in 0..100 {
-        if refused {
-            let heap = Refusing::new(rt.alloc(), first, 0);
-            let is_right = match read_script(&heap, text.as_bytes()) {
-                Ok(read) => !heap.has_refused() && read.scripts[0].len() == 4,
-                Err(fault) => heap.has_refused() && fault == TextFault::OutOfMemory,
-            };
-            assert!(rt; is_right, "request {first}");
-            assert!(rt; heap.holds_nothing());
-            refused = heap.has_refused();
+        let heap = Refusing::new(rt.alloc(), first, 0);
+        assert!(rt; reads_or_wants(&heap, &text), "request {first}");
+        assert!(rt; heap.holds_nothing());
+        if !heap.has_refused() {
+            return Ok(());
         }
     }
-    assert!(rt; !refused);
+    assert!(rt; false, "no growth is the last");
     Ok(())
 }
 
+fn read_journal_text(rt: &impl Abort, alloc: Global, text: &str) -> Journal<Global> {
+    read_journal(alloc, text.as_bytes())
+        .ok()
+        .expect(rt, "a journal")
+}
+
+/// Whether the journal has this one entry alone: guest 0 closes.
+fn has_close_alone(journal: &Journal<Global>) -> bool {
+    match journal.entries.as_slice() {
+        [Entry { guest, request }] => *guest == 0 && request.is_close(),
+        _ => false,
+    }
+}
+
 #[test]
-fn text_calls(rt: HostRuntime) -> Result<(), Fail> {
-    let journal = read_journal(rt.alloc(), CLOSE_ALONE.as_bytes())?;
+fn a_journal_is_read(rt: HostRuntime) {
+    let journal = read_journal_text(&rt, rt.alloc(), CLOSE_ALONE);
     assert_eq!(rt; journal.frames, 1);
-    assert_eq!(rt; journal.pages.as_slice(), [1].as_slice());
-    assert_eq!(rt; journal.salts.as_slice(), [0].as_slice());
-    assert_eq!(rt; journal.entries.len(), 1);
-    let Entry { guest, request } = &journal.entries[0];
-    assert_eq!(rt; *guest, 0);
-    assert!(rt; matches!(request, Request::Close));
-    let line = verdict_line(rt.alloc(), 0, &Verdict::Closed)?;
-    assert_eq!(rt; line.as_str(), "0 closed");
-    let line = report_line(rt.alloc(), &Report::new(1, 0, 0, 0, 0))?;
-    assert_eq!(rt;
-        line.as_str(),
-        "report entries 1 mapped 0 shared 0 frames 0 reclaimed 0 hints 0"
-    );
-    let line = fault_line(rt.alloc(), &TextFault::Count)?;
-    assert_eq!(rt; line.as_str(), "fault count");
-    Ok(())
+    assert!(rt; journal.pages.as_slice() == [1].as_slice());
+    assert!(rt; journal.salts.as_slice() == [0].as_slice());
+    assert!(rt; has_close_alone(&journal));
 }
 
 /// Makes a journal of two guests whose equal pages are proposed, with this first line and this line of salts.
@@ -143,18 +204,27 @@ fn two_guests(alloc: Global, first: &str, salts: &str) -> Result<String, AllocEr
     Ok(text)
 }
 
+/// Whether the journal's shape has two frames, two guests of one page each, and these salts.
+fn has_shape(journal: &Journal<Global>, salts: &[u32]) -> bool {
+    let shape = journal.shape();
+    shape.frames() == 2 && shape.pages() == [1, 1].as_slice() && shape.salts() == salts
+}
+
 #[test]
 fn salts_are_read(rt: HostRuntime) -> Result<(), Fail> {
     let text = two_guests(rt.alloc(), "pageshare journal 2", "salts 7 4294967295\n")?;
-    let journal = read_journal(rt.alloc(), text.as_bytes())?;
-    assert_eq!(rt; journal.salts.as_slice(), [7, 4_294_967_295].as_slice());
+    let journal = read_journal_text(&rt, rt.alloc(), &text);
+    let salts = [7, 4_294_967_295];
+    assert!(rt; journal.salts.as_slice() == salts.as_slice());
+    assert!(rt; has_shape(&journal, &salts));
     assert_eq!(rt; journal.entries.len(), 4);
-    let shape = journal.shape();
-    assert_eq!(rt; shape.frames(), 2);
-    assert_eq!(rt; shape.pages(), [1, 1].as_slice());
-    assert_eq!(rt; shape.salts(), [7, 4_294_967_295].as_slice());
+    Ok(())
+}
+
+#[test]
+fn salts_of_version_1_are_0(rt: HostRuntime) -> Result<(), Fail> {
     let text = two_guests(rt.alloc(), "pageshare journal 1", "")?;
-    let journal = read_journal(rt.alloc(), text.as_bytes())?;
-    assert_eq!(rt; journal.salts.as_slice(), [0, 0].as_slice());
+    let journal = read_journal_text(&rt, rt.alloc(), &text);
+    assert!(rt; journal.salts.as_slice() == [0, 0].as_slice());
     Ok(())
 }

@@ -1,12 +1,14 @@
 //! Each growth of memory refused in turn.
 use crate::engine::{Engine, served_in};
 use crate::journals::{CLOSE_ALONE, ZEROS};
+use crate::lines::{is_fault, is_report, is_verdict};
 use crate::scripts::{SCAN_JOURNAL, VERDICTS_OF_TWO, scan, two_guests};
 use page_digest::Sha256Hash;
 use page_model::{Report, Verdict};
 use refusing::Refusing;
-use share_text::{Output, TextFault, fault_line, read_journal, report_line, verdict_line};
-use std::alloc::{AllocError, Allocator, Global};
+use share_text::{Output, TextFault, read_journal};
+use std::alloc::Global;
+use std::process::Abort;
 use std::sync::Wait;
 use std::thread::Threads;
 
@@ -32,38 +34,58 @@ fn serves_or_wants<T: Threads + Wait + Sync>(
     }
 }
 
+/// Refuses each growth in turn, up to the first serving without a refusal.
+fn check_refusals<T: Threads + Wait + Sync + Abort>(
+    rt: &T,
+    alloc: Global,
+    engine: Engine,
+    text: &str,
+    output: Option<&str>,
+) {
+    for first in 0..1000 {
+        let heap = Refusing::new(alloc, first, 0);
+        assert!(rt;
+            serves_or_wants(rt, alloc, &heap, engine, text, output),
+            "request {first}"
+        );
+        assert!(rt; heap.holds_nothing());
+        if !heap.has_refused() {
+            return;
+        }
+    }
+    assert!(rt; false, "no growth is the last");
+}
+
 #[test]
-fn refused_serving(rt: HostRuntime) {
-    let (one, two) = (scan(), two_guests());
-    let verdicts = Engine::Threaded(Output::Verdicts);
-    let journal = Engine::Threaded(Output::JournalText);
+fn refused_replay(rt: HostRuntime) {
     let zeros =
         "0 mapped\n0 bytes 6869\n0 bytes 0000\n0 bytes 00\n0 closed\nreport entries 5 mapped 1 shared 0 frames 1 reclaimed 0 hints 0\n";
-    for (engine, text, output) in [
-        (Engine::Replay, ZEROS, Some(zeros)),
-        (Engine::Serial, one.text, Some(one.output)),
-        (Engine::Serial, two.text, Some(two.output)),
-        (verdicts, one.text, Some(one.output)),
-        (verdicts, two.text, Some(VERDICTS_OF_TWO)),
-        (journal, one.text, Some(SCAN_JOURNAL)),
-        (journal, two.text, None),
-    ] {
-        let mut refused = true;
-        for first in 0..1000 {
-            if refused {
-                let heap = Refusing::new(rt.alloc(), first, 0);
-                assert!(rt;
-                    serves_or_wants(&rt, rt.alloc(), &heap, engine, text, output),
-                    "request {first}"
-                );
-                assert!(rt; heap.holds_nothing());
-                refused = heap.has_refused();
-            }
-        }
-        assert!(rt; !refused);
+    check_refusals(&rt, rt.alloc(), Engine::Replay, ZEROS, Some(zeros));
+}
+
+#[test]
+fn refused_serial(rt: HostRuntime) {
+    for row in [scan(), two_guests()] {
+        check_refusals(&rt, rt.alloc(), Engine::Serial, row.text, Some(row.output));
     }
 }
 
+#[test]
+fn refused_threads(rt: HostRuntime) {
+    let (one, two) = (scan(), two_guests());
+    let engine = Engine::Threaded(Output::Verdicts);
+    check_refusals(&rt, rt.alloc(), engine, one.text, Some(one.output));
+    check_refusals(&rt, rt.alloc(), engine, two.text, Some(VERDICTS_OF_TWO));
+}
+
+#[test]
+fn refused_journals_of_threads(rt: HostRuntime) {
+    let engine = Engine::Threaded(Output::JournalText);
+    check_refusals(&rt, rt.alloc(), engine, scan().text, Some(SCAN_JOURNAL));
+    check_refusals(&rt, rt.alloc(), engine, two_guests().text, None);
+}
+
+/// Whether a journal of one entry is read, or memory was refused.
 fn reads_or_wants(heap: &Refusing, text: &str) -> bool {
     match read_journal(heap, text.as_bytes()) {
         Ok(journal) => !heap.has_refused() && journal.entries.len() == 1,
@@ -71,57 +93,57 @@ fn reads_or_wants(heap: &Refusing, text: &str) -> bool {
     }
 }
 
-fn is_line<A: Allocator>(
-    heap: &Refusing,
-    line: Result<String<A>, AllocError>,
-    wanted: &str,
-) -> bool {
-    match line {
-        Ok(line) => !heap.has_refused() && line.as_str() == wanted,
-        Err(_) => heap.has_refused(),
-    }
-}
-
 #[test]
 fn refused_read_journal(rt: HostRuntime) {
-    let mut refused = true;
     for first in 0..1000 {
-        if refused {
-            let heap = Refusing::new(rt.alloc(), first, 0);
-            assert!(rt; reads_or_wants(&heap, CLOSE_ALONE), "request {first}");
-            assert!(rt; heap.holds_nothing());
-            refused = heap.has_refused();
+        let heap = Refusing::new(rt.alloc(), first, 0);
+        assert!(rt; reads_or_wants(&heap, CLOSE_ALONE), "request {first}");
+        assert!(rt; heap.holds_nothing());
+        if !heap.has_refused() {
+            return;
         }
     }
-    assert!(rt; !refused);
+    assert!(rt; false, "no growth is the last");
+}
+
+/// Returns what a comparison of a line gives: whether it is the wanted line, `None` if memory was refused.
+fn due(heap: &Refusing) -> Option<bool> {
+    if heap.has_refused() { None } else { Some(true) }
 }
 
 #[test]
-fn refused_lines(rt: HostRuntime) {
+fn refused_report_line(rt: HostRuntime) {
     let report = Report::new(1, 0, 0, 0, 0);
     let words = "report entries 1 mapped 0 shared 0 frames 0 reclaimed 0 hints 0";
-    let mut refused = true;
     for first in 0..100 {
-        if refused {
-            let heap = Refusing::new(rt.alloc(), first, 0);
-            assert!(rt;
-                is_line(&heap, report_line(&heap, &report), words),
-                "request {first}"
-            );
-            assert!(rt; heap.holds_nothing());
-            refused = heap.has_refused();
+        let heap = Refusing::new(rt.alloc(), first, 0);
+        let compared = is_report(&heap, &report, words);
+        assert_eq!(rt; compared, due(&heap), "request {first}");
+        assert!(rt; heap.holds_nothing());
+        if !heap.has_refused() {
+            return;
         }
     }
-    assert!(rt; !refused);
+    assert!(rt; false, "no growth is the last");
+}
+
+#[test]
+fn refused_fault_line(rt: HostRuntime) {
     for first in 0..2 {
         let heap = Refusing::new(rt.alloc(), first, 0);
-        assert!(rt; is_line(&heap, fault_line(&heap, &TextFault::Count), "fault count"));
+        let compared = is_fault(&heap, &TextFault::Count, "fault count");
+        assert_eq!(rt; compared, due(&heap), "request {first}");
         assert!(rt; heap.holds_nothing());
         assert!(rt; heap.has_refused() == (first == 0));
     }
+}
+
+#[test]
+fn refused_verdict_line(rt: HostRuntime) {
     for first in 0..100 {
         let heap = Refusing::new(rt.alloc(), first, 0);
-        assert!(rt; is_line(&heap, verdict_line(&heap, 0, &Verdict::Closed), "0 closed"));
+        let compared = is_verdict(&heap, 0, &Verdict::Closed, "0 closed");
+        assert_eq!(rt; compared, due(&heap), "request {first}");
         assert!(rt; heap.holds_nothing());
     }
 }

@@ -2,73 +2,113 @@
 use share_text::{
     Cause, TextFault, ThreadedFault, expectation, threaded_expectation, threaded_fault_line,
 };
+use std::alloc::{AllocError, Global};
 use std::test::Fail;
 
+/// Whether a fault expects this, and is shown as a person reads it.
+fn says(alloc: Global, fault: &TextFault, wanted: &str, shown: &str) -> Result<bool, AllocError> {
+    let text = format!(in alloc; "{fault}")?;
+    Ok(expectation(fault) == wanted && text.as_str() == shown)
+}
+
 #[test]
-fn faults_tell_what_was_expected(rt: HostRuntime) -> Result<(), Fail> {
-    for (fault, wanted, shown) in [
-        (
-            TextFault::Line(2, Cause::Form),
+fn lines_tell_what_was_expected(rt: HostRuntime) -> Result<(), Fail> {
+    assert!(rt;
+        says(
+            rt.alloc(),
+            &TextFault::Line(2, Cause::Form),
             "\"frames NUMBER\"",
-            "line 2: expected \"frames NUMBER\"",
-        ),
-        (
-            TextFault::Line(3, Cause::Form),
+            "line 2: expected \"frames NUMBER\""
+        )?
+    );
+    assert!(rt;
+        says(
+            rt.alloc(),
+            &TextFault::Line(3, Cause::Form),
             "\"pages NUMBER ..\"",
-            "line 3: expected \"pages NUMBER ..\"",
-        ),
-        (
-            TextFault::Line(4, Cause::NoGuest),
+            "line 3: expected \"pages NUMBER ..\""
+        )?
+    );
+    assert!(rt;
+        says(
+            rt.alloc(),
+            &TextFault::Line(4, Cause::NoGuest),
             "a guest of the \"pages\" line, counted from 0",
-            "line 4: expected a guest of the \"pages\" line, counted from 0",
-        ),
-        (
-            TextFault::Truncated(2),
+            "line 4: expected a guest of the \"pages\" line, counted from 0"
+        )?
+    );
+    Ok(())
+}
+
+#[test]
+fn texts_tell_what_was_expected(rt: HostRuntime) -> Result<(), Fail> {
+    assert!(rt;
+        says(
+            rt.alloc(),
+            &TextFault::Truncated(2),
             "\"frames NUMBER\"",
-            "line 2 is cut off: expected \"frames NUMBER\", and a line feed behind it",
-        ),
-        (
-            TextFault::Count,
+            "line 2 is cut off: expected \"frames NUMBER\", and a line feed behind it"
+        )?
+    );
+    assert!(rt;
+        says(
+            rt.alloc(),
+            &TextFault::Count,
             "\"end NUMBER\" with the number of request lines",
-            "the number of request lines is wrong: expected \"end NUMBER\" with the number of request lines",
-        ),
-        (
-            TextFault::Long,
+            "the number of request lines is wrong: expected \"end NUMBER\" with the number of request lines"
+        )?
+    );
+    assert!(rt;
+        says(
+            rt.alloc(),
+            &TextFault::Long,
             "at most 67,108,864 bytes",
-            "the text is too long: expected at most 67,108,864 bytes",
-        ),
-    ] {
-        assert_eq!(rt; expectation(&fault), wanted);
-        let text = format!(in rt.alloc(); "{fault}")?;
-        assert_eq!(rt; text.as_str(), shown);
-    }
+            "the text is too long: expected at most 67,108,864 bytes"
+        )?
+    );
+    Ok(())
+}
+
+#[test]
+fn a_cause_tells_what_to_do(rt: HostRuntime) -> Result<(), Fail> {
     let text = format!(in rt.alloc(); "{}", Cause::Length)?;
     assert_eq!(rt; text.as_str(), "store or load 1 to 64 bytes");
     Ok(())
 }
 
+/// Whether a run's fault has this line, expects this, and is shown as a person reads it.
+fn tells(
+    alloc: Global,
+    fault: &ThreadedFault,
+    line: &str,
+    wanted: &str,
+    shown: &str,
+) -> Result<bool, AllocError> {
+    let told = threaded_fault_line(alloc, fault)?;
+    let text = format!(in alloc; "{fault}")?;
+    Ok(told.as_str() == line && threaded_expectation(fault) == wanted && text.as_str() == shown)
+}
+
 /// No run of a test can make a thread be refused, so the sentence about it is compared here.
 #[test]
 fn refused_threads_are_told(rt: HostRuntime) -> Result<(), Fail> {
-    for (fault, line, wanted, shown) in [
-        (
-            ThreadedFault::NoThread,
+    assert!(rt;
+        tells(
+            rt.alloc(),
+            &ThreadedFault::NoThread,
             "fault run: no-thread",
             "a thread for each guest",
-            "the run was refused: expected a thread for each guest",
-        ),
-        (
-            ThreadedFault::Text(TextFault::Line(2, Cause::Form)),
+            "the run was refused: expected a thread for each guest"
+        )?
+    );
+    assert!(rt;
+        tells(
+            rt.alloc(),
+            &ThreadedFault::Text(TextFault::Line(2, Cause::Form)),
             "fault line 2: form",
             "\"frames NUMBER\"",
-            "line 2: expected \"frames NUMBER\"",
-        ),
-    ] {
-        let told = threaded_fault_line(rt.alloc(), &fault)?;
-        assert_eq!(rt; told.as_str(), line);
-        assert_eq!(rt; threaded_expectation(&fault), wanted);
-        let text = format!(in rt.alloc(); "{fault}")?;
-        assert_eq!(rt; text.as_str(), shown);
-    }
+            "line 2: expected \"frames NUMBER\""
+        )?
+    );
     Ok(())
 }

@@ -28,18 +28,22 @@ fn is_written_as(alloc: Global, text: &[u8], wanted: &str) -> bool {
 }
 
 #[test]
-fn texts_are_written_as_they_were_read(rt: HostRuntime) -> Result<(), Fail> {
-    let alloc = rt.alloc();
+fn short_texts_are_written_as_they_were_read(rt: HostRuntime) {
     let close = "pageshare journal 1\nframes 1\npages 1\n0 close\nend 1\n";
-    assert!(rt; is_written_as(alloc, close.as_bytes(), close));
+    assert!(rt; is_written_as(rt.alloc(), close.as_bytes(), close));
     let none = "pageshare journal 1\nframes 1\npages 1\nend 0\n";
-    assert!(rt; is_written_as(alloc, none.as_bytes(), none));
-    let first = requests(alloc, "pageshare journal 1", "")?;
-    assert!(rt; is_written_as(alloc, first.as_bytes(), &first));
-    let second = requests(alloc, "pageshare journal 2", "salts 0 4294967295\n")?;
-    assert!(rt; is_written_as(alloc, second.as_bytes(), &second));
-    let zeros = requests(alloc, "pageshare journal 2", "salts 0 0\n")?;
-    assert!(rt; is_written_as(alloc, zeros.as_bytes(), &first));
+    assert!(rt; is_written_as(rt.alloc(), none.as_bytes(), none));
+}
+
+/// Salts that are all 0 are written as none, in version 1.
+#[test]
+fn texts_are_written_as_they_were_read(rt: HostRuntime) -> Result<(), Fail> {
+    let first = requests(rt.alloc(), "pageshare journal 1", "")?;
+    assert!(rt; is_written_as(rt.alloc(), first.as_bytes(), &first));
+    let second = requests(rt.alloc(), "pageshare journal 2", "salts 0 4294967295\n")?;
+    assert!(rt; is_written_as(rt.alloc(), second.as_bytes(), &second));
+    let zeros = requests(rt.alloc(), "pageshare journal 2", "salts 0 0\n")?;
+    assert!(rt; is_written_as(rt.alloc(), zeros.as_bytes(), &first));
     Ok(())
 }
 
@@ -57,15 +61,14 @@ fn writes_or_wants(heap: &Refusing, text: &str) -> bool {
 #[test]
 fn refused_growths(rt: HostRuntime) -> Result<(), Fail> {
     let text = requests(rt.alloc(), "pageshare journal 2", "salts 1 2\n")?;
-    let mut refused = true;
     for first in 0..200 {
-        if refused {
-            let heap = Refusing::new(rt.alloc(), first, 0);
-            assert!(rt; writes_or_wants(&heap, &text), "request {first}");
-            assert!(rt; heap.holds_nothing());
-            refused = heap.has_refused();
+        let heap = Refusing::new(rt.alloc(), first, 0);
+        assert!(rt; writes_or_wants(&heap, &text), "request {first}");
+        assert!(rt; heap.holds_nothing());
+        if !heap.has_refused() {
+            return Ok(());
         }
     }
-    assert!(rt; !refused);
+    assert!(rt; false, "no growth is the last");
     Ok(())
 }
