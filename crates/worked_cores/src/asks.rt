@@ -7,6 +7,7 @@ use page_digest::PageHash;
 use page_model::{Request, Verdict};
 use std::alloc::{Allocator, Global};
 use std::process::Abort;
+use worked_answers::{Answer, answer_of};
 
 /// What a guest requests. A store begins at the page's first byte.
 #[derive(Clone, Copy)]
@@ -16,53 +17,6 @@ pub enum Ask {
     Propose(u32),
     Release(u32),
     Count,
-}
-
-/// A verdict without what only loads and counts get. A list of these has nothing to drop, which makes its tests cheap to
-/// prove.
-#[derive(Clone, Copy, PartialEq, Eq)]
-pub enum Answer {
-    NoPage,
-    Unmapped,
-    Already,
-    Joined(u32),
-    Paired,
-    Hinted,
-    Kept,
-    Replaced,
-    Ineligible,
-    Mapped,
-    Stored,
-    Copied,
-    Taken,
-    NoFrame,
-    Bytes,
-    Released(bool),
-    Totals,
-    Closed,
-}
-
-pub fn answer_of(verdict: &Verdict) -> Answer {
-    match verdict {
-        Verdict::NoPage => Answer::NoPage,
-        Verdict::Unmapped => Answer::Unmapped,
-        Verdict::Already => Answer::Already,
-        Verdict::Joined(pages) => Answer::Joined(*pages),
-        Verdict::Paired => Answer::Paired,
-        Verdict::Hinted => Answer::Hinted,
-        Verdict::Kept => Answer::Kept,
-        Verdict::Replaced => Answer::Replaced,
-        Verdict::Ineligible => Answer::Ineligible,
-        Verdict::Mapped => Answer::Mapped,
-        Verdict::Stored => Answer::Stored,
-        Verdict::Copied => Answer::Copied,
-        Verdict::Taken => Answer::Taken,
-        Verdict::NoFrame => Answer::NoFrame,
-        Verdict::Bytes(_) => Answer::Bytes,
-        Verdict::Released(is_free) => Answer::Released(*is_free),
-        Verdict::Totals(_) => Answer::Totals,
-        Verdict::Closed => Answer::Closed,
-    }
 }
 
 /// The guest, what it requests, and the expected answer.
@@ -98,15 +52,7 @@ pub fn serve<H: PageHash, A: Allocator>(rt: &impl Abort, core: &mut Core<H, A>, 
 
 /// Returns the report's numbers: entries, mapped, shared, frames, reclaimed, hints.
 pub fn numbers<H: PageHash, A: Allocator>(core: &Core<H, A>) -> [u32; 6] {
-    let report = core.report();
-    [
-        report.entries(),
-        report.mapped(),
-        report.shared(),
-        report.frames(),
-        report.reclaimed(),
-        report.hints(),
-    ]
+    worked_answers::numbers(&core.report())
 }
 
 /// Makes a core whose salts are all 0.

@@ -4,7 +4,7 @@ ghost use Rattle.page_digest.specs.Hashes.{sha256_hash};
 ghost use Rattle.merge_core.specs.Hashing.{page_hash};
 ghost use Rattle.merge_core.specs.Shown.{state_of};
 
-use crate::asks::{Answer, Ask, answer_of, core_of, first_pages, numbers, serve, store_each};
+use crate::asks::{Ask, core_of, first_pages, numbers, serve, store_each};
 use merge_core::Core;
 use page_digest::{HashFault, Sha256Hash};
 use page_model::Request;
@@ -13,6 +13,7 @@ use std::alloc::{Allocator, Global};
 use std::process::Abort;
 use std::sync::Wait;
 use std::thread::Threads;
+use worked_answers::{Answer, answer_of};
 
 // From sha256sum: of the page that begins with 0x41.
 const LETTER: u64 = 0x9aab_2ec0_0da3_0c5d;

@@ -1,10 +1,11 @@
 //! The count of requests, and the last page of a shared frame.
-use crate::asks::{Answer, Ask, core_of, numbers, serve, share_three, told};
+use crate::asks::{Ask, core_of, numbers, serve, share_three, told};
 use merge_core::Core;
 use page_digest::Sha256Hash;
 use page_model::Verdict;
 use std::alloc::Global;
 use std::process::Abort;
+use worked_answers::Answer;
 
 /// Returns the count and the report of a machine in which three pages share a frame; then those of the same machine
 /// once its count begins anew; and the report after a store.

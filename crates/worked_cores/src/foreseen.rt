@@ -1,11 +1,12 @@
 //! Pages that are hashed together with a proposed one, as the requests in sight will leave them.
-use crate::asks::{Answer, Ask, Line, answer_of, core_of, request_of, store_all};
+use crate::asks::{Ask, Line, core_of, request_of, store_all};
 use crate::hashes::{Calls, Fours};
 use merge_core::Core;
 use page_digest::PageHash;
 use page_model::Entry;
 use std::alloc::{Allocator, Global};
 use std::process::Abort;
+use worked_answers::{Answer, answer_of};
 
 /// Returns the requests of these lines.
 fn entries_of(rt: &impl Abort, alloc: Global, lines: &[Line]) -> Vec<Entry> {

@@ -1,9 +1,10 @@
 //! Which frame each page has, before and after requests.
-use crate::asks::{Answer, Ask, Line, SHARE_THREE, core_of, frame, numbers, serve};
+use crate::asks::{Ask, Line, SHARE_THREE, core_of, frame, numbers, serve};
 use merge_core::Core;
 use page_digest::Sha256Hash;
 use std::alloc::Global;
 use std::process::Abort;
+use worked_answers::Answer;
 
 /// What is seen of a machine of two guests. The second has few pages.
 #[derive(Clone, Copy)]

@@ -1,12 +1,13 @@
 //! How often pages are hashed.
 ghost use Rattle.std.specs.Prelude.{slice_index};
 
-use crate::asks::{Answer, Ask, Line, core_of, first_pages, serve, share_three, store_each};
+use crate::asks::{Ask, Line, core_of, first_pages, serve, share_three, store_each};
 use page_digest::PageHash;
 use page_model::{HashFunction, Page};
 use std::alloc::Global;
 use std::process::Abort;
 use std::sync::atomic::{AtomicU32, Ordering};
+use worked_answers::Answer;
 
 /// Hashes to the first byte, and counts its calls.
 #[derive(Drop)]

@@ -1,11 +1,12 @@
 //! Which machines can be made, and the largest ones.
-use crate::asks::{Answer, Ask, Line, core_of, frame, numbers, serve, store_all};
+use crate::asks::{Ask, Line, core_of, frame, numbers, serve, store_all};
 use merge_core::{Core, CoreFault};
 use page_digest::FirstByteHash;
 use page_model::{MAX_FRAMES, MAX_GUESTS, MAX_PAGES, MachineShape};
 use std::alloc::Global;
 use std::process::Abort;
 use std::test::Fail;
+use worked_answers::Answer;
 
 /// Returns why there is no such machine.
 fn fault_of(alloc: Global, frames: u32, pages: &[u32], salts: &[u32]) -> Option<CoreFault> {

@@ -1,10 +1,11 @@
 //! Each growth of memory refused in turn.
-use crate::asks::{Answer, Ask, serve, share_three};
+use crate::asks::{Ask, serve, share_three};
 use merge_core::{Core, CoreFault};
 use page_digest::Sha256Hash;
 use refusing::Refusing;
 use std::alloc::Allocator;
 use std::process::Abort;
+use worked_answers::Answer;
 
 const MOST_GROWTHS: u64 = 100;
 

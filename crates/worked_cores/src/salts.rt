@@ -1,9 +1,10 @@
 //! Pages are shared only between guests of equal salt.
-use crate::asks::{Answer, Ask, numbers, serve, store_all};
+use crate::asks::{Ask, numbers, serve, store_all};
 use merge_core::Core;
 use page_digest::{FirstByteHash, PageHash, Sha256Hash};
 use std::alloc::Global;
 use std::process::Abort;
+use worked_answers::Answer;
 
 /// Lets each guest propose its page 0, and compares the answers.
 fn propose_all<H: PageHash>(rt: &impl Abort, core: &mut Core<H>, answers: &[Answer]) {

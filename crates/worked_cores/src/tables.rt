@@ -1,11 +1,12 @@
 //! What the table shows, and a frame that more pages share than a 16-bit count can hold.
-use crate::asks::{Answer, Ask, Line, core_of, frame, numbers, serve};
+use crate::asks::{Ask, Line, core_of, frame, numbers, serve};
 use merge_core::Core;
 use page_digest::{FirstByteHash, PageHash, Sha256Hash};
 use share_table::HintFrame;
 use std::alloc::Global;
 use std::process::Abort;
 use std::test::Fail;
+use worked_answers::Answer;
 
 /// What the table of a core shows about a hash.
 #[derive(Clone, Copy)]

@@ -1,8 +1,9 @@
-//! A machine in one thread, from its first call to its settling, as a list of calls and their answers.
+//! A machine in one thread, from its first call to its settling, as a list of calls and their replies.
 ghost use Rattle.std.specs.Prelude.{◌≡◌, ◌++◌};
 ghost use Rattle.merge_run.specs.View.{closed_names, port_names, end_names, ends_of};
 
-use crate::answers::{DONE, fault_code, numbers};
+use crate::answers::Reply;
+use crate::answers::Reply::{Done, Number};
 use crate::makes::{Merging, new_machine, step};
 use crate::ports::{Ask, ask_closed, ask_open, close_first, expect_none_open};
 use merge_run::{Fault, JournalFull, Settled, Unsettled, settle};
@@ -12,6 +13,7 @@ use std::alloc::{Allocator, Global};
 use std::process::Abort;
 use std::sync::Wait;
 use std::thread::Threads;
+use worked_answers::numbers;
 
 /// A call.
 #[derive(Clone, Copy)]
@@ -67,16 +69,16 @@ impl<A: Allocator> Course<A> {
     }
 
     /// Serves a request of a guest. The journal's last entry is then the guest's.
-    fn step(&mut self, rt: &impl Abort, guest: u8) -> u32 {
-        let answer = step(rt, &mut self.merger, guest);
-        if answer == DONE {
+    fn step(&mut self, rt: &impl Abort, guest: u8) -> Reply {
+        let reply = step(rt, &mut self.merger, guest);
+        if reply == Done {
             let entry = self.merger.journal().last().expect(rt, "no entry");
             assert_eq!(rt; entry.guest, guest);
         }
-        answer
+        reply
     }
 
-    fn ask(&mut self, guest: u8, ask: Ask) -> u32 {
+    fn ask(&mut self, guest: u8, ask: Ask) -> Reply {
         let at = guest as usize;
         let closed = self.closed.len();
         if at < closed {
@@ -85,18 +87,18 @@ impl<A: Allocator> Course<A> {
         ask_open(&mut self.open, at - closed, ask)
     }
 
-    fn close(&mut self, rt: &impl Abort) -> u32 {
+    fn close(&mut self, rt: &impl Abort) -> Reply {
         let Course { closed, open, .. } = self;
         close_first(rt, closed, open)
     }
 
-    fn entries(&self) -> u32 {
-        self.merger.journal().len() as u32
+    fn entries(&self) -> Reply {
+        Number(self.merger.journal().len() as u32)
     }
 
-    fn guest_of(&self, rt: &impl Abort, entry: usize) -> u32 {
+    fn guest_of(&self, rt: &impl Abort, entry: usize) -> Reply {
         let entry = self.merger.journal().get(entry).expect(rt, "no such entry");
-        u32::from(entry.guest)
+        Number(u32::from(entry.guest))
     }
 }
 
@@ -115,21 +117,21 @@ impl<A: Allocator + Sync> Course<A> {
     }
 }
 
-/// Makes the calls in order, and checks that each has the answer beside it.
-pub fn play<A: Allocator>(rt: &impl Abort, course: Course<A>, rows: &[(Call, u32)]) -> Course<A> {
+/// Makes the calls in order, and checks that each has the reply beside it.
+pub fn play<A: Allocator>(rt: &impl Abort, course: Course<A>, rows: &[(Call, Reply)]) -> Course<A> {
     let mut course = course;
     for number in 0..rows.len() {
         let (call, wanted) = rows[number];
-        let (next, answer) = make_call(rt, course, call);
+        let (next, reply) = make_call(rt, course, call);
         course = next;
-        assert_eq!(rt; answer, wanted, "row {number}");
+        assert!(rt; reply == wanted, "row {number}");
     }
     course
 }
 
-fn make_call<A: Allocator>(rt: &impl Abort, course: Course<A>, call: Call) -> (Course<A>, u32) {
+fn make_call<A: Allocator>(rt: &impl Abort, course: Course<A>, call: Call) -> (Course<A>, Reply) {
     let mut course = course;
-    let answer = match call {
+    let reply = match call {
         Call::Step(guest) => course.step(rt, guest),
         Call::Guest(guest, ask) => course.ask(guest, ask),
         Call::Close => course.close(rt),
@@ -137,11 +139,11 @@ fn make_call<A: Allocator>(rt: &impl Abort, course: Course<A>, call: Call) -> (C
         Call::GuestOf(entry) => course.guest_of(rt, entry),
         Call::Settle => return fail_to_settle(rt, course),
     };
-    (course, answer)
+    (course, reply)
 }
 
 #[tactic(auto, using(crate::proofs::Lists::none_follows))]
-fn fail_to_settle<A: Allocator>(rt: &impl Abort, course: Course<A>) -> (Course<A>, u32) {
+fn fail_to_settle<A: Allocator>(rt: &impl Abort, course: Course<A>) -> (Course<A>, Reply) {
     let Course {
         merger,
         closed,
@@ -161,7 +163,7 @@ fn fail_to_settle<A: Allocator>(rt: &impl Abort, course: Course<A>) -> (Course<A
         closed: ports,
         open,
     };
-    (course, fault_code(fault))
+    (course, Reply::TooEarly(fault))
 }
 
 /// Settles the machine.

@@ -1,26 +1,28 @@
 //! A port that is dropped before it was closed.
-use crate::answers::{CLOSED, DONE, ENDED, IDLE, SENT, verdict_code};
+use crate::answers::Reply::{Done, Ended, Got, Idle, Sent};
+use crate::answers::got;
 use crate::makes::{Merging, load, new_machine, step};
 use share_rings::{ClosedPort, Port};
 use std::alloc::Global;
 use std::process::Abort;
 use std::test::Fail;
+use worked_answers::Answer::Closed;
 
 /// The dropped port's request is served, and then there is none.
 fn serve_dropped(rt: &impl Abort, merger: &mut Merging<Global>, dropped: Port) {
     let mut dropped = dropped;
-    assert_eq!(rt; load(&mut dropped), SENT);
+    assert!(rt; load(&mut dropped) == Sent);
     drop(dropped);
-    assert_eq!(rt; step(rt, merger, 1), DONE);
-    assert_eq!(rt; step(rt, merger, 1), IDLE);
+    assert!(rt; step(rt, merger, 1) == Done);
+    assert!(rt; step(rt, merger, 1) == Idle);
 }
 
 /// The other guest is served to its end.
 fn serve_other(rt: &impl Abort, merger: &mut Merging<Global>, port: ClosedPort) {
     let mut port = port;
-    assert_eq!(rt; step(rt, merger, 0), DONE);
-    assert_eq!(rt; step(rt, merger, 0), ENDED);
-    assert_eq!(rt; verdict_code(port.verdict()), CLOSED);
+    assert!(rt; step(rt, merger, 0) == Done);
+    assert!(rt; step(rt, merger, 0) == Ended);
+    assert!(rt; got(port.verdict()) == Got(Closed));
     assert!(rt; port.drained());
     assert_eq!(rt; merger.journal().len(), 2);
 }

@@ -1,9 +1,11 @@
 //! Settling too early: the least guest is named, everything comes back, and each end then knows what is left for it.
-use crate::answers::{BYTE, CLOSED, DONE, RUNNING, SENT, UNDRAINED};
+use crate::answers::Reply::{Done, Got, Sent, TooEarly};
 use crate::course::Call::{Close, Guest, Settle, Step};
 use crate::course::{new_course, play, settled};
 use crate::ports::Ask::{Load, Verdict};
+use merge_run::SettleFault::{Running, Undrained};
 use std::test::Fail;
+use worked_answers::Answer::{Byte, Closed};
 
 // Nothing was served yet. After the refusal the merger finds each request, and the port gets each verdict.
 #[test]
@@ -13,20 +15,20 @@ fn nothing_is_idle_after_a_refused_settle(rt: HostRuntime) -> Result<(), Fail> {
         &rt,
         course,
         &[
-            (Guest(0, Load(0)), SENT),
-            (Guest(0, Load(0)), SENT),
-            (Guest(0, Load(0)), SENT),
-            (Close, SENT),
-            (Settle, RUNNING),
-            (Step(0), DONE),
-            (Step(0), DONE),
-            (Step(0), DONE),
-            (Step(0), DONE),
-            (Settle, UNDRAINED),
-            (Guest(0, Verdict), BYTE),
-            (Guest(0, Verdict), BYTE),
-            (Guest(0, Verdict), BYTE),
-            (Guest(0, Verdict), CLOSED),
+            (Guest(0, Load(0)), Sent),
+            (Guest(0, Load(0)), Sent),
+            (Guest(0, Load(0)), Sent),
+            (Close, Sent),
+            (Settle, TooEarly(Running(0))),
+            (Step(0), Done),
+            (Step(0), Done),
+            (Step(0), Done),
+            (Step(0), Done),
+            (Settle, TooEarly(Undrained(0))),
+            (Guest(0, Verdict), Got(Byte(0))),
+            (Guest(0, Verdict), Got(Byte(0))),
+            (Guest(0, Verdict), Got(Byte(0))),
+            (Guest(0, Verdict), Got(Closed)),
         ],
     );
     drop(settled(&rt, course));
@@ -41,16 +43,16 @@ fn the_least_guest_is_named(rt: HostRuntime) -> Result<(), Fail> {
         &rt,
         course,
         &[
-            (Close, SENT),
-            (Close, SENT),
-            (Settle, RUNNING),
-            (Step(0), DONE),
-            (Settle, RUNNING + 1),
-            (Step(1), DONE),
-            (Settle, UNDRAINED),
-            (Guest(0, Verdict), CLOSED),
-            (Settle, UNDRAINED + 1),
-            (Guest(1, Verdict), CLOSED),
+            (Close, Sent),
+            (Close, Sent),
+            (Settle, TooEarly(Running(0))),
+            (Step(0), Done),
+            (Settle, TooEarly(Running(1))),
+            (Step(1), Done),
+            (Settle, TooEarly(Undrained(0))),
+            (Guest(0, Verdict), Got(Closed)),
+            (Settle, TooEarly(Undrained(1))),
+            (Guest(1, Verdict), Got(Closed)),
         ],
     );
     drop(settled(&rt, course));

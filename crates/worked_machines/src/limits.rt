@@ -1,5 +1,5 @@
 //! Which machines can be made, and a journal that is full.
-use crate::answers::{BUSY, BYTE, CLOSED, DONE, ENDED, FULL, NOTHING, SENT};
+use crate::answers::Reply::{Busy, Done, Ended, Full, Got, Nothing, Number, Sent};
 use crate::course::Call::{Close, Entries, Guest, Step};
 use crate::course::{new_course, play};
 use crate::ports::Ask::{Count, Load, Verdict};
@@ -8,6 +8,7 @@ use page_digest::Sha256Hash;
 use page_model::{MAX_ENTRIES, MAX_FRAMES, MAX_PAGES, MAX_RING_CAPACITY};
 use std::alloc::{AllocError, Global};
 use std::test::Fail;
+use worked_answers::Answer::{Byte, Closed};
 
 /// The numbers of a machine: its frames, its guests, the pages of each guest but the last, the pages of the last, the
 /// salts, and the lengths of rings and journal.
@@ -89,12 +90,12 @@ fn limits_of_guests_and_pages(rt: HostRuntime) {
 fn longest_ring(rt: HostRuntime) -> Result<(), Fail> {
     let mut course = new_course(rt.alloc(), 1, &[1], MAX_RING_CAPACITY, 1)?;
     for _ in 0..MAX_RING_CAPACITY {
-        course = play(&rt, course, &[(Guest(0, Count), SENT)]);
+        course = play(&rt, course, &[(Guest(0, Count), Sent)]);
     }
     let rows = [
-        (Guest(0, Count), BUSY),
-        (Step(0), DONE),
-        (Guest(0, Count), SENT),
+        (Guest(0, Count), Busy),
+        (Step(0), Done),
+        (Guest(0, Count), Sent),
     ];
     drop(play(&rt, course, &rows));
     Ok(())
@@ -105,18 +106,18 @@ fn longest_ring(rt: HostRuntime) -> Result<(), Fail> {
 fn full_journal(rt: HostRuntime) -> Result<(), Fail> {
     let course = new_course(rt.alloc(), 1, &[1], 1, 1)?;
     let rows = [
-        (Guest(0, Load(0)), SENT),
-        (Step(0), DONE),
-        (Guest(0, Load(0)), SENT),
-        (Step(0), FULL),
-        (Entries, 1),
+        (Guest(0, Load(0)), Sent),
+        (Step(0), Done),
+        (Guest(0, Load(0)), Sent),
+        (Step(0), Full),
+        (Entries, Number(1)),
     ];
     let course = play(&rt, course, &rows);
     assert_eq!(rt; course.numbers(), [1, 0, 0, 0, 0, 0]);
     let rows = [
-        (Guest(0, Verdict), BYTE),
-        (Guest(0, Verdict), NOTHING),
-        (Step(0), FULL),
+        (Guest(0, Verdict), Got(Byte(0))),
+        (Guest(0, Verdict), Nothing),
+        (Step(0), Full),
     ];
     drop(play(&rt, course, &rows));
     Ok(())
@@ -127,10 +128,10 @@ fn full_journal(rt: HostRuntime) -> Result<(), Fail> {
 fn full_journal_after_the_close(rt: HostRuntime) -> Result<(), Fail> {
     let course = new_course(rt.alloc(), 1, &[1], 1, 1)?;
     let rows = [
-        (Close, SENT),
-        (Step(0), DONE),
-        (Step(0), ENDED),
-        (Guest(0, Verdict), CLOSED),
+        (Close, Sent),
+        (Step(0), Done),
+        (Step(0), Ended),
+        (Guest(0, Verdict), Got(Closed)),
     ];
     drop(play(&rt, course, &rows));
     Ok(())

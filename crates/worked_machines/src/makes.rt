@@ -3,7 +3,7 @@ ghost use Rattle.std.specs.Prelude.{◌≡◌, IfOk};
 ghost use Rattle.share_rings.specs.Ends.{port_name};
 ghost use Rattle.merge_run.specs.View.{end_names, port_names, ends_of};
 
-use crate::answers::{send_code, step_code, verdict_code};
+use crate::answers::{Reply, got, sent, stepped};
 use merge_run::{Config, Fault, Machine, Merger};
 use page_digest::Sha256Hash;
 use share_rings::Port;
@@ -34,23 +34,23 @@ pub fn new_machine<A: Allocator + Copy>(
 }
 
 /// Serves one request of a guest.
-pub fn step<A: Allocator>(rt: &impl Abort, merger: &mut Merging<A>, guest: u8) -> u32
+pub fn step<A: Allocator>(rt: &impl Abort, merger: &mut Merging<A>, guest: u8) -> Reply
     ensures { end_names (ends_of merger.new) ≡ end_names (ends_of merger.old) }
 {
     assert!(rt; (guest as usize) < merger.ends().len());
-    step_code(merger.step(guest))
+    stepped(merger.step(guest))
 }
 
 /// Loads the first byte of a guest's first page.
-pub fn load<A: Allocator>(port: &mut Port<A>) -> u32
+pub fn load<A: Allocator>(port: &mut Port<A>) -> Reply
     ensures { port_name port.new ≡ port_name port.old }
 {
-    send_code(port.load(0, 0, 1))
+    sent(port.load(0, 0, 1))
 }
 
 /// Returns a guest's next verdict.
-pub fn verdict<A: Allocator>(port: &mut Port<A>) -> u32
+pub fn verdict<A: Allocator>(port: &mut Port<A>) -> Reply
     ensures { port_name port.new ≡ port_name port.old }
 {
-    verdict_code(port.verdict())
+    got(port.verdict())
 }

@@ -1,11 +1,10 @@
 //! One guest whose two rings hold one item each, from the first answer to the last.
-use crate::answers::{
-    BLOCKED, BUSY, BYTE, CLOSED, DONE, ENDED, IDLE, NOTHING, RUNNING, SENT, TOTALS, UNDRAINED,
-    numbers,
-};
+use crate::answers::Reply;
+use crate::answers::Reply::{Blocked, Busy, Done, Ended, Got, Idle, Nothing, Sent, TooEarly};
 use crate::course::Call::{Close, Guest, Settle, Step};
 use crate::course::{Course, new_course, play, settled};
 use crate::ports::Ask::{Count, Drained, Load, Verdict};
+use merge_run::SettleFault::{Running, Undrained};
 use merge_run::Settled;
 use page_digest::Sha256Hash;
 use page_model::{Entry, Request};
@@ -13,6 +12,8 @@ use refusing::Refusing;
 use std::alloc::Allocator;
 use std::process::Abort;
 use std::test::Fail;
+use worked_answers::Answer::{Byte, Closed, Totals};
+use worked_answers::numbers;
 
 /// Runs up to the close: no slot for a verdict is free while the guest has one to receive.
 fn load_and_count<A: Allocator>(rt: &impl Abort, course: Course<A>) -> Course<A> {
@@ -20,15 +21,15 @@ fn load_and_count<A: Allocator>(rt: &impl Abort, course: Course<A>) -> Course<A>
         rt,
         course,
         &[
-            (Step(0), IDLE),
-            (Guest(0, Load(0)), SENT),
-            (Guest(0, Count), BUSY),
-            (Step(0), DONE),
-            (Guest(0, Count), SENT),
-            (Step(0), BLOCKED),
-            (Guest(0, Verdict), BYTE),
-            (Step(0), DONE),
-            (Step(0), BLOCKED),
+            (Step(0), Idle),
+            (Guest(0, Load(0)), Sent),
+            (Guest(0, Count), Busy),
+            (Step(0), Done),
+            (Guest(0, Count), Sent),
+            (Step(0), Blocked),
+            (Guest(0, Verdict), Got(Byte(0))),
+            (Step(0), Done),
+            (Step(0), Blocked),
         ],
     )
 }
@@ -39,16 +40,16 @@ fn close_and_drain<A: Allocator>(rt: &impl Abort, course: Course<A>) -> Course<A
         rt,
         course,
         &[
-            (Close, SENT),
-            (Guest(0, Drained), 0),
-            (Settle, RUNNING),
-            (Guest(0, Verdict), TOTALS + 2),
-            (Step(0), DONE),
-            (Settle, UNDRAINED),
-            (Guest(0, Verdict), CLOSED),
-            (Guest(0, Verdict), NOTHING),
-            (Guest(0, Drained), 1),
-            (Step(0), ENDED),
+            (Close, Sent),
+            (Guest(0, Drained), Reply::Drained(false)),
+            (Settle, TooEarly(Running(0))),
+            (Guest(0, Verdict), Got(Totals([2, 0, 0, 0, 0, 0]))),
+            (Step(0), Done),
+            (Settle, TooEarly(Undrained(0))),
+            (Guest(0, Verdict), Got(Closed)),
+            (Guest(0, Verdict), Nothing),
+            (Guest(0, Drained), Reply::Drained(true)),
+            (Step(0), Ended),
         ],
     )
 }

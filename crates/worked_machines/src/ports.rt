@@ -3,7 +3,8 @@ ghost use Rattle.std.specs.Prelude.{◌≡◌, [], ◌∷◌, ◌++◌, IfSome};
 ghost use Rattle.share_rings.specs.Ends.{port_name, closed_name};
 ghost use Rattle.merge_run.specs.View.{closed_names, port_names};
 
-use crate::answers::{OTHER, SENT, send_code, verdict_code};
+use crate::answers::Reply::{Other, Sent};
+use crate::answers::{Reply, got, sent};
 use share_rings::{ClosedPort, Port};
 use std::alloc::Allocator;
 use std::process::Abort;
@@ -26,40 +27,40 @@ pub enum Ask {
 }
 
 /// Asks an open port in a list.
-pub fn ask_open<A: Allocator>(ports: &mut Vec<Port<A>, A>, at: usize, ask: Ask) -> u32
+pub fn ask_open<A: Allocator>(ports: &mut Vec<Port<A>, A>, at: usize, ask: Ask) -> Reply
     ensures { port_names ports.new.items ≡ port_names ports.old.items }
 {
     let Some(port) = ports.get_mut(at) else {
-        return OTHER;
+        return Other;
     };
     ask_port(port, ask)
 }
 
-fn ask_port<A: Allocator>(port: &mut Port<A>, ask: Ask) -> u32
+fn ask_port<A: Allocator>(port: &mut Port<A>, ask: Ask) -> Reply
     ensures { port_name port.new ≡ port_name port.old }
 {
     match ask {
-        Ask::Store(ppn, byte) => send_code(port.store(ppn, 0, &[byte])),
-        Ask::StorePair(ppn, bytes) => send_code(port.store(ppn, 0, &bytes)),
-        Ask::Load(ppn) => send_code(port.load(ppn, 0, 1)),
-        Ask::Propose(ppn) => send_code(port.propose(ppn)),
-        Ask::Count => send_code(port.count()),
-        Ask::Verdict => verdict_code(port.verdict()),
-        Ask::Drained => OTHER,
+        Ask::Store(ppn, byte) => sent(port.store(ppn, 0, &[byte])),
+        Ask::StorePair(ppn, bytes) => sent(port.store(ppn, 0, &bytes)),
+        Ask::Load(ppn) => sent(port.load(ppn, 0, 1)),
+        Ask::Propose(ppn) => sent(port.propose(ppn)),
+        Ask::Count => sent(port.count()),
+        Ask::Verdict => got(port.verdict()),
+        Ask::Drained => Other,
     }
 }
 
 /// Asks a closed port in a list.
-pub fn ask_closed<A: Allocator>(ports: &mut Vec<ClosedPort<A>, A>, at: usize, ask: Ask) -> u32
+pub fn ask_closed<A: Allocator>(ports: &mut Vec<ClosedPort<A>, A>, at: usize, ask: Ask) -> Reply
     ensures { closed_names ports.new.items ≡ closed_names ports.old.items }
 {
     let Some(port) = ports.get_mut(at) else {
-        return OTHER;
+        return Other;
     };
     match ask {
-        Ask::Verdict => verdict_code(port.verdict()),
-        Ask::Drained => u32::from(port.drained()),
-        Ask::Store(..) | Ask::StorePair(..) | Ask::Load(_) | Ask::Propose(_) | Ask::Count => OTHER,
+        Ask::Verdict => got(port.verdict()),
+        Ask::Drained => Reply::Drained(port.drained()),
+        Ask::Store(..) | Ask::StorePair(..) | Ask::Load(_) | Ask::Propose(_) | Ask::Count => Other,
     }
 }
 
@@ -68,7 +69,7 @@ pub fn close_first<A: Allocator>(
     rt: &impl Abort,
     closed: &mut Vec<ClosedPort<A>, A>,
     open: &mut Vec<Port<A>, A>,
-) -> u32
+) -> Reply
     ensures { closed_names closed.new.items ++ port_names open.new.items ≡ closed_names closed.old.items ++ port_names open.old.items }
 {
     assert!(rt; closed.len() < closed.capacity());
@@ -77,7 +78,7 @@ pub fn close_first<A: Allocator>(
         panic!(rt; "busy at the close");
     };
     closed.push_reserved(port);
-    SENT
+    Sent
 }
 
 /// Takes the first port out of a list.

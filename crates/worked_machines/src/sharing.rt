@@ -1,7 +1,5 @@
 //! Two guests whose equal pages come to share one frame, and a store that copies it.
-use crate::answers::{
-    BYTE, CLOSED, COPIED, DONE, HINTED, JOINED, MAPPED, NOTHING, PAIRED, SENT, numbers,
-};
+use crate::answers::Reply::{Done, Got, Nothing, Sent};
 use crate::course::Call::{Close, Guest, Step};
 use crate::course::{Course, new_course, play, settled};
 use crate::makes::Merging;
@@ -11,6 +9,8 @@ use page_digest::Sha256Hash;
 use std::alloc::Global;
 use std::process::Abort;
 use std::test::Fail;
+use worked_answers::Answer::{Byte, Closed, Copied, Hinted, Joined, Mapped, Paired};
+use worked_answers::numbers;
 
 /// Lets three pages of the same content come to share one frame.
 fn share(rt: &impl Abort, course: Course) -> Course {
@@ -18,26 +18,26 @@ fn share(rt: &impl Abort, course: Course) -> Course {
         rt,
         course,
         &[
-            (Guest(0, Store(0, b'A')), SENT),
-            (Guest(0, Store(1, b'A')), SENT),
-            (Guest(0, Propose(0)), SENT),
-            (Guest(0, Propose(1)), SENT),
-            (Guest(1, Store(0, b'A')), SENT),
-            (Guest(1, Propose(0)), SENT),
-            (Step(0), DONE),
-            (Step(0), DONE),
-            (Step(1), DONE),
-            (Step(0), DONE),
-            (Step(0), DONE),
-            (Step(1), DONE),
-            (Guest(0, Verdict), MAPPED),
-            (Guest(0, Verdict), MAPPED),
-            (Guest(0, Verdict), HINTED),
-            (Guest(0, Verdict), PAIRED),
-            (Guest(0, Verdict), NOTHING),
-            (Guest(1, Verdict), MAPPED),
-            (Guest(1, Verdict), JOINED + 3),
-            (Guest(1, Verdict), NOTHING),
+            (Guest(0, Store(0, b'A')), Sent),
+            (Guest(0, Store(1, b'A')), Sent),
+            (Guest(0, Propose(0)), Sent),
+            (Guest(0, Propose(1)), Sent),
+            (Guest(1, Store(0, b'A')), Sent),
+            (Guest(1, Propose(0)), Sent),
+            (Step(0), Done),
+            (Step(0), Done),
+            (Step(1), Done),
+            (Step(0), Done),
+            (Step(0), Done),
+            (Step(1), Done),
+            (Guest(0, Verdict), Got(Mapped)),
+            (Guest(0, Verdict), Got(Mapped)),
+            (Guest(0, Verdict), Got(Hinted)),
+            (Guest(0, Verdict), Got(Paired)),
+            (Guest(0, Verdict), Nothing),
+            (Guest(1, Verdict), Got(Mapped)),
+            (Guest(1, Verdict), Got(Joined(3))),
+            (Guest(1, Verdict), Nothing),
         ],
     );
     assert_eq!(rt; course.numbers(), [6, 3, 3, 1, 2, 0]);
@@ -50,20 +50,20 @@ fn copy(rt: &impl Abort, course: Course) -> Course {
         rt,
         course,
         &[
-            (Guest(1, Store(0, b'B')), SENT),
-            (Guest(0, Load(0)), SENT),
-            (Guest(0, Load(1)), SENT),
-            (Guest(1, Load(0)), SENT),
-            (Step(1), DONE),
-            (Step(0), DONE),
-            (Step(0), DONE),
-            (Step(1), DONE),
-            (Guest(0, Verdict), BYTE + 0x41),
-            (Guest(0, Verdict), BYTE + 0x41),
-            (Guest(0, Verdict), NOTHING),
-            (Guest(1, Verdict), COPIED),
-            (Guest(1, Verdict), BYTE + 0x42),
-            (Guest(1, Verdict), NOTHING),
+            (Guest(1, Store(0, b'B')), Sent),
+            (Guest(0, Load(0)), Sent),
+            (Guest(0, Load(1)), Sent),
+            (Guest(1, Load(0)), Sent),
+            (Step(1), Done),
+            (Step(0), Done),
+            (Step(0), Done),
+            (Step(1), Done),
+            (Guest(0, Verdict), Got(Byte(0x41))),
+            (Guest(0, Verdict), Got(Byte(0x41))),
+            (Guest(0, Verdict), Nothing),
+            (Guest(1, Verdict), Got(Copied)),
+            (Guest(1, Verdict), Got(Byte(0x42))),
+            (Guest(1, Verdict), Nothing),
         ],
     );
     assert_eq!(rt; course.numbers(), [10, 3, 2, 2, 1, 0]);
@@ -76,12 +76,12 @@ fn close_both(rt: &impl Abort, course: Course) -> Settled<Sha256Hash> {
         rt,
         course,
         &[
-            (Close, SENT),
-            (Close, SENT),
-            (Step(0), DONE),
-            (Step(1), DONE),
-            (Guest(0, Verdict), CLOSED),
-            (Guest(1, Verdict), CLOSED),
+            (Close, Sent),
+            (Close, Sent),
+            (Step(0), Done),
+            (Step(1), Done),
+            (Guest(0, Verdict), Got(Closed)),
+            (Guest(1, Verdict), Got(Closed)),
         ],
     );
     settled(rt, course)

@@ -3,7 +3,8 @@ ghost use Rattle.std.specs.Prelude.{◌≡◌, ◌∷◌, [], IfOk, IfSome};
 ghost use Rattle.share_rings.specs.Ends.{port_name, closed_name};
 ghost use Rattle.merge_run.specs.View.{end_names, ends_of, guest_count};
 
-use crate::answers::{BYTE, CLOSED, NOTHING, numbers, verdict_code};
+use crate::answers::Reply::{Got, Nothing};
+use crate::answers::got;
 use crate::makes::{Merging, new_machine};
 use merge_run::{Step, settle};
 use page_model::Verdict;
@@ -13,6 +14,8 @@ use std::snapshot::Snapshot;
 use std::test::Fail;
 use std::thread;
 use std::thread::{Promise, PromisedHandle, Threads};
+use worked_answers::Answer::{Byte, Closed};
+use worked_answers::numbers;
 
 const TRIES: u64 = 1 << 30;
 
@@ -74,10 +77,10 @@ fn list_of_both(
 type Running = PromisedHandle<Option<Guest>, SamePort>;
 
 fn count(verdict: Option<Verdict>, tally: &mut Tally) {
-    match verdict_code(verdict) {
-        NOTHING => {}
-        BYTE if tally.closed == 0 => tally.zeros = tally.zeros.wrapping_add(1),
-        CLOSED => tally.closed = tally.closed.wrapping_add(1),
+    match got(verdict) {
+        Nothing => {}
+        Got(Byte(0)) if tally.closed == 0 => tally.zeros = tally.zeros.wrapping_add(1),
+        Got(Closed) => tally.closed = tally.closed.wrapping_add(1),
         _ => tally.others = tally.others.wrapping_add(1),
     }
 }

@@ -1,5 +1,4 @@
 //! A run whose round has enough proposals for a second worker, with each growth of memory refused in turn.
-use crate::answers::Answer;
 use crate::makes::{Ask, Numbers};
 use crate::plain::{Outcome, got, ran};
 use merge_run::{Gate, RunFault};
@@ -12,6 +11,7 @@ use std::sync::Wait;
 use std::sync::atomic::{AtomicBool, Ordering};
 use std::test::Fail;
 use std::thread::{self, Threads};
+use worked_answers::Answer;
 
 const TRIES: u64 = 1 << 30;
 

@@ -1,9 +1,9 @@
 //! Guests that send only their closes, and machines without guests.
-use crate::answers::Answer;
 use crate::makes::Numbers;
 use crate::plain::{fault_of, got, replayed};
 use merge_run::{JournalFull, OpenGate, RunFault};
 use std::test::Fail;
+use worked_answers::Answer;
 
 #[test]
 fn empty_scripts(rt: HostRuntime) -> Result<(), Fail> {

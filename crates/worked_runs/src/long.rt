@@ -1,10 +1,10 @@
 //! A script that is much longer than its rings.
-use crate::answers::Answer;
 use crate::makes::{Ask, Numbers};
 use crate::plain::{got, replayed};
 use merge_run::OpenGate;
 use std::alloc::{AllocError, Global};
 use std::test::Fail;
+use worked_answers::Answer;
 
 const REQUESTS: u8 = 50;
 

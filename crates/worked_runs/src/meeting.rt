@@ -1,11 +1,11 @@
 //! Two guests that wait for each other, so that the run ends only if each has its own thread.
-use crate::answers::Answer;
 use crate::makes::{Ask, Numbers};
 use crate::plain::{fault_of, got, replayed};
 use merge_run::{Gate, JournalFull, RunFault};
 use std::sync::atomic::{AtomicBool, Ordering};
 use std::test::Fail;
 use std::thread;
+use worked_answers::Answer;
 
 const TRIES: u64 = 1 << 30;
 

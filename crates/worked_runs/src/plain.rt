@@ -3,18 +3,19 @@
 ghost use Rattle.std.specs.Prelude.{◌≡◌};
 ghost use Rattle.merge_run.specs.Runs.{CanBeRun};
 
-use crate::answers::{Answer, lists_of};
+use crate::answers::lists_of;
 use crate::makes::{Ask, Numbers, Setting, setting_of};
 use crate::replays::check_replay;
 use merge_run::{Config, Finished, Gate, OpenGate, RunFault, run};
 use page_digest::{PageHash, Sha256Hash};
-use page_model::{Report, Request};
+use page_model::Request;
 use refusing::Refusing;
 use std::alloc::{Allocator, Global};
 use std::process::Abort;
 use std::sync::Wait;
 use std::test::Fail;
 use std::thread::Threads;
+use worked_answers::{Answer, numbers};
 
 /// What a test compares of a run.
 #[derive(Drop)]
@@ -50,17 +51,6 @@ fn times_in(list: &[Answer], answer: Answer) -> u32 {
         times = times.wrapping_add(u32::from(*other == answer));
     }
     times
-}
-
-pub fn numbers(report: &Report) -> [u32; 6] {
-    [
-        report.entries(),
-        report.mapped(),
-        report.shared(),
-        report.frames(),
-        report.reclaimed(),
-        report.hints(),
-    ]
 }
 
 fn compared<H: PageHash + Drop, A: Allocator>(

@@ -1,5 +1,4 @@
 //! Memory that is refused to a run.
-use crate::answers::Answer;
 use crate::makes::{Ask, Numbers};
 use crate::plain::{Outcome, got, ran};
 use merge_run::{OpenGate, RunFault};
@@ -9,6 +8,7 @@ use std::alloc::Global;
 use std::process::Abort;
 use std::sync::Wait;
 use std::thread::Threads;
+use worked_answers::Answer;
 
 const MOST: u64 = 200;
 

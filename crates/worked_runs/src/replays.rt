@@ -1,5 +1,4 @@
 //! A run's journal, replayed on one thread.
-use crate::plain::numbers;
 use merge_core::{Core, CoreFault};
 use merge_run::{Config, Finished};
 use page_digest::Sha256Hash;
@@ -7,6 +6,7 @@ use page_model::{Entry, MAX_ENTRIES, Verdict};
 use std::alloc::{AllocError, Global};
 use std::process::Abort;
 use std::test::Fail;
+use worked_answers::numbers;
 
 /// Makes an empty list for each guest.
 fn empty_lists(alloc: Global, guests: usize) -> Result<Vec<Vec<Verdict>>, AllocError> {

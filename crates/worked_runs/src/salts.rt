@@ -1,9 +1,9 @@
 //! Pages of one content are shared only between guests of one salt.
-use crate::answers::Answer;
 use crate::makes::{Ask, Numbers};
 use crate::plain::{got, replayed, times_got};
 use merge_run::OpenGate;
 use std::test::Fail;
+use worked_answers::Answer;
 
 // Guests 0 and 2 may propose in either order: the first of them gets a hint, and the other pairs with it.
 #[test]

@@ -1,5 +1,6 @@
 //! Rounds at a full journal.
-use crate::answers::{DONE, SENT};
+use crate::answers::Reply;
+use crate::answers::Reply::{Done, Number, Sent};
 use crate::course::Call::{Close, Entries, Guest, Step};
 use crate::course::{new_course, play};
 use crate::ports::Ask::{Drained, Load};
@@ -10,13 +11,13 @@ use std::test::Fail;
 fn open_guest(rt: HostRuntime) -> Result<(), Fail> {
     let course = new_course(rt.alloc(), 1, &[1], 1, 1)?;
     let rows = [
-        (Guest(0, Load(0)), SENT),
-        (Step(0), DONE),
-        (Guest(0, Load(0)), SENT),
+        (Guest(0, Load(0)), Sent),
+        (Step(0), Done),
+        (Guest(0, Load(0)), Sent),
     ];
     let mut course = play(&rt, course, &rows);
     assert_eq!(rt; course.round(&rt, rt.alloc(), 1, 4), Err(JournalFull));
-    drop(play(&rt, course, &[(Entries, 1)]));
+    drop(play(&rt, course, &[(Entries, Number(1))]));
     Ok(())
 }
 
@@ -24,9 +25,9 @@ fn open_guest(rt: HostRuntime) -> Result<(), Fail> {
 fn ended_guest(rt: HostRuntime) -> Result<(), Fail> {
     let mut course = new_course(rt.alloc(), 1, &[1], 1, 1)?;
     assert_eq!(rt; course.round(&rt, rt.alloc(), 1, 4), Ok(0));
-    let mut course = play(&rt, course, &[(Close, SENT)]);
+    let mut course = play(&rt, course, &[(Close, Sent)]);
     assert_eq!(rt; course.round(&rt, rt.alloc(), 1, 4), Ok(1));
     assert_eq!(rt; course.round(&rt, rt.alloc(), 1, 4), Ok(0));
-    drop(play(&rt, course, &[(Guest(0, Drained), 0)]));
+    drop(play(&rt, course, &[(Guest(0, Drained), Reply::Drained(false))]));
     Ok(())
 }

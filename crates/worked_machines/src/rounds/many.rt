@@ -1,5 +1,5 @@
 //! Forty proposals in one round, enough for a second worker.
-use crate::answers::{HINTED, MAPPED, SENT};
+use crate::answers::Reply::{Got, Sent};
 use crate::course::Call::Guest;
 use crate::course::{Course, new_course, play};
 use crate::ports::Ask::{Propose, StorePair, Verdict};
@@ -8,6 +8,7 @@ use std::process::Abort;
 use std::sync::Wait;
 use std::test::Fail;
 use std::thread::Threads;
+use worked_answers::Answer::{Hinted, Mapped};
 
 const MOST_GROWTHS: u64 = 100;
 
@@ -18,7 +19,7 @@ fn store_all(rt: &impl Abort, course: Course) -> Course {
     let mut course = course;
     for page in 0..PAGES {
         let store = StorePair(u32::from(page), [0x41, page]);
-        course = play(rt, course, &[(Guest(0, store), SENT)]);
+        course = play(rt, course, &[(Guest(0, store), Sent)]);
     }
     course
 }
@@ -28,7 +29,7 @@ fn propose_all(rt: &impl Abort, course: Course) -> Course {
     let mut course = course;
     for page in 0..PAGES {
         let propose = Propose(u32::from(page));
-        let rows = [(Guest(0, Verdict), MAPPED), (Guest(0, propose), SENT)];
+        let rows = [(Guest(0, Verdict), Got(Mapped)), (Guest(0, propose), Sent)];
         course = play(rt, course, &rows);
     }
     course
@@ -38,7 +39,7 @@ fn propose_all(rt: &impl Abort, course: Course) -> Course {
 fn take_all(rt: &impl Abort, course: Course) -> Course {
     let mut course = course;
     for _ in 0..PAGES {
-        course = play(rt, course, &[(Guest(0, Verdict), HINTED)]);
+        course = play(rt, course, &[(Guest(0, Verdict), Got(Hinted))]);
     }
     course
 }

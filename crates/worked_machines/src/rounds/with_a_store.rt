@@ -1,5 +1,5 @@
 //! A round in which a store follows a proposal of its page, and another proposal follows the store.
-use crate::answers::{DONE, HINTED, MAPPED, SENT, STORED};
+use crate::answers::Reply::{Done, Got, Sent};
 use crate::course::Call::{Guest, Step};
 use crate::course::{Course, new_course, play};
 use crate::ports::Ask::{Propose, Store, Verdict};
@@ -10,6 +10,7 @@ use std::process::Abort;
 use std::sync::Wait;
 use std::test::Fail;
 use std::thread::Threads;
+use worked_answers::Answer::{Hinted, Mapped, Stored};
 
 const MOST_GROWTHS: u64 = 100;
 
@@ -17,16 +18,16 @@ const MOST_GROWTHS: u64 = 100;
 fn waiting(rt: &impl Abort, alloc: Global) -> Result<Course, Fault> {
     let course = new_course(alloc, 2, &[2], 8, 8)?;
     let rows = [
-        (Guest(0, Store(0, b'A')), SENT),
-        (Guest(0, Store(1, b'A')), SENT),
-        (Step(0), DONE),
-        (Step(0), DONE),
-        (Guest(0, Verdict), MAPPED),
-        (Guest(0, Verdict), MAPPED),
-        (Guest(0, Propose(0)), SENT),
-        (Guest(0, Store(0, b'B')), SENT),
-        (Guest(0, Propose(0)), SENT),
-        (Guest(0, Propose(1)), SENT),
+        (Guest(0, Store(0, b'A')), Sent),
+        (Guest(0, Store(1, b'A')), Sent),
+        (Step(0), Done),
+        (Step(0), Done),
+        (Guest(0, Verdict), Got(Mapped)),
+        (Guest(0, Verdict), Got(Mapped)),
+        (Guest(0, Propose(0)), Sent),
+        (Guest(0, Store(0, b'B')), Sent),
+        (Guest(0, Propose(0)), Sent),
+        (Guest(0, Propose(1)), Sent),
     ];
     Ok(play(rt, course, &rows))
 }
@@ -41,10 +42,10 @@ fn serve_four<R: Threads + Wait + Sync + Abort, B: Allocator + Clone + Send>(
     let mut course = course;
     assert_eq!(rt; course.round(rt, lists, workers, 4), Ok(4));
     let rows = [
-        (Guest(0, Verdict), HINTED),
-        (Guest(0, Verdict), STORED),
-        (Guest(0, Verdict), HINTED),
-        (Guest(0, Verdict), HINTED),
+        (Guest(0, Verdict), Got(Hinted)),
+        (Guest(0, Verdict), Got(Stored)),
+        (Guest(0, Verdict), Got(Hinted)),
+        (Guest(0, Verdict), Got(Hinted)),
     ];
     let course = play(rt, course, &rows);
     assert_eq!(rt; course.numbers(), [6, 2, 0, 2, 0, 2]);
