@@ -20,6 +20,7 @@ import json
 import os
 import pathlib
 import pty
+import re
 import resource
 import struct
 import subprocess
@@ -355,6 +356,33 @@ def terminals(folder):
         case(f"{' '.join(words)}, a terminal", [] if given == due else [f"{given}, and {due} was due"])
 
 
+LINE = re.compile(r" *\d+ %  (\d+) of (\d+) requests  \d+ a second  (\d+) pages mapped, (\d+) shared, (\d+) reclaimed\x1b\[K")
+
+
+def long_script():
+    """Two guests that store the same to 256 pages each, propose them, and load from them: 9,026 requests in all."""
+    stores, loads = [f"store {ppn} 0 41" for ppn in range(256)], [f"load {n % 256} 0 1" for n in range(4000)]
+    asked = [f"{guest} {line}\n" for guest in (0, 1) for line in [*stores, "scan sequential 256", *loads]]
+    return f"pageshare script 1\nframes 512\npages 256 256\nring 16\njournal 9026\n{''.join(asked)}end {len(asked)}\n"
+
+
+def progress_of_a_long_run():
+    """What is drawn while a run shares pages: requests that never fall, and in the end all of them and the report's numbers."""
+    done = ran(["run", "--progress", "always"], long_script().encode())
+    drawn = [LINE.fullmatch(line) for line in done.stderr.decode().rstrip("\n").split("\r")[1:]]
+    seen = [tuple(map(int, line.groups())) for line in drawn if line]
+    due = "report entries 9026 mapped 512 shared 512 frames 1 reclaimed 511 hints 0"
+    is_right = (
+        done.returncode == 0
+        and done.stdout.decode().endswith(f"\n{due}\n")
+        and all(drawn)
+        and seen == sorted(seen, key=lambda it: it[0])
+        and all(it[1] == 9026 and it[4] <= it[3] <= it[2] <= 512 for it in seen)
+        and seen[-1:] == [(9026, 9026, 512, 512, 511)]
+    )
+    case("run, progress of a long run", [] if is_right else [f"{done.returncode}, {done.stderr[-400:]!r}"])
+
+
 def progress_of_runs():
     """The line that tells how far a run is: drawn always, never, and on auto where standard error is a terminal."""
     script = SCRIPT.encode()
@@ -385,6 +413,7 @@ def main():
         pictures(folder)
         estimate_ends(folder)
         progress_of_runs()
+        progress_of_a_long_run()
     print(f"{passed} passed, {failed} failed")
     return 1 if failed else 0
 
