@@ -336,6 +336,15 @@ def estimate_ends(folder):
     shown = ran(["estimate", "--progress", "always", raw]).stderr.decode()
     is_drawn = shown.startswith("\r100 %  0 of 0 MiB") and shown.endswith("s left\x1b[K\n")
     case("estimate, progress", [] if is_drawn else [f"{shown!r}"])
+    whole = str(folder / "whole")
+    for size, words, limits in [(9, ["--progress", "always"], None), (1024, ["--workers", "1"], [(resource.RLIMIT_AS, 24 << 20)])]:
+        # (with 20 bytes a page, the larger one takes 5 MiB)
+        with open(whole, "wb") as file:
+            file.truncate(size << 20)
+        done = ran(["estimate", *words, whole], limits=limits)
+        line = f"100 %  {size} of {size} MiB" if "--progress" in words else ""
+        is_right = done.returncode == 0 and line in done.stderr.decode().split("\r")[-1]
+        case(f"estimate {words}, {size} MiB", [] if is_right else [f"{done.returncode}, {done.stderr[-200:]!r}"])
     for how, due in [("never", False), ("auto", True)]:
         status, given = told(["estimate", "--progress", how, raw], "")
         is_right = status == 0 and bool(given) == due
