@@ -1,0 +1,18 @@
+//! Laws of whole pages, for every state, page and hash. The functions' bodies are empty: the contract is all there is.
+ghost use Rattle.page_lending.specs.Laws.{StoresAtOnce, VerdictsFollow, LentIsTakenBack};
+
+/// The stores of a whole page do at once what one store of all its bytes would do: what the first store's verdict says
+/// happens to the page, and then the page has these bytes.
+pub fn stored_at_once_law()
+    ensures { StoresAtOnce }
+{}
+
+/// If the first store of a page is done, so is each that follows it, in place; if it is refused, so are they all, alike.
+pub fn verdicts_follow_law()
+    ensures { VerdictsFollow }
+{}
+
+/// A page that was lent reads as what was lent, whatever other requests come, until one stores to it or releases it.
+pub fn lent_is_taken_back_law()
+    ensures { LentIsTakenBack }
+{}
