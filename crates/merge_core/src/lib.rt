@@ -9,6 +9,8 @@ mod by_workers;
 mod fault;
 mod forecast;
 mod held;
+mod lending;
+mod lent;
 mod machine;
 mod make;
 mod moves;
@@ -18,4 +20,5 @@ mod serve;
 mod tally;
 
 pub use fault::CoreFault;
+pub use lent::{Lent, Returned};
 pub use machine::{Core, PAGES_A_WORKER};

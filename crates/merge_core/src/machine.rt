@@ -1,6 +1,7 @@
 //! The core.
-ghost use Rattle.std.specs.Prelude.{◌≡◌, ◌<◌, ◌≤◌, length, slice_get, is_some, Some, IsSome, IfOk, IfSome, MatchResult};
+ghost use Rattle.std.specs.Prelude.{◌≡◌, ◌+◌, ◌<◌, ◌≤◌, length, slice_get, is_some, Some, IsSome, IfOk, IfSome, MatchResult};
 ghost use Rattle.std.specs.Option.{option_map};
+ghost use Rattle.page_lending.specs.declared.pieces.TheConstants.{STORES_A_PAGE};
 ghost use Rattle.page_model.specs.Limits.{shapes};
 ghost use Rattle.page_model.specs.Pages.{page_at, totals, is_mapped};
 ghost use Rattle.page_model.specs.Replay.{empty_state};
@@ -9,6 +10,7 @@ ghost use Rattle.machine_frames.specs.FrameMap.{frame, no_frames};
 ghost use Rattle.share_table.specs.TableMaps.{empty_table};
 ghost use Rattle.merge_core.specs.Applying.{Applies};
 ghost use Rattle.merge_core.specs.Hashing.{IsHashFor, page_hash, page_hashes};
+ghost use Rattle.merge_core.specs.Lending.{StoresPage, TakesBack};
 ghost use Rattle.merge_core.specs.Refusals.{AreLimits, NoCoreFor};
 ghost use Rattle.merge_core.specs.Shown.{state_of, FramesOfPages, TableOfPages};
 ghost use Rattle.merge_core.specs.Stays.{frame_at};
@@ -18,15 +20,18 @@ use crate::by_workers::{note_by_workers, note_page, push_hashes};
 use crate::fault::CoreFault;
 use crate::forecast::foresee;
 use crate::held::{Held, PageEntry};
+use crate::lending::take_back;
+use crate::lent::Returned;
 use crate::make::new_held;
 use crate::moves::find;
 use crate::offer::propose;
-use crate::serve::{bytes_at, load, release, store};
+use crate::serve::{bytes_at, load, release, store, store_bytes};
 use crate::tally::report;
 use machine_frames::Frames;
 use page_digest::{HashFault, PageHash};
 use page_forecasts::Forecasts;
-use page_model::{Entry, MachineShape, Report, Request, Verdict};
+use page_lending::STORES_A_PAGE;
+use page_model::{Entry, MachineShape, Page, Report, Request, Verdict};
 use share_table::Table;
 use std::alloc::{AllocError, Allocator, Global};
 use std::marker::Model;
@@ -117,6 +122,29 @@ impl<H: PageHash, A: Allocator> Core<H, A> {
             Request::Count => Verdict::Totals(report(&self.held, self.entries)),
             Request::Close => Verdict::Closed,
         }
+    }
+
+    /// Stores a whole page: what [`apply`](Core::apply) does for the 64 stores of 64 bytes each that write it, one after the
+    /// other. Returns the first one's verdict. If that is `NoPage` or `NoFrame`, so are the others, and otherwise they are
+    /// `Stored`. The bytes are copied once, and no memory is allocated.
+    pub fn store_page(&mut self, guest: u8, ppn: u32, page: &Page) -> Verdict
+        requires guest { guest < length (state_of self.old).guests }
+        requires room { self.old.entries + STORES_A_PAGE ≤ 4294967295 }
+        ensures { StoresPage H.hash_of guest ppn page.now result self.old self.new }
+    {
+        self.entries += STORES_A_PAGE;
+        store_bytes(&mut self.held, guest as usize, ppn as usize, 0, page)
+    }
+
+    /// Takes a page back: copies its bytes into `room` and releases it, as [`apply`](Core::apply) does for its release, which
+    /// is the one request that counts. The room stays as it is unless the answer is `Released`. No memory is allocated.
+    pub fn take_back(&mut self, guest: u8, ppn: u32, room: &mut Page) -> Returned
+        requires guest { guest < length (state_of self.old).guests }
+        requires room { self.old.entries < 4294967295 }
+        ensures { TakesBack H.hash_of guest ppn result room.old room.new self.old self.new }
+    {
+        self.entries += 1;
+        take_back(&mut self.held, guest as usize, ppn, room)
     }
 
     /// Serves one request of a guest as [`apply`](Core::apply) does, for a caller who knows which requests come `next`.

@@ -1,8 +1,9 @@
 //! How each request is served on the pages of all guests.
-ghost use Rattle.std.specs.Prelude.{◌≡◌, ◌+◌, ◌<◌, ◌≤◌, ◌-◌, length, take, drop, Some, None};
+ghost use Rattle.std.specs.Prelude.{◌≡◌, ◌+◌, ◌<◌, ◌≤◌, ◌-◌, ⊤, true, length, take, drop, Some, None, MatchBool};
 ghost use Rattle.page_model.specs.Steps.{stored, released, loaded, at_page};
 ghost use Rattle.page_model.specs.Pages.{page_at, with_slot, blank};
 ghost use Rattle.page_model.specs.Pages as s;
+ghost use Rattle.page_model.specs.declared.verdict.Verdict.TheVariants.{Released};
 ghost use Rattle.merge_core.specs.Names.{bytes_in};
 ghost use Rattle.merge_core.specs.Stays.{AllKeep, OthersKeep};
 ghost use Rattle.machine_frames.specs.FrameMap as fm;
@@ -18,7 +19,7 @@ use page_digest::PageHash;
 use page_model::{LoadReq, StoreReq, Verdict};
 use std::alloc::Allocator;
 
-#[tactic(auto, using(page_model::proofs::Places::again), unfolding(page_model::specs::Steps::stored))]
+/// Serves a store.
 pub fn store<H: PageHash, A: Allocator>(
     held: &mut Held<H, A>,
     guest: usize,
@@ -32,8 +33,26 @@ pub fn store<H: PageHash, A: Allocator>(
         ≡ at_page (guests_of held.old) guest request.now.ppn (λ salt slot. stored (length held.old.frames) (guests_of held.old) guest request.now.ppn request.now.at request.now.bytes salt slot) }
 {
     let ppn = request.ppn() as usize;
-    let at = request.at();
-    let bytes = request.bytes();
+    store_bytes(held, guest, ppn, request.at(), request.bytes())
+}
+
+/// Serves a store of bytes to a place of a page, however many they are.
+#[tactic(auto, using(page_model::proofs::Places::again), unfolding(page_model::specs::Steps::stored))]
+pub fn store_bytes<H: PageHash, A: Allocator>(
+    held: &mut Held<H, A>,
+    guest: usize,
+    ppn: usize,
+    at: u32,
+    bytes: &[u8],
+) -> Verdict
+    requires whole { Whole H.hash_of held.old }
+    requires fits { at + length bytes.now ≤ 4096 }
+    ensures whole { Whole H.hash_of held.new }
+    ensures total { length held.new.frames ≡ length held.old.frames }
+    ensures stay { OthersKeep held.old.frames guest ppn result (names_of held.old) (names_of held.new) }
+    ensures step { record { guests = guests_of held.new; verdict = result }
+        ≡ at_page (guests_of held.old) guest ppn (λ salt slot. stored (length held.old.frames) (guests_of held.old) guest ppn at bytes.now salt slot) }
+{
     let Some((salt, entry)) = find(held, guest, ppn) else {
         return Verdict::NoPage;
     };
@@ -113,30 +132,50 @@ pub fn clear_hint<H: PageHash, A: Allocator>(
     }
 }
 
-/// Serves a release of a shared page.
-#[tactic(auto, using(page_model::proofs::Places::again), unfolding(page_model::specs::Steps::released))]
-fn release_shared<H: PageHash, A: Allocator>(
+/// Unmaps a private page, whose frame is free then.
+pub fn release_private<H: PageHash, A: Allocator>(
     held: &mut Held<H, A>,
     page: Place,
     mpn: u32,
-) -> Verdict
+    hint: Option<u32>,
+)
+    requires whole { Whole H.hash_of held.old }
+    requires page { page_at (names_of held.old) page.guest page.ppn ≡ Some (page.salt, s.Private mpn hint) }
+    ensures whole { Whole H.hash_of held.new }
+    ensures total { length held.new.frames ≡ length held.old.frames }
+    ensures stay { OthersKeep held.old.frames page.guest page.ppn (Released true) (names_of held.old) (names_of held.new) }
+    ensures guests { guests_of held.new ≡ with_slot (guests_of held.old) page.guest page.ppn s.Unmapped }
+    ensures freed { fm.frame held.new.frames mpn ≡ None }
+{
+    clear_hint(held, page, mpn, hint);
+    unmap(held, page, mpn);
+}
+
+/// Serves a release of a shared page. Returns whether its frame is free then.
+#[tactic(auto, using(page_model::proofs::Places::again), unfolding(page_model::specs::Steps::released))]
+pub fn release_shared<H: PageHash, A: Allocator>(
+    held: &mut Held<H, A>,
+    page: Place,
+    mpn: u32,
+) -> bool
     requires whole { Whole H.hash_of held.old }
     requires page { page_at (names_of held.old) page.guest page.ppn ≡ Some (page.salt, s.Shared mpn) }
     ensures whole { Whole H.hash_of held.new }
     ensures total { length held.new.frames ≡ length held.old.frames }
-    ensures stay { OthersKeep held.old.frames page.guest page.ppn result (names_of held.old) (names_of held.new) }
-    ensures step { record { guests = guests_of held.new; verdict = result }
+    ensures stay { OthersKeep held.old.frames page.guest page.ppn (Released result) (names_of held.old) (names_of held.new) }
+    ensures step { record { guests = guests_of held.new; verdict = Released result }
         ≡ released (guests_of held.old) page.guest page.ppn page.salt (s.Shared (bytes_in held.old.frames mpn)) }
+    ensures freed { MatchBool result (fm.frame held.new.frames mpn ≡ None) ⊤ }
 {
     let code = hash_frame(held, mpn, page.salt);
     let count = peers_of(held, page, mpn, code);
     if count == 1 {
         keep(held, page, mpn, code);
         unmap(held, page, mpn);
-        return Verdict::Released(true);
+        return true;
     }
     leave(held, page, mpn, code, count);
-    Verdict::Released(false)
+    false
 }
 
 /// Serves a release.
@@ -157,11 +196,10 @@ pub fn release<H: PageHash, A: Allocator>(held: &mut Held<H, A>, guest: usize, p
     match entry {
         PageEntry::Unmapped => Verdict::Unmapped,
         PageEntry::Private(mpn, hint) => {
-            clear_hint(held, page, mpn, hint);
-            unmap(held, page, mpn);
+            release_private(held, page, mpn, hint);
             Verdict::Released(true)
         }
-        PageEntry::Shared(mpn) => release_shared(held, page, mpn),
+        PageEntry::Shared(mpn) => Verdict::Released(release_shared(held, page, mpn)),
     }
 }
 

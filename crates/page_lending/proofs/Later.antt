@@ -79,7 +79,7 @@ all_written old page e = ap (λ (x : List ℕ). page ++ x) (none_left (drop (0 +
 page_is_stored : (hash : ℕ → List ℕ → ℕ) (s : State) (guest ppn : ℕ) (page : List ℕ) → length page ≡ 4096 → IsWhole s guest ppn → is_done (page_stored hash s guest ppn page).verdict ≡ true → text_at (page_stored hash s guest ppn page).state.guests guest ppn ≡ Some page
 page_is_stored hash s guest ppn page size whole done = ap (λ (x : Step). text_at x.state.guests guest ppn) once ∙ pick (store_ends s.total s.guests guest ppn) where
   once : page_stored hash s guest ppn page ≡ at_once s (store_at s.total s.guests guest ppn 0 page)
-  once = stored_at_once hash s guest ppn page size whole
+  once = stored_at_once hash s guest ppn page size
 
   pick : Ends s.guests guest ppn (store_at s.total s.guests guest ppn) → text_at (store_at s.total s.guests guest ppn 0 page).guests guest ppn ≡ Some page
   pick (Ends.refused verdict undone is) =

@@ -1,3 +1,3 @@
 mod Written
-mod Stores
+pub mod Stores
 mod Later

@@ -2,7 +2,7 @@
 use Rattle.std.proofs.Common.{◌≡◌, ℕ, zero, suc, ◌+◌, ◌*◌, ◌≤◌, Bool, true, false, cond, List, [], ◌∷◌, ◌++◌, length, take, drop, replicate, map, Option, Some, None, refl, ap, sym, subst, ◌∙◌, arith}
 use Rattle.std.specs.Prelude.{slice_index_or, nat_eq}
 use Rattle.std.specs.Option.{option_map}
-use Rattle.std.proofs.lemmas.List.{length-append, length-take-le, length-drop, take-append-drop, append-nil}
+use Rattle.std.proofs.lemmas.List.{length-append, length-take-le, length-drop, take-append-drop, append-nil, append_assoc}
 use Rattle.page_model.specs.Pages.{Slot, Unmapped, Private, Shared, Guest, State, blank, bytes_of, written, with_slot, page_at, used, peers}
 use Rattle.page_model.specs.Steps.{Outcome, Step, stored, stays, sets, on_page, at_page, answered, step}
 use Rattle.page_model.specs.Replay.{state_after, verdicts_of}
@@ -14,7 +14,7 @@ use Rattle.page_model.specs.declared.verdict.Verdict.TheVariants as v
 use Rattle.page_model.proofs.Places.{at_same, again, unchanged}
 use Rattle.page_lending.specs.Lending.{stores_from, entries_of, page_stored}
 use Rattle.page_lending.specs.Laws.{IsWhole, at_once, StoresAtOnce, verdict_after, VerdictsFollow}
-use Rattle.page_lending.proofs.Written.{written_on}
+use Rattle.page_lending.proofs.Written.{written_behind}
 
 -- the outcome of a store of these bytes at this place of a page
 abbrev pub store_at : ℕ → List Guest → ℕ → ℕ → ℕ → List ℕ → Outcome
@@ -54,14 +54,9 @@ stepped : (hash : ℕ → List ℕ → ℕ) (total entries : ℕ) (gs : List Gue
 unfolding step answered
 stepped hash total entries gs guest ppn at bytes o e = ap (λ (x : Outcome). let s : Step = record { state = state total x.guests (entries + 1); verdict = x.verdict } in s) e
 
-nothing_written : (old bytes : List ℕ) (at : ℕ) → length bytes ≡ 0 → written old at bytes ≡ old
-nothing_written old [] at e = ap (λ (n : ℕ). take at old ++ [] ++ drop n old) (omega arith) ∙ ap (λ (x : List ℕ). x ++ drop at old) (append-nil (take at old)) ∙ take-append-drop at old
-nothing_written old (b ∷ bytes) at e = absurd (omega arith)
-
-kept_length : (old : List ℕ) (at : ℕ) (bytes : List ℕ) → at + length bytes ≤ length old → length (written old at bytes) ≡ length old
-kept_length old at bytes fits =
-    let short : length (take at old) ≡ at = length-take-le at old (omega arith) in
-    omega (arith, length-append (take at old ++ bytes) (drop (at + length bytes) old), length-append (take at old) bytes, length-drop (at + length bytes) old, short)
+none_left : (l : List ℕ) → length l ≡ 0 → l ≡ []
+none_left [] h = refl
+none_left (x ∷ l) h = absurd (omega arith)
 
 in_place_step : (total : ℕ) (gs : List Guest) (guest ppn salt at : ℕ) (old bytes : List ℕ) (hint : Option ℕ) → page_at gs guest ppn ≡ Some (salt, Private old hint) → store_at total gs guest ppn at bytes ≡ sets gs guest ppn (Private (written old at bytes) hint) v.Stored
 unfolding stored
@@ -69,29 +64,33 @@ in_place_step total gs guest ppn salt at old bytes hint here = rw here refl
 
 module _ (hash : ℕ → List ℕ → ℕ) (total guest ppn salt : ℕ) (hint : Option ℕ) where
   -- once a page is private, its stores are done in place
-  pub in_place : (n entries at : ℕ) (gs : List Guest) (old bytes : List ℕ) → page_at gs guest ppn ≡ Some (salt, Private old hint) → length bytes ≡ n * 64 → at + length bytes ≤ length old → state_after hash (state total gs entries) (entries_of guest (stores_from n ppn at bytes)) ≡ state total (with_slot gs guest ppn (Private (written old at bytes) hint)) (entries + n)
+  pub in_place : (n entries at : ℕ) (gs : List Guest) (front old bytes : List ℕ) → length front ≡ at → page_at gs guest ppn ≡ Some (salt, Private (front ++ drop at old) hint) → length bytes ≡ n * 64 → state_after hash (state total gs entries) (entries_of guest (stores_from n ppn at bytes)) ≡ state total (with_slot gs guest ppn (Private (front ++ bytes ++ drop (at + length bytes) old) hint)) (entries + n)
   unfolding state_after stores_from
-  in_place zero entries at gs old bytes here size fits =
-      let same : written old at bytes ≡ old = nothing_written old bytes at (omega arith) in
-      let stays : with_slot gs guest ppn (Private (written old at bytes) hint) ≡ gs = ap (λ (x : List ℕ). with_slot gs guest ppn (Private x hint)) same ∙ unchanged gs guest ppn salt (Private old hint) here in
+  in_place zero entries at gs front old bytes before here size =
+      let none : bytes ≡ [] = none_left bytes (omega arith) in
+      let same : front ++ bytes ++ drop (at + length bytes) old ≡ front ++ drop at old =
+          ap (λ (x : List ℕ). front ++ x ++ drop (at + length x) old) none ∙ ap (λ (x : List ℕ). x ++ drop (at + 0) old) (append-nil front) ∙ ap (λ (n : ℕ). front ++ drop n old) (omega arith) in
+      let stays : with_slot gs guest ppn (Private (front ++ bytes ++ drop (at + length bytes) old) hint) ≡ gs = ap (λ (x : List ℕ). with_slot gs guest ppn (Private x hint)) same ∙ unchanged gs guest ppn salt (Private (front ++ drop at old) hint) here in
       ap (λ (n : ℕ). state total gs n) (omega arith) ∙ ap (λ (x : List Guest). state total x (entries + 0)) (sym stays)
-  in_place (suc n) entries at gs old bytes here size fits =
+  in_place (suc n) entries at gs front old bytes before here size =
       let first : List ℕ = take 64 bytes in
       let rest : List ℕ = drop 64 bytes in
       let first_size : length first ≡ 64 = length-take-le 64 bytes (omega arith) in
       let rest_size : length rest ≡ n * 64 = omega (arith, length-drop 64 bytes) in
-      let mid : List ℕ = written old at first in
+      let mid : List ℕ = written (front ++ drop at old) at first in
+      let mid_is : mid ≡ front ++ first ++ drop (at + 64) old = written_behind front old first at before ∙ ap (λ (k : ℕ). front ++ first ++ drop (at + k) old) first_size in
       let next : List Guest = with_slot gs guest ppn (Private mid hint) in
-      let one = stepped hash total entries gs guest ppn at first _ (in_place_step total gs guest ppn salt at old first hint here) in
-      let mid_size : length mid ≡ length old = kept_length old at first (omega arith) in
-      let then = in_place n (entries + 1) (at + 64) next mid rest (at_same gs guest ppn salt (Private old hint) (Private mid hint) here) rest_size (omega arith) in
-      let whole : written mid (at + 64) rest ≡ written old at bytes =
-      ap (λ (k : ℕ). written mid (at + k) rest) (sym first_size) ∙ written_on old first rest at (omega arith) ∙ ap (written old at) (take-append-drop 64 bytes) in
+      let one = stepped hash total entries gs guest ppn at first _ (in_place_step total gs guest ppn salt at (front ++ drop at old) first hint here) in
+      let there : page_at next guest ppn ≡ Some (salt, Private (front ++ first ++ drop (at + 64) old) hint) =
+          at_same gs guest ppn salt (Private (front ++ drop at old) hint) (Private mid hint) here ∙ ap (λ (x : List ℕ). let p : ℕ × Slot = (salt, Private x hint) in Some p) mid_is in
+      let then = in_place n (entries + 1) (at + 64) next (front ++ first) old rest (omega (arith, length-append front first, first_size)) there rest_size in
+      let whole : front ++ first ++ rest ++ drop (at + 64 + length rest) old ≡ front ++ bytes ++ drop (at + length bytes) old =
+          ap (λ (x : List ℕ). x ++ drop (at + 64 + length rest) old) (append_assoc front first rest ∙ ap (λ (x : List ℕ). front ++ x) (take-append-drop 64 bytes)) ∙ ap (λ (k : ℕ). front ++ bytes ++ drop k old) (omega (arith, rest_size)) in
       ap (λ (s : Step). state_after hash s.state (entries_of guest (stores_from n ppn (at + 64) rest))) one
       ∙ then
-      ∙ ap (λ (x : List Guest). state total x (entries + 1 + n)) (again gs guest ppn (Private mid hint) (Private (written mid (at + 64) rest) hint))
+      ∙ ap (λ (x : List Guest). state total x (entries + 1 + n)) (again gs guest ppn (Private mid hint) (Private (front ++ first ++ rest ++ drop (at + 64 + length rest) old) hint))
       ∙ ap (λ (x : List ℕ). state total (with_slot gs guest ppn (Private x hint)) (entries + 1 + n)) whole
-      ∙ ap (λ (k : ℕ). state total (with_slot gs guest ppn (Private (written old at bytes) hint)) k) (omega arith)
+      ∙ ap (λ (k : ℕ). state total (with_slot gs guest ppn (Private (front ++ bytes ++ drop (at + length bytes) old) hint)) k) (omega arith)
 
   in_place_verdicts : (n entries at : ℕ) (gs : List Guest) (old bytes : List ℕ) → page_at gs guest ppn ≡ Some (salt, Private old hint) → verdicts_of hash (state total gs entries) (entries_of guest (stores_from n ppn at bytes)) ≡ replicate n v.Stored
   unfolding verdicts_of stores_from
@@ -125,24 +124,26 @@ module _ (hash : ℕ → List ℕ → ℕ) (total guest ppn : ℕ) (gs : List Gu
 
 -- stores of which the first is done
 module _ (hash : ℕ → List ℕ → ℕ) (total guest ppn salt : ℕ) (gs : List Guest) (slot : Slot) (hint : Option ℕ) (verdict : Verdict) (here : page_at gs guest ppn ≡ Some (salt, slot)) (is : (at : ℕ) (bytes : List ℕ) → store_at total gs guest ppn at bytes ≡ sets gs guest ppn (Private (written (bytes_of slot) at bytes) hint) verdict) where
-  all_done : (n entries : ℕ) (bytes : List ℕ) → length bytes ≡ suc n * 64 → length bytes ≤ length (bytes_of slot) → state_after hash (state total gs entries) (entries_of guest (stores_from (suc n) ppn 0 bytes)) ≡ state total (with_slot gs guest ppn (Private (written (bytes_of slot) 0 bytes) hint)) (entries + suc n)
+  all_done : (n entries : ℕ) (bytes : List ℕ) → length bytes ≡ suc n * 64 → state_after hash (state total gs entries) (entries_of guest (stores_from (suc n) ppn 0 bytes)) ≡ state total (with_slot gs guest ppn (Private (written (bytes_of slot) 0 bytes) hint)) (entries + suc n)
   unfolding state_after stores_from
-  all_done n entries bytes size fits =
+  all_done n entries bytes size =
       let old : List ℕ = bytes_of slot in
       let first : List ℕ = take 64 bytes in
       let rest : List ℕ = drop 64 bytes in
       let first_size : length first ≡ 64 = length-take-le 64 bytes (omega arith) in
       let rest_size : length rest ≡ n * 64 = omega (arith, length-drop 64 bytes) in
       let mid : List ℕ = written old 0 first in
-      let mid_size : length mid ≡ length old = kept_length old 0 first (omega arith) in
+      let mid_is : mid ≡ first ++ drop 64 old = ap (λ (k : ℕ). first ++ drop (0 + k) old) first_size in
       let next : List Guest = with_slot gs guest ppn (Private mid hint) in
       let one = stepped hash total entries gs guest ppn 0 first _ (is 0 first) in
-      let then = in_place hash total guest ppn salt hint n (entries + 1) 64 next mid rest (at_same gs guest ppn salt slot (Private mid hint) here) rest_size (omega arith) in
-      let whole : written mid 64 rest ≡ written old 0 bytes =
-      ap (λ (k : ℕ). written mid (0 + k) rest) (sym first_size) ∙ written_on old first rest 0 (omega arith) ∙ ap (written old 0) (take-append-drop 64 bytes) in
+      let there : page_at next guest ppn ≡ Some (salt, Private (first ++ drop 64 old) hint) =
+          at_same gs guest ppn salt slot (Private mid hint) here ∙ ap (λ (x : List ℕ). let p : ℕ × Slot = (salt, Private x hint) in Some p) mid_is in
+      let then = in_place hash total guest ppn salt hint n (entries + 1) 64 next first old rest first_size there rest_size in
+      let whole : first ++ rest ++ drop (64 + length rest) old ≡ written old 0 bytes =
+          ap (λ (x : List ℕ). x ++ drop (64 + length rest) old) (take-append-drop 64 bytes) ∙ ap (λ (k : ℕ). bytes ++ drop k old) (omega (arith, rest_size)) in
       ap (λ (s : Step). state_after hash s.state (entries_of guest (stores_from n ppn 64 rest))) one
       ∙ then
-      ∙ ap (λ (x : List Guest). state total x (entries + 1 + n)) (again gs guest ppn (Private mid hint) (Private (written mid 64 rest) hint))
+      ∙ ap (λ (x : List Guest). state total x (entries + 1 + n)) (again gs guest ppn (Private mid hint) (Private (first ++ rest ++ drop (64 + length rest) old) hint))
       ∙ ap (λ (x : List ℕ). state total (with_slot gs guest ppn (Private x hint)) (entries + 1 + n)) whole
       ∙ ap (λ (k : ℕ). state total (with_slot gs guest ppn (Private (written old 0 bytes) hint)) k) (omega arith)
 
@@ -169,14 +170,13 @@ size_of gs guest ppn salt slot total entries here whole =
 
 pub stored_at_once : StoresAtOnce
 unfolding page_stored
-stored_at_once hash s guest ppn page size whole = pick (store_ends s.total s.guests guest ppn) where
+stored_at_once hash s guest ppn page size = pick (store_ends s.total s.guests guest ppn) where
   pick : Ends s.guests guest ppn (store_at s.total s.guests guest ppn) → page_stored hash s guest ppn page ≡ at_once s (store_at s.total s.guests guest ppn 0 page)
   pick (refused verdict undone is) =
       step_is _ _ _ _ (all_refused hash s.total guest ppn s.guests verdict is 64 s.entries 0 page) (first_of _ _ verdict (all_refused_verdicts hash s.total guest ppn s.guests verdict is 64 s.entries 0 page))
       ∙ ap (at_once s) (sym (is 0 page))
   pick (done salt slot hint verdict did here is) =
-      let old : length (bytes_of slot) ≡ 4096 = size_of s.guests guest ppn salt slot s.total s.entries here whole in
-      step_is _ _ _ _ (all_done hash s.total guest ppn salt s.guests slot hint verdict here is 63 s.entries page (omega (arith, size)) (omega (arith, size, old))) (first_of _ _ verdict (all_done_verdicts hash s.total guest ppn salt s.guests slot hint verdict here is 63 s.entries page))
+      step_is _ _ _ _ (all_done hash s.total guest ppn salt s.guests slot hint verdict here is 63 s.entries page (omega (arith, size))) (first_of _ _ verdict (all_done_verdicts hash s.total guest ppn salt s.guests slot hint verdict here is 63 s.entries page))
       ∙ ap (at_once s) (sym (is 0 page))
 
 -- the verdicts of the stores of a page

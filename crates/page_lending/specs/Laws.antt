@@ -13,10 +13,6 @@ use Rattle.page_model.specs.declared.verdict.Verdict.TheVariants.{Stored}
 use Rattle.page_lending.specs.declared.pieces.TheConstants.{STORES_A_PAGE}
 use Rattle.page_lending.specs.Lending.{stores_of, entries_of, page_stored, page_lent}
 
--- if there is such a page, it has 4,096 bytes, as each page of a machine has
-abbrev pub IsWhole : State → ℕ → ℕ → Type 0
-IsWhole s guest ppn = IfSome (text_at s.guests guest ppn) (λ bytes. length bytes ≡ PAGE_BYTES)
-
 -- the state after one store of all of a page's bytes, which counts as many requests as the stores that it stands for
 abbrev pub at_once : State → Outcome → Step
 at_once s outcome = record { state = record { total = s.total; guests = outcome.guests; entries = s.entries + STORES_A_PAGE }; verdict = outcome.verdict }
@@ -24,7 +20,7 @@ at_once s outcome = record { state = record { total = s.total; guests = outcome.
 -- storing a whole page is one store of all its bytes at place 0
 abbrev pub StoresAtOnce : Type 0
 StoresAtOnce =
-    (hash : ℕ → List ℕ → ℕ) (s : State) (guest ppn : ℕ) (page : List ℕ) → length page ≡ PAGE_BYTES → IsWhole s guest ppn →
+    (hash : ℕ → List ℕ → ℕ) (s : State) (guest ppn : ℕ) (page : List ℕ) → length page ≡ PAGE_BYTES →
     page_stored hash s guest ppn page ≡ at_once s (at_page s.guests guest ppn (λ salt slot. stored s.total s.guests guest ppn 0 page salt slot))
 
 -- the verdict of a store to a page right after another one with this verdict
@@ -37,6 +33,10 @@ VerdictsFollow =
     (hash : ℕ → List ℕ → ℕ) (s : State) (guest ppn : ℕ) (page : List ℕ) →
     let first = (page_stored hash s guest ppn page).verdict in
     verdicts_of hash s (entries_of guest (stores_of ppn page)) ≡ first ∷ replicate (STORES_A_PAGE - 1) (verdict_after first)
+
+-- if there is such a page, it has 4,096 bytes, as each page of a machine has
+abbrev pub IsWhole : State → ℕ → ℕ → Type 0
+IsWhole s guest ppn = IfSome (text_at s.guests guest ppn) (λ bytes. length bytes ≡ PAGE_BYTES)
 
 -- the request stores to this page, or releases it
 abbrev pub writes_page : ℕ → Request → Bool

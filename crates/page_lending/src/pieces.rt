@@ -2,4 +2,4 @@
 use page_model::{MAX_ACCESS_BYTES, PAGE_BYTES};
 
 /// A whole page is written by this many stores, each of as many bytes as a store may have.
-pub const STORES_A_PAGE: usize = PAGE_BYTES / MAX_ACCESS_BYTES;
+pub const STORES_A_PAGE: u32 = (PAGE_BYTES / MAX_ACCESS_BYTES) as u32;
