@@ -1,6 +1,8 @@
 -- What storing, lending and taking back a whole page do to a core.
-use Rattle.std.specs.Prelude.{◌≡◌, ◌+◌, ◌≤◌, ℕ, ⊤, Bool, true, false, ◌&&◌, if◌then◌else◌, List, length, Option, Some, None, IfSome, is_some}
-use Rattle.page_model.specs.Stored.{text_at}
+use Rattle.std.specs.Prelude.{◌≡◌, ◌+◌, ◌≤◌, ℕ, ⊤, Bool, true, false, ◌&&◌, if◌then◌else◌, List, length, Option, Some, None, IfSome, is_some, Result, Ok, Err, is_ok}
+use Rattle.page_model.specs.Pages.{Guest}
+use Rattle.page_model.specs.Steps.{Outcome, stored, proposed, at_page}
+use Rattle.page_model.specs.Stored.{is_done, text_at}
 use Rattle.page_model.specs.declared.request.Request.TheVariants.{Release}
 use Rattle.page_model.specs.declared.verdict.Verdict.{Verdict}
 use Rattle.page_model.specs.declared.verdict.Verdict.TheVariants as v
@@ -11,6 +13,8 @@ use Rattle.merge_core.specs.Names.{Names}
 use Rattle.merge_core.specs.Shown.{Shown, state_of}
 use Rattle.merge_core.specs.Stays.{frame_at, Change, Keeps, TakesFree, JoinsAnother, GivesUp, change_at, NamedFrame, OthersKeep}
 use Rattle.merge_core.specs.Applying.{Applies}
+use Rattle.merge_core.specs.View.{names_of, guests_of}
+use Rattle.merge_core.specs.declared.held.Held.{Held}
 use Rattle.merge_core.specs.declared.lent.Lent.{Lent}
 use Rattle.merge_core.specs.declared.lent.Returned.{Returned}
 use Rattle.merge_core.specs.declared.lent.Returned.TheVariants as Returned
@@ -22,6 +26,10 @@ pub record StoresPage (hash : ℕ → List ℕ → ℕ) (guest ppn : ℕ) (page 
   pub stay : OthersKeep old.frames guest ppn verdict old.names new.names
   pub entries : new.entries ≡ old.entries + STORES_A_PAGE
   pub guests : length (state_of new).guests ≡ length (state_of old).guests
+
+-- one store of a whole page
+abbrev pub page_outcome : ℕ → List Guest → ℕ → ℕ → List ℕ → Outcome
+page_outcome total guests guest ppn page = at_page guests guest ppn (λ salt slot. stored total guests guest ppn 0 page salt slot)
 
 -- the verdict of a proposal by which the page now has the frame of another
 abbrev pub has_joined : Verdict → Bool
@@ -63,12 +71,40 @@ pub record LendKeeps (free : FrameMap) (guest ppn : ℕ) (stored verdict : Verdi
   pub named : NamedFrame (both_changes (change_at stored) (change_at verdict)) free guest ppn old new
   pub others : (other place : ℕ) → (other ≡ guest → place ≡ ppn → ⊥) → frame_at new other place ≡ frame_at old other place
 
+-- what a lend does to the guests: what the stores do, and, unless they were refused, what the proposal then does
+abbrev pub lent_outcome : (ℕ → List ℕ → ℕ) → ℕ → List Guest → ℕ → ℕ → List ℕ → Outcome
+lent_outcome hash total guests guest ppn page =
+    let stored = page_outcome total guests guest ppn page in
+    if is_done stored.verdict then at_page stored.guests guest ppn (λ salt slot. proposed hash stored.guests guest ppn salt slot) else stored
+
+-- the verdict of a lend, and the frame that it freed: an error is the refusal of its stores
+abbrev pub lend_verdict : Result Lent Verdict → Verdict
+lend_verdict (Ok lent) = lent.verdict
+lend_verdict (Err refusal) = refusal
+
+abbrev pub lend_freed : Result Lent Verdict → Option ℕ
+lend_freed (Ok lent) = lent.freed
+lend_freed (Err refusal) = None
+
+-- the frame that a lend frees: the page's own, if the page kept it at its stores and now has another's
+abbrev pub own_freed : Verdict → Verdict → Option ℕ → Option ℕ
+own_freed stored verdict own = if keeps_own stored && has_joined verdict then own else None
+
+-- what a lend does to the parts of a core
+pub record LendsPage {H A : Type 0} (hash : ℕ → List ℕ → ℕ) (guest ppn : ℕ) (page : List ℕ) (result : Result Lent Verdict) (old new : Held H A) : Type 0 where
+  pub total : length new.frames ≡ length old.frames
+  pub step : record { guests = guests_of new; verdict = lend_verdict result } ≡ lent_outcome hash (length old.frames) (guests_of old) guest ppn page
+  pub done : is_ok result ≡ is_done (page_outcome (length old.frames) (guests_of old) guest ppn page).verdict
+  pub stay : LendKeeps old.frames guest ppn (page_outcome (length old.frames) (guests_of old) guest ppn page).verdict (lend_verdict result) (names_of old) (names_of new)
+  pub freed : lend_freed result ≡ own_freed (page_outcome (length old.frames) (guests_of old) guest ppn page).verdict (lend_verdict result) (frame_at (names_of old) guest ppn)
+  pub free : IfSome (lend_freed result) (λ mpn. frame new.frames mpn ≡ None)
+
 -- A guest's page was lent. The model takes the steps of its stores and of its proposal, or of the stores alone if they were
 -- refused. The freed frame is the one that the page had for itself, if it now shares another, and is free.
 pub record Lends (hash : ℕ → List ℕ → ℕ) (guest ppn : ℕ) (page : List ℕ) (lent : Lent) (old new : Shown) : Type 0 where
   pub step : record { state = state_of new; verdict = lent.verdict } ≡ page_lent hash (state_of old) guest ppn page
   pub stay : LendKeeps old.frames guest ppn (page_stored hash (state_of old) guest ppn page).verdict lent.verdict old.names new.names
-  pub freed : lent.freed ≡ (if keeps_own (page_stored hash (state_of old) guest ppn page).verdict && has_joined lent.verdict then frame_at old.names guest ppn else None)
+  pub freed : lent.freed ≡ own_freed (page_stored hash (state_of old) guest ppn page).verdict lent.verdict (frame_at old.names guest ppn)
   pub free : IfSome lent.freed (λ mpn. frame new.frames mpn ≡ None)
   pub entries : new.entries ≤ old.entries + STORES_A_PAGE + 1
   pub guests : length (state_of new).guests ≡ length (state_of old).guests

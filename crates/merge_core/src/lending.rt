@@ -1,18 +1,218 @@
 //! Whole pages: how they are lent and taken back.
-ghost use Rattle.std.specs.Prelude.{◌≡◌, ◌&&◌, if◌then◌else◌, length, None, Some, IfSome};
-ghost use Rattle.page_model.specs.Steps.{released, at_page};
+ghost use Rattle.std.specs.Prelude.{◌≡◌, ◌==◌, if◌then◌else◌, false, length, None, Some, Ok, IfSome};
+ghost use Rattle.page_model.specs.Pages.{page_at, with_slot};
+ghost use Rattle.page_model.specs.Pages as s;
+ghost use Rattle.page_model.specs.Steps.{proposed, released, at_page};
 ghost use Rattle.page_model.specs.Stored.{text_at};
-ghost use Rattle.merge_core.specs.Lending.{release_verdict, room_after, FreesOwn};
+ghost use Rattle.page_model.specs.declared.verdict.Verdict.TheVariants.{Mapped};
+ghost use Rattle.machine_frames.specs.FrameMap as fm;
+ghost use Rattle.share_table.specs.TableMaps.{shared_at, count_at};
+ghost use Rattle.merge_core.specs.Lending.{has_joined, LendKeeps, LendsPage, release_verdict, room_after, FreesOwn};
+ghost use Rattle.merge_core.specs.Names.{bytes_in, known_at};
 ghost use Rattle.merge_core.specs.Stays.{frame_at, OthersKeep};
-ghost use Rattle.merge_core.specs.View.{names_of, guests_of, Whole};
+ghost use Rattle.merge_core.specs.View.{names_of, guests_of, notes_of, Whole};
 
 use crate::held::{Held, PageEntry, Place};
-use crate::lent::Returned;
-use crate::moves::find;
+use crate::lent::{Lent, Returned};
+use crate::moves::{
+    find, hash_frame, is_full, join, keep, learn, leave, map_copy, map_zeroed, peers_of, write,
+};
+use crate::offer::{has_content, propose_private};
 use crate::serve::{bytes_at, release_private, release_shared};
 use page_digest::PageHash;
-use page_model::Page;
+use page_model::{Page, Verdict};
 use std::alloc::Allocator;
+
+/// Lends a page: stores it whole, and proposes it. Returns the verdict of its stores if they were refused.
+pub fn lend<H: PageHash, A: Allocator>(
+    held: &mut Held<H, A>,
+    guest: usize,
+    ppn: u32,
+    bytes: &Page,
+) -> Result<Lent, Verdict>
+    requires whole { Whole H.hash_of held.old }
+    ensures whole { Whole H.hash_of held.new }
+    ensures lends { LendsPage H.hash_of guest ppn bytes.now result held.old held.new }
+{
+    let ppn = ppn as usize;
+    let Some((salt, entry)) = find(held, guest, ppn) else {
+        return Err(Verdict::NoPage);
+    };
+    let page = Place { guest, ppn, salt };
+    match entry {
+        PageEntry::Unmapped => lend_unmapped(held, page, bytes),
+        PageEntry::Private(mpn, hint) => Ok(lend_private(held, page, mpn, hint, bytes)),
+        PageEntry::Shared(mpn) => lend_shared(held, page, mpn, bytes),
+    }
+}
+
+/// Lends a page that has no frame.
+fn lend_unmapped<H: PageHash, A: Allocator>(
+    held: &mut Held<H, A>,
+    page: Place,
+    bytes: &Page,
+) -> Result<Lent, Verdict>
+    requires whole { Whole H.hash_of held.old }
+    requires page { page_at (names_of held.old) page.guest page.ppn ≡ Some (page.salt, s.Unmapped) }
+    ensures whole { Whole H.hash_of held.new }
+    ensures lends { LendsPage H.hash_of page.guest page.ppn bytes.now result held.old held.new }
+{
+    if is_full(held) {
+        return Err(Verdict::NoFrame);
+    }
+    Ok(lend_new(held, page, bytes))
+}
+
+/// Lends a private page, which keeps its frame until it is proposed.
+fn lend_private<H: PageHash, A: Allocator>(
+    held: &mut Held<H, A>,
+    page: Place,
+    mpn: u32,
+    hint: Option<u32>,
+    bytes: &Page,
+) -> Lent
+    requires whole { Whole H.hash_of held.old }
+    requires page { page_at (names_of held.old) page.guest page.ppn ≡ Some (page.salt, s.Private mpn hint) }
+    ensures whole { Whole H.hash_of held.new }
+    ensures lends { LendsPage H.hash_of page.guest page.ppn bytes.now (Ok result) held.old held.new }
+{
+    write(held, page, mpn, hint, 0, bytes);
+    propose_own(held, page, mpn, hint)
+}
+
+/// Lends a shared page.
+fn lend_shared<H: PageHash, A: Allocator>(
+    held: &mut Held<H, A>,
+    page: Place,
+    mpn: u32,
+    bytes: &Page,
+) -> Result<Lent, Verdict>
+    requires whole { Whole H.hash_of held.old }
+    requires page { page_at (names_of held.old) page.guest page.ppn ≡ Some (page.salt, s.Shared mpn) }
+    ensures whole { Whole H.hash_of held.new }
+    ensures lends { LendsPage H.hash_of page.guest page.ppn bytes.now result held.old held.new }
+{
+    let code = hash_frame(held, mpn, page.salt);
+    let count = peers_of(held, page, mpn, code);
+    if count == 1 {
+        keep(held, page, mpn, code);
+        write(held, page, mpn, None, 0, bytes);
+        return Ok(propose_own(held, page, mpn, None));
+    }
+    if is_full(held) {
+        return Err(Verdict::NoFrame);
+    }
+    leave(held, page, mpn, code, count);
+    let copy = map_copy(held, page, mpn);
+    write(held, page, copy, None, 0, bytes);
+    let verdict = propose_private(held, page, copy, None);
+    Ok(Lent {
+        verdict,
+        freed: None,
+    })
+}
+
+/// Proposes a page that was written to its own frame.
+fn propose_own<H: PageHash, A: Allocator>(
+    held: &mut Held<H, A>,
+    page: Place,
+    mpn: u32,
+    hint: Option<u32>,
+) -> Lent
+    requires whole { Whole H.hash_of held.old }
+    requires page { page_at (names_of held.old) page.guest page.ppn ≡ Some (page.salt, s.Private mpn hint) }
+    ensures whole { Whole H.hash_of held.new }
+    ensures total { length held.new.frames ≡ length held.old.frames }
+    ensures stay { OthersKeep held.old.frames page.guest page.ppn result.verdict (names_of held.old) (names_of held.new) }
+    ensures step { record { guests = guests_of held.new; verdict = result.verdict }
+        ≡ proposed H.hash_of (guests_of held.old) page.guest page.ppn page.salt (s.Private (bytes_in held.old.frames mpn) hint) }
+    ensures freed { result.freed ≡ (if has_joined result.verdict then Some mpn else None) }
+    ensures free { IfSome result.freed (λ own. fm.frame held.new.frames own ≡ None) }
+{
+    let verdict = propose_private(held, page, mpn, hint);
+    let freed = if has_joined(&verdict) {
+        Some(mpn)
+    } else {
+        None
+    };
+    Lent { verdict, freed }
+}
+
+/// Whether a proposal with this verdict gave the page the frame of another.
+fn has_joined(verdict: &Verdict) -> bool
+    ensures { result ≡ has_joined verdict.now }
+{
+    matches!(verdict, Verdict::Joined(_) | Verdict::Paired)
+}
+
+/// Lends a page that has no frame. If it joins others, no frame is written for it.
+fn lend_new<H: PageHash, A: Allocator>(held: &mut Held<H, A>, page: Place, bytes: &Page) -> Lent
+    requires whole { Whole H.hash_of held.old }
+    requires page { page_at (names_of held.old) page.guest page.ppn ≡ Some (page.salt, s.Unmapped) }
+    requires room { (fm.used held.old.frames == length held.old.frames) ≡ false }
+    ensures whole { Whole H.hash_of held.new }
+    ensures total { length held.new.frames ≡ length held.old.frames }
+    ensures stay { LendKeeps held.old.frames page.guest page.ppn Mapped result.verdict (names_of held.old) (names_of held.new) }
+    ensures step { record { guests = guests_of held.new; verdict = result.verdict }
+        ≡ proposed H.hash_of (with_slot (guests_of held.old) page.guest page.ppn (s.Private bytes.now None)) page.guest page.ppn page.salt (s.Private bytes.now None) }
+    ensures freed { result.freed ≡ None }
+{
+    let code = held.hash.hash(page.salt, bytes);
+    if let Some(theirs) = shared_as(held, page.salt, bytes, code) {
+        let peers = join(held, page, theirs, code);
+        return Lent {
+            verdict: Verdict::Joined(peers),
+            freed: None,
+        };
+    }
+    let verdict = lend_written(held, page, bytes, code);
+    Lent {
+        verdict,
+        freed: None,
+    }
+}
+
+/// Returns the shared frame with this salt and these bytes, if there is one.
+fn shared_as<H: PageHash, A: Allocator>(
+    held: &Held<H, A>,
+    salt: u32,
+    bytes: &Page,
+    code: u64,
+) -> Option<u32>
+    requires whole { Whole H.hash_of held.now }
+    ensures found { IfSome result (λ mpn. shared_at held.now.table code ≡ Some (record { mpn = mpn; count = count_at held.now.table code })) }
+    ensures salt { IfSome result (λ mpn. (known_at (notes_of held.now) mpn).salt ≡ salt) }
+    ensures bytes { IfSome result (λ mpn. bytes_in held.now.frames mpn ≡ bytes.now) }
+{
+    let (theirs, _) = held.table.find_shared(code)?;
+    if has_content(held, theirs, salt, bytes) {
+        return Some(theirs);
+    }
+    None
+}
+
+/// Writes a page to a new frame, and proposes it. Its hash is known.
+fn lend_written<H: PageHash, A: Allocator>(
+    held: &mut Held<H, A>,
+    page: Place,
+    bytes: &Page,
+    code: u64,
+) -> Verdict
+    requires whole { Whole H.hash_of held.old }
+    requires page { page_at (names_of held.old) page.guest page.ppn ≡ Some (page.salt, s.Unmapped) }
+    requires room { (fm.used held.old.frames == length held.old.frames) ≡ false }
+    requires code { code ≡ H.hash_of page.salt bytes.now }
+    ensures whole { Whole H.hash_of held.new }
+    ensures total { length held.new.frames ≡ length held.old.frames }
+    ensures stay { LendKeeps held.old.frames page.guest page.ppn Mapped result (names_of held.old) (names_of held.new) }
+    ensures step { record { guests = guests_of held.new; verdict = result }
+        ≡ proposed H.hash_of (with_slot (guests_of held.old) page.guest page.ppn (s.Private bytes.now None)) page.guest page.ppn page.salt (s.Private bytes.now None) }
+{
+    let mpn = map_zeroed(held, page);
+    write(held, page, mpn, None, 0, bytes);
+    learn(held, mpn, page.salt, code);
+    propose_private(held, page, mpn, None)
+}
 
 /// Copies a mapped page's bytes into the caller's room, and releases the page.
 #[tactic(auto, unfolding(page_model::specs::Steps::released))]

@@ -10,7 +10,7 @@ ghost use Rattle.machine_frames.specs.FrameMap.{frame, no_frames};
 ghost use Rattle.share_table.specs.TableMaps.{empty_table};
 ghost use Rattle.merge_core.specs.Applying.{Applies};
 ghost use Rattle.merge_core.specs.Hashing.{IsHashFor, page_hash, page_hashes};
-ghost use Rattle.merge_core.specs.Lending.{StoresPage, TakesBack};
+ghost use Rattle.merge_core.specs.Lending.{Lends, StoresPage, TakesBack};
 ghost use Rattle.merge_core.specs.Refusals.{AreLimits, NoCoreFor};
 ghost use Rattle.merge_core.specs.Shown.{state_of, FramesOfPages, TableOfPages};
 ghost use Rattle.merge_core.specs.Stays.{frame_at};
@@ -20,8 +20,8 @@ use crate::by_workers::{note_by_workers, note_page, push_hashes};
 use crate::fault::CoreFault;
 use crate::forecast::foresee;
 use crate::held::{Held, PageEntry};
-use crate::lending::take_back;
-use crate::lent::Returned;
+use crate::lending::{lend, take_back};
+use crate::lent::{Lent, Returned};
 use crate::make::new_held;
 use crate::moves::find;
 use crate::offer::propose;
@@ -134,6 +134,26 @@ impl<H: PageHash, A: Allocator> Core<H, A> {
     {
         self.entries += STORES_A_PAGE;
         store_bytes(&mut self.held, guest as usize, ppn as usize, 0, page)
+    }
+
+    /// Lends a page: stores it whole as [`store_page`](Core::store_page) does, and then proposes it, unless its stores were
+    /// refused. If the page has no frame and joins others, no frame is written for it. No memory is allocated.
+    pub fn lend(&mut self, guest: u8, ppn: u32, page: &Page) -> Lent
+        requires guest { guest < length (state_of self.old).guests }
+        requires room { self.old.entries + STORES_A_PAGE < 4294967295 }
+        ensures { Lends H.hash_of guest ppn page.now result self.old self.new }
+    {
+        self.entries += STORES_A_PAGE;
+        match lend(&mut self.held, guest as usize, ppn, page) {
+            Ok(lent) => {
+                self.entries += 1;
+                lent
+            }
+            Err(refused) => Lent {
+                verdict: refused,
+                freed: None,
+            },
+        }
     }
 
     /// Takes a page back: copies its bytes into `room` and releases it, as [`apply`](Core::apply) does for its release, which

@@ -110,6 +110,7 @@ pub fn write<H: PageHash, A: Allocator>(
     ensures whole { Whole H.hash_of held.new }
     ensures total { length held.new.frames ≡ length held.old.frames }
     ensures name { names_of held.new ≡ names_of held.old }
+    ensures bytes { bytes_in held.new.frames mpn ≡ written (bytes_in held.old.frames mpn) at bytes.now }
     ensures guests { guests_of held.new ≡ with_slot (guests_of held.old) page.guest page.ppn (s.Private (written (bytes_in held.old.frames mpn) at bytes.now) hint) }
 {
     held.frames.write(mpn, at, bytes);

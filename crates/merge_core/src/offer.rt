@@ -1,9 +1,10 @@
 //! Proposals.
-ghost use Rattle.std.specs.Prelude.{◌≡◌, ◌<◌, ◌==◌, ◌&&◌, length, Some, None};
+ghost use Rattle.std.specs.Prelude.{◌≡◌, ◌<◌, ◌==◌, ◌&&◌, ⊤, length, Some, None, MatchBool};
 ghost use Rattle.page_model.specs.Steps.{proposed, matched, offered, at_page, key_of, kept_hint};
 ghost use Rattle.page_model.specs.Pages.{page_at, with_slot};
 ghost use Rattle.page_model.specs.Pages as s;
 ghost use Rattle.page_model.specs.declared.verdict.Verdict.TheVariants.{Paired};
+ghost use Rattle.merge_core.specs.Lending.{has_joined};
 ghost use Rattle.merge_core.specs.Names.{bytes_in, known_at};
 ghost use Rattle.merge_core.specs.Stays.{AllKeep, OthersKeep};
 ghost use Rattle.share_table.specs.TableMaps.{hint_at, shared_at, count_at};
@@ -14,9 +15,8 @@ ghost use Rattle.std.specs.Str.{bytes_eq};
 use crate::held::{Held, PageEntry, Place};
 use crate::moves::{drop_hint, find, hash_frame, join, learn, put_hint, share, unmap};
 use crate::serve::{bytes_at, clear_hint};
-use machine_frames::Frames;
 use page_digest::PageHash;
-use page_model::Verdict;
+use page_model::{Page, Verdict};
 use share_table::HintFrame;
 use std::alloc::Allocator;
 
@@ -50,7 +50,7 @@ pub fn propose<H: PageHash, A: Allocator>(held: &mut Held<H, A>, guest: usize, p
 }
 
 /// Serves a proposal of a private page.
-fn propose_private<H: PageHash, A: Allocator>(
+pub fn propose_private<H: PageHash, A: Allocator>(
     held: &mut Held<H, A>,
     page: Place,
     mpn: u32,
@@ -63,6 +63,7 @@ fn propose_private<H: PageHash, A: Allocator>(
     ensures stay { OthersKeep held.old.frames page.guest page.ppn result (names_of held.old) (names_of held.new) }
     ensures step { record { guests = guests_of held.new; verdict = result }
         ≡ proposed H.hash_of (guests_of held.old) page.guest page.ppn page.salt (s.Private (bytes_in held.old.frames mpn) hint) }
+    ensures freed { MatchBool (has_joined result) (fm.frame held.new.frames mpn ≡ None) ⊤ }
 {
     let code = hash_frame(held, mpn, page.salt);
     let kept = settle_hint(held, page, mpn, hint, key_of(code));
@@ -116,6 +117,7 @@ fn find_match<H: PageHash, A: Allocator>(
     ensures stay { OthersKeep held.old.frames page.guest page.ppn result (names_of held.old) (names_of held.new) }
     ensures step { record { guests = guests_of held.new; verdict = result }
         ≡ matched H.hash_of (guests_of held.old) page.guest page.ppn page.salt (bytes_in held.old.frames mpn) code }
+    ensures freed { MatchBool (has_joined result) (fm.frame held.new.frames mpn ≡ None) ⊤ }
 {
     match held.table.find_shared(code) {
         None => offer(held, page, mpn, kept, code),
@@ -140,16 +142,21 @@ fn same_content<H: PageHash, A: Allocator>(
     requires theirs { fm.IsTaken held.now.frames theirs }
     ensures { result ≡ ((known_at (notes_of held.now) theirs).salt == salt && bytes_eq (bytes_in held.now.frames theirs) (bytes_in held.now.frames mpn)) }
 {
-    held.notes.salt(theirs) == salt && same_bytes(&held.frames, theirs, mpn)
+    has_content(held, theirs, salt, bytes_at(&held.frames, mpn))
 }
 
-/// Whether two frames have the same bytes.
-fn same_bytes<A: Allocator>(frames: &Frames<A>, one: u32, other: u32) -> bool
-    requires one { fm.IsTaken frames.now one }
-    requires other { fm.IsTaken frames.now other }
-    ensures { result ≡ bytes_eq (bytes_in frames.now one) (bytes_in frames.now other) }
+/// Whether a frame has this salt and these bytes.
+pub fn has_content<H: PageHash, A: Allocator>(
+    held: &Held<H, A>,
+    mpn: u32,
+    salt: u32,
+    bytes: &Page,
+) -> bool
+    requires whole { Whole H.hash_of held.now }
+    requires taken { fm.IsTaken held.now.frames mpn }
+    ensures { result ≡ ((known_at (notes_of held.now) mpn).salt == salt && bytes_eq (bytes_in held.now.frames mpn) bytes.now) }
 {
-    bytes_at(frames, one) == bytes_at(frames, other)
+    held.notes.salt(mpn) == salt && bytes_at(&held.frames, mpn) == bytes
 }
 
 /// Moves a private page from its frame to a shared one with the same content.
@@ -171,6 +178,7 @@ fn join_match<H: PageHash, A: Allocator>(
     ensures stay { OthersKeep held.old.frames page.guest page.ppn result (names_of held.old) (names_of held.new) }
     ensures step { record { guests = guests_of held.new; verdict = result }
         ≡ matched H.hash_of (guests_of held.old) page.guest page.ppn page.salt (bytes_in held.old.frames mpn) code }
+    ensures freed { MatchBool (has_joined result) (fm.frame held.new.frames mpn ≡ None) ⊤ }
 {
     clear_hint(held, page, mpn, kept);
     unmap(held, page, mpn);
@@ -195,6 +203,7 @@ fn offer<H: PageHash, A: Allocator>(
     ensures stay { OthersKeep held.old.frames page.guest page.ppn result (names_of held.old) (names_of held.new) }
     ensures step { record { guests = guests_of held.new; verdict = result }
         ≡ offered H.hash_of (guests_of held.old) page.guest page.ppn page.salt (bytes_in held.old.frames mpn) (key_of code) }
+    ensures freed { MatchBool (has_joined result) (fm.frame held.new.frames mpn ≡ None) ⊤ }
 {
     let key = key_of(code);
     match kept {
@@ -227,6 +236,7 @@ fn weigh<H: PageHash, A: Allocator>(
     ensures stay { OthersKeep held.old.frames page.guest page.ppn result (names_of held.old) (names_of held.new) }
     ensures step { record { guests = guests_of held.new; verdict = result }
         ≡ offered H.hash_of (guests_of held.old) page.guest page.ppn page.salt (bytes_in held.old.frames mpn) (key_of code) }
+    ensures freed { MatchBool (has_joined result) (fm.frame held.new.frames mpn ≡ None) ⊤ }
 {
     let theirs = hint.mpn;
     let salt = held.notes.salt(theirs);
@@ -284,6 +294,7 @@ fn pair<H: PageHash, A: Allocator>(
     ensures total { length held.new.frames ≡ length held.old.frames }
     ensures stay { OthersKeep held.old.frames page.guest page.ppn Paired (names_of held.old) (names_of held.new) }
     ensures guests { guests_of held.new ≡ with_slot (with_slot (guests_of held.old) first.guest first.ppn (s.Shared (bytes_in held.old.frames theirs))) page.guest page.ppn (s.Shared (bytes_in held.old.frames mpn)) }
+    ensures freed { fm.frame held.new.frames mpn ≡ None }
 {
     drop_hint(held, first, theirs, key_of(code));
     unmap(held, page, mpn);

@@ -3,7 +3,6 @@ use Rattle.std.proofs.Common.{◌≡◌, ℕ, ◌+◌, ◌≤◌, Bool, true, fa
 use Rattle.std.specs.Prelude.{nat_eq, All}
 use Rattle.std.specs.Option.{option_map}
 use Rattle.std.proofs.lemmas.Bool.{cases_eq, eq-eqb, false≢true}
-use Rattle.std.proofs.lemmas.List.{append-nil, length-drop}
 use Rattle.std.proofs.lemmas.List.Elements.{All-head, All-tail}
 use Rattle.page_model.specs.Pages.{Slot, Unmapped, Private, Shared, Guest, State, bytes_of, written, with_slot, page_at}
 use Rattle.page_model.specs.Steps.{Outcome, Step, stored, released, proposed, loaded, on_page, at_page, answered, step, counted}
@@ -15,6 +14,7 @@ use Rattle.page_model.specs.declared.request.Request.TheVariants.{Propose, Store
 use Rattle.page_model.proofs.Texts.{Keeps, changed, other, at_page_keeps, proposed_keeps, still}
 use Rattle.page_lending.specs.Lending.{page_stored, page_lent}
 use Rattle.page_lending.specs.Laws.{IsWhole, at_once, writes_page, LeavesPage, LentIsTakenBack}
+use Rattle.page_lending.proofs.Written.{all_written}
 use Rattle.page_lending.proofs.Stores.{store_at, Ends, store_ends, stored_at_once, size_of}
 
 -- the page still has its text
@@ -68,13 +68,6 @@ later_stays : (hash : ℕ → List ℕ → ℕ) (s : State) (guest ppn : ℕ) (l
 unfolding state_after
 later_stays hash s guest ppn [] h = refl
 later_stays hash s guest ppn (e ∷ later) h = later_stays hash (step hash s e.guest e.request).state guest ppn later (All-tail (LeavesPage guest ppn) e later h) ∙ entry_stays hash s guest ppn e.guest e.request (All-head (LeavesPage guest ppn) e later h)
-
--- a page over a page
-all_written : (old page : List ℕ) → length old ≤ length page → written old 0 page ≡ page
-all_written old page e = ap (λ (x : List ℕ). page ++ x) (none_left (drop (0 + length page) old) (omega (arith, length-drop (0 + length page) old))) ∙ append-nil page where
-  none_left : (l : List ℕ) → length l ≡ 0 → l ≡ []
-  none_left [] h = refl
-  none_left (x ∷ l) h = absurd (omega arith)
 
 page_is_stored : (hash : ℕ → List ℕ → ℕ) (s : State) (guest ppn : ℕ) (page : List ℕ) → length page ≡ 4096 → IsWhole s guest ppn → is_done (page_stored hash s guest ppn page).verdict ≡ true → text_at (page_stored hash s guest ppn page).state.guests guest ppn ≡ Some page
 page_is_stored hash s guest ppn page size whole done = ap (λ (x : Step). text_at x.state.guests guest ppn) once ∙ pick (store_ends s.total s.guests guest ppn) where

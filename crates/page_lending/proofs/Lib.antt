@@ -1,3 +1,3 @@
-mod Written
+pub mod Written
 pub mod Stores
 mod Later

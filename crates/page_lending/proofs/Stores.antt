@@ -69,7 +69,7 @@ module _ (hash : ℕ → List ℕ → ℕ) (total guest ppn salt : ℕ) (hint : 
   in_place zero entries at gs front old bytes before here size =
       let none : bytes ≡ [] = none_left bytes (omega arith) in
       let same : front ++ bytes ++ drop (at + length bytes) old ≡ front ++ drop at old =
-          ap (λ (x : List ℕ). front ++ x ++ drop (at + length x) old) none ∙ ap (λ (x : List ℕ). x ++ drop (at + 0) old) (append-nil front) ∙ ap (λ (n : ℕ). front ++ drop n old) (omega arith) in
+      ap (λ (x : List ℕ). front ++ x ++ drop (at + length x) old) none ∙ ap (λ (x : List ℕ). x ++ drop (at + 0) old) (append-nil front) ∙ ap (λ (n : ℕ). front ++ drop n old) (omega arith) in
       let stays : with_slot gs guest ppn (Private (front ++ bytes ++ drop (at + length bytes) old) hint) ≡ gs = ap (λ (x : List ℕ). with_slot gs guest ppn (Private x hint)) same ∙ unchanged gs guest ppn salt (Private (front ++ drop at old) hint) here in
       ap (λ (n : ℕ). state total gs n) (omega arith) ∙ ap (λ (x : List Guest). state total x (entries + 0)) (sym stays)
   in_place (suc n) entries at gs front old bytes before here size =
@@ -82,10 +82,10 @@ module _ (hash : ℕ → List ℕ → ℕ) (total guest ppn salt : ℕ) (hint : 
       let next : List Guest = with_slot gs guest ppn (Private mid hint) in
       let one = stepped hash total entries gs guest ppn at first _ (in_place_step total gs guest ppn salt at (front ++ drop at old) first hint here) in
       let there : page_at next guest ppn ≡ Some (salt, Private (front ++ first ++ drop (at + 64) old) hint) =
-          at_same gs guest ppn salt (Private (front ++ drop at old) hint) (Private mid hint) here ∙ ap (λ (x : List ℕ). let p : ℕ × Slot = (salt, Private x hint) in Some p) mid_is in
+      at_same gs guest ppn salt (Private (front ++ drop at old) hint) (Private mid hint) here ∙ ap (λ (x : List ℕ). let p : ℕ × Slot = (salt, Private x hint) in Some p) mid_is in
       let then = in_place n (entries + 1) (at + 64) next (front ++ first) old rest (omega (arith, length-append front first, first_size)) there rest_size in
       let whole : front ++ first ++ rest ++ drop (at + 64 + length rest) old ≡ front ++ bytes ++ drop (at + length bytes) old =
-          ap (λ (x : List ℕ). x ++ drop (at + 64 + length rest) old) (append_assoc front first rest ∙ ap (λ (x : List ℕ). front ++ x) (take-append-drop 64 bytes)) ∙ ap (λ (k : ℕ). front ++ bytes ++ drop k old) (omega (arith, rest_size)) in
+      ap (λ (x : List ℕ). x ++ drop (at + 64 + length rest) old) (append_assoc front first rest ∙ ap (λ (x : List ℕ). front ++ x) (take-append-drop 64 bytes)) ∙ ap (λ (k : ℕ). front ++ bytes ++ drop k old) (omega (arith, rest_size)) in
       ap (λ (s : Step). state_after hash s.state (entries_of guest (stores_from n ppn (at + 64) rest))) one
       ∙ then
       ∙ ap (λ (x : List Guest). state total x (entries + 1 + n)) (again gs guest ppn (Private mid hint) (Private (front ++ first ++ rest ++ drop (at + 64 + length rest) old) hint))
@@ -137,10 +137,10 @@ module _ (hash : ℕ → List ℕ → ℕ) (total guest ppn salt : ℕ) (gs : Li
       let next : List Guest = with_slot gs guest ppn (Private mid hint) in
       let one = stepped hash total entries gs guest ppn 0 first _ (is 0 first) in
       let there : page_at next guest ppn ≡ Some (salt, Private (first ++ drop 64 old) hint) =
-          at_same gs guest ppn salt slot (Private mid hint) here ∙ ap (λ (x : List ℕ). let p : ℕ × Slot = (salt, Private x hint) in Some p) mid_is in
+      at_same gs guest ppn salt slot (Private mid hint) here ∙ ap (λ (x : List ℕ). let p : ℕ × Slot = (salt, Private x hint) in Some p) mid_is in
       let then = in_place hash total guest ppn salt hint n (entries + 1) 64 next first old rest first_size there rest_size in
       let whole : first ++ rest ++ drop (64 + length rest) old ≡ written old 0 bytes =
-          ap (λ (x : List ℕ). x ++ drop (64 + length rest) old) (take-append-drop 64 bytes) ∙ ap (λ (k : ℕ). bytes ++ drop k old) (omega (arith, rest_size)) in
+      ap (λ (x : List ℕ). x ++ drop (64 + length rest) old) (take-append-drop 64 bytes) ∙ ap (λ (k : ℕ). bytes ++ drop k old) (omega (arith, rest_size)) in
       ap (λ (s : Step). state_after hash s.state (entries_of guest (stores_from n ppn 64 rest))) one
       ∙ then
       ∙ ap (λ (x : List Guest). state total x (entries + 1 + n)) (again gs guest ppn (Private mid hint) (Private (first ++ rest ++ drop (64 + length rest) old) hint))

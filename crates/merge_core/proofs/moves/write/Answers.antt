@@ -2,7 +2,7 @@ use Rattle.std.proofs.Common.{refl, arith, Some}
 use Rattle.page_model.specs.Pages.{written}
 use Rattle.merge_core.specs.Names.{bytes_in}
 use Rattle.merge_core.specs.View.{names_of, notes_of}
-use Rattle.merge_core.proofs.FrameLemmas.{bytes_are}
+use Rattle.merge_core.proofs.FrameLemmas.{bytes_are, bytes_same, taken_within}
 use Rattle.merge_core.proofs.Changes.{written_ties, written_guests, write_within}
 use Rattle.std.proofs.lemmas.List.{length-set}
 use Rattle.merge_core.proofs.moves.write.Goals as goal
@@ -24,3 +24,9 @@ returns-clause-guests g c =
     let held = c.args.held.now in
     let now = bytes_are held.frames c.args.mpn (c.requires.whole.ties.placed.taken _ _ _ _ c.args.mpn c.requires.page refl) in
     rw (c.write.ensures, now) (written_guests g.H.HashFunction.hash_of (names_of held) held.frames held.table (notes_of held) c.args.page.guest c.args.page.ppn c.args.page.salt c.args.mpn c.args.hint (written (bytes_in held.frames c.args.mpn) c.args.at c.args.bytes.now) c.requires.whole.ties c.requires.page)
+
+pub returns-clause-bytes : goal.returns-clause-bytes
+returns-clause-bytes g c =
+    let held = c.args.held.now in
+    let taken = c.requires.whole.ties.placed.taken _ _ _ _ c.args.mpn c.requires.page refl in
+    rw (c.write.ensures, bytes_are held.frames c.args.mpn taken) (bytes_same held.frames c.args.mpn (written (bytes_in held.frames c.args.mpn) c.args.at c.args.bytes.now) (taken_within held.frames c.args.mpn taken))
