@@ -11,7 +11,7 @@ use worked_answers::Answer;
 
 /// Hashes to the first byte, and counts its calls.
 #[derive(Drop)]
-struct Counted<'a>(&'a AtomicU32);
+pub struct Counted<'a>(pub &'a AtomicU32);
 
 impl HashFunction for Counted<'_> {
     ghost hash_of = { λ _ bytes. slice_index bytes 0 };
