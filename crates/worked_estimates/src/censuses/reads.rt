@@ -13,11 +13,11 @@ use std::thread::Threads;
 // guest 0, and page b of guest 2 with that of guest 1. Pages of zeros are only read for their marks.
 const READ: [u64; 3] = [3, 5, 2];
 
-// If all pages but those of zeros have the same mark, classes are found once page b of guest 1 isn't the page a of guest 0,
-// by the same comparisons and that one.
+// If all pages but those of zeros have one mark, page b of guest 1 is taken for page a of guest 0, which isn't confirmed.
+// Then classes are found anew, by comparing pages.
 const READ_WITHOUT_HASH: [u64; 3] = [6, 8, 2];
 
-/// Lets as many pages be read.
+/// Lets `most` pages be read, and counts how many were asked for.
 #[derive(Drop)]
 struct Allowance {
     most: u64,
