@@ -9,3 +9,4 @@ pub mod Summed
 pub mod Transfer
 pub mod Totals
 pub mod Between
+pub mod Fewest

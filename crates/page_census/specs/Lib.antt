@@ -8,3 +8,4 @@ pub mod Places
 pub mod Numbers
 pub mod Counted
 pub mod Keys
+pub mod Fewest

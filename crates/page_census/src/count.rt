@@ -1,6 +1,7 @@
 //! The census.
 ghost use Rattle.std.specs.Prelude.{◌≡◌, ◌↔◌, ◌+◌, ◌≤◌, ◌<◌, ◌^◌, Err, IfOk, length};
 ghost use Rattle.page_census.specs.Contents.{AreSteady, contents};
+ghost use Rattle.page_census.specs.Fewest.{AreFewest};
 ghost use Rattle.page_census.specs.Numbers.{copies_table, numbers_of, sum_alone, total_numbers};
 ghost use Rattle.page_census.specs.declared.fault.CensusFault.{CensusFault};
 
@@ -51,6 +52,7 @@ pub fn census<
     ensures few { IfOk result (λ _. length (contents S.pages guests.now) < 2 ^ 32) }
     ensures guests { IfOk result (λ census. AreSteady S.is_steady guests.now → census.guests.items ≡ numbers_of S.pages guests.now) }
     ensures total { IfOk result (λ census. AreSteady S.is_steady guests.now → census.total ≡ total_numbers S.pages guests.now) }
+    ensures fewest { IfOk result (λ census. AreSteady S.is_steady guests.now → AreFewest (contents S.pages guests.now) census.total.frames) }
     ensures copies { IfOk result (λ census. AreSteady S.is_steady guests.now → census.copies.items ≡ copies_table (contents S.pages guests.now)) }
     ensures between { IfOk result (λ census. AreSteady S.is_steady guests.now → census.total.reclaimed ≡ census.total.between + sum_alone census.guests.items) }
 {
@@ -83,6 +85,7 @@ fn count_contents<
     requires count { count ≡ length (contents S.pages guests.now) }
     ensures guests { IfOk result (λ census. AreSteady S.is_steady guests.now → census.guests.items ≡ numbers_of S.pages guests.now) }
     ensures total { IfOk result (λ census. AreSteady S.is_steady guests.now → census.total ≡ total_numbers S.pages guests.now) }
+    ensures fewest { IfOk result (λ census. AreSteady S.is_steady guests.now → AreFewest (contents S.pages guests.now) census.total.frames) }
     ensures copies { IfOk result (λ census. AreSteady S.is_steady guests.now → census.copies.items ≡ copies_table (contents S.pages guests.now)) }
     ensures between { IfOk result (λ census. AreSteady S.is_steady guests.now → census.total.reclaimed ≡ census.total.between + sum_alone census.guests.items) }
 {

@@ -4,3 +4,7 @@ mod folded;
 mod known;
 mod many;
 mod pages;
+mod reads;
+mod room;
+mod together;
+mod watched;

@@ -6,6 +6,7 @@ use page_digest::PageHash;
 use page_model::{HashFunction, Page};
 use std::alloc::{AllocError, Allocator, Global};
 use std::process::Abort;
+use std::sync::atomic::{AtomicU64, Ordering};
 use std::thread::Threads;
 
 /// Fewer than 2^32 pages in memory, of which only the first can be read.
@@ -55,11 +56,16 @@ impl PageHash for ZeroHash {
     }
 }
 
-// Ignores all progress.
-struct Quiet;
+// How many pages were reported as read.
+#[derive(Drop)]
+struct ReadSoFar {
+    pages: AtomicU64,
+}
 
-impl Progress for Quiet {
-    fn advance(&self, _pages: usize) {}
+impl Progress for ReadSoFar {
+    fn advance(&self, pages: usize) {
+        self.pages.fetch_add(pages as u64, Ordering::SeqCst);
+    }
 }
 
 /// Makes a page that begins with 0x41 and ends with this byte, or one of zeros.
@@ -91,16 +97,30 @@ pub fn guest_of(
     })
 }
 
-/// Makes a census of these guests, by this many workers.
-pub fn census_of<R: Threads + Abort + Sync, H: PageHash, A: Allocator + Clone + Send + Sync>(
+/// Makes a census of these guests, by this many workers. Each page is reported as read once.
+pub fn census_of<
+    R: Threads + Abort + Sync,
+    H: PageHash,
+    S: PageSource,
+    A: Allocator + Clone + Send + Sync,
+>(
     rt: &R,
     alloc: A,
     workers: u32,
     hash: &H,
-    guests: &[Guest<Memory>],
-) -> Result<CensusNumbers<A>, CensusFault<Unreadable>> {
+    guests: &[Guest<S>],
+) -> Result<CensusNumbers<A>, CensusFault<S::Fault>> {
     assert!(rt; workers >= 1);
-    census(rt, alloc, workers, hash, guests, &Quiet)
+    let pages = AtomicU64::new(0);
+    let progress = ReadSoFar { pages };
+    let told = census(rt, alloc, workers, hash, guests, &progress);
+    if let Ok(told) = &told {
+        assert_eq!(rt;
+            progress.pages.load(Ordering::SeqCst),
+            u64::from(told.total.pages)
+        );
+    }
+    told
 }
 
 /// Returns what a census of these guests counts, by this many workers.

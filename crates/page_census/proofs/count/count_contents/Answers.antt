@@ -9,6 +9,7 @@ use Rattle.page_census.specs.Numbers.{copies, distinct, numbers_of, sum_alone}
 use Rattle.page_census.specs.declared.numbers.GuestNumbers.{GuestNumbers}
 use Rattle.page_census.specs.declared.numbers.TotalNumbers.{TotalNumbers}
 use Rattle.page_census.proofs.Between.{alone_within}
+use Rattle.page_census.proofs.Fewest.{are_fewest}
 use Rattle.page_census.proofs.Summed.{sum_copies}
 use Rattle.page_census.proofs.Totals.{table_is, total_is}
 use Rattle.page_census.proofs.Transfer.{all_in, counted_are, tells}
@@ -71,6 +72,11 @@ returns-clause-total g c =
     ∙ ap (λ (cs : List ℕ). counted_total counts frames (map (mark_at hash) all) cs c.deref-9.result.now) (c.deref-8.ensures.value ∙ classes)
     ∙ ap (λ (ns : List GuestNumbers). counted_total counts frames (map (mark_at hash) all) (map (class_of all) all) ns) numbers
     ∙ total_is all counts len told hash frames (numbers_of pages guests) (c.in_ok-tally.ensures.distinct ∙ ap (distinct eqb) (c.deref-2.ensures.value ∙ classes))
+
+pub returns-clause-fewest : goal.returns-clause-fewest
+returns-clause-fewest g c =
+    let all : List Content = contents g.S.PageSource.pages c.args.guests.now in
+    λ steady. rw (ap (λ (t : TotalNumbers). t.frames) (returns-clause-total g c steady)) (are_fewest all)
 
 pub returns-clause-copies : goal.returns-clause-copies
 returns-clause-copies g c =
