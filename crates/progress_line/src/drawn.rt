@@ -1,5 +1,9 @@
 //! A line on standard error that is redrawn.
-use std::fmt::Display;
+ghost use Rattle.std.specs.Prelude.{◌≡◌, ◌+◌, ◌≤◌, ◌↔◌, ◌++◌, false, codes, IsTrue, IsNone, option_map};
+ghost use Rattle.progress_line.specs.When.{is_on};
+
+use crate::when::Drawn;
+use std::fmt::{self, Display, Formatter};
 use std::io;
 use std::sync::atomic::{AtomicBool, AtomicU64, Ordering};
 use std::time::{Clock, Instant};
@@ -42,7 +46,7 @@ impl<'a, R: Eprint + Clock> DrawnLine<'a, R> {
     /// start.
     pub fn draw_if_due<T: Told>(&self, text: &T) {
         let now = self.elapsed();
-        if now < self.last.load(Ordering::SeqCst).saturating_add(PAUSE) {
+        if !is_due(self.last.load(Ordering::SeqCst), now) {
             return;
         }
         if !self.is_taken.swap(true, Ordering::SeqCst) {
@@ -60,14 +64,39 @@ impl<'a, R: Eprint + Clock> DrawnLine<'a, R> {
 
     /// Ignores a failed write: the work goes on without it.
     fn draw<T: Told>(&self, text: &T, elapsed: u64) {
-        let shown = text.told(elapsed);
-        let _ = eprint!(self.rt; "\r{shown}\x1b[K");
+        let _ = self.rt.eprint(Redrawn(text.told(elapsed)));
     }
 }
 
-/// Makes a line if one should be drawn. Without a clock there is none.
-pub fn line_where<R: Eprint + Clock>(rt: &R, is_drawn: bool) -> Option<DrawnLine<'_, R>> {
-    if is_drawn {
+/// Returns whether a line may be drawn again, by the milliseconds at which it was drawn last and those of now.
+fn is_due(last: u64, now: u64) -> bool
+    ensures { IsTrue result ↔ (last + PAUSE ≤ now) }
+{
+    now.saturating_sub(last) >= PAUSE
+}
+
+/// A text drawn over the line's last one: from the line's start on, and what stood behind it is erased.
+#[derive(Drop)]
+struct Redrawn<T: Drop>(T);
+
+impl<T: Display + Drop> Display for Redrawn<T> {
+    ghost output = { λ r. option_map (λ text. codes "\r" ++ (text ++ codes "\u{1b}[K")) (T.output r.0) };
+
+    fn fmt<W: fmt::Write>(&self, f: &mut Formatter<W>) -> fmt::Result {
+        let text = &self.0;
+        write!(f, "\r{text}\x1b[K")
+    }
+}
+
+/// Makes a line if one should be drawn, where standard error is a terminal or not. Without a clock there is none.
+pub fn line_where<R: Eprint + Clock>(
+    rt: &R,
+    drawn: Drawn,
+    is_terminal: bool,
+) -> Option<DrawnLine<'_, R>>
+    ensures { is_on drawn is_terminal ≡ false → IsNone result }
+{
+    if drawn.is_on(is_terminal) {
         DrawnLine::new(rt).ok()
     } else {
         None
