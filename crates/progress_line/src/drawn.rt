@@ -1,9 +1,9 @@
 //! A line on standard error that is redrawn.
-ghost use Rattle.std.specs.Prelude.{◌≡◌, ◌+◌, ◌≤◌, ◌↔◌, ◌++◌, false, codes, IsTrue, IsNone, option_map};
+ghost use Rattle.std.specs.Prelude.{◌≡◌, ◌+◌, ◌≤◌, ◌↔◌, false, IsTrue, IsNone};
 ghost use Rattle.progress_line.specs.When.{is_on};
 
 use crate::when::Drawn;
-use std::fmt::{self, Display, Formatter};
+use std::fmt::Display;
 use std::io;
 use std::sync::atomic::{AtomicBool, AtomicU64, Ordering};
 use std::time::{Clock, Instant};
@@ -64,7 +64,8 @@ impl<'a, R: Eprint + Clock> DrawnLine<'a, R> {
 
     /// Ignores a failed write: the work goes on without it.
     fn draw<T: Told>(&self, text: &T, elapsed: u64) {
-        let _ = self.rt.eprint(Redrawn(text.told(elapsed)));
+        let shown = text.told(elapsed);
+        let _ = eprint!(self.rt; "\r{shown}\x1b[K");
     }
 }
 
@@ -73,19 +74,6 @@ fn is_due(last: u64, now: u64) -> bool
     ensures { IsTrue result ↔ (last + PAUSE ≤ now) }
 {
     now.saturating_sub(last) >= PAUSE
-}
-
-/// A text drawn over the line's last one: from the line's start on, and what stood behind it is erased.
-#[derive(Drop)]
-struct Redrawn<T: Drop>(T);
-
-impl<T: Display + Drop> Display for Redrawn<T> {
-    ghost output = { λ r. option_map (λ text. codes "\r" ++ (text ++ codes "\u{1b}[K")) (T.output r.0) };
-
-    fn fmt<W: fmt::Write>(&self, f: &mut Formatter<W>) -> fmt::Result {
-        let text = &self.0;
-        write!(f, "\r{text}\x1b[K")
-    }
 }
 
 /// Makes a line if one should be drawn, where standard error is a terminal or not. Without a clock there is none.
