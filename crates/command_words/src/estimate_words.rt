@@ -1,8 +1,9 @@
 //! The words of the command `estimate`.
 use crate::parts::{described, flag, option, positional};
-use crate::progress_words::{Drawn, progress_of, progress_option};
+use crate::progress_words::{progress_of, progress_option};
 use clap::error::ErrorKind;
 use clap::{Arg, ArgMatches, Command, Error, value_parser};
+use command_terms::EstimateWords;
 use std::alloc::{AllocError, Global};
 
 /// What stands below the help of `estimate`.
@@ -24,26 +25,6 @@ const SALTS: &str =
     "A number for each image: pages are shared only where these are equal [default: 0 for each]";
 
 const READING: &str = "Tell on standard error how much was read; on auto where that is a terminal";
-
-/// The most threads that read.
-pub const MOST_WORKERS: u32 = 64;
-
-/// What an estimate is to be made of, and how.
-#[derive(Debug, Drop, PartialEq, Eq)]
-pub struct EstimateWords<'a> {
-    /// The paths of the images, guest 0's first.
-    pub images: Vec<&'a str>,
-    /// A salt for each of them; none where all are 0.
-    pub salts: Vec<u32>,
-    /// How many threads read, where that is told.
-    pub workers: Option<u32>,
-    /// Whether each image is raw, whatever it begins with.
-    pub raw: bool,
-    pub json: bool,
-    /// Where the picture goes.
-    pub svg: Option<&'a str>,
-    pub progress: Drawn,
-}
 
 /// The command, as part of the program's.
 pub fn estimate_command<'a>(alloc: Global) -> Result<Command<'a>, AllocError> {

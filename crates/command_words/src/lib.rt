@@ -9,6 +9,4 @@ mod parts;
 mod progress_words;
 mod words;
 
-pub use estimate_words::{EstimateWords, MOST_WORKERS};
-pub use progress_words::Drawn;
-pub use words::{Asked, Task, Work, asked_of};
+pub use words::asked_of;

@@ -1,8 +1,9 @@
 //! The commands, and what the words of a command line ask for.
-use crate::estimate_words::{EstimateWords, estimate_command, estimate_words};
+use crate::estimate_words::{estimate_command, estimate_words};
 use crate::parts::{described, flag, positional};
-use crate::progress_words::{Drawn, progress_of, progress_option};
+use crate::progress_words::{progress_of, progress_option};
 use clap::{Arg, ArgMatches, Command, Error};
+use command_terms::{Asked, Task, Work};
 use std::alloc::{AllocError, Global};
 
 /// Version of the program; those of the texts that it reads stand in their first lines.
@@ -63,44 +64,6 @@ const JOURNAL_FILE: &str = "The journal; without it, standard input is read";
 const SCRIPT_FILE: &str = "The script; without it, standard input is read";
 
 const RUNNING: &str = "Tell on standard error how far the run is; on auto where that is a terminal";
-
-/// What is to be done with a text.
-#[derive(Clone, Copy, Debug, PartialEq, Eq)]
-pub enum Work {
-    /// Replay the journal.
-    Replay,
-    /// Serve the script on one thread.
-    Serial,
-    /// Run the script, and write its journal or its verdicts and report; the line that tells how far it is may be drawn.
-    Run { is_journal: bool, progress: Drawn },
-}
-
-impl Work {
-    /// Whether the text is a script, and no journal.
-    pub fn is_of_script(self) -> bool {
-        match self {
-            Work::Replay => false,
-            Work::Serial => true,
-            Work::Run { .. } => true,
-        }
-    }
-}
-
-/// What the words ask for: the text is in the file, or on standard input.
-#[derive(Clone, Copy, Debug, PartialEq, Eq)]
-pub struct Task<'a> {
-    pub work: Work,
-    pub file: Option<&'a str>,
-}
-
-/// What the words ask for.
-#[derive(Debug, Drop, PartialEq, Eq)]
-pub enum Asked<'a> {
-    /// To do something with a text.
-    Text(Task<'a>),
-    /// To tell what sharing would reclaim.
-    Estimate(EstimateWords<'a>),
-}
 
 fn replay_command<'a>(alloc: Global) -> Result<Command<'a>, AllocError> {
     let about = "Replay a journal: print a verdict for each request, then the report";

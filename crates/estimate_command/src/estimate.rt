@@ -5,17 +5,16 @@ use crate::faults::{Cause, EstimateFault};
 use crate::images::{Images, check_unchanged, open_images};
 use crate::reading::Reading;
 use census_text::{Estimate, guest_lines, json_text, picture_text, table_text};
-use command_words::{EstimateWords, MOST_WORKERS};
+use command_terms::{CommandEnd, EstimateWords, ImageCause, MOST_WORKERS, worker_count};
 use page_census::{CensusFault, CensusNumbers, FoldHash, census};
 use progress_line::line_where;
 use std::alloc::{AllocError, Global};
 use std::fs::{self, File, Files};
 use std::io::{self, Eprint, Write};
-use std::process::ExitCode;
 use std::thread::{self, Threads};
 use std::time::Clock;
 
-/// Counts the pages of the images, writes the picture, and then the table or the JSON object. Returns the status: a
+/// Counts the pages of the images, writes the picture, and then the table or the JSON object. Returns how that ended: a
 /// fault is reported in a line on standard error, and then nothing was written to the output unless that is what
 /// failed.
 pub fn do_estimate<R: Threads + Sync + Files<File = File> + Eprint + Clock, W: Write + Drop>(
@@ -24,14 +23,13 @@ pub fn do_estimate<R: Threads + Sync + Files<File = File> + Eprint + Clock, W: W
     words: &EstimateWords<'_>,
     output: W,
     is_terminal: bool,
-) -> io::Result<ExitCode> {
-    match estimate(rt, alloc, words, output, is_terminal) {
-        Ok(()) => Ok(ExitCode::SUCCESS),
-        Err(fault) => {
-            eprintln!(rt; "{fault}")?;
-            Ok(ExitCode::FAILURE)
-        }
+) -> io::Result<CommandEnd> {
+    let done = estimate(rt, alloc, words, output, is_terminal);
+    let end = CommandEnd::of(&done);
+    if let Err(fault) = done {
+        eprintln!(rt; "{fault}")?;
     }
+    Ok(end)
 }
 
 fn estimate<'a, R: Threads + Sync + Files<File = File> + Eprint + Clock, W: Write + Drop>(
@@ -45,8 +43,8 @@ fn estimate<'a, R: Threads + Sync + Files<File = File> + Eprint + Clock, W: Writ
     let numbers = count(rt, alloc, words, &images, is_terminal)?;
     check_unchanged(rt, words, &images)?;
     let texts = texts_of(alloc, words, &numbers).map_err(|_refused| EstimateFault::of_all(
-        &words.images,
-        Cause::OutOfMemory,
+        words,
+        ImageCause::OutOfMemory,
     ))?;
     if let (Some(path), Some(picture)) = (words.svg, &texts.picture) {
         write_file(rt, path, picture).map_err(|cause| EstimateFault::of(path, cause))?;
@@ -65,23 +63,22 @@ fn count<'a, R: Threads + Sync + Eprint + Clock>(
     images: &Images,
     is_terminal: bool,
 ) -> Result<CensusNumbers<Global>, EstimateFault<'a>> {
-    let is_drawn = words.progress.is_on(is_terminal);
-    let reading = Reading::new(line_where(rt, is_drawn), images.pages);
+    let line = line_where(rt, words.progress, is_terminal);
+    let reading = Reading::new(line, images.pages);
     let workers = workers_of(rt, words.workers);
     let told = census(rt, alloc, workers, &FoldHash, &images.guests, &reading);
     reading.end();
     match told {
         Ok(numbers) => Ok(numbers),
         Err(CensusFault::OutOfMemory) => {
-            Err(EstimateFault::of_all(&words.images, Cause::OutOfMemory))
+            Err(EstimateFault::of_all(words, ImageCause::OutOfMemory))
         }
         Err(CensusFault::TooManyPages) => {
-            Err(EstimateFault::of_all(&words.images, Cause::TooManyPages))
+            Err(EstimateFault::of_all(words, ImageCause::TooManyPages))
         }
-        Err(CensusFault::Read(guest, error)) => Err(EstimateFault::of(
-            words.images.get(guest).copied().unwrap_or("estimate"),
-            Cause::from(error),
-        )),
+        Err(CensusFault::Read(guest, error)) => {
+            Err(EstimateFault::of(words.image_of(guest), Cause::from(error)))
+        }
     }
 }
 
@@ -89,11 +86,10 @@ fn count<'a, R: Threads + Sync + Eprint + Clock>(
 fn workers_of(rt: &impl Threads, asked: Option<u32>) -> u32
     ensures { 1 ≤ result }
 {
-    let workers = match asked {
+    worker_count(match asked {
         Some(workers) => workers,
         None => processors(rt),
-    };
-    workers.clamp(1, MOST_WORKERS)
+    })
 }
 
 fn processors(rt: &impl Threads) -> u32 {
@@ -135,7 +131,7 @@ fn texts_of(
 /// Returns the salt of each guest.
 fn guest_salts(alloc: Global, words: &EstimateWords<'_>) -> Result<Vec<u32>, AllocError> {
     (0..words.images.len())
-        .map(|n| words.salts.get(n).copied().unwrap_or(0))
+        .map(|n| words.salt_of(n))
         .collect(alloc)
 }
 

@@ -1,5 +1,6 @@
 //! Why there is no estimate.
 use census_text::PlainName;
+use command_terms::{EstimateWords, ImageCause};
 use memory_images::{FormFault, ImageFault};
 use std::alloc::{AllocError, AllocFailed};
 use std::fmt::{self, Display, Formatter};
@@ -12,14 +13,8 @@ pub enum Cause {
     System(io::Error),
     /// The file doesn't have a form that can be read.
     Form(FormFault),
-    /// It isn't a file with a length; it is a device, for example.
-    NoFile,
-    /// The file was changed while it was read.
-    Changed,
-    /// With this image there are more than 4,294,967,295 pages.
-    TooManyPages,
-    /// Memory was refused.
-    OutOfMemory,
+    /// An image, or all of them, for this cause.
+    Image(ImageCause),
 }
 
 /// A fault of a file, or of the files from this one on.
@@ -41,16 +36,12 @@ impl<'a> EstimateFault<'a> {
         }
     }
 
-    /// Makes the fault of all of these together.
-    pub fn of_all(names: &[&'a str], cause: Cause) -> EstimateFault<'a> {
-        let (name, others) = match names.split_first() {
-            Some((first, others)) => (*first, others.len()),
-            None => ("estimate", 0),
-        };
+    /// Makes the fault of all images together.
+    pub fn of_all(words: &EstimateWords<'a>, cause: ImageCause) -> EstimateFault<'a> {
         EstimateFault {
-            name,
-            others,
-            cause,
+            name: words.image_of(0),
+            others: words.others(),
+            cause: Cause::Image(cause),
         }
     }
 }
@@ -60,10 +51,7 @@ impl Display for Cause {
         match self {
             Cause::System(error) => write!(f, "{error}"),
             Cause::Form(form) => write!(f, "{form}"),
-            Cause::NoFile => f.write_str("not a regular file"),
-            Cause::Changed => f.write_str("changed while it was read"),
-            Cause::TooManyPages => f.write_str("more than 4,294,967,295 pages in all"),
-            Cause::OutOfMemory => f.write_str("out of memory"),
+            Cause::Image(cause) => write!(f, "{cause}"),
         }
     }
 }
@@ -84,7 +72,7 @@ impl Display for EstimateFault<'_> {
 impl From<io::Error> for Cause {
     fn from(error: io::Error) -> Cause {
         if error.kind() == io::ErrorKind::OutOfMemory {
-            Cause::OutOfMemory
+            Cause::Image(ImageCause::OutOfMemory)
         } else {
             Cause::System(error)
         }
@@ -93,20 +81,20 @@ impl From<io::Error> for Cause {
 
 impl From<AllocError> for Cause {
     fn from(_refused: AllocError) -> Cause {
-        Cause::OutOfMemory
+        Cause::Image(ImageCause::OutOfMemory)
     }
 }
 
 impl<T: Drop> From<AllocFailed<T>> for Cause {
     fn from(_refused: AllocFailed<T>) -> Cause {
-        Cause::OutOfMemory
+        Cause::Image(ImageCause::OutOfMemory)
     }
 }
 
 impl From<ImageFault<io::Error>> for Cause {
     fn from(fault: ImageFault<io::Error>) -> Cause {
         match fault {
-            ImageFault::OutOfMemory => Cause::OutOfMemory,
+            ImageFault::OutOfMemory => Cause::Image(ImageCause::OutOfMemory),
             ImageFault::Read(error) => Cause::from(error),
             ImageFault::Form(form) => Cause::Form(form),
         }

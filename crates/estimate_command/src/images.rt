@@ -1,6 +1,6 @@
 //! The images of an estimate.
 use crate::faults::{Cause, EstimateFault};
-use command_words::EstimateWords;
+use command_terms::{EstimateWords, ImageCause};
 use memory_images::{FileBytes, Image, ImageFault};
 use page_census::{Guest, PageSource};
 use std::alloc::Global;
@@ -49,10 +49,9 @@ pub fn open_images<'a, R: Files<File = File>>(
         pages: 0,
     };
     for (n, path) in words.images.iter().enumerate() {
-        let salt = words.salts.get(n).copied().unwrap_or(0);
-        open_next(rt, alloc, path, salt, words.raw, &mut images).map_err(|cause| EstimateFault::of(
-            path, cause,
-        ))?;
+        open_next(rt, alloc, path, words.salt_of(n), words.raw, &mut images).map_err(
+            |cause| EstimateFault::of(path, cause),
+        )?;
     }
     Ok(images)
 }
@@ -69,7 +68,7 @@ fn open_next<R: Files<File = File>>(
     let (source, mark) = open_image(rt, alloc, path, is_raw)?;
     images.pages = images.pages.saturating_add(u64::from(source.count()));
     if images.pages > u64::from(u32::MAX) {
-        return Err(Cause::TooManyPages);
+        return Err(Cause::Image(ImageCause::TooManyPages));
     }
     images.guests.push(Guest { salt, source })?;
     images.marks.push(mark)?;
@@ -87,7 +86,7 @@ fn open_image<R: Files<File = File>>(
     if !metadata.is_file() {
         // A folder or a pipe can't be read at a place, and the system says why. A device may be, but has no length.
         file.read_exact_at(&mut [0; 1], 0)?;
-        return Err(Cause::NoFile);
+        return Err(Cause::Image(ImageCause::NoFile));
     }
     let bytes = FileBytes::new(file)?;
     let image = if is_raw {
@@ -115,6 +114,6 @@ fn check_file<R: Files>(rt: &R, path: &str, mark: &FileMark) -> Result<(), Cause
     if FileMark::of(&metadata) == *mark {
         Ok(())
     } else {
-        Err(Cause::Changed)
+        Err(Cause::Image(ImageCause::Changed))
     }
 }

@@ -7,14 +7,13 @@
 
 mod faults;
 mod running;
-mod script_forms;
 mod texts;
 
 use clap::Error;
 use clap::error::ErrorKind;
-use command_words::{Asked, asked_of};
+use command_terms::{Asked, CommandEnd};
+use command_words::asked_of;
 use estimate_command::do_estimate;
-pub use script_forms::script_form;
 use std::alloc::Global;
 use std::fs::{File, Files};
 use std::io::{self, Eprint, Print, Read, Write};
@@ -41,16 +40,17 @@ pub fn do_command<
     output: W,
     is_terminal: bool,
 ) -> io::Result<ExitCode> {
-    match asked_of(alloc, words) {
-        Ok(Asked::Text(task)) => do_text(rt, alloc, &task, input, output, is_terminal),
-        Ok(Asked::Estimate(words)) => do_estimate(rt, alloc, &words, output, is_terminal),
-        Err(error) if error.kind() == ErrorKind::OutOfMemory => tell_memory(rt, is_terminal),
-        Err(error) => explain(rt, &error),
-    }
+    let end = match asked_of(alloc, words) {
+        Ok(Asked::Text(task)) => do_text(rt, alloc, &task, input, output, is_terminal)?,
+        Ok(Asked::Estimate(words)) => do_estimate(rt, alloc, &words, output, is_terminal)?,
+        Err(error) if error.kind() == ErrorKind::OutOfMemory => tell_memory(rt, is_terminal)?,
+        Err(error) => explain(rt, &error)?,
+    };
+    Ok(end.exit_code())
 }
 
-/// Prints why the words are not a command line, or the help or version that they ask for, and returns the status.
-fn explain(rt: &(impl Print + Eprint), error: &Error) -> io::Result<ExitCode> {
+/// Prints why the words are not a command line, or the help or version that they ask for.
+fn explain(rt: &(impl Print + Eprint), error: &Error) -> io::Result<CommandEnd> {
     error.print(rt)?;
-    Ok(ExitCode::from(if error.use_stderr() { 2 } else { 0 }))
+    Ok(CommandEnd::of_words(error.use_stderr()))
 }

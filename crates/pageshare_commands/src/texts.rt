@@ -3,7 +3,7 @@ ghost use Rattle.std.specs.Prelude.{◌≡◌, false};
 
 use crate::faults::{Ending, tell};
 use crate::running::Running;
-use command_words::{Task, Work};
+use command_terms::{CommandEnd, Task, Work, first_failure};
 use merge_run::OpenGate;
 use page_digest::Sha256Hash;
 use progress_line::{DrawnLine, line_where};
@@ -14,12 +14,11 @@ use share_text::{
 use std::alloc::Global;
 use std::fs::{self, Files};
 use std::io::{self, Eprint, Read, Write};
-use std::process::ExitCode;
 use std::sync::Wait;
 use std::thread::Threads;
 use std::time::Clock;
 
-/// Does the work on the text in the file, or if no file is named on that of the input, and returns the status.
+/// Does the work on the text in the file, or if no file is named on that of the input.
 pub fn do_text<T: Threads + Wait + Sync + Files + Eprint + Clock, R: Read + Drop, W: Write + Drop>(
     rt: &T,
     alloc: Global,
@@ -27,33 +26,25 @@ pub fn do_text<T: Threads + Wait + Sync + Files + Eprint + Clock, R: Read + Drop
     input: R,
     output: W,
     is_terminal: bool,
-) -> io::Result<ExitCode> {
-    let work = task.work;
+) -> io::Result<CommandEnd> {
+    let (work, name) = (task.work, task.input_name());
     let ending = match task.file {
-        None => done_of(
-            rt,
-            alloc,
-            work,
-            "standard input",
-            input,
-            output,
-            is_terminal,
-        ),
+        None => done_of(rt, alloc, work, name, input, output, is_terminal),
         Some(path) => match fs::open(rt, path) {
-            Ok(file) => done_of(rt, alloc, work, path, file, output, is_terminal),
+            Ok(file) => done_of(rt, alloc, work, name, file, output, is_terminal),
             // A file that can't be opened is an input that can't be read.
             Err(error) => Ending {
                 is_of_script: work.is_of_script(),
                 done: Err(ThreadedFault::Text(TextFault::Read)),
-                failure: Some((path, error)),
+                failure: Some((name, error)),
             },
         },
     };
     tell(rt, is_terminal, &ending)
 }
 
-/// Returns the status if memory was refused before any work.
-pub fn tell_memory(rt: &impl Eprint, is_terminal: bool) -> io::Result<ExitCode> {
+/// Tells that memory was refused before any work.
+pub fn tell_memory(rt: &impl Eprint, is_terminal: bool) -> io::Result<CommandEnd> {
     let ending = Ending {
         is_of_script: false,
         done: Err(ThreadedFault::Text(TextFault::OutOfMemory)),
@@ -86,19 +77,14 @@ fn done_of<'a, T: Threads + Wait + Sync + Eprint + Clock, R: Read + Drop, W: Wri
             progress,
         } => {
             let form = form_of(is_journal);
-            let line = line_where(rt, progress.is_on(is_terminal));
+            let line = line_where(rt, progress, is_terminal);
             run(rt, alloc, &mut input, &mut output, form, line)
         }
-    };
-    let failure = match (input.error(), output.error()) {
-        (Some(error), _) => Some((name, error)),
-        (None, Some(error)) => Some(("standard output", error)),
-        (None, None) => None,
     };
     Ending {
         is_of_script: work.is_of_script(),
         done,
-        failure,
+        failure: first_failure(name, input.error(), output.error()),
     }
 }
 

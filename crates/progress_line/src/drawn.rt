@@ -1,4 +1,8 @@
 //! A line on standard error that is redrawn.
+ghost use Rattle.std.specs.Prelude.{◌≡◌, ◌+◌, ◌≤◌, ◌↔◌, false, IsTrue, IsNone};
+ghost use Rattle.progress_line.specs.When.{is_on};
+
+use crate::when::Drawn;
 use std::fmt::Display;
 use std::io;
 use std::sync::atomic::{AtomicBool, AtomicU64, Ordering};
@@ -42,7 +46,7 @@ impl<'a, R: Eprint + Clock> DrawnLine<'a, R> {
     /// start.
     pub fn draw_if_due<T: Told>(&self, text: &T) {
         let now = self.elapsed();
-        if now < self.last.load(Ordering::SeqCst).saturating_add(PAUSE) {
+        if !is_due(self.last.load(Ordering::SeqCst), now) {
             return;
         }
         if !self.is_taken.swap(true, Ordering::SeqCst) {
@@ -65,9 +69,22 @@ impl<'a, R: Eprint + Clock> DrawnLine<'a, R> {
     }
 }
 
-/// Makes a line if one should be drawn. Without a clock there is none.
-pub fn line_where<R: Eprint + Clock>(rt: &R, is_drawn: bool) -> Option<DrawnLine<'_, R>> {
-    if is_drawn {
+/// Returns whether a line may be drawn again, by the milliseconds at which it was drawn last and those of now.
+fn is_due(last: u64, now: u64) -> bool
+    ensures { IsTrue result ↔ (last + PAUSE ≤ now) }
+{
+    now.saturating_sub(last) >= PAUSE
+}
+
+/// Makes a line if one should be drawn, where standard error is a terminal or not. Without a clock there is none.
+pub fn line_where<R: Eprint + Clock>(
+    rt: &R,
+    drawn: Drawn,
+    is_terminal: bool,
+) -> Option<DrawnLine<'_, R>>
+    ensures { is_on drawn is_terminal ≡ false → IsNone result }
+{
+    if drawn.is_on(is_terminal) {
         DrawnLine::new(rt).ok()
     } else {
         None

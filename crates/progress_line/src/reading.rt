@@ -1,8 +1,9 @@
 //! How much of the images was read.
-use std::fmt::{self, Display, Formatter};
+ghost use Rattle.std.specs.Prelude.{Some};
+ghost use Rattle.progress_line.specs.Shown.{amount_text, left_text, read_text};
 
-/// Pages of 4,096 bytes in a MiB.
-const PAGES: u64 = 256;
+use crate::amounts::{PAGES, mebibytes_a_second, per_cent, seconds_left};
+use std::fmt::{self, Display, Formatter};
 
 /// How many of all pages were read in how many milliseconds.
 #[derive(Clone, Copy, Debug, PartialEq, Eq, Drop)]
@@ -12,39 +13,46 @@ pub struct ReadSoFar {
     pub elapsed: u64,
 }
 
-impl ReadSoFar {
-    /// Returns how many hundredths of the pages were read; 100 if there are no pages.
-    fn per_cent(&self) -> u64 {
-        match self.done.saturating_mul(100).checked_div(self.total) {
-            Some(part) => part,
-            None => 100,
+/// The first part of the line.
+#[derive(Clone, Copy)]
+struct Amount(ReadSoFar);
+
+/// The end of the line: the seconds left.
+#[derive(Clone, Copy)]
+struct Left(Option<u64>);
+
+impl Display for Amount {
+    ghost output = { λ a. Some (amount_text a.0) };
+
+    fn fmt<W: fmt::Write>(&self, f: &mut Formatter<W>) -> fmt::Result {
+        let ReadSoFar {
+            done,
+            total,
+            elapsed,
+        } = self.0;
+        let (part, rate) = (per_cent(done, total), mebibytes_a_second(done, elapsed));
+        let (read, all) = (done / PAGES, total / PAGES);
+        write!(f, "{part:>3} %  {read} of {all} MiB  {rate} MiB/s")
+    }
+}
+
+impl Display for Left {
+    ghost output = { λ l. Some (left_text l.0) };
+
+    fn fmt<W: fmt::Write>(&self, f: &mut Formatter<W>) -> fmt::Result {
+        match self.0 {
+            Some(seconds) => write!(f, "  {seconds} s left"),
+            None => Ok(()),
         }
-    }
-
-    /// Returns the MiB read per second.
-    fn rate(&self) -> u64 {
-        let thousandfold = self.done.saturating_mul(1000);
-        (thousandfold / PAGES)
-            .checked_div(self.elapsed)
-            .unwrap_or(0)
-    }
-
-    /// Returns the seconds left at this rate, rounded up; `None` if nothing was read.
-    fn seconds_left(&self) -> Option<u64> {
-        let left = self.total.saturating_sub(self.done);
-        let time = left.saturating_mul(self.elapsed).checked_div(self.done)?;
-        Some(time.div_ceil(1000))
     }
 }
 
 impl Display for ReadSoFar {
+    ghost output = { λ r. Some (read_text r) };
+
     fn fmt<W: fmt::Write>(&self, f: &mut Formatter<W>) -> fmt::Result {
-        let (part, rate) = (self.per_cent(), self.rate());
-        let (read, all) = (self.done / PAGES, self.total / PAGES);
-        write!(f, "{part:>3} %  {read} of {all} MiB  {rate} MiB/s")?;
-        match self.seconds_left() {
-            Some(seconds) => write!(f, "  {seconds} s left"),
-            None => Ok(()),
-        }
+        let amount = Amount(*self);
+        let left = Left(seconds_left(self.done, self.total, self.elapsed));
+        write!(f, "{amount}{left}")
     }
 }

@@ -1,4 +1,8 @@
 //! How far a run is.
+ghost use Rattle.std.specs.Prelude.{Some};
+ghost use Rattle.progress_line.specs.Shown.{served_text, pages_text, run_text};
+
+use crate::amounts::{a_second, per_cent};
 use std::fmt::{self, Display, Formatter};
 
 /// How far a run has come in how many milliseconds.
@@ -12,29 +16,41 @@ pub struct RunSoFar {
     pub elapsed: u64,
 }
 
-impl RunSoFar {
-    /// Returns how many hundredths of the requests were served.
-    fn per_cent(&self) -> u64 {
-        let part = u64::from(self.entries).saturating_mul(100);
-        part.checked_div(self.requests).unwrap_or(100)
-    }
+/// The first part of the line: the requests.
+#[derive(Clone, Copy)]
+struct Served(RunSoFar);
 
-    /// Returns the requests served per second.
-    fn rate(&self) -> u64 {
-        let thousandfold = u64::from(self.entries).saturating_mul(1000);
-        thousandfold.checked_div(self.elapsed).unwrap_or(0)
+/// The end of the line: the pages.
+#[derive(Clone, Copy)]
+struct Pages(RunSoFar);
+
+impl Display for Served {
+    ghost output = { λ s. Some (served_text s.0) };
+
+    fn fmt<W: fmt::Write>(&self, f: &mut Formatter<W>) -> fmt::Result {
+        let (done, all) = (u64::from(self.0.entries), self.0.requests);
+        let (part, rate) = (per_cent(done, all), a_second(done, self.0.elapsed));
+        write!(f, "{part:>3} %  {done} of {all} requests  {rate} a second")
     }
 }
 
-impl Display for RunSoFar {
+impl Display for Pages {
+    ghost output = { λ p. Some (pages_text p.0) };
+
     fn fmt<W: fmt::Write>(&self, f: &mut Formatter<W>) -> fmt::Result {
-        let (part, rate) = (self.per_cent(), self.rate());
-        let (done, all) = (self.entries, self.requests);
-        write!(f, "{part:>3} %  {done} of {all} requests  {rate} a second")?;
-        let (mapped, shared, reclaimed) = (self.mapped, self.shared, self.reclaimed);
+        let (mapped, shared, reclaimed) = (self.0.mapped, self.0.shared, self.0.reclaimed);
         write!(
             f,
             "  {mapped} pages mapped, {shared} shared, {reclaimed} reclaimed"
         )
+    }
+}
+
+impl Display for RunSoFar {
+    ghost output = { λ r. Some (run_text r) };
+
+    fn fmt<W: fmt::Write>(&self, f: &mut Formatter<W>) -> fmt::Result {
+        let (served, pages) = (Served(*self), Pages(*self));
+        write!(f, "{served}{pages}")
     }
 }

@@ -1,6 +1,8 @@
 //! What the words of a command line ask for.
 use clap::error::ErrorKind;
-use command_words::{Asked, Drawn, EstimateWords, Task, Work, asked_of};
+use command_terms::{Asked, EstimateWords, Task, Work};
+use command_words::asked_of;
+use progress_line::Drawn;
 use std::alloc::{AllocError, Global};
 use std::test::Fail;
 

@@ -1,0 +1,18 @@
+//! What a command of the program is asked for, and how it ends: its status, and what it tells of a fault.
+//!
+//! All of it is plain values: no word is read here, and nothing is printed.
+#![tactic(auto)]
+
+mod asked;
+mod ends;
+mod estimates;
+mod failures;
+mod image_causes;
+mod script_faults;
+
+pub use asked::{Asked, Task, Work};
+pub use ends::CommandEnd;
+pub use estimates::{EstimateWords, MOST_WORKERS, worker_count};
+pub use failures::{error_line, first_failure};
+pub use image_causes::ImageCause;
+pub use script_faults::{ScriptFault, script_fault};
