@@ -6,7 +6,6 @@
 #![tactic(auto)]
 
 mod history;
-mod note;
 mod proof_list;
 mod publisher;
 mod seat;
