@@ -1,5 +1,4 @@
 pub mod Fronts
 pub mod Lists
 pub mod Adding
-pub mod Publishing
 pub mod Showing

@@ -1,18 +1,15 @@
 -- Each step on what is shown keeps its rule.
-use Rattle.std.proofs.Common.{◌≡◌, ◌≢◌, ◌≤◌, ℕ, true, List, [], ◌∷◌, ◌++◌, length, set, refl, ap, sym, subst, ◌∙◌, ⊎_elim}
+use Rattle.std.proofs.Common.{◌≡◌, ◌≢◌, ℕ, true, List, [], ◌∷◌, ◌++◌, set, refl, ap, sym, subst, ◌∙◌, ⊎_elim}
 use Rattle.std.specs.List.{fold}
-use Rattle.std.proofs.Math.Seq.{take-append_seam}
 use mathlib.Core.Option.{some}
 use lib.ListN.{get_elem?}
 use Rattle.crossbeam_utils.specs.Register.{Admits, Turns, TurnsAt, Forks, Merges}
 use Rattle.atomic_table.proofs.Lists.{at_set, at_snoc}
-use Rattle.page_model.specs.Parts.{Totals}
 use Rattle.merge_reports.specs.declared.shown.Shown.{Shown}
 use Rattle.merge_reports.specs.declared.seat.Seat.{Seat}
-use Rattle.merge_reports.specs.Reports.{StartsWith, NeverFalls, last_of}
+use Rattle.merge_reports.specs.Reports.{StartsWith}
 use Rattle.merge_reports.specs.Showing.{Follows, ShowsLast, Looks, Replaces, list_shown, newcomer, tied_only}
 use Rattle.merge_reports.proofs.Fronts.{front_of_itself, front_of_front}
-use Rattle.merge_reports.proofs.Lists.{last_of_added, never_falls_added}
 
 abbrev Each : Shown → List Seat → Type 0
 Each x seats = (i : ℕ) (s : Seat) → get_elem? seats i ≡ some s → Follows x s
@@ -33,15 +30,15 @@ each_added : (x : Shown) (seats : List Seat) (s : Seat) → Follows x s → Each
 each_added x seats s own others j t e =
     ⊎_elim (others j t) (λ (p : s ≡ t). let P : Seat → Type 0 = λ z. Follows x z in subst P p own) (at_snoc seats s t j e)
 
-pub begins : (x : Shown) → length x.history.log ≡ x.notes → last_of (list_shown x) ≡ x.report → NeverFalls (list_shown x) → ShowsLast x (newcomer ∷ [])
-begins x notes last rising = record { notes = notes; last = last; rising = rising; each = each_added x [] newcomer (newcomer_follows x) (λ j t e. cc) }
+pub begins : (x : Shown) → ShowsLast x (newcomer ∷ [])
+begins x = record { each = each_added x [] newcomer (newcomer_follows x) (λ j t e. cc) }
 
 pub admits : Admits ShowsLast newcomer
-admits x seats h = record { notes = h.notes; last = h.last; rising = h.rising; each = each_added x seats newcomer (newcomer_follows x) h.each }
+admits x seats h = record { each = each_added x seats newcomer (newcomer_follows x) h.each }
 
 -- the seat that knows all of what is shown
 abbrev knowing : Shown → Seat
-knowing x = record { is_tied = true; history = x.history; seen = list_shown x }
+knowing x = record { is_tied = true; history = x.told.history }
 
 knowing_follows : (x : Shown) → Follows x (knowing x)
 knowing_follows x = record { history = λ e. refl; seen = front_of_itself (list_shown x) }
@@ -50,16 +47,13 @@ pub looks : (seat : ℕ) (s : Seat) → Turns ShowsLast seat s (λ x. x) Looks
 looks seat s x seats h here =
     let own = h.each seat s here in (
       knowing x,
-      record { notes = h.notes; last = h.last; rising = h.rising; each = each_changed x seats seat (knowing x) (knowing_follows x) h.each },
-      record { knows = (refl, refl, refl); history = own.history; seen = own.seen; notes = h.notes; last = h.last; rising = h.rising },
+      record { each = each_changed x seats seat (knowing x) (knowing_follows x) h.each },
+      record { knows = (refl, refl); history = own.history; seen = own.seen },
     )
 
 pub forks : (seat : ℕ) (s : Seat) → Forks ShowsLast seat s s (tied_only s)
 forks seat s x seats h here =
     let own = h.each seat s here in record {
-      notes = h.notes;
-      last = h.last;
-      rising = h.rising;
       each = each_added x (set seats seat s) (tied_only s) (record { history = own.history; seen = refl }) (each_changed x seats seat s own h.each);
     }
 
@@ -69,38 +63,31 @@ merges seat s other told x seats h here apart there =
     (λ (p : (other ≡ seat) × (told ≡ told)). absurd (apart p.0))
     (λ (p : (other ≢ seat) × (get_elem? seats other ≡ some told)). h.each other told p.1)
     (at_set seats seat other told told there) in record {
-      notes = h.notes;
-      last = h.last;
-      rising = h.rising;
       each = each_changed x (set seats seat told) other newcomer (newcomer_follows x) (each_changed x seats seat told own h.each);
     }
 
--- the same is shown again
-pub shows_again : (seat : ℕ) (s : Seat) (x : Shown) → TurnsAt ShowsLast seat s x x Replaces
-shows_again seat s x seats h here = (
-  knowing x,
-  record { notes = h.notes; last = h.last; rising = h.rising; each = each_changed x seats seat (knowing x) (knowing_follows x) h.each },
-  (refl, refl, refl),
-)
-
--- something of the same history is shown, whose list goes on by one report
-pub shows_next : (seat : ℕ) (s : Seat) (x y : Shown) → y.history.book ≡ x.history.book → list_shown y ≡ list_shown x ++ y.report ∷ [] → length y.history.log ≡ y.notes
-    → (last_of (list_shown x)).entries ≤ y.report.entries → TurnsAt ShowsLast seat s x y Replaces
-shows_next seat s x y same more notes up seats h here =
-    let further : StartsWith (list_shown y) (list_shown x) = let P : List Totals → Type 0 = λ l. StartsWith l (list_shown x) in subst P (sym more) (take-append_seam (list_shown x) (y.report ∷ [])) in
+-- the same log is shown again, as far as before or further
+pub shows_next : (seat : ℕ) (s : Seat) (x y : Shown) → y.told.history.book ≡ x.told.history.book → StartsWith (list_shown y) (list_shown x) → TurnsAt ShowsLast seat s x y Replaces
+shows_next seat s x y same further seats h here =
     let follows : (i : ℕ) (t : Seat) → get_elem? seats i ≡ some t → Follows y t = λ i t e.
-    let f = h.each i t e in record { history = λ tied. f.history tied ∙ sym same; seen = front_of_front t.seen (list_shown x) (list_shown y) f.seen further } in (
+    let f = h.each i t e in record { history = λ tied. f.history tied ∙ sym same; seen = front_of_front t.history.log (list_shown x) (list_shown y) f.seen further } in (
       knowing y,
-      record {
-        notes = notes;
-        last = ap last_of more ∙ last_of_added (list_shown x) y.report;
-        rising = subst NeverFalls (sym more) (never_falls_added (list_shown x) y.report h.rising up);
-        each = each_changed y seats seat (knowing y) (knowing_follows y) follows;
-      },
-      (refl, refl, refl),
+      record { each = each_changed y seats seat (knowing y) (knowing_follows y) follows },
+      (refl, refl),
     )
 
+pub shows_again : (seat : ℕ) (s : Seat) (x : Shown) → TurnsAt ShowsLast seat s x x Replaces
+shows_again seat s x = shows_next seat s x x refl (front_of_itself (list_shown x))
+
 -- of several operations the last decides
-pub last_operation : (x next : Shown) (before : List Shown) → fold (λ (a : Shown) (b : Shown). b) x (before ++ next ∷ []) ≡ next
+last_operation : (x next : Shown) (before : List Shown) → fold (λ (a : Shown) (b : Shown). b) x (before ++ next ∷ []) ≡ next
 last_operation x next [] = refl
 last_operation x next (y ∷ before) = last_operation y next before
+
+-- so what is shown next is the last operation
+pub shows_last : (seat : ℕ) (s : Seat) (x y : Shown) (before all : List Shown) → all ≡ before ++ y ∷ [] → y.told.history.book ≡ x.told.history.book → StartsWith (list_shown y) (list_shown x)
+    → (next : Shown) → next ≡ fold (λ (a : Shown) (b : Shown). b) x all → TurnsAt ShowsLast seat s x next Replaces
+shows_last seat s x y before all is same further next e =
+    let now : next ≡ y = e ∙ (ap (λ l. fold (λ (a : Shown) (b : Shown). b) x l) is ∙ last_operation x y before) in
+    let P : Shown → Type 0 = λ n. TurnsAt ShowsLast seat s x n Replaces in
+    subst P (sym now) (shows_next seat s x y same further)

@@ -1,16 +1,16 @@
--- The rule of a history, and what its steps say.
+-- The rule of a publisher's log, and what its steps say.
 use Rattle.std.specs.Prelude.{ℕ, ◌≡◌, ◌==◌, true, List, [], ◌∷◌, ◌++◌, length, MatchBool}
 use Rattle.logbook.specs.Pages.{Cell, Step, View, Book, Named}
-use Rattle.merge_reports.specs.declared.note.Note.{Note}
+use Rattle.page_model.specs.Parts.{Totals}
 
--- The first word is the number of notes. A history has two words, and the second stays 0
-pub record CountsNotes (cells : List Cell) (notes : List Note) : Type 0 where
-  pub words : cells ≡ (length notes, true) ∷ (0, true) ∷ []
+-- The first word is the number of reports. A log has two words, and the second stays 0
+pub record CountsReports (cells : List Cell) (log : List Totals) : Type 0 where
+  pub words : cells ≡ (length log, true) ∷ (0, true) ∷ []
 
--- the counter of this history
+-- the counter of this log
 abbrev pub counter_of : Book → Named
-counter_of history = record { tracked = true; key = 0; book = history }
+counter_of log = record { tracked = true; key = 0; book = log }
 
--- if the counter held the known number, the note comes right after all notes that were known
-abbrev pub AddsNote : Step Note → View Note ℕ → ℕ → View Note ℕ → Type 0
-AddsNote step before found after = MatchBool (found == step.old) (after.0 ≡ before.0 ++ step.ask ∷ []) (Unit {0})
+-- if the counter held the known number, the report comes right after all that were known
+abbrev pub AddsReport : Step Totals → View Totals ℕ → ℕ → View Totals ℕ → Type 0
+AddsReport step before found after = MatchBool (found == step.old) (after.0 ≡ before.0 ++ step.ask ∷ []) (Unit {0})

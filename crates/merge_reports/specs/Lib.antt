@@ -1,5 +1,4 @@
 pub mod Reports
-pub mod Notes
 pub mod Counting
 pub mod Showing
 pub mod Lists

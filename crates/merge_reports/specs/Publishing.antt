@@ -1,10 +1,10 @@
 -- What the calls of a publisher do.
-use Rattle.std.specs.Prelude.{◌≡◌, [], ◌∷◌, ◌++◌}
+use Rattle.std.specs.Prelude.{◌≡◌, ◌≤◌, ◌<◌, Bool, [], ◌∷◌, ◌++◌, length, Contains, IsTrue, Decides}
 use Rattle.page_model.specs.Parts.{Totals}
 use Rattle.merge_reports.specs.declared.told.Told.{Told}
 use Rattle.merge_reports.specs.declared.publisher.Publisher.{Publisher}
 use Rattle.merge_reports.specs.declared.watch.Watch.{Watch}
-use Rattle.merge_reports.specs.Reports.{NeverFalls}
+use Rattle.merge_reports.specs.Reports.{StartsWith, NeverFalls, last_of}
 use Rattle.merge_reports.specs.Lists.{published, publisher_id, list_told, told_id, seen, heard, watch_id}
 
 module _ {A : Type 0} where
@@ -29,3 +29,9 @@ module _ {A : Type 0} where
     pub reports : seen w ≡ []
     pub lists : heard w ≡ published p ∷ []
     pub same : watch_id w ≡ publisher_id p
+
+  -- Yes, where the told list is no longer than the published one. It is then a front of it, and its last report was published
+  pub record Confirms (p : Publisher A) (t : Told) (answer : Bool) : Type 0 where
+    pub exact : Decides answer (length (list_told t) ≤ length (published p))
+    pub front : IsTrue answer → StartsWith (published p) (list_told t)
+    pub last : IsTrue answer → 0 < length (list_told t) → Contains (published p) (last_of (list_told t))

@@ -4,7 +4,7 @@ use Rattle.page_model.specs.Parts.{Totals}
 use Rattle.merge_reports.specs.declared.told.Told.{Told}
 use Rattle.merge_reports.specs.declared.watch.Watch.{Watch}
 use Rattle.merge_reports.specs.Reports.{StartsWith, NeverFalls, NoneLater, last_of}
-use Rattle.merge_reports.specs.Lists.{list_told, seen, heard, watch_id}
+use Rattle.merge_reports.specs.Lists.{list_told, told_id, seen, heard, watch_id}
 
 module _ {A : Type 0} where
   -- the watch learned one more list, and nothing else changed
@@ -21,3 +21,9 @@ module _ {A : Type 0} where
     pub told : All (StartsWith (seen after)) (heard before)
     pub never_falls : NeverFalls (seen after)
     pub never_older : NoneLater r (seen after)
+
+  -- the `Told` is of the list that the watch has seen, and in it the entry counts never fall
+  pub record TellsSeen (w : Watch A) (t : Told) : Type 0 where
+    pub list : list_told t ≡ seen w
+    pub never_falls : NeverFalls (list_told t)
+    pub same : told_id t ≡ watch_id w

@@ -1,13 +1,10 @@
 //! The half that publishes.
-ghost use Rattle.std.specs.Prelude.{◌≡◌, ◌≤◌, [], true, length, IfOk, MatchResult};
+ghost use Rattle.std.specs.Prelude.{◌≡◌, ◌≤◌, [], true, IfOk, MatchResult};
 ghost use Rattle.left_right.specs.Sides.{view};
 ghost use Rattle.merge_reports.specs.Counting.{counter_of};
-ghost use Rattle.merge_reports.specs.Notes.{published_in};
 ghost use Rattle.merge_reports.specs.Reports.{last_of};
-ghost use Rattle.merge_reports.specs.Showing.{list_shown};
 
-use crate::history::{Counter, History, add_note};
-use crate::note::Note;
+use crate::history::{Counter, History, add_report};
 use crate::seat::{LastShown, Replaced, Seat, Tied};
 use crate::shown::Shown;
 use crate::told::Told;
@@ -38,36 +35,44 @@ pub struct Publisher<A: Allocator = Global> {
     writer: Writer<Shown, Shown, Seat, LastShown, A>,
     counter: Counter,
     told: Told,
-    // The history as far as it was written: it may end with offers that were not published, which `told` doesn't have.
-    history: History,
-    count: u64,
-    pub ghost counted: { length history.log ≡ count },
-    pub ghost counter_is: { counter ≡ counter_of history.book },
-    pub ghost told_here: { told.history.book ≡ history.book },
-    pub ghost told_all: { published_in history.log ≡ published_in told.history.log },
-    pub ghost shown_here: { writer.desk.shown.value.history.book ≡ history.book },
-    pub ghost shown_all: { list_shown writer.desk.shown.value ≡ published_in told.history.log },
+    // The log before its first report, for new watches.
+    opening: History,
+    pub ghost counter_is: { counter ≡ counter_of told.history.book },
+    pub ghost opening_here: { opening.book ≡ told.history.book },
+    pub ghost opening_empty: { opening.log ≡ [] },
+    pub ghost shown_all: { writer.desk.shown.value.told.history ≡ told.history },
     pub ghost tied: { (view writer.desk.place).is_tied ≡ true },
-    pub ghost tied_here: { (view writer.desk.place).history.book ≡ history.book },
+    pub ghost tied_here: { (view writer.desk.place).history.book ≡ told.history.book },
 }
 
-// The most notes of a history. A publish makes at most two: at a million publishes a second they last for 73,000 years.
-const MAX_NOTES: u64 = 1 << 62;
+// The most reports of a log. At a million publishes a second they last for 146,000 years.
+const MAX_REPORTS: u64 = 1 << 62;
 
-// Returns what is shown before the first publish.
-fn nothing_shown(history: &History) -> Shown
-    ensures { result ≡ record { report = last_of []; notes = 1; history = history.now } }
+// Returns what a publisher tells before the first publish.
+fn nothing_told(history: &History) -> Told
+    requires { history.now.log ≡ [] }
+    ensures { result.history ≡ history.now }
 {
-    Shown {
-        report: Report::new(0, 0, 0, 0, 0),
-        notes: 1,
+    Told {
+        count: 0,
         history: history.again(),
     }
 }
 
+// Returns what is shown before the first publish.
+fn nothing_shown(history: &History) -> Shown
+    requires { history.now.log ≡ [] }
+    ensures { result.told.history ≡ history.now }
+{
+    Shown {
+        report: Report::new(0, 0, 0, 0, 0),
+        told: nothing_told(history),
+    }
+}
+
 impl<A: Allocator> Publisher<A> {
-    ghost use Rattle.merge_reports.specs.Lists.{published, publisher_id};
-    ghost use Rattle.merge_reports.specs.Publishing.{Publishes, Unchanged, TellsAll, IsNewWatch};
+    ghost use Rattle.merge_reports.specs.Lists.{published, publisher_id, told_id};
+    ghost use Rattle.merge_reports.specs.Publishing.{Publishes, Unchanged, TellsAll, IsNewWatch, Confirms};
 
     /// Makes a publisher with an empty list, and room for 8 watches, which see all zeros before the first publish.
     ///
@@ -77,74 +82,65 @@ impl<A: Allocator> Publisher<A> {
         A: Clone,
         ensures { IfOk result (λ publisher. published publisher ≡ []) }
     {
-        let (history, mut right, _second) = Seen::open(Start::alone(), 1, 0);
-        let counter = Word::tracked(1, &mut right);
-        let writer = Writer::new(
-            alloc,
-            nothing_shown(&history),
-            nothing_shown(&history),
-            MAX_WATCHES as usize,
-        )?;
+        let (opening, mut right, _second) = Seen::open(Start::alone(), 0, 0);
+        let counter = Word::tracked(0, &mut right);
+        let shown = nothing_shown(&opening);
+        let same = shown.again();
+        let writer = Writer::new(alloc, shown, same, MAX_WATCHES as usize)?;
         let (writer, shown) = writer.publish_as::<Replaced, R>(rt);
         match shown {
             Ok(()) => {}
             Err(_) => unreachable!(),
         }
-        let told = Told {
-            before: 0,
-            history: history.again(),
-        };
+        let told = nothing_told(&opening);
         Ok(Publisher {
             writer,
             counter,
             told,
-            history,
-            count: 1,
+            opening,
         })
     }
 
     /// Publishes a report, and returns a [`Told`] of the whole list. May wait for a watch that is reading.
     ///
-    /// An `Err` changes nothing. It comes when memory is refused, and after 2^61 calls.
+    /// An `Err` changes nothing. It comes when memory is refused, and after 2^62 calls.
     pub fn publish<R: Wait>(&mut self, rt: &R, report: Report) -> Result<Told, OutOfMemory>
         requires not_older { (last_of (published self.old)).entries ≤ report.entries }
         ensures same { publisher_id self.new ≡ publisher_id self.old }
         ensures published { MatchResult result (Publishes self.old self.new report) (λ _. published self.new ≡ published self.old) }
     {
-        if self.count >= MAX_NOTES {
+        let count = self.told.count;
+        if count >= MAX_REPORTS {
             return Err(OutOfMemory);
         }
+        // Memory comes first: once there is room for an operation that shows the same again, there is room for the next one.
+        let same = self.writer.published().again();
+        let Ok(()) = self.writer.append(same) else {
+            return Err(OutOfMemory);
+        };
         // Nobody else has the counter, so it always holds what was last put there; no clause can say so.
-        let (offer, mut offered) = (Note::Offered(report), self.history.again());
-        if !add_note(&self.counter, &mut offered, self.count, offer) {
+        let mut history = self.told.history.again();
+        if !add_report(&self.counter, &mut history, count, report) {
             return Err(OutOfMemory);
         }
+        let told = Told {
+            count: count + 1,
+            history,
+        };
         let next = Shown {
             report,
-            notes: self.count + 1,
-            history: offered.again(),
+            told: told.again(),
         };
-        let mut whole = offered.again();
-        self.history = offered;
-        self.count += 1;
         let Ok(()) = self.writer.append(next) else {
             return Err(OutOfMemory);
         };
-        if !add_note(&self.counter, &mut whole, self.count, Note::Published) {
-            return Err(OutOfMemory);
-        }
         let shown = replace_with(&mut self.writer, rt, |writer, rt| {
             writer.publish_as::<Replaced, R>(rt)
         });
         let Ok(()) = shown else {
             unreachable!();
         };
-        self.told = Told {
-            before: self.count,
-            history: whole.again(),
-        };
-        self.history = whole;
-        self.count += 1;
+        self.told = told;
         Ok(self.told.again())
     }
 
@@ -166,7 +162,18 @@ impl<A: Allocator> Publisher<A> {
             return Err(NoWatch);
         };
         reader.learn::<Tied>(self.writer.tell::<Tied>());
-        Ok(Watch::starting(reader, self.tell()))
+        Ok(Watch::starting(reader, nothing_told(&self.opening), self.tell()))
+    }
+
+    /// Returns whether a watch, or an earlier `Told`, has only what this publisher published. It is `false` only if the list is
+    /// longer than all that was published, which never happens.
+    pub fn has_published(&self, told: &Told) -> bool
+        requires same_publisher { told_id told.now ≡ publisher_id self.now }
+        ensures { Confirms self.now told.now result }
+    {
+        let mut history = self.told.history.again();
+        history.learn(&told.history);
+        told.count <= self.told.count
     }
 
     /// Ends the publisher, and waits for the watches that are reading right now. After that, no watch reads anything.
@@ -175,8 +182,7 @@ impl<A: Allocator> Publisher<A> {
             writer,
             counter: _,
             told: _,
-            history: _,
-            count: _,
+            opening: _,
         } = self;
         let _last = writer.take(rt);
     }

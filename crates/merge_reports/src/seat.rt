@@ -3,19 +3,16 @@ use crate::history::History;
 use crate::shown::Shown;
 use atomic_table::{Join, Split};
 use crossbeam_utils::rule::{Outcome, Protocol};
-use page_model::Report;
-use std::collections::LinkedList;
 
 /// What the publisher, or a watch, knows of what is shown. No value of it is ever made.
 pub struct Seat {
-    /// Whether it knows the history.
+    /// Whether it knows whose log it is.
     pub is_tied: bool,
+    /// The log as far as it was seen.
     pub history: History,
-    /// The list whose last report it saw.
-    pub seen: LinkedList<Report>,
 }
 
-/// The last report of a list is shown, and every list that was seen is a front of that list.
+/// Every list that was seen is a front of the list that is shown.
 pub struct LastShown;
 
 impl Protocol<Shown, Seat> for LastShown {
@@ -44,7 +41,7 @@ impl Outcome<Shown, Seat> for Replaced {
     ghost then = { Replaces };
 }
 
-/// A new watch learns which history it is, and no more.
+/// A new watch learns whose log it is, and no more.
 pub struct Tied;
 
 impl Split<Seat> for Tied {

@@ -1,19 +1,18 @@
 //! What watches are shown.
 ghost use Rattle.std.specs.Prelude.{◌≡◌};
+ghost use Rattle.merge_reports.specs.Reports.{last_of};
 
-use crate::history::History;
+use crate::told::Told;
 use left_right::Absorb;
 use page_model::Report;
 use std::alloc::AllocError;
 
-/// A report, and how far the history had come when it was offered.
+/// A report, and the list of published reports that ends with it.
 #[derive(Drop)]
 pub struct Shown {
     pub report: Report,
-    /// How many notes `history` has.
-    pub notes: u64,
-    /// The history up to the note that offers the report.
-    pub history: History,
+    pub told: Told,
+    pub ghost last: { last_of told.history.log ≡ report },
 }
 
 impl Shown {
@@ -23,8 +22,7 @@ impl Shown {
     {
         Shown {
             report: self.report,
-            notes: self.notes,
-            history: self.history.again(),
+            told: self.told.again(),
         }
     }
 }

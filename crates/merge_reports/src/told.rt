@@ -1,20 +1,18 @@
 //! Published reports, as a value that can be passed on.
-ghost use Rattle.std.specs.Prelude.{◌≡◌, ◌+◌, ◌++◌, ◌∷◌, [], length, take};
-ghost use Rattle.merge_reports.specs.declared.note.Note.TheVariants.{Published};
-ghost use Rattle.merge_reports.specs.Notes.{published_in};
+ghost use Rattle.std.specs.Prelude.{◌≡◌, length};
 ghost use Rattle.merge_reports.specs.Reports.{NeverFalls, NeverFalls-prop};
 
 use crate::history::History;
 
-/// All reports that were published when this was made. It may be sent to any thread.
+/// A list of published reports: all of them when the publisher told it, or those that a watch has seen. It may be sent to any
+/// thread.
 #[derive(Drop)]
 pub struct Told {
-    // The number of notes in `history` before its last one, which publishes the last report.
-    pub(crate) before: u64,
+    // The number of reports.
+    pub(crate) count: u64,
     pub(crate) history: History,
-    pub ghost counted: { length history.log ≡ before + 1 },
-    pub ghost published: { history.log ≡ take before history.log ++ Published ∷ [] },
-    pub ghost rising: { NeverFalls (published_in history.log) } by { NeverFalls-prop (published_in history.log) },
+    pub ghost counted: { length history.log ≡ count },
+    pub ghost rising: { NeverFalls history.log } by { NeverFalls-prop history.log },
 }
 
 impl Told {
@@ -23,7 +21,7 @@ impl Told {
         ensures { result ≡ self.now }
     {
         Told {
-            before: self.before,
+            count: self.count,
             history: self.history.again(),
         }
     }

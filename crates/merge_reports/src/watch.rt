@@ -1,10 +1,9 @@
 //! The half that reads.
 ghost use Rattle.std.specs.Prelude.{◌≡◌, [], ◌∷◌, true, IfSome, All};
 ghost use Rattle.left_right.specs.Sides.{view};
-ghost use Rattle.merge_reports.specs.Notes.{published_in};
-ghost use Rattle.merge_reports.specs.Reports.{StartsWith, NeverFalls, last_of};
+ghost use Rattle.merge_reports.specs.Reports.{StartsWith};
 
-use crate::proof_list::{ProofList, heard_also, nothing_heard, nothing_seen, seen_now};
+use crate::proof_list::{ProofList, heard_also, nothing_heard};
 use crate::seat::{LastShown, Looked, Seat};
 use crate::shown::Shown;
 use crate::told::Told;
@@ -31,27 +30,30 @@ pub struct Watch<A: Allocator = Global> {
     reader: Place<A>,
     // The longest list that it learned.
     longest: Told,
-    seen: ProofList<Report>,
+    // The list that it saw.
+    saw: Told,
     heard: ProofList<LinkedList<Report>>,
     pub ghost tied: { (view reader.place).is_tied ≡ true },
     pub ghost tied_here: { (view reader.place).history.book ≡ longest.history.book },
-    pub ghost saw: { StartsWith (view reader.place).seen seen.log },
-    pub ghost heard_no_longer: { All (StartsWith (published_in longest.history.log)) heard.log },
+    pub ghost saw_here: { saw.history.book ≡ longest.history.book },
+    pub ghost saw_front: { StartsWith (view reader.place).history.log saw.history.log },
+    pub ghost heard_no_longer: { All (StartsWith longest.history.log) heard.log },
 }
 
 impl<A: Allocator> Watch<A> {
     ghost use Rattle.merge_reports.specs.Lists.{list_told, told_id, watch_id, seen, heard};
-    ghost use Rattle.merge_reports.specs.Watching.{Hears, Reads};
+    ghost use Rattle.merge_reports.specs.Watching.{Hears, Reads, TellsSeen};
 
-    pub(crate) fn starting(reader: Place<A>, told: Told) -> Watch<A>
-        requires { ((view reader.place).is_tied ≡ true) × ((view reader.place).history.book ≡ told_id told) }
+    pub(crate) fn starting(reader: Place<A>, nothing: Told, told: Told) -> Watch<A>
+        requires tied { ((view reader.place).is_tied ≡ true) × ((view reader.place).history.book ≡ told_id told) }
+        requires nothing { (list_told nothing ≡ []) × (told_id nothing ≡ told_id told) }
         ensures { (seen result ≡ []) × (heard result ≡ list_told told ∷ []) × (watch_id result ≡ told_id told) }
     {
         let (heard, longest) = heard_also(nothing_heard(), told);
         Watch {
             reader,
             longest,
-            seen: nothing_seen(),
+            saw: nothing,
             heard,
         }
     }
@@ -65,7 +67,7 @@ impl<A: Allocator> Watch<A> {
         history.learn(&told.history);
         let (heard, told) = heard_also(self.heard.again(), told);
         self.heard = heard;
-        if self.longest.before < told.before {
+        if self.longest.count < told.count {
             self.longest = told;
         }
     }
@@ -79,32 +81,39 @@ impl<A: Allocator> Watch<A> {
         ensures read { IfSome result (Reads self.old self.new) }
         ensures none { result ≡ None → seen self.new ≡ seen self.old }
     {
-        let (report, seen) = replace_with(&mut self.reader, &self.longest, |reader, told| {
-            look(reader, told)
-        })?;
-        self.seen = seen;
+        let Shown { report, told } = replace_with(
+            &mut self.reader,
+            &self.longest,
+            |reader, told| look(reader, told),
+        )?;
+        self.saw = told;
         Some(report)
+    }
+
+    /// Returns a [`Told`] of the reports that the watch has seen, which [`Publisher::has_published`](crate::Publisher) takes.
+    /// Takes no memory.
+    pub fn tell(&self) -> Told
+        ensures { TellsSeen self.now result }
+    {
+        self.saw.again()
     }
 }
 
-// Reads what is shown, with the list whose last report it is, if that list is no shorter than the one that was learned.
-fn look<A: Allocator>(
-    reader: Place<A>,
-    told: &Told,
-) -> (Place<A>, Option<(Report, ProofList<Report>)>)
+// Reads what is shown, if its list is no shorter than the one that was learned.
+fn look<A: Allocator>(reader: Place<A>, told: &Told) -> (Place<A>, Option<Shown>)
     requires { ((view reader.place).is_tied ≡ true) × ((view reader.place).history.book ≡ told.now.history.book) }
     ensures tied { ((view result.0.place).is_tied ≡ true) × ((view result.0.place).history.book ≡ told.now.history.book) }
-    ensures later { StartsWith (view result.0.place).seen (view reader.place).seen }
-    ensures report { IfSome result.1 (λ sight. (sight.1.log ≡ (view result.0.place).seen) × (sight.0 ≡ last_of sight.1.log)) }
-    ensures list { IfSome result.1 (λ sight. StartsWith sight.1.log (published_in told.now.history.log) × NeverFalls sight.1.log) }
+    ensures later { StartsWith (view result.0.place).history.log (view reader.place).history.log }
+    ensures seen { IfSome result.1 (λ shown. shown.told.history ≡ (view result.0.place).history) }
+    ensures list { IfSome result.1 (λ shown. StartsWith shown.told.history.log told.now.history.log) }
 {
     match reader.enter_as::<Looked>() {
         Ok(reading) => {
             let shown = reading.get();
-            let mut history = shown.history.again();
+            let mut history = shown.told.history.again();
             history.learn(&told.history);
-            let sight = if told.before <= shown.notes {
-                Some((shown.report, seen_now(shown)))
+            let sight = if told.count <= shown.told.count {
+                Some(shown.again())
             } else {
                 None
             };

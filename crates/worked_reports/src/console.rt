@@ -3,7 +3,7 @@ ghost use Rattle.std.specs.Prelude.{◌≡◌};
 ghost use Rattle.merge_reports.specs.Reports.{last_of};
 ghost use Rattle.merge_reports.specs.Lists.{published, told_id, watch_id};
 
-use crate::makes::one_page;
+use crate::makes::{mixed, one_page};
 use merge_reports::{OutOfMemory, Publisher, Told, Watch};
 use page_model::Report;
 use std::sync::Wait;
@@ -13,15 +13,17 @@ use std::thread::{Threads, join};
 
 const TRIES: u32 = 1 << 30;
 
-const READS: u32 = 1_000;
+const READS: u32 = 5_000;
 
 const PUBLISHED: u32 = 5_000;
 
-/// How many reads returned a report, and how many of these had fewer entries than the read before.
+/// How many reads returned a report, how many of these had fewer entries than the read before, and how many had a number that
+/// was not published with so many entries.
 #[derive(Clone, Copy, Debug, PartialEq, Eq)]
 struct Tally {
     reports: u32,
     falls: u32,
+    strangers: u32,
 }
 
 // Sends what was told to another thread, with the watch.
@@ -56,7 +58,7 @@ fn publish_all<R: Wait>(rt: &R, publisher: &mut Publisher) -> u32
 {
     let mut done = 0u32;
     for before in 0..PUBLISHED {
-        match publisher.publish(rt, one_page(before + 1)) {
+        match publisher.publish(rt, mixed(before + 1)) {
             Ok(_told) => done = done.wrapping_add(1),
             Err(OutOfMemory) => {}
         }
@@ -81,6 +83,7 @@ fn read_often(watch: Watch) -> Tally {
     let mut tally = Tally {
         reports: 0,
         falls: 0,
+        strangers: 0,
     };
     let mut last = 0;
     wait_for_the_first(&mut watch);
@@ -91,6 +94,9 @@ fn read_often(watch: Watch) -> Tally {
         tally.reports = tally.reports.wrapping_add(1);
         if report.entries() < last {
             tally.falls = tally.falls.wrapping_add(1);
+        }
+        if report != mixed(report.entries()) {
+            tally.strangers = tally.strangers.wrapping_add(1);
         }
         last = report.entries();
     }
@@ -112,7 +118,8 @@ fn run_beside<R: Threads + Wait + Sync>(
     )
 }
 
-// Two watches read while reports are published: what they read never has fewer entries than what they read before.
+// Two watches read while reports are published: each of 5,000 reads returns a report, all its six numbers were published
+// together, and it never has fewer entries than the one before.
 #[test]
 fn entries_never_fall(rt: HostRuntime) -> Result<(), Fail> {
     let mut publisher = Publisher::new(rt.alloc(), &rt).expect(&rt, "memory");
@@ -123,6 +130,7 @@ fn entries_never_fall(rt: HostRuntime) -> Result<(), Fail> {
     let all = Tally {
         reports: READS,
         falls: 0,
+        strangers: 0,
     };
     assert_eq!(rt; done, PUBLISHED);
     assert_eq!(rt; tallies, (all, all));

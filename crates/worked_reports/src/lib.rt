@@ -8,6 +8,8 @@ mod makes;
 #[cfg(test)]
 mod places;
 #[cfg(test)]
+mod published;
+#[cfg(test)]
 mod refused;
 #[cfg(test)]
 mod watching;

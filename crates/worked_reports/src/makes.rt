@@ -15,3 +15,18 @@ pub fn one_page(entries: u32) -> Report
 pub fn all_zeros() -> Report {
     Report::new(0, 0, 0, 0, 0)
 }
+
+/// Returns a report of this many entries whose other numbers depend on that number.
+pub fn mixed(entries: u32) -> Report
+    ensures { result.entries ≡ entries }
+{
+    let (by_seven, by_eleven, by_thirteen) = (entries % 7, entries % 11, entries % 13);
+    let frames = 10 + by_seven + by_eleven;
+    Report::new(
+        entries,
+        frames + 30 + by_thirteen,
+        20 + by_thirteen,
+        frames,
+        1 + by_seven,
+    )
+}

@@ -93,6 +93,41 @@ fn no_memory_but_for_publishing(rt: HostRuntime) -> Result<(), Fail> {
     Ok(())
 }
 
+// Publishes a report of one more page, with no memory left.
+fn publish_with_none<R: Abort + Wait, A: Allocator>(
+    rt: &R,
+    publisher: &mut Publisher<A>,
+    entries: u32,
+)
+    requires before { (last_of (published publisher.old)).entries ≤ entries }
+    ensures after { (last_of (published publisher.new)).entries ≡ entries }
+    ensures same { publisher_id publisher.new ≡ publisher_id publisher.old }
+{
+    match publisher.publish(rt, one_page(entries)) {
+        Ok(_told) => {}
+        Err(OutOfMemory) => panic!(rt; "asks for memory again"),
+    }
+}
+
+// After its first report a publisher asks for no more memory.
+#[test]
+fn memory_for_the_first_report_alone(rt: HostRuntime) -> Result<(), Fail> {
+    let heap = Refusing::new(rt.alloc(), u64::MAX, 0);
+    let mut publisher = Publisher::new(&heap, &rt).expect(&rt, "memory");
+    let mut watch = publisher.watch().expect(&rt, "a watch");
+    publish_with_none(&rt, &mut publisher, 1);
+    heap.refuse_all();
+    publish_with_none(&rt, &mut publisher, 2);
+    publish_with_none(&rt, &mut publisher, 3);
+    publish_with_none(&rt, &mut publisher, 4);
+    assert_eq!(rt; watch.read(), Some(one_page(4)));
+    publisher.end(&rt);
+    drop(watch);
+    assert!(rt; !heap.has_refused());
+    assert!(rt; heap.holds_nothing());
+    Ok(())
+}
+
 // Tries a first publish, which is refused.
 fn publish_in_vain<R: Abort + Wait, A: Allocator>(
     rt: &R,

@@ -8,12 +8,12 @@ use Rattle.worked_reports.proofs.console.publish_all.Goals.{in-Ok, in-Err}
 
 pub loop-before-preserved : goal.loop-before-preserved
 loop-before-preserved g c =
-    let old = published c.loop-before.publisher in let new = published c.publish.new.self in let r = c.one_page.result in
+    let old = published c.loop-before.publisher in let new = published c.publish.new.self in let r = c.mixed.result in
     elim c.match-publish.branch [
       | in-Ok w ↦
           let list : new ≡ old ++ r ∷ [] = w.in-Ok.ensures.published.list in
           let last : (last_of new).entries ≡ c.loop-before.before + 1 =
-          ap (λ (l : List Totals). (last_of l).entries) list ∙ (ap (λ (t : Totals). t.entries) (last_of_added old r) ∙ ap (λ (t : Totals). t.entries) c.one_page.ensures) in
+          ap (λ (l : List Totals). (last_of l).entries) list ∙ (ap (λ (t : Totals). t.entries) (last_of_added old r) ∙ c.mixed.ensures) in
           omega (arith, last)
       | in-Err w ↦ let list : new ≡ old = w.in-Err.ensures.published in omega (arith, ap (λ (l : List Totals). (last_of l).entries) list, c.loop-before.invariant)
     ]

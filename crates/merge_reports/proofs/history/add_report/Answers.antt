@@ -1,6 +1,6 @@
 use Rattle.std.proofs.Common.{sym, ◌∙◌, ap}
 use Rattle.merge_reports.proofs.Adding.{adds_one}
-use Rattle.merge_reports.proofs.history.add_note.Goals as goal
+use Rattle.merge_reports.proofs.history.add_report.Goals as goal
 
 pub compare_exchange-found-requires : goal.compare_exchange-found-requires
 compare_exchange-found-requires c =
@@ -9,5 +9,5 @@ compare_exchange-found-requires c =
       sym (ap (λ w. w.book) h),
       pen.0 ∙ sym (ap (λ w. w.book) h),
       offer.0,
-      rw (ap (λ w. w.key) h, pen.1, offer.1, offer.3) (adds_one c.args.history.now.log c.args.note c.args.count c.requires.count),
+      rw (ap (λ w. w.key) h, pen.1, offer.1, offer.3) (adds_one c.args.history.now.log c.args.report c.args.count c.requires.count),
     )
