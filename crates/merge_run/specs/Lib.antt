@@ -2,5 +2,6 @@ pub mod View
 pub mod Tasks
 pub mod Turns
 pub mod Fronts
+pub mod Showings
 pub mod Observed
 pub mod Runs

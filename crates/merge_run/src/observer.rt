@@ -5,7 +5,7 @@ ghost use Rattle.page_model.specs.Parts.{Totals};
 use page_model::Report;
 use std::sync::Wait;
 
-/// Sees the report of a run's machine after each round of its merger, on the calling thread.
+/// Is shown the report of a run's machine after each round of its merger, on the calling thread.
 ///
 /// It is passed from call to call by value, so that it may hold what a run can't own, such as a `&mut` to something that
 /// can't be dropped.
@@ -16,12 +16,16 @@ pub trait Observer: Drop {
     // the reports that it kept, in order
     ghost kept: { Self → List Totals };
 
-    /// Called with what the machine counts after a round, and how many requests the round served, perhaps none. It keeps
-    /// the report or doesn't.
+    // what it becomes where it is shown a report, after a round that served so many requests
+    ghost becomes: { Self → Totals → ℕ → Self → Type 0 };
+
+    /// Shows it what the machine counts after a round, and how many requests the round served, perhaps none. It keeps the
+    /// report or doesn't.
     fn observe<R: Wait>(self, rt: &R, report: Report, served: u32) -> Self
         requires { All (λ before. before.entries ≤ report.entries) (kept self) }
         ensures name { name result ≡ name self }
-        ensures kept { (kept result ≡ kept self) ⊎ (kept result ≡ kept self ++ report ∷ []) };
+        ensures kept { (kept result ≡ kept self) ⊎ (kept result ≡ kept self ++ report ∷ []) }
+        ensures becomes { becomes self report served result };
 }
 
 /// The observer of a run that nobody observes.
@@ -29,11 +33,13 @@ pub trait Observer: Drop {
 pub(crate) struct NoObserver;
 
 impl Observer for NoObserver {
-    ghost use Rattle.std.specs.Prelude.{[]};
+    ghost use Rattle.std.specs.Prelude.{◌≡◌, []};
 
     ghost name = { λ observer. 0 };
 
     ghost kept = { λ observer. [] };
+
+    ghost becomes = { λ before report served after. after ≡ before };
 
     fn observe<R: Wait>(self, _rt: &R, _report: Report, _served: u32) -> NoObserver {
         self

@@ -1,10 +1,10 @@
 //! The merger's rounds over all guests, on the calling thread.
-ghost use Rattle.std.specs.Prelude.{◌≡◌, ◌≤◌, ◌++◌, true, List, length};
-ghost use Rattle.page_model.specs.declared.request.Entry.{Entry};
+ghost use Rattle.std.specs.Prelude.{◌≡◌, ◌≤◌, true, length};
 ghost use Rattle.merge_machine.specs.Same.{SameMachine};
 ghost use Rattle.merge_machine.specs.View.{ends_of, journal_of, machine_of, guest_count};
 ghost use Rattle.merge_run.specs.Fronts.{AreOfFronts};
-ghost use Rattle.merge_run.specs.Observed.{Observes};
+ghost use Rattle.merge_run.specs.Observed.{ObservesMerger};
+ghost use Rattle.merge_run.specs.Showings.{GrowsBy};
 ghost use Rattle.merge_run.specs.Turns.{HaveEnded};
 
 use crate::observer::Observer;
@@ -32,7 +32,7 @@ const LOOKS_A_ROUND: u32 = 1_000;
 const NAP: u64 = 20;
 
 /// Serves by rounds until each of the first `guests` guests has ended, and waits after a round that served nothing. The
-/// observer sees the report after each round.
+/// observer is shown the report after each round.
 ///
 /// The other guests, whose threads were not started, send nothing: a visit to them finds no request.
 pub(crate) fn serve_all<
@@ -45,13 +45,13 @@ pub(crate) fn serve_all<
     requires fronts { AreOfFronts H.hash_of (machine_of merger.old) (journal_of merger.old) (O.kept observer) }
     ensures same { SameMachine merger.old merger.new }
     ensures ended { HaveEnded guests (ends_of merger.new) }
-    ensures observer { Observes O.name O.kept H.hash_of observer result (machine_of merger.new) (journal_of merger.new) }
+    ensures observer { ObservesMerger O.name O.kept O.becomes H.hash_of observer result merger.old merger.new }
 {
     let mut observer = observer;
     let mut patience = Patience::new(MOST_LOOKS, NAP);
     for _ in rt.forever() {
-        let served = serve_round(rt, alloc, merger);
-        observer = observer.observe(rt, merger.report(), served);
+        let (shown, served) = serve_and_show(rt, alloc, merger, observer);
+        observer = shown;
         if served > 0 {
             patience.regain(LOOKS_A_ROUND);
         } else if have_ended(merger.ends(), guests as usize) {
@@ -63,6 +63,25 @@ pub(crate) fn serve_all<
     unreachable!()
 }
 
+/// Serves a round, and then shows the observer the report of the whole journal. Returns the observer, and how many requests
+/// were served.
+fn serve_and_show<R: Threads + Wait + Sync, H: PageHash, A: Allocator + Send + Sync, O: Observer>(
+    rt: &R,
+    alloc: &A,
+    merger: &mut Merger<H, A>,
+    observer: O,
+) -> (O, u32)
+    requires fronts { AreOfFronts H.hash_of (machine_of merger.old) (journal_of merger.old) (O.kept observer) }
+    ensures same { SameMachine merger.old merger.new }
+    ensures journal { GrowsBy result.1 (journal_of merger.old) (journal_of merger.new) }
+    ensures observer { ObservesMerger O.name O.kept O.becomes H.hash_of observer result.0 merger.old merger.new }
+{
+    let served = serve_round(rt, alloc, merger);
+    let report = merger.report();
+    let observer = observer.observe(rt, report, served);
+    (observer, served)
+}
+
 /// Serves what waits in the guests' rings, and returns how many requests that was: also 0 if the journal is full.
 fn serve_round<R: Threads + Wait + Sync, H: PageHash, A: Allocator + Send + Sync>(
     rt: &R,
@@ -70,7 +89,7 @@ fn serve_round<R: Threads + Wait + Sync, H: PageHash, A: Allocator + Send + Sync
     merger: &mut Merger<H, A>,
 ) -> u32
     ensures same { SameMachine merger.old merger.new }
-    ensures journal { (more : List Entry) × (journal_of merger.new ≡ journal_of merger.old ++ more) }
+    ensures journal { GrowsBy result (journal_of merger.old) (journal_of merger.new) }
 {
     match merger.round(rt, alloc, WORKERS, LIMIT) {
         Ok(served) => served,

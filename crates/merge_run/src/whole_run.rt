@@ -9,7 +9,7 @@ ghost use Rattle.merge_machine.specs.View.{ends_of, core_of, journal_of, machine
 ghost use Rattle.merge_settle.specs.Settling.{Settles, is_running, is_undrained};
 ghost use Rattle.merge_settle.specs.View.{settled_journal, settled_ports, settled_core};
 ghost use Rattle.merge_run.specs.Fronts.{AreOfFronts};
-ghost use Rattle.merge_run.specs.Observed.{Observes};
+ghost use Rattle.merge_run.specs.Observed.{ObservesMerger, ObservesRun};
 ghost use Rattle.merge_run.specs.Runs.{CanBeRun, IsWholeRun, NotRunFor};
 ghost use Rattle.merge_run.specs.Tasks.{IsReady, task_names, task_capacities, task_requests, ports_of, lists_of};
 ghost use Rattle.merge_run.specs.Turns.{CanRun, HasRun};
@@ -69,8 +69,9 @@ pub fn run<
     Ok(finished)
 }
 
-/// Runs a machine as [`run`] does, with an observer that sees the machine's report after each round. The observer comes
-/// back, and each report that it kept is the report of the replay of a front of the journal.
+/// Runs a machine as [`run`] does, with an observer that is shown the machine's report after each round, at most 64 requests
+/// after the one before. Each time that is the report of the replay of the whole journal so far, and the last time of the
+/// whole run. The observer comes back with what it kept of them.
 ///
 /// # Errors
 ///
@@ -93,7 +94,7 @@ pub fn run_observed<
     requires scripts { CanBeRun config.now scripts.items }
     requires fresh { O.kept observer ≡ [] }
     ensures run { MatchResult result (λ (f, o). IsWholeRun H.hash_of config.now scripts.items f.settled f.verdicts.items) (λ fault. NotRunFor config.now scripts.items fault) }
-    ensures observer { IfOk result (λ (f, o). Observes O.name O.kept H.hash_of observer o (opening (state_of (settled_core f.settled))) (settled_journal f.settled)) }
+    ensures observer { IfOk result (λ (f, o). ObservesRun O.name O.kept O.becomes H.hash_of observer o f.settled) }
 {
     let checked = config.check()?;
     if !has_room(config.journal, &scripts) {
@@ -123,13 +124,14 @@ fn run_tasks<
 ) -> Result<(Finished<H, A>, O), RunFault>
     requires ready { All IsReady tasks.items }
     requires pairs { task_names tasks.items ≡ end_names (ends_of merger) }
+    requires unserved { journal_of merger ≡ [] }
     requires fronts { AreOfFronts H.hash_of (machine_of merger) (journal_of merger) (O.kept observer) }
     ensures settles { IfOk result (λ (f, o). Settles H.hash_of (settled_ports f.settled) (settled_journal f.settled) (settled_core f.settled)) }
     ensures machine { IfOk result (λ (f, o). opening (state_of (settled_core f.settled)) ≡ machine_of merger) }
     ensures capacities { IfOk result (λ (f, o). map closed_capacity (settled_ports f.settled) ≡ task_capacities tasks.items) }
     ensures sent { IfOk result (λ (f, o). map closed_sent (settled_ports f.settled) ≡ task_requests tasks.items) }
     ensures got { IfOk result (λ (f, o). map (λ list. list.items) f.verdicts.items ≡ map closed_got (settled_ports f.settled)) }
-    ensures observer { IfOk result (λ (f, o). Observes O.name O.kept H.hash_of observer o (opening (state_of (settled_core f.settled))) (settled_journal f.settled)) }
+    ensures observer { IfOk result (λ (f, o). ObservesRun O.name O.kept O.becomes H.hash_of observer o f.settled) }
     ensures fault { IfErr result (λ fault. (fault ≡ OutOfMemory) ⊎ (fault ≡ NoThread)) }
 {
     let guests = tasks.len();
@@ -191,7 +193,7 @@ fn run_threads<
     requires ready { CanRun tasks.items merger handles done }
     requires fronts { AreOfFronts H.hash_of (machine_of merger) (journal_of merger) (O.kept observer) }
     ensures run { HasRun tasks.items merger result.0 result.1.items }
-    ensures observer { Observes O.name O.kept H.hash_of observer result.2 (machine_of result.0) (journal_of result.0) }
+    ensures observer { ObservesMerger O.name O.kept O.becomes H.hash_of observer result.2 merger result.0 }
 {
     thread::scope(
         thread::scope_env(),
@@ -200,7 +202,7 @@ fn run_threads<
             requires ready { CanRun tasks.items merger handles done }
             requires fronts { AreOfFronts H.hash_of (machine_of merger) (journal_of merger) (O.kept observer) }
             ensures run { HasRun tasks.items merger result.0 result.1.items }
-            ensures observer { Observes O.name O.kept H.hash_of observer result.2 (machine_of result.0) (journal_of result.0) }
+            ensures observer { ObservesMerger O.name O.kept O.becomes H.hash_of observer result.2 merger result.0 }
         {
             run_in(
                 scope, rt, alloc, gate, merger, tasks, handles, done, observer,
@@ -232,7 +234,7 @@ fn run_in<
     requires ready { CanRun tasks.items merger handles done }
     requires fronts { AreOfFronts H.hash_of (machine_of merger) (journal_of merger) (O.kept observer) }
     ensures run { HasRun tasks.items merger result.0 result.1.items }
-    ensures observer { Observes O.name O.kept H.hash_of observer result.2 (machine_of result.0) (journal_of result.0) }
+    ensures observer { ObservesMerger O.name O.kept O.becomes H.hash_of observer result.2 merger result.0 }
 {
     start_all(scope, rt, gate, tasks, &mut handles);
     let observer = serve_all(rt, alloc, &mut merger, handles.len() as u8, observer);

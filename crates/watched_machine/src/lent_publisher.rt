@@ -17,11 +17,15 @@ pub(crate) struct LentPublisher<'p, P: Allocator = Global> {
 }
 
 impl<'p, P: Allocator> Observer for LentPublisher<'p, P> {
+    ghost use Rattle.std.specs.Prelude.{◌≡◌};
     ghost use Rattle.merge_reports.specs.Lists.{published};
 
     ghost name = { λ lent. lent.publisher.ghost_name };
 
     ghost kept = { λ lent. published lent.publisher.now };
+
+    // The loan stays the same.
+    ghost becomes = { λ before report served after. after.publisher.ghost_name ≡ before.publisher.ghost_name };
 
     /// Publishes the report after every `MOST_UNPUBLISHED` requests, and when the merger waits. If memory is refused, it tries
     /// again after as many requests more.

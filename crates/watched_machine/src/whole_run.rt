@@ -5,7 +5,7 @@ ghost use Rattle.merge_machine.specs.Machines.{opening};
 ghost use Rattle.merge_settle.specs.View.{settled_journal, settled_core};
 ghost use Rattle.merge_reports.specs.Lists.{published};
 ghost use Rattle.merge_run.specs.Fronts.{AreOfFronts};
-ghost use Rattle.merge_run.specs.Observed.{Observes};
+ghost use Rattle.merge_run.specs.Observed.{ObservesRun};
 ghost use Rattle.merge_run.specs.Runs.{CanBeRun, IsWholeRun, NotRunFor};
 ghost use Rattle.watched_machine.specs.View.{plain_settled};
 
@@ -145,7 +145,7 @@ fn run_viewed<
     requires scripts { CanBeRun config.now scripts.items }
     requires fresh { O.kept observer ≡ [] }
     ensures run { MatchResult result (λ (f, o). IsWholeRun H.hash_of config.now scripts.items f.settled f.verdicts.items) (λ fault. NotRunFor config.now scripts.items fault) }
-    ensures observer { IfOk result (λ (f, o). Observes O.name O.kept H.hash_of observer o (opening (state_of (settled_core f.settled))) (settled_journal f.settled)) }
+    ensures observer { IfOk result (λ (f, o). ObservesRun O.name O.kept O.becomes H.hash_of observer o f.settled) }
 {
     let over = AtomicU64::new(0);
     let over = &over;
@@ -154,7 +154,7 @@ fn run_viewed<
         requires scripts { CanBeRun config.now scripts.items }
         requires fresh { O.kept observer ≡ [] }
         ensures run { MatchResult result (λ (f, o). IsWholeRun H.hash_of config.entry.now scripts.items f.settled f.verdicts.items) (λ fault. NotRunFor config.entry.now scripts.items fault) }
-        ensures observer { IfOk result (λ (f, o). Observes O.name O.kept H.hash_of observer o (opening (state_of (settled_core f.settled))) (settled_journal f.settled)) }
+        ensures observer { IfOk result (λ (f, o). ObservesRun O.name O.kept O.becomes H.hash_of observer o f.settled) }
     {
         let answer = run_observed(rt, alloc, config, hash, scripts, gate, observer);
         end_view(over);

@@ -18,6 +18,10 @@ mod runs;
 #[cfg(test)]
 mod settling;
 #[cfg(test)]
+mod sharing;
+#[cfg(test)]
 mod viewing;
 #[cfg(test)]
 mod watching;
+#[cfg(test)]
+mod working;

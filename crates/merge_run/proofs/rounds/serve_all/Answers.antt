@@ -1,44 +1,52 @@
 use Rattle.std.proofs.Common.{refl, ◌∙◌}
-use Rattle.merge_machine.specs.View.{journal_of, machine_of, memory_of}
-use Rattle.merge_run.proofs.Observing.{fronts_next, none_later_than, observes_next}
+use Rattle.std.specs.Prelude.{length}
+use Rattle.merge_machine.specs.View.{journal_of, machine_of}
+use Rattle.merge_run.proofs.Observing.{observes_nothing, observes_then}
 use Rattle.merge_run.proofs.rounds.serve_all.Goals as goal
 
 pub loop-init : goal.loop-init
-loop-init g c = record { names = refl; guests = refl; limit = refl; machine = refl; observed = record { same = refl; fronts = c.requires.fronts } }
-
-pub observe-observer-requires : goal.observe-observer-requires
-observe-observer-requires g c =
-    let before = c.loop.merger in
-    let after = c.serve_round-served.new.merger in
+loop-init g c =
     let O = g.O.Observer in
-    let hash = g.H.HashFunction.hash_of in
-    let so_far = c.loop.invariant.observed in
-    let fronts = fronts_next hash (machine_of before) (machine_of after) (journal_of before) (journal_of after) (O.kept c.loop.observer) c.serve_round-served.ensures.same.machine c.serve_round-served.ensures.journal so_far.fronts in
-    none_later_than hash (memory_of after) (journal_of after) (O.kept c.loop.observer) c.report.result c.report.ensures after.replayed fronts
+    let merger = c.args.merger.now in
+    let observed = observes_nothing g.H.HashFunction.hash_of O.name O.kept O.becomes c.args.observer (machine_of merger) (journal_of merger) c.requires.fronts in
+    record { names = refl; guests = refl; limit = refl; machine = refl; observed = observed }
 
 pub loop-preserved : goal.loop-preserved
 loop-preserved g c =
     let before = c.loop.merger in
-    let after = c.serve_round-served.new.merger in
+    let after = c.serve_and_show-shown.new.merger in
     let O = g.O.Observer in
-    let hash = g.H.HashFunction.hash_of in
-    let so_far = c.loop.invariant.observed in
-    let fronts = fronts_next hash (machine_of before) (machine_of after) (journal_of before) (journal_of after) (O.kept c.loop.observer) c.serve_round-served.ensures.same.machine c.serve_round-served.ensures.journal so_far.fronts in
-    let same = c.serve_round-served.ensures.same in
+    let so_far = c.loop.invariant in
+    let round = c.serve_and_show-shown.ensures in
+    let observed = observes_then g.H.HashFunction.hash_of O.name O.kept O.becomes c.args.observer c.loop.observer c.serve_and_show-shown.result.0 (machine_of before) (machine_of after) (length (journal_of c.args.merger.now)) c.serve_and_show-shown.result.1 (journal_of before) (journal_of after) round.same.machine round.journal so_far.observed round.observer in
     record {
-      names = same.names ∙ c.loop.invariant.names;
-      guests = same.guests ∙ c.loop.invariant.guests;
-      limit = same.limit ∙ c.loop.invariant.limit;
-      machine = same.machine ∙ c.loop.invariant.machine;
-      observed = observes_next hash O.name O.kept c.args.observer c.loop.observer c.observe-observer.result (memory_of after) (journal_of after) c.report.result c.report.ensures after.replayed fronts so_far.same c.observe-observer.ensures.name c.observe-observer.ensures.kept;
+      names = round.same.names ∙ so_far.names;
+      guests = round.same.guests ∙ so_far.guests;
+      limit = round.same.limit ∙ so_far.limit;
+      machine = round.same.machine ∙ so_far.machine;
+      observed = observed;
+    }
+
+pub loop-preserved-then-served-gt0 : goal.loop-preserved-then-served-gt0
+loop-preserved-then-served-gt0 g c =
+    let before = c.loop.merger in
+    let after = c.serve_and_show-shown.new.merger in
+    let O = g.O.Observer in
+    let so_far = c.loop.invariant in
+    let round = c.serve_and_show-shown.ensures in
+    let observed = observes_then g.H.HashFunction.hash_of O.name O.kept O.becomes c.args.observer c.loop.observer c.serve_and_show-shown.result.0 (machine_of before) (machine_of after) (length (journal_of c.args.merger.now)) c.serve_and_show-shown.result.1 (journal_of before) (journal_of after) round.same.machine round.journal so_far.observed round.observer in
+    record {
+      names = round.same.names ∙ so_far.names;
+      guests = round.same.guests ∙ so_far.guests;
+      limit = round.same.limit ∙ so_far.limit;
+      machine = round.same.machine ∙ so_far.machine;
+      observed = observed;
     }
 
 pub returns-then-have_ended-clause-observer : goal.returns-then-have_ended-clause-observer
 returns-then-have_ended-clause-observer g c =
     let before = c.loop.merger in
-    let after = c.serve_round-served.new.merger in
+    let after = c.serve_and_show-shown.new.merger in
     let O = g.O.Observer in
-    let hash = g.H.HashFunction.hash_of in
-    let so_far = c.loop.invariant.observed in
-    let fronts = fronts_next hash (machine_of before) (machine_of after) (journal_of before) (journal_of after) (O.kept c.loop.observer) c.serve_round-served.ensures.same.machine c.serve_round-served.ensures.journal so_far.fronts in
-    observes_next hash O.name O.kept c.args.observer c.loop.observer c.observe-observer.result (memory_of after) (journal_of after) c.report.result c.report.ensures after.replayed fronts so_far.same c.observe-observer.ensures.name c.observe-observer.ensures.kept
+    let round = c.serve_and_show-shown.ensures in
+    observes_then g.H.HashFunction.hash_of O.name O.kept O.becomes c.args.observer c.loop.observer c.serve_and_show-shown.result.0 (machine_of before) (machine_of after) (length (journal_of c.args.merger.now)) c.serve_and_show-shown.result.1 (journal_of before) (journal_of after) round.same.machine round.journal c.loop.invariant.observed round.observer
