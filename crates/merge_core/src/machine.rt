@@ -143,7 +143,7 @@ impl<H: PageHash, A: Allocator> Core<H, A> {
         requires room { self.old.entries + STORES_A_PAGE < 4294967295 }
         ensures { Lends H.hash_of guest ppn page.now result self.old self.new }
     {
-        self.entries += STORES_A_PAGE;
+        self.entries += STORES_A_PAGE; // counted even if they are refused
         match lend(&mut self.held, guest as usize, ppn, page) {
             Ok(lent) => {
                 self.entries += 1;
@@ -163,7 +163,7 @@ impl<H: PageHash, A: Allocator> Core<H, A> {
         requires room { self.old.entries < 4294967295 }
         ensures { TakesBack H.hash_of guest ppn result room.old room.new self.old self.new }
     {
-        self.entries += 1;
+        self.entries += 1; // the release alone
         take_back(&mut self.held, guest as usize, ppn, room)
     }
 
