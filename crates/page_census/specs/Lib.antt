@@ -1,5 +1,4 @@
 pub mod Faults
-pub mod Hashes
 pub mod Marks
 pub mod Parts
 pub mod Contents

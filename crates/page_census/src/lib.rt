@@ -9,7 +9,6 @@ mod compare;
 mod confirm;
 mod count;
 mod fault;
-mod fold_hash;
 mod mark;
 mod marks;
 mod numbers;
@@ -21,7 +20,6 @@ mod tally;
 
 pub use count::{CensusNumbers, census};
 pub use fault::CensusFault;
-pub use fold_hash::FoldHash;
 pub use numbers::{GuestNumbers, TotalNumbers};
 pub use source::{Guest, PageSource, Progress};
 pub use table::CopiesClass;

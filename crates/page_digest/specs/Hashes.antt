@@ -1,5 +1,7 @@
 -- The stated functions of the hash types: each a function of a salt and the bytes of a page.
 use Rattle.std.specs.Prelude.{ℕ, ◌+◌, ◌*◌, ◌^◌, ◌==◌, if◌then◌else◌, List, [], ◌∷◌, ◌++◌, take, slice_index}
+use Rattle.std.specs.Hash.{le_bytes}
+use Rattle.std.specs.Hash.FoldHasher.{initial, write, finish}
 use Rattle.std.specs.Int.{w32, w64, from_be_bytes, to_be_bytes}
 use Rattle.sha2.specs.Sha256.{sha256}
 
@@ -10,6 +12,10 @@ salted salt page = if salt == 0 then page else to_be_bytes w32 salt ++ page
 -- the first eight bytes of the message's SHA-256 digest (FIPS 180-4), read big-endian
 unfoldable pub sha256_hash : ℕ → List ℕ → ℕ
 sha256_hash salt page = from_be_bytes w64 (take 8 (sha256 (salted salt page)))
+
+-- the result of std's fast hasher that was fed the salt's four bytes, the lowest first, and then the page
+abbrev pub fold_hash : ℕ → List ℕ → ℕ
+fold_hash salt page = finish (write (write initial (le_bytes 4 salt)) page)
 
 -- byte 0
 abbrev pub first_byte_hash : ℕ → List ℕ → ℕ

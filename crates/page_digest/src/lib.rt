@@ -3,6 +3,7 @@
 //! Nothing is assumed about collisions: pages are compared in full before they share a frame.
 #![tactic(auto)]
 
+mod fold_hash;
 mod many;
 mod message;
 mod page_hash;
@@ -11,6 +12,7 @@ mod sha256;
 mod short;
 mod workers;
 
+pub use fold_hash::FoldHash;
 pub use many::{HashFault, hash_many};
 pub use page_hash::PageHash;
 pub use sha256::Sha256Hash;

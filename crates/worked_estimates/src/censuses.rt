@@ -1,6 +1,5 @@
 //! Censuses of pages, under a good hash and under hashes that distinguish few pages or none.
 mod copied;
-mod folded;
 mod known;
 mod many;
 mod pages;

@@ -1,7 +1,7 @@
 //! The census of a few pages, counted by hand.
 use crate::censuses::pages::{Memory, ZeroHash, census_of, counted, guest_of};
-use page_census::{CensusFault, CopiesClass, FoldHash, Guest, GuestNumbers, TotalNumbers};
-use page_digest::{FirstByteHash, PageHash, Sha256Hash};
+use page_census::{CensusFault, CopiesClass, Guest, GuestNumbers, TotalNumbers};
+use page_digest::{FirstByteHash, FoldHash, PageHash, Sha256Hash};
 use refusing::Refusing;
 use std::alloc::{AllocError, Global};
 use std::process::Abort;

@@ -1,8 +1,8 @@
 //! How often pages are read, and which guest is named when a read fails, be it the first of a page or a later one.
 use crate::censuses::pages::{ZeroHash, census_of, guest_of};
 use crate::censuses::watched::{Watch, Watched};
-use page_census::{CensusFault, FoldHash, Guest};
-use page_digest::PageHash;
+use page_census::{CensusFault, Guest};
+use page_digest::{FoldHash, PageHash};
 use std::alloc::{AllocError, Global};
 use std::process::Abort;
 use std::sync::atomic::{AtomicU64, Ordering};

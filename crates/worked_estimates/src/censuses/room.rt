@@ -1,6 +1,6 @@
 //! How much memory a census asks for.
 use crate::censuses::pages::{census_of, guest_of};
-use page_census::FoldHash;
+use page_digest::FoldHash;
 use refusing::Refusing;
 use std::alloc::{AllocError, Global};
 use std::process::Abort;

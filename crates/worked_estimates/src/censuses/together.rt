@@ -1,7 +1,8 @@
 //! Reads each of which waits for another, so that two workers are needed.
 use crate::censuses::pages::{census_of, guest_of};
 use crate::censuses::watched::{Watch, Watched};
-use page_census::{FoldHash, Guest};
+use page_census::Guest;
+use page_digest::FoldHash;
 use std::alloc::{AllocError, Global};
 use std::process::Abort;
 use std::sync::atomic::{AtomicBool, AtomicU64, Ordering};

@@ -1,6 +1,5 @@
 //! The fast hash, checked against known values.
-use page_census::FoldHash;
-use page_digest::PageHash;
+use page_digest::{FoldHash, PageHash};
 use page_model::Page;
 
 // By Python:

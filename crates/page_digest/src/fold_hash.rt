@@ -1,5 +1,5 @@
 //! A fast hash.
-use page_digest::PageHash;
+use crate::PageHash;
 use page_model::{HashFunction, Page};
 use std::hash::{FoldHasher, Hasher};
 
@@ -10,7 +10,7 @@ use std::hash::{FoldHasher, Hasher};
 pub struct FoldHash;
 
 impl HashFunction for FoldHash {
-    ghost use Rattle.page_census.specs.Hashes.{fold_hash};
+    ghost use Rattle.page_digest.specs.Hashes.{fold_hash};
 
     ghost hash_of = { fold_hash };
 }
