@@ -47,6 +47,14 @@ mapped (Some (salt, Shared m)) mpn e = cc
 pub found_mapped : (c : Shown) (guest ppn mpn : ℕ) → Some mpn ≡ option_and_then (λ x. frame_of x.1) (page_at c.names guest ppn) → found_in c guest ppn ≡ Ok mpn
 found_mapped c guest ppn mpn e = mapped (page_at c.names guest ppn) mpn e
 
+no_page : (c : Shown) (o : Option Page) (p : Option (ℕ × Slot)) → p ≡ option_map (shown_page c) o → (IsSome p → ⊥) → None ≡ option_and_then (λ x. frame_of x.1) o
+no_page c None p e none = refl
+no_page c (Some page) p e none = absurd (none (ap is_some e))
+
+-- a page that doesn't exist has no frame
+pub no_frame : (c : Shown) (guest ppn : ℕ) → (IsSome (page_at (state_of c).guests guest ppn) → ⊥) → None ≡ option_and_then (λ x. frame_of x.1) (page_at c.names guest ppn)
+no_frame c guest ppn none = no_page c (page_at c.names guest ppn) (page_at (state_of c).guests guest ppn) (page_in c.frames c.names guest ppn) none
+
 no_text : (p : Option (ℕ × Slot)) → (IsSome p → ⊥) → of_page (option_map (λ x. bytes_of x.1) p) ≡ Err r.NoPage
 no_text None none = refl
 no_text (Some page) none = absurd (none refl)

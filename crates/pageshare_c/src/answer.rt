@@ -1,7 +1,7 @@
 //! What C gets in answer.
-ghost use Rattle.std.specs.Prelude.{◌≡◌, Ok, Err};
+ghost use Rattle.std.specs.Prelude.{◌≡◌, None, Ok, Err};
 ghost use Rattle.pageshare_c.specs.Codes.{code_of, count_of, status_of as status_number};
-ghost use Rattle.pageshare_c.specs.Told.{told, numbers};
+ghost use Rattle.pageshare_c.specs.Told.{told, frame_number, numbers};
 
 use page_model::{Report, Verdict};
 
@@ -16,7 +16,14 @@ pub struct Answer {
     /// For a join how many pages share the frame, for a load how many bytes were loaded, for a release 1 if the frame
     /// is free now, and else 0.
     pub count: u32,
+    /// The named page's frame after the request, or [`NO_FRAME`] if it has none.
+    pub frame: u32,
+    /// A frame that is free since the request, or [`NO_FRAME`].
+    pub freed: u32,
 }
+
+/// What an answer names in place of a frame where there is none.
+pub const NO_FRAME: u32 = 4_294_967_295;
 
 /// What a machine counts, as in a [`Report`].
 #[repr(C)]
@@ -102,23 +109,36 @@ fn count_in(verdict: &Verdict) -> u32
 
 /// Answers a request that was not served.
 pub(crate) fn refuse(refusal: Refusal) -> Answer
-    ensures { result ≡ told (Err refusal) }
+    ensures { result ≡ told (Err refusal) None None }
 {
     Answer {
         status: status_of(refusal),
         verdict: 0,
         count: 0,
+        frame: NO_FRAME,
+        freed: NO_FRAME,
     }
 }
 
-/// Answers a request that was served, with its verdict.
-pub(crate) fn answer_of(verdict: &Verdict) -> Answer
-    ensures { result ≡ told (Ok verdict.now) }
+/// Answers a request that was served, with its verdict and the frames that the answer names.
+pub(crate) fn answer_of(verdict: &Verdict, frame: Option<u32>, freed: Option<u32>) -> Answer
+    ensures { result ≡ told (Ok verdict.now) frame freed }
 {
     Answer {
         status: 0,
         verdict: verdict_number(verdict),
         count: count_in(verdict),
+        frame: number_of(frame),
+        freed: number_of(freed),
+    }
+}
+
+fn number_of(frame: Option<u32>) -> u32
+    ensures { result ≡ frame_number frame }
+{
+    match frame {
+        None => NO_FRAME,
+        Some(mpn) => mpn,
     }
 }
 

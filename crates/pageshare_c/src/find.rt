@@ -9,11 +9,11 @@ ghost use Rattle.pageshare_c.specs.Told.{value_or};
 
 use crate::answer::Refusal;
 use merge_core::Core;
-use page_digest::Sha256Hash;
+use page_digest::PageHash;
 use page_model::Page;
 
 /// Whether there is such a page.
-fn has_page(core: &Core<Sha256Hash>, guest: u32, ppn: u32) -> bool
+pub(crate) fn has_page<H: PageHash>(core: &Core<H>, guest: u32, ppn: u32) -> bool
     ensures page { IsTrue result ↔ IsSome (page_at (state_of core.now).guests guest ppn) }
     ensures guest { IsTrue result → guest < 256 }
 {
@@ -22,7 +22,7 @@ fn has_page(core: &Core<Sha256Hash>, guest: u32, ppn: u32) -> bool
 
 /// Returns the number of a page's frame.
 #[tactic(auto, using(crate::proofs::Finds::found_absent, crate::proofs::Finds::found_unmapped, crate::proofs::Finds::found_mapped))]
-pub(crate) fn find_frame(core: &Core<Sha256Hash>, guest: u32, ppn: u32) -> Result<u32, Refusal>
+pub(crate) fn find_frame<H: PageHash>(core: &Core<H>, guest: u32, ppn: u32) -> Result<u32, Refusal>
     ensures found { result ≡ found_in core.now guest ppn }
     ensures text { IfOk result (λ mpn. frame core.now.frames mpn ≡ text_at (state_of core.now).guests guest ppn) }
 {
@@ -37,7 +37,7 @@ pub(crate) fn find_frame(core: &Core<Sha256Hash>, guest: u32, ppn: u32) -> Resul
 
 /// Copies a page to the room. The result is whether there is such a page.
 #[tactic(auto, using(crate::proofs::Finds::text_absent))]
-pub(crate) fn copy_page(core: &Core<Sha256Hash>, guest: u32, ppn: u32, room: &mut Page) -> bool
+pub(crate) fn copy_page<H: PageHash>(core: &Core<H>, guest: u32, ppn: u32, room: &mut Page) -> bool
     ensures page { IsTrue result ↔ IsSome (page_at (state_of core.now).guests guest ppn) }
     ensures bytes { room.new ≡ value_or room.old (text_in (state_of core.now) guest ppn) }
 {
@@ -52,8 +52,8 @@ pub(crate) fn copy_page(core: &Core<Sha256Hash>, guest: u32, ppn: u32, room: &mu
 }
 
 /// Puts the address of a page's bytes into `at`, and returns the number of its frame. On a refusal `at` stays as it is.
-pub(crate) fn put_address(
-    core: &Core<Sha256Hash>,
+pub(crate) fn put_address<H: PageHash>(
+    core: &Core<H>,
     guest: u32,
     ppn: u32,
     at: &mut *const u8,

@@ -15,24 +15,27 @@ ghost use Rattle.page_model.specs.Replay.{empty_state};
 ghost use Rattle.pageshare_c.specs.Access.{store_of, load_of};
 ghost use Rattle.pageshare_c.specs.Codes.{held_status, status_told};
 ghost use Rattle.pageshare_c.specs.Found.{text_of, frame_found, HoldsText};
-ghost use Rattle.pageshare_c.specs.Kept.{FramesKept, restarted};
+ghost use Rattle.pageshare_c.specs.Framed.{frame_freed, frame_left, LeftFree};
+ghost use Rattle.pageshare_c.specs.Kept.{FramesKept, StoreKept, LendKept, restarted};
 ghost use Rattle.pageshare_c.specs.Made.{Makes};
-ghost use Rattle.pageshare_c.specs.Outcomes.{outcome, state_after, seen};
-ghost use Rattle.pageshare_c.specs.Told.{told, counted, loaded, counts, value_or};
+ghost use Rattle.pageshare_c.specs.Outcomes.{outcome, state_after, store_outcome, state_stored, lend_outcome, state_lent, seen};
+ghost use Rattle.pageshare_c.specs.Told.{answer_to, store_answer, lend_answer, counted, loaded, taken, counts, value_or};
 
 mod ahead;
 mod answer;
 mod find;
+mod framed;
 mod machine;
 mod make;
 mod parcel;
 mod serve;
 mod slot;
+mod whole;
 
 pub use ahead::PageName;
 use ahead::note_hashes;
-pub use answer::{Answer, Refusal, Totals};
-use answer::{status_of, totals_of};
+pub use answer::{Answer, NO_FRAME, Refusal, Totals};
+use answer::{refuse, status_of, totals_of};
 use find::{copy_page, find_frame, put_address};
 pub use machine::Machine;
 use make::make;
@@ -40,6 +43,7 @@ use page_model::Request;
 use serve::{load_request, serve, serve_count, serve_load, store_request};
 pub use slot::Slot;
 use std::alloc::Global;
+use whole::{lend, store_page, take_back};
 
 /// Makes a machine with `frames` frames. Guest i has `pages[i]` pages and the salt `salts[i]`.
 ///
@@ -82,9 +86,9 @@ pub extern "C" fn pageshare_propose(
     guest: u32,
     ppn: u32,
 ) -> Answer
-    ensures answer { result ≡ told (outcome (seen machine.old.slot.core) guest (Ok (Request.Propose ppn))) }
-    ensures state { seen machine.new.slot.core ≡ state_after (seen machine.old.slot.core) guest (Ok (Request.Propose ppn)) }
-    ensures frames { FramesKept guest (Ok (Request.Propose ppn)) (outcome (seen machine.old.slot.core) guest (Ok (Request.Propose ppn))) machine.old.slot.core machine.new.slot.core }
+    ensures answer { result ≡ answer_to machine.old.slot.core machine.new.slot.core guest (Ok (Request.Propose ppn)) }
+    ensures state { seen machine.new.slot.core ≡ state_after machine.old.slot.core guest (Ok (Request.Propose ppn)) }
+    ensures frames { FramesKept guest (Ok (Request.Propose ppn)) (outcome machine.old.slot.core guest (Ok (Request.Propose ppn))) machine.old.slot.core machine.new.slot.core }
 {
     serve(alloc, machine, guest, &Ok(Request::Propose(ppn)))
 }
@@ -99,9 +103,9 @@ pub extern "C" fn pageshare_store(
     at: u32,
     bytes: &[u8],
 ) -> Answer
-    ensures answer { result ≡ told (outcome (seen machine.old.slot.core) guest (store_of ppn at bytes.now)) }
-    ensures state { seen machine.new.slot.core ≡ state_after (seen machine.old.slot.core) guest (store_of ppn at bytes.now) }
-    ensures frames { FramesKept guest (store_of ppn at bytes.now) (outcome (seen machine.old.slot.core) guest (store_of ppn at bytes.now)) machine.old.slot.core machine.new.slot.core }
+    ensures answer { result ≡ answer_to machine.old.slot.core machine.new.slot.core guest (store_of ppn at bytes.now) }
+    ensures state { seen machine.new.slot.core ≡ state_after machine.old.slot.core guest (store_of ppn at bytes.now) }
+    ensures frames { FramesKept guest (store_of ppn at bytes.now) (outcome machine.old.slot.core guest (store_of ppn at bytes.now)) machine.old.slot.core machine.new.slot.core }
 {
     serve(alloc, machine, guest, &store_request(ppn, at, bytes))
 }
@@ -117,10 +121,10 @@ pub extern "C" fn pageshare_load(
     at: u32,
     room: &mut [u8],
 ) -> Answer
-    ensures answer { result ≡ told (outcome (seen machine.old.slot.core) guest (load_of ppn at (length room.old))) }
-    ensures state { seen machine.new.slot.core ≡ state_after (seen machine.old.slot.core) guest (load_of ppn at (length room.old)) }
-    ensures frames { FramesKept guest (load_of ppn at (length room.old)) (outcome (seen machine.old.slot.core) guest (load_of ppn at (length room.old))) machine.old.slot.core machine.new.slot.core }
-    ensures bytes { room.new ≡ loaded room.old (outcome (seen machine.old.slot.core) guest (load_of ppn at (length room.old))) }
+    ensures answer { result ≡ answer_to machine.old.slot.core machine.new.slot.core guest (load_of ppn at (length room.old)) }
+    ensures state { seen machine.new.slot.core ≡ state_after machine.old.slot.core guest (load_of ppn at (length room.old)) }
+    ensures frames { FramesKept guest (load_of ppn at (length room.old)) (outcome machine.old.slot.core guest (load_of ppn at (length room.old))) machine.old.slot.core machine.new.slot.core }
+    ensures bytes { room.new ≡ loaded room.old (outcome machine.old.slot.core guest (load_of ppn at (length room.old))) }
 {
     let asked = load_request(ppn, at, room.len());
     serve_load(alloc, machine, guest, &asked, room)
@@ -134,11 +138,90 @@ pub extern "C" fn pageshare_release(
     guest: u32,
     ppn: u32,
 ) -> Answer
-    ensures answer { result ≡ told (outcome (seen machine.old.slot.core) guest (Ok (Request.Release ppn))) }
-    ensures state { seen machine.new.slot.core ≡ state_after (seen machine.old.slot.core) guest (Ok (Request.Release ppn)) }
-    ensures frames { FramesKept guest (Ok (Request.Release ppn)) (outcome (seen machine.old.slot.core) guest (Ok (Request.Release ppn))) machine.old.slot.core machine.new.slot.core }
+    ensures answer { result ≡ answer_to machine.old.slot.core machine.new.slot.core guest (Ok (Request.Release ppn)) }
+    ensures state { seen machine.new.slot.core ≡ state_after machine.old.slot.core guest (Ok (Request.Release ppn)) }
+    ensures frames { FramesKept guest (Ok (Request.Release ppn)) (outcome machine.old.slot.core guest (Ok (Request.Release ppn))) machine.old.slot.core machine.new.slot.core }
 {
     serve(alloc, machine, guest, &Ok(Request::Release(ppn)))
+}
+
+/// Stores a whole page, which counts as the 64 stores of 64 bytes each that write it. The verdict is the first one's: if that is
+/// `NoPage` or `NoFrame`, so are the others, and otherwise they are `Stored`.
+///
+/// The status is 8 if fewer than 64 requests are left to count.
+#[unsafe(no_mangle)]
+pub extern "C" fn pageshare_store_page(
+    alloc: Global,
+    machine: &mut Machine,
+    guest: u32,
+    ppn: u32,
+    page: &[u8; 4096],
+) -> Answer
+    ensures answer { result ≡ store_answer machine.old.slot.core machine.new.slot.core guest ppn page.now }
+    ensures state { seen machine.new.slot.core ≡ state_stored machine.old.slot.core guest ppn page.now }
+    ensures frames { StoreKept guest ppn (store_outcome machine.old.slot.core guest ppn page.now) machine.old.slot.core machine.new.slot.core }
+{
+    match machine.take(alloc) {
+        None => refuse(Refusal::NoMachine),
+        Some(mut core) => {
+            let answer = store_page(&mut core, guest, ppn, page);
+            machine.put(core);
+            answer
+        }
+    }
+}
+
+/// Lends a page: stores it whole, and proposes it unless its stores were refused. The verdict is the proposal's, or `NoPage` or
+/// `NoFrame`. A frame is freed if the page had one for itself and now shares another's.
+///
+/// The status is 8 if fewer than 65 requests are left to count.
+#[unsafe(no_mangle)]
+pub extern "C" fn pageshare_lend(
+    alloc: Global,
+    machine: &mut Machine,
+    guest: u32,
+    ppn: u32,
+    page: &[u8; 4096],
+) -> Answer
+    ensures answer { result ≡ lend_answer machine.old.slot.core machine.new.slot.core guest ppn page.now }
+    ensures state { seen machine.new.slot.core ≡ state_lent machine.old.slot.core guest ppn page.now }
+    ensures frames { LendKept guest ppn page.now (lend_outcome machine.old.slot.core guest ppn page.now) machine.old.slot.core machine.new.slot.core }
+    ensures free { LeftFree (frame_left machine.old.slot.core guest ppn page.now) machine.new.slot.core }
+{
+    match machine.take(alloc) {
+        None => refuse(Refusal::NoMachine),
+        Some(mut core) => {
+            let answer = lend(&mut core, guest, ppn, page);
+            machine.put(core);
+            answer
+        }
+    }
+}
+
+/// Takes a page back: copies it to the room and releases it, which counts as the release alone. The room stays as it is unless
+/// the verdict is `Released`.
+#[unsafe(no_mangle)]
+pub extern "C" fn pageshare_take_back(
+    alloc: Global,
+    machine: &mut Machine,
+    guest: u32,
+    ppn: u32,
+    room: &mut [u8; 4096],
+) -> Answer
+    ensures answer { result ≡ answer_to machine.old.slot.core machine.new.slot.core guest (Ok (Request.Release ppn)) }
+    ensures state { seen machine.new.slot.core ≡ state_after machine.old.slot.core guest (Ok (Request.Release ppn)) }
+    ensures frames { FramesKept guest (Ok (Request.Release ppn)) (outcome machine.old.slot.core guest (Ok (Request.Release ppn))) machine.old.slot.core machine.new.slot.core }
+    ensures bytes { room.new ≡ taken room.old (outcome machine.old.slot.core guest (Ok (Request.Release ppn))) (text_of (seen machine.old.slot.core) guest ppn) }
+    ensures free { LeftFree (frame_freed machine.old.slot.core guest (Ok (Request.Release ppn))) machine.new.slot.core }
+{
+    match machine.take(alloc) {
+        None => refuse(Refusal::NoMachine),
+        Some(mut core) => {
+            let answer = take_back(&mut core, guest, ppn, room);
+            machine.put(core);
+            answer
+        }
+    }
 }
 
 /// Gets the machine's totals, this request of the guest among the entries. `totals` stays as it is unless the verdict is
@@ -150,10 +233,10 @@ pub extern "C" fn pageshare_count(
     guest: u32,
     totals: &mut Totals,
 ) -> Answer
-    ensures answer { result ≡ told (outcome (seen machine.old.slot.core) guest (Ok Request.Count)) }
-    ensures state { seen machine.new.slot.core ≡ state_after (seen machine.old.slot.core) guest (Ok Request.Count) }
-    ensures frames { FramesKept guest (Ok Request.Count) (outcome (seen machine.old.slot.core) guest (Ok Request.Count)) machine.old.slot.core machine.new.slot.core }
-    ensures totals { totals.new ≡ counted totals.old (outcome (seen machine.old.slot.core) guest (Ok Request.Count)) }
+    ensures answer { result ≡ answer_to machine.old.slot.core machine.new.slot.core guest (Ok Request.Count) }
+    ensures state { seen machine.new.slot.core ≡ state_after machine.old.slot.core guest (Ok Request.Count) }
+    ensures frames { FramesKept guest (Ok Request.Count) (outcome machine.old.slot.core guest (Ok Request.Count)) machine.old.slot.core machine.new.slot.core }
+    ensures totals { totals.new ≡ counted totals.old (outcome machine.old.slot.core guest (Ok Request.Count)) }
 {
     serve_count(alloc, machine, guest, &Ok(Request::Count), totals)
 }

@@ -1,15 +1,18 @@
 //! Requests to the machine behind a handle.
-ghost use Rattle.std.specs.Prelude.{◌≡◌, ◌<◌, length, Ok, Err, IfOk, MatchResult};
+ghost use Rattle.std.specs.Prelude.{◌≡◌, ◌+◌, ◌<◌, ◌≤◌, length, None, Ok, Err, IfOk, MatchResult};
+ghost use Rattle.merge_core.specs.Applying.{Applies};
 ghost use Rattle.merge_core.specs.Shown.{state_of};
 ghost use Rattle.pageshare_c.specs.Access.{store_of, load_of};
+ghost use Rattle.pageshare_c.specs.Framed.{named_frame, own_frame, asked_frame, freed_at, freed_by};
 ghost use Rattle.pageshare_c.specs.Kept.{CoreKeeps, FramesKept};
-ghost use Rattle.pageshare_c.specs.Outcomes.{accepted, answered, answered_state, outcome, state_after, seen};
-ghost use Rattle.pageshare_c.specs.Told.{told, counted, loaded, overlaid};
+ghost use Rattle.pageshare_c.specs.Outcomes.{refusal_for, accepted, answered, answered_state, outcome, state_after, seen};
+ghost use Rattle.pageshare_c.specs.Told.{told, answer_to, counted, loaded, overlaid};
 
 use crate::answer::{Answer, Refusal, Totals, answer_of, refuse, totals_of};
+use crate::framed::{find_named, find_own, freed_at};
 use crate::machine::Machine;
 use merge_core::Core;
-use page_digest::Sha256Hash;
+use page_digest::PageHash;
 use page_model::{Request, RequestFault, Verdict};
 use std::alloc::Global;
 
@@ -35,9 +38,25 @@ pub(crate) fn load_request(ppn: u32, at: u32, len: usize) -> Result<Request, Req
     Request::load(ppn, at, len as u32)
 }
 
+/// Returns why the machine refuses a call of this guest that counts as so many requests, if it does.
+pub(crate) fn refusal_for<H: PageHash>(core: &Core<H>, guest: u32, requests: u32) -> Option<Refusal>
+    ensures refusal { result ≡ refusal_for requests (state_of core.now) guest }
+    ensures guest { result ≡ None → guest < length (state_of core.now).guests }
+    ensures few { result ≡ None → guest < 256 }
+    ensures room { result ≡ None → core.now.entries + requests ≤ 4294967295 }
+{
+    if guest >= u32::from(core.guests()) {
+        return Some(Refusal::NoGuest);
+    }
+    if core.entries() > MOST_REQUESTS - requests {
+        return Some(Refusal::Full);
+    }
+    None
+}
+
 /// Returns the request if the machine accepts it.
-fn accept<'a>(
-    core: &Core<Sha256Hash>,
+fn accept<'a, H: PageHash>(
+    core: &Core<H>,
     guest: u32,
     asked: &'a Result<Request, RequestFault>,
 ) -> Result<&'a Request, Refusal>
@@ -47,11 +66,8 @@ fn accept<'a>(
     ensures few { IfOk result (λ _. guest < 256) }
     ensures room { IfOk result (λ _. core.now.entries < 4294967295) }
 {
-    if guest >= u32::from(core.guests()) {
-        return Err(Refusal::NoGuest);
-    }
-    if core.entries() >= MOST_REQUESTS {
-        return Err(Refusal::Full);
+    if let Some(refusal) = refusal_for(core, guest, 1) {
+        return Err(refusal);
     }
     match asked {
         Ok(request) => Ok(request),
@@ -60,55 +76,80 @@ fn accept<'a>(
     }
 }
 
-fn answer(core: &mut Core<Sha256Hash>, guest: u32, asked: &Result<Request, RequestFault>) -> Answer
-    ensures answer { result ≡ told (answered (state_of core.old) guest asked.now) }
-    ensures state { state_of core.new ≡ answered_state (state_of core.old) guest asked.now }
-    ensures frames { CoreKeeps guest asked.now (answered (state_of core.old) guest asked.now) core.old core.new }
+/// Serves an accepted request. Returns the verdict, and the answer with it.
+fn apply<H: PageHash>(core: &mut Core<H>, guest: u32, request: &Request) -> (Verdict, Answer)
+    requires guest { guest < length (state_of core.old).guests }
+    requires few { guest < 256 }
+    requires room { core.old.entries < 4294967295 }
+    ensures applies { Applies H.hash_of guest request.now result.0 core.old core.new }
+    ensures answer { result.1 ≡ told (Ok result.0) (named_frame core.new.names guest request.now) (freed_at result.0 (own_frame core.old.names guest request.now)) }
+{
+    let own = find_own(core, guest, request);
+    let verdict = core.apply(guest as u8, request);
+    let frame = find_named(core, guest, request);
+    let answer = answer_of(&verdict, frame, freed_at(&verdict, own));
+    (verdict, answer)
+}
+
+/// Serves a request whose verdict has nothing for C beyond the answer.
+#[tactic(auto, using(crate::proofs::Tellings::not_accepted))]
+fn answer<H: PageHash>(
+    core: &mut Core<H>,
+    guest: u32,
+    asked: &Result<Request, RequestFault>,
+) -> Answer
+    ensures answer { result ≡ told (answered H.hash_of (state_of core.old) guest asked.now) (asked_frame core.new.names guest asked.now) (freed_by (answered H.hash_of (state_of core.old) guest asked.now) core.old.names guest asked.now) }
+    ensures state { state_of core.new ≡ answered_state H.hash_of (state_of core.old) guest asked.now }
+    ensures frames { CoreKeeps guest asked.now (answered H.hash_of (state_of core.old) guest asked.now) core.old core.new }
 {
     match accept(core, guest, asked) {
         Err(refusal) => refuse(refusal),
-        Ok(request) => answer_of(&core.apply(guest as u8, request)),
+        Ok(request) => apply(core, guest, request).1,
     }
 }
 
-fn answer_load(
-    core: &mut Core<Sha256Hash>,
+/// Serves a load, and puts the bytes into the room.
+#[tactic(auto, using(crate::proofs::Tellings::not_accepted))]
+fn answer_load<H: PageHash>(
+    core: &mut Core<H>,
     guest: u32,
     asked: &Result<Request, RequestFault>,
     room: &mut [u8],
 ) -> Answer
-    ensures answer { result ≡ told (answered (state_of core.old) guest asked.now) }
-    ensures state { state_of core.new ≡ answered_state (state_of core.old) guest asked.now }
-    ensures frames { CoreKeeps guest asked.now (answered (state_of core.old) guest asked.now) core.old core.new }
-    ensures bytes { room.new ≡ loaded room.old (answered (state_of core.old) guest asked.now) }
+    ensures answer { result ≡ told (answered H.hash_of (state_of core.old) guest asked.now) (asked_frame core.new.names guest asked.now) (freed_by (answered H.hash_of (state_of core.old) guest asked.now) core.old.names guest asked.now) }
+    ensures state { state_of core.new ≡ answered_state H.hash_of (state_of core.old) guest asked.now }
+    ensures frames { CoreKeeps guest asked.now (answered H.hash_of (state_of core.old) guest asked.now) core.old core.new }
+    ensures bytes { room.new ≡ loaded room.old (answered H.hash_of (state_of core.old) guest asked.now) }
 {
     match accept(core, guest, asked) {
         Err(refusal) => refuse(refusal),
         Ok(request) => {
-            let verdict = core.apply(guest as u8, request);
+            let (verdict, answer) = apply(core, guest, request);
             put_loaded(room, &verdict);
-            answer_of(&verdict)
+            answer
         }
     }
 }
 
-fn answer_count(
-    core: &mut Core<Sha256Hash>,
+/// Serves a count, and puts the numbers into the totals.
+#[tactic(auto, using(crate::proofs::Tellings::not_accepted))]
+fn answer_count<H: PageHash>(
+    core: &mut Core<H>,
     guest: u32,
     asked: &Result<Request, RequestFault>,
     totals: &mut Totals,
 ) -> Answer
-    ensures answer { result ≡ told (answered (state_of core.old) guest asked.now) }
-    ensures state { state_of core.new ≡ answered_state (state_of core.old) guest asked.now }
-    ensures frames { CoreKeeps guest asked.now (answered (state_of core.old) guest asked.now) core.old core.new }
-    ensures totals { totals.new ≡ counted totals.old (answered (state_of core.old) guest asked.now) }
+    ensures answer { result ≡ told (answered H.hash_of (state_of core.old) guest asked.now) (asked_frame core.new.names guest asked.now) (freed_by (answered H.hash_of (state_of core.old) guest asked.now) core.old.names guest asked.now) }
+    ensures state { state_of core.new ≡ answered_state H.hash_of (state_of core.old) guest asked.now }
+    ensures frames { CoreKeeps guest asked.now (answered H.hash_of (state_of core.old) guest asked.now) core.old core.new }
+    ensures totals { totals.new ≡ counted totals.old (answered H.hash_of (state_of core.old) guest asked.now) }
 {
     match accept(core, guest, asked) {
         Err(refusal) => refuse(refusal),
         Ok(request) => {
-            let verdict = core.apply(guest as u8, request);
+            let (verdict, answer) = apply(core, guest, request);
             put_counted(totals, &verdict);
-            answer_of(&verdict)
+            answer
         }
     }
 }
@@ -120,9 +161,9 @@ pub(crate) fn serve(
     guest: u32,
     asked: &Result<Request, RequestFault>,
 ) -> Answer
-    ensures answer { result ≡ told (outcome (seen machine.old.slot.core) guest asked.now) }
-    ensures state { seen machine.new.slot.core ≡ state_after (seen machine.old.slot.core) guest asked.now }
-    ensures frames { FramesKept guest asked.now (outcome (seen machine.old.slot.core) guest asked.now) machine.old.slot.core machine.new.slot.core }
+    ensures answer { result ≡ answer_to machine.old.slot.core machine.new.slot.core guest asked.now }
+    ensures state { seen machine.new.slot.core ≡ state_after machine.old.slot.core guest asked.now }
+    ensures frames { FramesKept guest asked.now (outcome machine.old.slot.core guest asked.now) machine.old.slot.core machine.new.slot.core }
 {
     match machine.take(alloc) {
         None => refuse(Refusal::NoMachine),
@@ -142,10 +183,10 @@ pub(crate) fn serve_load(
     asked: &Result<Request, RequestFault>,
     room: &mut [u8],
 ) -> Answer
-    ensures answer { result ≡ told (outcome (seen machine.old.slot.core) guest asked.now) }
-    ensures state { seen machine.new.slot.core ≡ state_after (seen machine.old.slot.core) guest asked.now }
-    ensures frames { FramesKept guest asked.now (outcome (seen machine.old.slot.core) guest asked.now) machine.old.slot.core machine.new.slot.core }
-    ensures bytes { room.new ≡ loaded room.old (outcome (seen machine.old.slot.core) guest asked.now) }
+    ensures answer { result ≡ answer_to machine.old.slot.core machine.new.slot.core guest asked.now }
+    ensures state { seen machine.new.slot.core ≡ state_after machine.old.slot.core guest asked.now }
+    ensures frames { FramesKept guest asked.now (outcome machine.old.slot.core guest asked.now) machine.old.slot.core machine.new.slot.core }
+    ensures bytes { room.new ≡ loaded room.old (outcome machine.old.slot.core guest asked.now) }
 {
     match machine.take(alloc) {
         None => refuse(Refusal::NoMachine),
@@ -165,10 +206,10 @@ pub(crate) fn serve_count(
     asked: &Result<Request, RequestFault>,
     totals: &mut Totals,
 ) -> Answer
-    ensures answer { result ≡ told (outcome (seen machine.old.slot.core) guest asked.now) }
-    ensures state { seen machine.new.slot.core ≡ state_after (seen machine.old.slot.core) guest asked.now }
-    ensures frames { FramesKept guest asked.now (outcome (seen machine.old.slot.core) guest asked.now) machine.old.slot.core machine.new.slot.core }
-    ensures totals { totals.new ≡ counted totals.old (outcome (seen machine.old.slot.core) guest asked.now) }
+    ensures answer { result ≡ answer_to machine.old.slot.core machine.new.slot.core guest asked.now }
+    ensures state { seen machine.new.slot.core ≡ state_after machine.old.slot.core guest asked.now }
+    ensures frames { FramesKept guest asked.now (outcome machine.old.slot.core guest asked.now) machine.old.slot.core machine.new.slot.core }
+    ensures totals { totals.new ≡ counted totals.old (outcome machine.old.slot.core guest asked.now) }
 {
     match machine.take(alloc) {
         None => refuse(Refusal::NoMachine),
