@@ -1,10 +1,12 @@
 #!/usr/bin/env python3
 """Replays random journals three times over: by `pageshare replay`, by calls of the C library, and by the Rust wrapper. All
-lines that the three write must be equal.
+lines that the three write must be equal. Then as many in which whole pages are stored, lent and taken back: by C, by Rust, and
+as the stores, proposals and releases that these calls stand for by `pageshare replay`. What is taken back must be what was
+stored last.
 
     checks/embed.py [COUNT [SEED]]
 
-COUNT journals, by default 1,000; the journals follow from SEED, by default 1. It takes out/pageshare (`make build`) and what
+COUNT journals of each kind, by default 1,000; the journals follow from SEED, by default 1. It takes out/pageshare (`make build`) and what
 `make embed` leaves in out/embed. Journals with salts (version 2) go through C and Rust alone where the program does not read
 them, and the output says so. Prints how many journals and lines were compared and how often each verdict came (status 0),
 or the first journal that differs, which it leaves at out/embed/differs.journal (status 1).
@@ -15,7 +17,7 @@ import random
 import subprocess
 import sys
 
-from random_texts import journal
+from random_texts import header, journal, request, shape, text_of
 
 TOP = pathlib.Path(__file__).resolve().parent.parent
 PROGRAMS = {
@@ -30,6 +32,96 @@ SALTED = "pageshare journal 2\nframes 1\npages 1\nsalts 1\nend 0\n"
 def replay(words, text):
     done = subprocess.run(words, input=text, capture_output=True, text=True, timeout=60, check=False)
     return done.stdout if done.returncode == 0 else f"status {done.returncode}: {done.stdout}{done.stderr}"
+
+
+def whole_request(rng, pages):
+    """A request of a whole page, or one of the others."""
+    guest = rng.randrange(len(pages))
+    ppn = rng.randrange(pages[guest] + (rng.random() < 0.05))
+    kind = rng.choices(["store-page", "lend", "take-back", ""], [10, 45, 25, 20])[0]
+    if kind in ("", "take-back"):
+        return f"{guest} take-back {ppn}" if kind else request(rng, pages)
+    page = bytearray([rng.choice(b"\x00AB")] * 4096)
+    if rng.random() < 0.2:
+        page[rng.choice([0, 64, 4095])] = 67
+    return f"{guest} {kind} {ppn} {page.hex()}"
+
+
+def meant_by(line, verdict):
+    """The requests that a line stands for, given the verdict that it got: a lend whose stores were refused proposes nothing."""
+    guest, kind, *rest = line.split()
+    if kind == "take-back":
+        return [f"{guest} release {rest[0]}"]
+    if kind not in ("store-page", "lend"):
+        return [line]
+    stores = [f"{guest} store {rest[0]} {at} {rest[1][2 * at : 2 * at + 128]}" for at in range(0, 4096, 64)]
+    proposes = kind == "lend" and verdict not in ("no-page", "no-frame")
+    return [*stores, f"{guest} propose {rest[0]}"] if proposes else stores
+
+
+def verdict_among(line, told):
+    """The verdict of a line by those of the requests that it stands for, whose later stores follow from the first."""
+    stores = [it.split()[1] for it in told[:64]]
+    refused = stores[0] in ("no-page", "no-frame")
+    if len(told) > 1 and any(it != (stores[0] if refused else "stored") for it in stores[1:]):
+        return f"stores of one page: {stores}"
+    return told[-1] if len(told) == 65 else told[0]
+
+
+class Pages:
+    """The bytes last stored to each page."""
+
+    def __init__(self):
+        self.pages = {}
+
+    def follow(self, line, verdict):
+        guest, kind, *rest = line.split()
+        if verdict in ("no-page", "no-frame"):
+            return
+        if kind in ("store-page", "lend"):
+            self.pages[guest, rest[0]] = rest[1]
+        elif kind == "store":
+            page, at = self.pages.get((guest, rest[0]), "00" * 4096), 2 * int(rest[1])
+            self.pages[guest, rest[0]] = page[:at] + rest[2] + page[at + len(rest[2]) :]
+        elif kind in ("take-back", "release"):
+            self.pages.pop((guest, rest[0]), None)
+
+
+def split_written(lines, written):
+    """The verdict of each line and what it took back, and the report at the end."""
+    told, rest = [], written.splitlines()
+    for line in lines:
+        verdict, took = rest.pop(0), ""
+        if " take-back " in line and "released" in verdict:
+            took = rest.pop(0)
+        told.append((verdict, took))
+    return told, rest
+
+
+def whole_pages_differ(rng, verdicts):
+    """What is wrong with one journal of whole pages, if anything, with its text."""
+    frames, pages, salts = shape(rng)
+    head = header("journal", True, frames, pages, salts)
+    lines = [whole_request(rng, pages) for _ in range(rng.choice([10, 30, 60]))]
+    text = text_of(head, lines)
+    written = {name: replay(PROGRAMS[name], text) for name in ("C", "Rust")}
+    if written["C"] != written["Rust"] or "report" not in written["C"]:
+        return f"C and Rust differ: {written['C'][:200]} .. {written['Rust'][:200]}", text
+    told, report = split_written(lines, written["C"])
+    groups, last = [], Pages()
+    for line, (verdict, took) in zip(lines, told):
+        word = verdict.split()[1]
+        verdicts[line.split()[1] + ": " + " ".join(verdict.split()[1:3] if word == "released" else [word])] += 1
+        if took and took != last.pages.get((line.split()[0], line.split()[2]), "00" * 4096):
+            return f"another page was taken back than was stored: {line[:80]}", text
+        last.follow(line, word)
+        groups.append(meant_by(line, word))
+    meant = replay(PROGRAMS["pageshare replay"], text_of(head, [it for group in groups for it in group])).splitlines()
+    for line, group, (verdict, _took) in zip(lines, groups, told):
+        wanted, meant = verdict_among(line, meant[: len(group)]), meant[len(group) :]
+        if wanted != verdict:
+            return f"{line[:80]}: {verdict}, and by its requests {wanted}", text
+    return ("", text) if meant == report else (f"the reports differ: {report} and {meant}", text)
 
 
 def main(count=1000, seed=1):
@@ -54,6 +146,15 @@ def main(count=1000, seed=1):
     print(f"{count} journals, {sum(verdicts.values()) + count} lines: all equal")
     if unknown:
         print(f"{unknown} of them with salts, which `pageshare replay` does not read here: C beside Rust alone")
+    print(", ".join(f"{verdict} {times}" for verdict, times in sorted(verdicts.items())))
+    verdicts.clear()
+    for nth in range(count):
+        wrong, text = whole_pages_differ(rng, verdicts)
+        if wrong:
+            (TOP / "out/embed/differs.journal").write_text(text)
+            print(f"journal {nth} of whole pages, of seed {seed}: {wrong}")
+            return 1
+    print(f"{count} journals of whole pages, {sum(verdicts.values())} lines: all equal, and all taken back as stored")
     print(", ".join(f"{verdict} {times}" for verdict, times in sorted(verdicts.items())))
     return 0
 

@@ -54,11 +54,12 @@ else
     else
         echo 'left out: valgrind and the address sanitizer'
     fi
-    for source in examples/three_share checks/embed/calls checks/embed/refused_memory checks/embed/journal; do
+    for source in examples/three_share checks/embed/calls checks/embed/whole_pages checks/embed/refused_memory checks/embed/journal; do
         compile "$source"
     done
     run three_share "$(cat "$top/checks/embed/three_share.out")"
     run calls ok
+    run whole_pages ok
     run refused_memory ok
     if [ -n "${FULL:-}" ]; then
         # shellcheck disable=SC2086

@@ -92,11 +92,16 @@ enum pageshare_verdict {
     PAGESHARE_VERDICT_CLOSED = 18      /* no request of C has it */
 };
 
+/* No frame. */
+#define PAGESHARE_NO_FRAME UINT32_MAX
+
 /* The answer to a request. */
 struct pageshare_answer {
     uint32_t status;  /* an enum pageshare_status: PAGESHARE_OK where the request was served */
     uint32_t verdict; /* an enum pageshare_verdict */
     uint32_t count;   /* as the verdict says, and else 0 */
+    uint32_t frame;   /* the named page's frame afterwards, or PAGESHARE_NO_FRAME if it has none */
+    uint32_t freed;   /* a frame that is free since, which was the named page's, or PAGESHARE_NO_FRAME */
 };
 
 /* What a machine counts. */
@@ -143,6 +148,32 @@ struct pageshare_answer pageshare_load(struct pageshare *machine, uint32_t guest
 
 /* Releases a page: it has no frame then, and reads as zeros. */
 struct pageshare_answer pageshare_release(struct pageshare *machine, uint32_t guest, uint32_t ppn);
+
+/*
+ * Whole pages, for monitors that lend a guest's page to the machine while the guest only reads it, and take it back when the
+ * guest writes to it. docs/EMBEDDING.md has the protocol.
+ */
+
+/*
+ * Stores a whole page, which counts as the 64 stores of 64 bytes that write it: with fewer left to count it is
+ * PAGESHARE_ERROR_FULL. The verdict is that of the first of them.
+ */
+struct pageshare_answer pageshare_store_page(struct pageshare *machine, uint32_t guest, uint32_t ppn,
+                                             const uint8_t page[PAGESHARE_PAGE_BYTES]);
+
+/*
+ * Lends a page: stores it whole and then proposes it, which counts as 65 requests, or as 64 where the stores were refused
+ * (NO_PAGE, NO_FRAME). The verdict is the proposal's, or that refusal. A page that joins others is compared where it lies.
+ */
+struct pageshare_answer pageshare_lend(struct pageshare *machine, uint32_t guest, uint32_t ppn,
+                                       const uint8_t page[PAGESHARE_PAGE_BYTES]);
+
+/*
+ * Takes a page back: copies it to the room and releases it, which counts as the release alone. The room stays as it is unless
+ * the verdict is RELEASED.
+ */
+struct pageshare_answer pageshare_take_back(struct pageshare *machine, uint32_t guest, uint32_t ppn,
+                                            uint8_t room[PAGESHARE_PAGE_BYTES]);
 
 /* Gets the machine's totals, this request among the entries. totals stays as it is unless the verdict is TOTALS. */
 struct pageshare_answer pageshare_count(struct pageshare *machine, uint32_t guest, struct pageshare_totals *totals);

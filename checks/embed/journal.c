@@ -1,7 +1,8 @@
 /*
  * Replays a journal text by calls of the C library: reads standard input, and writes what `pageshare replay` writes. For
- * checks/embed.py, whose journals are well formed and have no close, which C doesn't ask. Stops with status 2 at a text that it
- * does not know.
+ * checks/embed.py, whose journals are well formed and have no close, which C doesn't ask. Three words are of this program alone:
+ * `store-page PPN BYTES`, `lend PPN BYTES` and `take-back PPN`, with the 4,096 bytes of a page; what is taken back is written
+ * behind its verdict. Stops with status 2 at a text that it does not know.
  */
 #include "pageshare.h"
 #include <inttypes.h>
@@ -36,10 +37,10 @@ static size_t numbers(char **line, uint32_t list[64]) {
     return count;
 }
 
-static size_t bytes(char **line, uint8_t list[64]) {
+static size_t bytes(char **line, uint8_t *list, size_t most) {
     char *word = strtok_r(NULL, " ", line);
     size_t count = word == NULL ? 0 : strlen(word) / 2;
-    if (count < 1 || count > 64) stop("not 1 to 64 bytes");
+    if (count < 1 || count > most) stop("too few bytes, or too many");
     for (size_t i = 0; i < count; i++) {
         const char pair[] = {word[2 * i], word[2 * i + 1], 0};
         list[i] = (uint8_t)strtoul(pair, NULL, 16);
@@ -76,6 +77,23 @@ static void print_answer(uint32_t guest, struct pageshare_answer answer, const u
     putchar('\n');
 }
 
+/* Serves a request of a whole page, if this is one. */
+static bool serve_whole(struct pageshare *machine, uint32_t guest, const char *word, char **line) {
+    static uint8_t page[PAGESHARE_PAGE_BYTES];
+    bool is_store = strcmp(word, "store-page") == 0, is_return = strcmp(word, "take-back") == 0;
+    if (!is_store && !is_return && strcmp(word, "lend") != 0) return false;
+    uint32_t ppn = number(line);
+    if (!is_return && bytes(line, page, sizeof page) != sizeof page) stop("not a whole page");
+    struct pageshare_answer answer = is_return ? pageshare_take_back(machine, guest, ppn, page)
+                                     : is_store ? pageshare_store_page(machine, guest, ppn, page)
+                                                : pageshare_lend(machine, guest, ppn, page);
+    print_answer(guest, answer, NULL, NULL);
+    if (answer.verdict != PAGESHARE_VERDICT_RELEASED) return true;
+    for (size_t i = 0; i < sizeof page; i++) printf("%02x", page[i]);
+    putchar('\n');
+    return true;
+}
+
 static void serve(struct pageshare *machine, uint32_t guest, char **line) {
     struct pageshare_answer answer;
     struct pageshare_totals totals;
@@ -83,6 +101,8 @@ static void serve(struct pageshare *machine, uint32_t guest, char **line) {
     const char *word = strtok_r(NULL, " ", line);
     if (word == NULL) {
         stop("a request is missing");
+    } else if (serve_whole(machine, guest, word, line)) {
+        return;
     } else if (strcmp(word, "propose") == 0) {
         answer = pageshare_propose(machine, guest, number(line));
     } else if (strcmp(word, "release") == 0) {
@@ -91,7 +111,7 @@ static void serve(struct pageshare *machine, uint32_t guest, char **line) {
         answer = pageshare_count(machine, guest, &totals);
     } else if (strcmp(word, "store") == 0) {
         uint32_t ppn = number(line), at = number(line);
-        size_t length = bytes(line, room);
+        size_t length = bytes(line, room, 64);
         answer = pageshare_store(machine, guest, ppn, at, room, length);
     } else if (strcmp(word, "load") == 0) {
         uint32_t ppn = number(line), at = number(line), length = number(line);

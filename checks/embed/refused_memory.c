@@ -6,6 +6,7 @@
 #include "pageshare.h"
 #include <stdio.h>
 #include <stdlib.h>
+#include <string.h>
 
 struct tried {
     bool ok;
@@ -57,6 +58,15 @@ static bool looks(struct pageshare *machine) {
     return pageshare_restart_count(machine) == PAGESHARE_OK;
 }
 
+/* Whether whole pages are stored, lent and taken back with no memory to be had. */
+static bool lends(struct pageshare *machine) {
+    static uint8_t page[PAGESHARE_PAGE_BYTES];
+    memset(page, 0x42, sizeof page);
+    if (pageshare_lend(machine, 0, 0, page).verdict != PAGESHARE_VERDICT_HINTED) return false;
+    if (pageshare_store_page(machine, 0, 0, page).verdict != PAGESHARE_VERDICT_STORED) return false;
+    return pageshare_take_back(machine, 0, 0, page).verdict == PAGESHARE_VERDICT_RELEASED && page[0] == 0x42;
+}
+
 /* Whether the machine serves with no memory to be had. */
 static bool serves(struct pageshare *machine) {
     const uint8_t letter = 0x41;
@@ -70,7 +80,7 @@ static bool serves(struct pageshare *machine) {
         if (pageshare_propose(machine, i / 2, i % 2).status != PAGESHARE_OK) return false;
     if (pageshare_store(machine, 0, 0, 1, &letter, 1).verdict != PAGESHARE_VERDICT_COPIED) return false;
     if (pageshare_load(machine, 0, 0, 0, room, 64).count != 64) return false;
-    if (pageshare_release(machine, 0, 0).count != 1) return false;
+    if (pageshare_release(machine, 0, 0).count != 1 || !lends(machine)) return false;
     return pageshare_count(machine, 0, &totals).verdict == PAGESHARE_VERDICT_TOTALS && totals.shared == 2 && looks(machine);
 }
 

@@ -1,7 +1,9 @@
 //! Replays a journal text by calls of the wrapper: reads standard input, and writes what `pageshare replay` writes.
 //!
 //! For `checks/embed.py`, whose journals are well formed and have no close, which a program that embeds a machine doesn't ask.
-use pageshare::{Guest, LoadVerdict, Machine};
+//! Three words are of this program alone: `store-page PPN BYTES`, `lend PPN BYTES` and `take-back PPN`, with the 4,096 bytes of a
+//! page; what is taken back is written behind its verdict.
+use pageshare::{Guest, LoadVerdict, Machine, Page, ReturnVerdict, PAGE_BYTES};
 use std::error::Error;
 use std::io::{self, BufWriter, Write};
 use std::str::SplitAsciiWhitespace;
@@ -28,11 +30,36 @@ fn bytes(words: &mut SplitAsciiWhitespace) -> Done<Vec<u8>> {
         .collect()
 }
 
+fn page(words: &mut SplitAsciiWhitespace) -> Done<Box<Page>> {
+    let bytes = bytes(words)?.into_boxed_slice();
+    Ok(bytes.try_into().map_err(|_| "not a whole page")?)
+}
+
+fn hexadecimal(start: &str, bytes: &[u8]) -> String {
+    bytes
+        .iter()
+        .fold(start.to_owned(), |text, byte| format!("{text}{byte:02x}"))
+}
+
 /// One request, and the words of its verdict.
 fn serve(machine: &mut Machine, guest: u32, words: &mut SplitAsciiWhitespace) -> Done<String> {
     Ok(match words.next() {
         Some("propose") => machine.propose(guest, number(words)?)?.to_string(),
         Some("release") => machine.release(guest, number(words)?)?.to_string(),
+        Some("store-page") => machine
+            .store_page(guest, number(words)?, &*page(words)?)?
+            .to_string(),
+        Some("lend") => machine
+            .lend(guest, number(words)?, &*page(words)?)?
+            .to_string(),
+        Some("take-back") => {
+            let mut room = [0; PAGE_BYTES];
+            let verdict = machine.take_back(guest, number(words)?, &mut room)?;
+            match verdict {
+                ReturnVerdict::Released { .. } => hexadecimal(&format!("{verdict}\n"), &room),
+                _ => verdict.to_string(),
+            }
+        }
         Some("count") => format!("totals {}", machine.count(guest)?),
         Some("store") => {
             let (ppn, at) = (number(words)?, number(words)?);
@@ -43,9 +70,7 @@ fn serve(machine: &mut Machine, guest: u32, words: &mut SplitAsciiWhitespace) ->
             let mut room = vec![0; usize::try_from(number(words)?)?];
             match machine.load(guest, ppn, at, &mut room)? {
                 LoadVerdict::NoPage => "no-page".to_owned(),
-                LoadVerdict::Bytes => room.iter().fold("bytes ".to_owned(), |text, byte| {
-                    format!("{text}{byte:02x}")
-                }),
+                LoadVerdict::Bytes => hexadecimal("bytes ", &room),
             }
         }
         _ => return Err("an unknown request".into()),

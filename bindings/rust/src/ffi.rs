@@ -21,6 +21,8 @@ pub(crate) struct Answer {
     pub(crate) status: u32,
     pub(crate) verdict: u32,
     pub(crate) count: u32,
+    pub(crate) frame: u32,
+    pub(crate) freed: u32,
 }
 
 #[repr(C)]
@@ -70,9 +72,28 @@ extern "C" {
         length: usize,
     ) -> Answer;
     pub(crate) fn pageshare_release(machine: *mut Handle, guest: u32, ppn: u32) -> Answer;
+    pub(crate) fn pageshare_store_page(
+        machine: *mut Handle,
+        guest: u32,
+        ppn: u32,
+        page: *const [u8; 4096],
+    ) -> Answer;
+    pub(crate) fn pageshare_lend(
+        machine: *mut Handle,
+        guest: u32,
+        ppn: u32,
+        page: *const [u8; 4096],
+    ) -> Answer;
+    pub(crate) fn pageshare_take_back(
+        machine: *mut Handle,
+        guest: u32,
+        ppn: u32,
+        room: *mut [u8; 4096],
+    ) -> Answer;
     pub(crate) fn pageshare_count(machine: *mut Handle, guest: u32, totals: *mut Totals) -> Answer;
     pub(crate) fn pageshare_restart_count(machine: *mut Handle) -> u32;
-    pub(crate) fn pageshare_hash(machine: *mut Handle, pages: *const PageName, count: usize) -> u32;
+    pub(crate) fn pageshare_hash(machine: *mut Handle, pages: *const PageName, count: usize)
+        -> u32;
     pub(crate) fn pageshare_report(machine: *mut Handle, totals: *mut Totals) -> u32;
     pub(crate) fn pageshare_read(
         machine: *mut Handle,

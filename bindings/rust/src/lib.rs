@@ -32,4 +32,7 @@ mod verdict;
 
 pub use error::{MakeError, NoSuchPage, RequestError};
 pub use machine::{Guest, Machine, Page, MAX_ACCESS, PAGE_BYTES};
-pub use verdict::{LoadVerdict, ProposeVerdict, ReleaseVerdict, Report, StoreVerdict};
+pub use verdict::{
+    LendVerdict, Lent, LoadVerdict, ProposeVerdict, ReleaseVerdict, Report, ReturnVerdict,
+    StoreVerdict,
+};

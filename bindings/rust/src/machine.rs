@@ -1,7 +1,9 @@
 //! The machine.
 use crate::error::{MakeError, NoSuchPage, RequestError};
 use crate::ffi::{self, Handle, PageName, Totals};
-use crate::verdict::{LoadVerdict, ProposeVerdict, ReleaseVerdict, Report, StoreVerdict};
+use crate::verdict::{
+    LendVerdict, LoadVerdict, ProposeVerdict, ReleaseVerdict, Report, ReturnVerdict, StoreVerdict,
+};
 use std::cell::UnsafeCell;
 use std::fmt;
 
@@ -158,6 +160,48 @@ impl Machine {
     pub fn release(&mut self, guest: u32, ppn: u32) -> Result<ReleaseVerdict, RequestError> {
         // SAFETY: as above.
         ReleaseVerdict::of(unsafe { ffi::pageshare_release(self.handle.get(), guest, ppn) })
+    }
+
+    /// Stores a whole page, which counts as the 64 stores of 64 bytes that write it. The verdict is that of the first.
+    ///
+    /// # Errors
+    ///
+    /// [`RequestError::NoGuest`], and [`RequestError::Full`] where fewer than 64 requests are left to count.
+    pub fn store_page(
+        &mut self,
+        guest: u32,
+        ppn: u32,
+        page: &Page,
+    ) -> Result<StoreVerdict, RequestError> {
+        // SAFETY: the page is lent for the call. So in the next one.
+        StoreVerdict::of(unsafe { ffi::pageshare_store_page(self.handle.get(), guest, ppn, page) })
+    }
+
+    /// Lends a page: stores it whole and then proposes it, which counts as 65 requests. A monitor maps the frame that is
+    /// returned for the guest to read, and takes the page back at the guest's write.
+    ///
+    /// # Errors
+    ///
+    /// [`RequestError::NoGuest`], and [`RequestError::Full`] where fewer than 65 requests are left to count.
+    pub fn lend(&mut self, guest: u32, ppn: u32, page: &Page) -> Result<LendVerdict, RequestError> {
+        // SAFETY: as above.
+        LendVerdict::of(unsafe { ffi::pageshare_lend(self.handle.get(), guest, ppn, page) })
+    }
+
+    /// Takes a page back: copies it to the room and releases it, which counts as the release alone. The room stays as it is
+    /// unless the verdict is `Released`.
+    ///
+    /// # Errors
+    ///
+    /// [`RequestError::NoGuest`] and [`RequestError::Full`].
+    pub fn take_back(
+        &mut self,
+        guest: u32,
+        ppn: u32,
+        room: &mut Page,
+    ) -> Result<ReturnVerdict, RequestError> {
+        // SAFETY: the room is lent for the call.
+        ReturnVerdict::of(unsafe { ffi::pageshare_take_back(self.handle.get(), guest, ppn, room) })
     }
 
     /// What the machine counts, this request among the entries. [`Machine::report`] is no request.

@@ -12,6 +12,14 @@ fn served(answer: Answer) -> Result<(u32, u32), RequestError> {
     }
 }
 
+/// The number that stands for no frame.
+const NO_FRAME: u32 = u32::MAX;
+
+/// The frame of this number, if it is one.
+fn frame_in(number: u32) -> Option<u32> {
+    (number != NO_FRAME).then_some(number)
+}
+
 /// What became of a proposal.
 #[derive(Clone, Copy, Debug, PartialEq, Eq, Hash)]
 #[must_use = "Joined and Paired give the page another frame, which a monitor has to map"]
@@ -179,6 +187,92 @@ impl fmt::Display for ReleaseVerdict {
             ReleaseVerdict::Unmapped => "unmapped",
             ReleaseVerdict::Released { freed: true } => "released freed",
             ReleaseVerdict::Released { freed: false } => "released held",
+        })
+    }
+}
+
+/// What became of a page that was to be lent.
+#[derive(Clone, Copy, Debug, PartialEq, Eq, Hash)]
+#[must_use = "a page that was lent is mapped to its frame, for reading alone"]
+pub enum LendVerdict {
+    /// The guest has no such page.
+    NoPage,
+    /// The page needed a frame and none was free: nothing changed.
+    NoFrame,
+    /// The page is in the machine.
+    Lent(Lent),
+}
+
+/// A page that was lent.
+#[derive(Clone, Copy, Debug, PartialEq, Eq, Hash)]
+pub struct Lent {
+    /// What became of its proposal.
+    pub proposal: ProposeVerdict,
+    /// The page's frame.
+    pub frame: u32,
+    /// A frame that is free since: the one that the page had for itself, if it now shares another's.
+    pub freed: Option<u32>,
+}
+
+impl LendVerdict {
+    pub(crate) fn of(answer: Answer) -> Result<LendVerdict, RequestError> {
+        Ok(match served(answer)?.0 {
+            1 => LendVerdict::NoPage,
+            14 => LendVerdict::NoFrame,
+            _ => LendVerdict::Lent(Lent {
+                proposal: ProposeVerdict::of(answer)?,
+                frame: answer.frame,
+                freed: frame_in(answer.freed),
+            }),
+        })
+    }
+}
+
+impl fmt::Display for LendVerdict {
+    fn fmt(&self, f: &mut fmt::Formatter<'_>) -> fmt::Result {
+        match self {
+            LendVerdict::NoPage => f.write_str("no-page"),
+            LendVerdict::NoFrame => f.write_str("no-frame"),
+            LendVerdict::Lent(lent) => lent.proposal.fmt(f),
+        }
+    }
+}
+
+/// What became of a page that was to be taken back.
+#[derive(Clone, Copy, Debug, PartialEq, Eq, Hash)]
+#[must_use = "Released leaves the page without a frame, which a monitor has to unmap"]
+pub enum ReturnVerdict {
+    /// The guest has no such page: the room is as it was.
+    NoPage,
+    /// The page had no frame: the room is as it was.
+    Unmapped,
+    /// The room holds the page's bytes, and the page has no frame any more.
+    Released {
+        /// A frame that is free since: the page's, unless others share it.
+        freed: Option<u32>,
+    },
+}
+
+impl ReturnVerdict {
+    pub(crate) fn of(answer: Answer) -> Result<ReturnVerdict, RequestError> {
+        Ok(match served(answer)?.0 {
+            1 => ReturnVerdict::NoPage,
+            2 => ReturnVerdict::Unmapped,
+            16 => ReturnVerdict::Released {
+                freed: frame_in(answer.freed),
+            },
+            verdict => return Err(RequestError::Unknown(verdict)),
+        })
+    }
+}
+
+impl fmt::Display for ReturnVerdict {
+    fn fmt(&self, f: &mut fmt::Formatter<'_>) -> fmt::Result {
+        f.write_str(match self {
+            ReturnVerdict::NoPage => "no-page",
+            ReturnVerdict::Unmapped => "unmapped",
+            ReturnVerdict::Released { freed: Some(_) } => "released freed",
+            ReturnVerdict::Released { freed: None } => "released held",
         })
     }
 }

@@ -1,7 +1,7 @@
 //! Each call on its happy path, and each error where it is due.
 use pageshare::{
-    Guest, LoadVerdict, Machine, MakeError, NoSuchPage, ProposeVerdict, ReleaseVerdict, Report,
-    RequestError, StoreVerdict, PAGE_BYTES,
+    Guest, LendVerdict, Lent, LoadVerdict, Machine, MakeError, NoSuchPage, ProposeVerdict,
+    ReleaseVerdict, Report, RequestError, ReturnVerdict, StoreVerdict, PAGE_BYTES,
 };
 
 fn machine(frames: u32, shapes: &[(u32, u32)]) -> Result<Machine, MakeError> {
@@ -116,6 +116,48 @@ fn refuses() -> Result<(), Box<dyn std::error::Error>> {
     assert_eq!(m.propose(0, 1)?, ProposeVerdict::Unmapped);
     assert_eq!(m.release(0, 1)?, ReleaseVerdict::Unmapped);
     assert_eq!(m.release(0, 2)?, ReleaseVerdict::NoPage);
+    Ok(())
+}
+
+#[test]
+fn lends_and_takes_back() -> Result<(), Box<dyn std::error::Error>> {
+    let mut m = machine(3, &[(1, 0), (1, 0)])?;
+    let (ones, twos) = ([1; PAGE_BYTES], [2; PAGE_BYTES]);
+    let mut room = [0xee; PAGE_BYTES];
+    let LendVerdict::Lent(first) = m.lend(0, 0, &ones)? else {
+        return Err("not lent".into());
+    };
+    assert_eq!(
+        (first.proposal, first.freed),
+        (ProposeVerdict::Hinted, None)
+    );
+    assert_eq!(m.frame(0, 0)?, Some(first.frame));
+    assert_eq!(m.store_page(1, 0, &twos)?, StoreVerdict::Mapped);
+    let own = m.frame(1, 0)?;
+    assert_eq!(
+        m.lend(1, 0, &ones)?,
+        LendVerdict::Lent(Lent {
+            proposal: ProposeVerdict::Paired,
+            frame: first.frame,
+            freed: own
+        })
+    );
+    assert_eq!(
+        m.take_back(0, 0, &mut room)?,
+        ReturnVerdict::Released { freed: None }
+    );
+    assert_eq!(room, ones);
+    assert_eq!(m.take_back(0, 0, &mut room)?, ReturnVerdict::Unmapped);
+    assert_eq!(
+        m.take_back(1, 0, &mut room)?,
+        ReturnVerdict::Released {
+            freed: Some(first.frame)
+        }
+    );
+    assert_eq!(m.take_back(1, 1, &mut room)?, ReturnVerdict::NoPage);
+    assert_eq!(m.lend(1, 1, &ones)?, LendVerdict::NoPage);
+    assert_eq!(m.lend(2, 0, &ones), Err(RequestError::NoGuest));
+    assert_eq!((room, m.report().frames), (ones, 0));
     Ok(())
 }
 
