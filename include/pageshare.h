@@ -13,7 +13,8 @@
  *     pageshare_free(&machine);
  *
  * No call has a condition on its numbers: a wrong one is answered by a status above 0, and then nothing has changed. A status
- * is the first cause that holds, in the order of the numbers; only pageshare_make checks PAGESHARE_ERROR_IN_USE first.
+ * is the first cause that holds, in the order of the numbers; but to make a machine checks PAGESHARE_ERROR_IN_USE first, and then
+ * PAGESHARE_ERROR_HASH.
  *
  * What the caller owes, and nothing checks:
  *
@@ -67,7 +68,8 @@ enum pageshare_status {
     PAGESHARE_ERROR_LENGTH = 9,     /* no byte, or more than 64 */
     PAGESHARE_ERROR_CROSSES = 10,   /* the last byte would stand past the page's end */
     PAGESHARE_ERROR_NO_PAGE = 11,   /* there is no such page (of a request it is a verdict) */
-    PAGESHARE_ERROR_UNMAPPED = 12   /* the page has no frame (of a request it is a verdict) */
+    PAGESHARE_ERROR_UNMAPPED = 12,  /* the page has no frame (of a request it is a verdict) */
+    PAGESHARE_ERROR_HASH = 14       /* there is no such hash */
 };
 
 enum pageshare_verdict {
@@ -121,6 +123,16 @@ struct pageshare_totals {
  */
 uint32_t pageshare_make(struct pageshare *machine, uint32_t frames, const uint32_t *pages, size_t guests,
                         const uint32_t *salts, size_t salts_count);
+
+/* The hash by which a machine finds equal pages. They are compared in full before they share a frame, whatever the hash. */
+enum pageshare_hash_kind {
+    PAGESHARE_SHA256 = 0, /* the first eight bytes of SHA-256: a guest can't aim at another page's hash */
+    PAGESHARE_FOLD = 1    /* some 20 times as fast, and not cryptographic: draw salts at random, and keep them secret */
+};
+
+/* The same with a hash of the caller's choice; pageshare_make takes PAGESHARE_SHA256. Answers PAGESHARE_ERROR_HASH besides. */
+uint32_t pageshare_make_hashed(struct pageshare *machine, uint32_t frames, const uint32_t *pages, size_t guests,
+                               const uint32_t *salts, size_t salts_count, uint32_t hash);
 
 /* Frees the machine. Answers PAGESHARE_OK or PAGESHARE_ERROR_NO_MACHINE; the handle holds none afterwards. */
 uint32_t pageshare_free(struct pageshare *machine);
@@ -190,7 +202,7 @@ struct pageshare_page_name {
 };
 
 /*
- * Computes the hashes of `count` pages ahead of their proposals, four at a time, which takes less than half the time. It skips
+ * Computes the hashes of `count` pages ahead of their proposals: of SHA-256 four at a time, which takes less than half the time. It skips
  * pages that don't exist, aren't private, or whose hash is known. It is no request and changes no answer, and a store to a page
  * makes its hash unknown again. Answers PAGESHARE_OK or PAGESHARE_ERROR_NO_MACHINE.
  */

@@ -66,6 +66,24 @@ static void check_make(void) {
     CHECK(pageshare_free(&machine) == PAGESHARE_OK);
 }
 
+/* A machine of each hash, and of none. */
+static void check_hashes(void) {
+    struct pageshare machine = PAGESHARE_NONE;
+    for (uint32_t hash = PAGESHARE_SHA256; hash <= PAGESHARE_FOLD; hash++) {
+        CHECK(pageshare_make_hashed(&machine, 0, PAGES, 2, SALTS, 2, hash) == PAGESHARE_ERROR_FRAMES);
+        CHECK(pageshare_make_hashed(&machine, 3, PAGES, 2, SALTS, 2, hash) == PAGESHARE_OK);
+        CHECK(pageshare_make_hashed(&machine, 3, PAGES, 2, SALTS, 2, 2) == PAGESHARE_ERROR_IN_USE);
+        CHECK(served(pageshare_store(&machine, 0, 0, 0, LETTER, 1), PAGESHARE_VERDICT_MAPPED, 0));
+        CHECK(served(pageshare_store(&machine, 0, 1, 0, LETTER, 1), PAGESHARE_VERDICT_MAPPED, 0));
+        CHECK(served(pageshare_propose(&machine, 0, 0), PAGESHARE_VERDICT_HINTED, 0));
+        CHECK(served(pageshare_propose(&machine, 0, 1), PAGESHARE_VERDICT_PAIRED, 0));
+        CHECK(pageshare_free(&machine) == PAGESHARE_OK);
+    }
+    CHECK(pageshare_make_hashed(&machine, 0, PAGES, 2, SALTS, 2, 2) == PAGESHARE_ERROR_HASH);
+    CHECK(pageshare_make_hashed(&machine, 3, PAGES, 2, SALTS, 2, UINT32_MAX) == PAGESHARE_ERROR_HASH);
+    CHECK(pageshare_free(&machine) == PAGESHARE_ERROR_NO_MACHINE);
+}
+
 /* The pages of examples/three-share.journal, and what comes of them. */
 static void check_pages(struct pageshare *m) {
     struct pageshare_totals totals;
@@ -173,6 +191,7 @@ int main(void) {
     struct pageshare machine = PAGESHARE_NONE;
     check_none(&machine);
     check_make();
+    check_hashes();
     CHECK(pageshare_make(&machine, 3, PAGES, 2, SALTS, 2) == PAGESHARE_OK);
     check_pages(&machine);
     check_refusals(&machine);

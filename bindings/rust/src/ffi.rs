@@ -45,13 +45,14 @@ pub(crate) struct PageName {
 }
 
 extern "C" {
-    pub(crate) fn pageshare_make(
+    pub(crate) fn pageshare_make_hashed(
         machine: *mut Handle,
         frames: u32,
         pages: *const u32,
         guests: usize,
         salts: *const u32,
         salts_count: usize,
+        hash: u32,
     ) -> u32;
     pub(crate) fn pageshare_free(machine: *mut Handle) -> u32;
     pub(crate) fn pageshare_propose(machine: *mut Handle, guest: u32, ppn: u32) -> Answer;

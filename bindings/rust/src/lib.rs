@@ -31,7 +31,7 @@ mod machine;
 mod verdict;
 
 pub use error::{MakeError, NoSuchPage, RequestError};
-pub use machine::{Guest, Machine, Page, MAX_ACCESS, PAGE_BYTES};
+pub use machine::{Guest, HashKind, Machine, Page, MAX_ACCESS, PAGE_BYTES};
 pub use verdict::{
     LendVerdict, Lent, LoadVerdict, ProposeVerdict, ReleaseVerdict, Report, ReturnVerdict,
     StoreVerdict,

@@ -31,6 +31,26 @@ pub struct Guest {
     pub salt: u32,
 }
 
+/// The hash by which a machine finds equal pages. They are compared in full before they share a frame, whatever the hash.
+#[derive(Clone, Copy, Debug, Default, PartialEq, Eq, Hash)]
+#[non_exhaustive]
+pub enum HashKind {
+    /// The first eight bytes of SHA-256: a guest can't aim at another page's hash.
+    #[default]
+    Sha256,
+    /// Some 20 times as fast, and not cryptographic: draw salts at random, and keep them secret.
+    Fold,
+}
+
+impl HashKind {
+    fn number(self) -> u32 {
+        match self {
+            HashKind::Sha256 => 0,
+            HashKind::Fold => 1,
+        }
+    }
+}
+
 /// A machine: guests with pages of 4,096 bytes, in frames that equal pages share.
 ///
 /// Guests are numbered from 0 in the order in which the machine was given them, and so are a guest's pages, whose numbers are
@@ -57,12 +77,21 @@ pub struct Machine {
 unsafe impl Send for Machine {}
 
 impl Machine {
-    /// Makes a machine with so many frames for the pages of these guests.
+    /// Makes a machine with so many frames for the pages of these guests, which finds equal pages by SHA-256.
     ///
     /// # Errors
     ///
     /// The first of the causes of [`MakeError`], in their order.
     pub fn new(frames: u32, guests: &[Guest]) -> Result<Machine, MakeError> {
+        Machine::with_hash(frames, guests, HashKind::Sha256)
+    }
+
+    /// The same with a hash of the caller's choice.
+    ///
+    /// # Errors
+    ///
+    /// The first of the causes of [`MakeError`], in their order.
+    pub fn with_hash(frames: u32, guests: &[Guest], hash: HashKind) -> Result<Machine, MakeError> {
         let mut pages = [0; TOO_MANY_GUESTS];
         let mut salts = [0; TOO_MANY_GUESTS];
         let count = guests.len().min(TOO_MANY_GUESTS);
@@ -75,13 +104,14 @@ impl Machine {
         };
         // SAFETY: the handle holds no machine, and both lists have at least `count` numbers.
         let status = unsafe {
-            ffi::pageshare_make(
+            ffi::pageshare_make_hashed(
                 machine.handle.get(),
                 frames,
                 pages.as_ptr(),
                 count,
                 salts.as_ptr(),
                 count,
+                hash.number(),
             )
         };
         match status {
@@ -222,8 +252,8 @@ impl Machine {
         let _status = unsafe { ffi::pageshare_restart_count(self.handle.get()) };
     }
 
-    /// Computes the hashes of these pages, each given by its guest and number, ahead of their proposals: four at a time, which
-    /// takes less than half the time. It changes no answer. Pages that there aren't are passed over, and a store to a page
+    /// Computes the hashes of these pages, each given by its guest and number, ahead of their proposals: of SHA-256 four at
+    /// a time, which takes less than half the time. It changes no answer. Pages that there aren't are passed over, and a store to a page
     /// makes its hash unknown again.
     pub fn hash_ahead(&mut self, pages: &[(u32, u32)]) {
         let mut names = [PageName { guest: 0, ppn: 0 }; HASHED_TOGETHER];

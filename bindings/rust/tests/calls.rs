@@ -1,7 +1,7 @@
 //! Each call on its happy path, and each error where it is due.
 use pageshare::{
-    Guest, LendVerdict, Lent, LoadVerdict, Machine, MakeError, NoSuchPage, ProposeVerdict,
-    ReleaseVerdict, Report, RequestError, ReturnVerdict, StoreVerdict, PAGE_BYTES,
+    Guest, HashKind, LendVerdict, Lent, LoadVerdict, Machine, MakeError, NoSuchPage,
+    ProposeVerdict, ReleaseVerdict, Report, RequestError, ReturnVerdict, StoreVerdict, PAGE_BYTES,
 };
 
 fn machine(frames: u32, shapes: &[(u32, u32)]) -> Result<Machine, MakeError> {
@@ -116,6 +116,26 @@ fn refuses() -> Result<(), Box<dyn std::error::Error>> {
     assert_eq!(m.propose(0, 1)?, ProposeVerdict::Unmapped);
     assert_eq!(m.release(0, 1)?, ReleaseVerdict::Unmapped);
     assert_eq!(m.release(0, 2)?, ReleaseVerdict::NoPage);
+    Ok(())
+}
+
+#[test]
+fn shares_by_either_hash() -> Result<(), Box<dyn std::error::Error>> {
+    let guests = [Guest { pages: 1, salt: 7 }; 3];
+    for hash in [HashKind::Sha256, HashKind::Fold] {
+        let mut m = Machine::with_hash(3, &guests, hash)?;
+        let page = [0x5a; PAGE_BYTES];
+        for guest in 0..3 {
+            assert_eq!(m.store_page(guest, 0, &page)?, StoreVerdict::Mapped);
+        }
+        assert_eq!(m.propose(0, 0)?, ProposeVerdict::Hinted);
+        assert_eq!(m.propose(1, 0)?, ProposeVerdict::Paired);
+        assert_eq!(m.propose(2, 0)?, ProposeVerdict::Joined { pages: 3 });
+    }
+    assert!(matches!(
+        Machine::with_hash(0, &guests, HashKind::Fold),
+        Err(MakeError::Frames)
+    ));
     Ok(())
 }
 

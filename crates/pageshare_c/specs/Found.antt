@@ -4,6 +4,8 @@ use Rattle.page_model.specs.Pages.{SlotOf, Unmapped, Private, Shared, State, pag
 use Rattle.page_model.specs.Stored.{text_at}
 use Rattle.machine_frames.specs.FrameMap.{frame}
 use Rattle.merge_core.specs.Shown.{Shown, state_of}
+use Rattle.pageshare_c.specs.Hashed.{shown_in}
+use Rattle.pageshare_c.specs.declared.hashed_core.HashedCore.{HashedCore}
 use Rattle.pageshare_c.specs.declared.answer.Refusal.{Refusal}
 use Rattle.pageshare_c.specs.declared.answer.Refusal.TheVariants as r
 
@@ -33,11 +35,11 @@ abbrev pub found_in : Shown → ℕ → ℕ → Result ℕ Refusal
 found_in c guest ppn = frame_in (page_at c.names guest ppn)
 
 -- the same for the machine behind a handle
-abbrev pub frame_found : Option Shown → ℕ → ℕ → Result ℕ Refusal
+abbrev pub frame_found : Option HashedCore → ℕ → ℕ → Result ℕ Refusal
 frame_found None guest ppn = Err r.NoMachine
-frame_found (Some c) guest ppn = found_in c guest ppn
+frame_found (Some c) guest ppn = found_in (shown_in c) guest ppn
 
 -- the frame holds what the page reads as
-abbrev pub HoldsText : Option Shown → ℕ → ℕ → ℕ → Type 0
+abbrev pub HoldsText : Option HashedCore → ℕ → ℕ → ℕ → Type 0
 HoldsText None guest ppn mpn = Unit {0}
-HoldsText (Some c) guest ppn mpn = frame c.frames mpn ≡ text_at (state_of c).guests guest ppn
+HoldsText (Some c) guest ppn mpn = frame (shown_in c).frames mpn ≡ text_at (state_of (shown_in c)).guests guest ppn

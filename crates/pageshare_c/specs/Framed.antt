@@ -7,13 +7,14 @@ use Rattle.page_model.specs.declared.request.Request.TheVariants.{Propose, Store
 use Rattle.page_model.specs.declared.request.RequestFault.{RequestFault}
 use Rattle.page_model.specs.declared.verdict.Verdict.{Verdict}
 use Rattle.page_model.specs.declared.verdict.Verdict.TheVariants as v
-use Rattle.page_digest.specs.Hashes.{sha256_hash}
 use Rattle.machine_frames.specs.FrameMap.{frame}
 use Rattle.merge_core.specs.Lending.{own_freed}
 use Rattle.merge_core.specs.Names.{Names}
 use Rattle.merge_core.specs.Shown.{Shown, state_of}
 use Rattle.merge_core.specs.Stays.{frame_at}
 use Rattle.merge_core.specs.declared.lent.Returned.{Returned}
+use Rattle.pageshare_c.specs.Hashed.{shown_in, hash_in}
+use Rattle.pageshare_c.specs.declared.hashed_core.HashedCore.{HashedCore}
 use Rattle.pageshare_c.specs.declared.answer.Refusal.{Refusal}
 use Rattle.pageshare_c.specs.Outcomes.{answered, lend_steps}
 
@@ -64,39 +65,39 @@ asked_frame names guest (Ok request) = named_frame names guest request
 asked_frame names guest (Err fault) = None
 
 -- the same for the machine behind a handle
-abbrev pub frame_after : Option Shown → ℕ → Result Request RequestFault → Option ℕ
+abbrev pub frame_after : Option HashedCore → ℕ → Result Request RequestFault → Option ℕ
 frame_after None guest asked = None
-frame_after (Some c) guest asked = asked_frame c.names guest asked
+frame_after (Some c) guest asked = asked_frame (shown_in c).names guest asked
 
 -- the frame that is free since a request of the machine behind a handle
-abbrev pub frame_freed : Option Shown → ℕ → Result Request RequestFault → Option ℕ
+abbrev pub frame_freed : Option HashedCore → ℕ → Result Request RequestFault → Option ℕ
 frame_freed None guest asked = None
-frame_freed (Some c) guest asked = freed_by (answered sha256_hash (state_of c) guest asked) c.names guest asked
+frame_freed (Some c) guest asked = freed_by (answered (hash_in c) (state_of (shown_in c)) guest asked) (shown_in c).names guest asked
 
 -- the frame of a page of the machine behind a handle
-abbrev pub page_frame : Option Shown → ℕ → ℕ → Option ℕ
+abbrev pub page_frame : Option HashedCore → ℕ → ℕ → Option ℕ
 page_frame None guest ppn = None
-page_frame (Some c) guest ppn = frame_at c.names guest ppn
+page_frame (Some c) guest ppn = frame_at (shown_in c).names guest ppn
 
 -- the frame that is free since these steps of a lend, by the verdict of its stores and the page's frame before
 abbrev pub left_by : Result Step Refusal → Verdict → Option ℕ → Option ℕ
-left_by (Ok steps) stored own = own_freed stored steps.verdict own
-left_by (Err refusal) stored own = None
+left_by (Ok steps) first own = own_freed first steps.verdict own
+left_by (Err refusal) first own = None
 
 -- the frame that is free since a page of this core was lent
 abbrev pub left_in : (ℕ → List ℕ → ℕ) → Shown → ℕ → ℕ → List ℕ → Option ℕ
 left_in hash c guest ppn page = left_by (lend_steps hash (state_of c) guest ppn page) (page_stored hash (state_of c) guest ppn page).verdict (frame_at c.names guest ppn)
 
 -- the same for the machine behind a handle
-abbrev pub frame_left : Option Shown → ℕ → ℕ → List ℕ → Option ℕ
+abbrev pub frame_left : Option HashedCore → ℕ → ℕ → List ℕ → Option ℕ
 frame_left None guest ppn page = None
-frame_left (Some c) guest ppn page = left_in sha256_hash c guest ppn page
+frame_left (Some c) guest ppn page = left_in (hash_in c) (shown_in c) guest ppn page
 
 -- the freed frame, if there is one, is free
 abbrev pub IsFree : Option ℕ → Shown → Type 0
 IsFree freed c = IfSome freed (λ mpn. frame c.frames mpn ≡ None)
 
 -- the same for the machine behind a handle
-abbrev pub LeftFree : Option ℕ → Option Shown → Type 0
+abbrev pub LeftFree : Option ℕ → Option HashedCore → Type 0
 LeftFree freed None = ⊤
-LeftFree freed (Some c) = IsFree freed c
+LeftFree freed (Some c) = IsFree freed (shown_in c)

@@ -2,6 +2,7 @@ pub mod Access
 pub mod Codes
 pub mod Found
 pub mod Framed
+pub mod Hashed
 pub mod Held
 pub mod Kept
 pub mod Made

@@ -9,14 +9,15 @@ use Rattle.page_model.specs.declared.request.Request.{Request}
 use Rattle.page_model.specs.declared.request.RequestFault.{RequestFault}
 use Rattle.page_model.specs.declared.request.RequestFault.TheVariants.{Length, Crosses}
 use Rattle.page_model.specs.declared.verdict.Verdict.{Verdict}
-use Rattle.page_digest.specs.Hashes.{sha256_hash}
-use Rattle.merge_core.specs.Shown.{Shown, state_of}
+use Rattle.merge_core.specs.Shown.{state_of}
+use Rattle.pageshare_c.specs.Hashed.{shown_in, hash_in}
+use Rattle.pageshare_c.specs.declared.hashed_core.HashedCore.{HashedCore}
 use Rattle.pageshare_c.specs.declared.answer.Refusal.{Refusal}
 use Rattle.pageshare_c.specs.declared.answer.Refusal.TheVariants as r
 
 -- the model's state behind a handle, if it holds a machine
-abbrev pub seen : Option Shown → Option State
-seen held = option_map state_of held
+abbrev pub seen : Option HashedCore → Option State
+seen held = option_map (λ c. state_of (shown_in c)) held
 
 -- the request that C's arguments name, if there is one
 abbrev pub named : Result Request RequestFault → Result Request Refusal
@@ -61,13 +62,13 @@ abbrev pub answered_state : (ℕ → List ℕ → ℕ) → State → ℕ → Res
 answered_state hash s guest asked = stepped hash s guest (accepted s guest asked)
 
 -- what the machine behind a handle answers, if there is one, and its state after that
-abbrev pub outcome : Option Shown → ℕ → Result Request RequestFault → Result Verdict Refusal
+abbrev pub outcome : Option HashedCore → ℕ → Result Request RequestFault → Result Verdict Refusal
 outcome None guest asked = Err r.NoMachine
-outcome (Some c) guest asked = answered sha256_hash (state_of c) guest asked
+outcome (Some c) guest asked = answered (hash_in c) (state_of (shown_in c)) guest asked
 
-abbrev pub state_after : Option Shown → ℕ → Result Request RequestFault → Option State
+abbrev pub state_after : Option HashedCore → ℕ → Result Request RequestFault → Option State
 state_after None guest asked = None
-state_after (Some c) guest asked = Some (answered_state sha256_hash (state_of c) guest asked)
+state_after (Some c) guest asked = Some (answered_state (hash_in c) (state_of (shown_in c)) guest asked)
 
 -- the model's steps of a whole page that is stored, which count as 64 requests, if a machine in the state s accepts them
 abbrev pub store_steps : (ℕ → List ℕ → ℕ) → State → ℕ → ℕ → List ℕ → Result Step Refusal
@@ -87,19 +88,19 @@ state_in s (Ok steps) = steps.state
 state_in s (Err refusal) = s
 
 -- what the machine behind a handle answers to a store of a whole page, and its state after that
-abbrev pub store_outcome : Option Shown → ℕ → ℕ → List ℕ → Result Verdict Refusal
+abbrev pub store_outcome : Option HashedCore → ℕ → ℕ → List ℕ → Result Verdict Refusal
 store_outcome None guest ppn page = Err r.NoMachine
-store_outcome (Some c) guest ppn page = verdict_in (store_steps sha256_hash (state_of c) guest ppn page)
+store_outcome (Some c) guest ppn page = verdict_in (store_steps (hash_in c) (state_of (shown_in c)) guest ppn page)
 
-abbrev pub state_stored : Option Shown → ℕ → ℕ → List ℕ → Option State
+abbrev pub state_stored : Option HashedCore → ℕ → ℕ → List ℕ → Option State
 state_stored None guest ppn page = None
-state_stored (Some c) guest ppn page = Some (state_in (state_of c) (store_steps sha256_hash (state_of c) guest ppn page))
+state_stored (Some c) guest ppn page = Some (state_in (state_of (shown_in c)) (store_steps (hash_in c) (state_of (shown_in c)) guest ppn page))
 
 -- the same for a page that is lent
-abbrev pub lend_outcome : Option Shown → ℕ → ℕ → List ℕ → Result Verdict Refusal
+abbrev pub lend_outcome : Option HashedCore → ℕ → ℕ → List ℕ → Result Verdict Refusal
 lend_outcome None guest ppn page = Err r.NoMachine
-lend_outcome (Some c) guest ppn page = verdict_in (lend_steps sha256_hash (state_of c) guest ppn page)
+lend_outcome (Some c) guest ppn page = verdict_in (lend_steps (hash_in c) (state_of (shown_in c)) guest ppn page)
 
-abbrev pub state_lent : Option Shown → ℕ → ℕ → List ℕ → Option State
+abbrev pub state_lent : Option HashedCore → ℕ → ℕ → List ℕ → Option State
 state_lent None guest ppn page = None
-state_lent (Some c) guest ppn page = Some (state_in (state_of c) (lend_steps sha256_hash (state_of c) guest ppn page))
+state_lent (Some c) guest ppn page = Some (state_in (state_of (shown_in c)) (lend_steps (hash_in c) (state_of (shown_in c)) guest ppn page))

@@ -6,7 +6,7 @@ use Rattle.page_model.specs.declared.request.Request.{Request}
 use Rattle.page_model.specs.declared.request.RequestFault.{RequestFault}
 use Rattle.page_model.specs.declared.verdict.Verdict.{Verdict}
 use Rattle.page_model.specs.declared.verdict.Verdict.TheVariants as v
-use Rattle.merge_core.specs.Shown.{Shown}
+use Rattle.pageshare_c.specs.declared.hashed_core.HashedCore.{HashedCore}
 use Rattle.pageshare_c.specs.declared.answer.Answer.{Answer}
 use Rattle.pageshare_c.specs.declared.answer.Refusal.{Refusal}
 use Rattle.pageshare_c.specs.declared.answer.Refusal.TheVariants.{NoMachine}
@@ -27,15 +27,15 @@ told (Ok verdict) frame freed = record { status = 0; verdict = code_of verdict; 
 told (Err refusal) frame freed = record { status = status_of refusal; verdict = 0; count = 0; frame = NO_FRAME; freed = NO_FRAME }
 
 -- the answer to a request of the machine behind a handle, which shows old and then new
-abbrev pub answer_to : Option Shown → Option Shown → ℕ → Result Request RequestFault → Answer
+abbrev pub answer_to : Option HashedCore → Option HashedCore → ℕ → Result Request RequestFault → Answer
 answer_to old new guest asked = told (outcome old guest asked) (frame_after new guest asked) (frame_freed old guest asked)
 
 -- the same for a page that is stored whole
-abbrev pub store_answer : Option Shown → Option Shown → ℕ → ℕ → List ℕ → Answer
+abbrev pub store_answer : Option HashedCore → Option HashedCore → ℕ → ℕ → List ℕ → Answer
 store_answer old new guest ppn page = told (store_outcome old guest ppn page) (page_frame new guest ppn) None
 
 -- the same for a page that is lent
-abbrev pub lend_answer : Option Shown → Option Shown → ℕ → ℕ → List ℕ → Answer
+abbrev pub lend_answer : Option HashedCore → Option HashedCore → ℕ → ℕ → List ℕ → Answer
 lend_answer old new guest ppn page = told (lend_outcome old guest ppn page) (page_frame new guest ppn) (frame_left old guest ppn page)
 
 -- the value, or if there is none, the old one

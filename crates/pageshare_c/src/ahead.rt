@@ -3,7 +3,7 @@ ghost use Rattle.std.specs.Prelude.{◌≡◌};
 
 use arrayvec::ArrayVec;
 use merge_core::Core;
-use page_digest::Sha256Hash;
+use page_digest::PageHash;
 
 /// A page, by its guest and its number.
 #[repr(C)]
@@ -17,7 +17,7 @@ pub struct PageName {
 const WINDOW: usize = 64;
 
 /// Notes the hashes of these pages. It skips guests past 255, which no machine has.
-pub(crate) fn note_hashes(core: &mut Core<Sha256Hash>, pages: &[PageName])
+pub(crate) fn note_hashes<H: PageHash>(core: &mut Core<H>, pages: &[PageName])
     ensures { core.new ≡ core.old }
 {
     let mut waiting: ArrayVec<(u8, u32), WINDOW> = ArrayVec::new();

@@ -16,8 +16,10 @@ ghost use Rattle.pageshare_c.specs.Access.{store_of, load_of};
 ghost use Rattle.pageshare_c.specs.Codes.{held_status, status_told};
 ghost use Rattle.pageshare_c.specs.Found.{text_of, frame_found, HoldsText};
 ghost use Rattle.pageshare_c.specs.Framed.{frame_freed, frame_left, LeftFree};
-ghost use Rattle.pageshare_c.specs.Kept.{FramesKept, StoreKept, LendKept, restarted};
+ghost use Rattle.pageshare_c.specs.Hashed.{hash_number};
+ghost use Rattle.pageshare_c.specs.Kept.{FramesKept, StoreKept, LendKept, restarted_core};
 ghost use Rattle.pageshare_c.specs.Made.{Makes};
+ghost use Rattle.pageshare_c.specs.declared.make.TheConstants.{SHA256};
 ghost use Rattle.pageshare_c.specs.Outcomes.{outcome, state_after, store_outcome, state_stored, lend_outcome, state_lent, seen};
 ghost use Rattle.pageshare_c.specs.Told.{answer_to, store_answer, lend_answer, counted, loaded, taken, counts, value_or};
 
@@ -25,6 +27,7 @@ mod ahead;
 mod answer;
 mod find;
 mod framed;
+mod hashed_core;
 mod machine;
 mod make;
 mod parcel;
@@ -33,17 +36,15 @@ mod slot;
 mod whole;
 
 pub use ahead::PageName;
-use ahead::note_hashes;
 pub use answer::{Answer, NO_FRAME, Refusal, Totals};
-use answer::{refuse, status_of, totals_of};
-use find::{copy_page, find_frame, put_address};
+use answer::{refuse, status_of};
+pub use hashed_core::HashedCore;
 pub use machine::Machine;
-use make::make;
+use make::{SHA256, make};
 use page_model::Request;
 use serve::{load_request, serve, serve_count, serve_load, store_request};
 pub use slot::Slot;
 use std::alloc::Global;
-use whole::{lend, store_page, take_back};
 
 /// Makes a machine with `frames` frames. Guest i has `pages[i]` pages and the salt `salts[i]`.
 ///
@@ -61,9 +62,29 @@ pub extern "C" fn pageshare_make(
 ) -> u32
     ensures made { result ≡ 0 → seen machine.new.slot.core ≡ Some (empty_state frames (shapes salts.now pages.now)) }
     ensures kept { result ≢ 0 → machine.new.slot.core ≡ machine.old.slot.core }
-    ensures cause { Makes frames pages.now salts.now machine.old.slot.core result }
+    ensures hash { result ≡ 0 → option_map hash_number machine.new.slot.core ≡ Some SHA256 }
+    ensures cause { Makes frames pages.now salts.now SHA256 machine.old.slot.core result }
 {
-    make(alloc, machine, frames, pages, salts)
+    make(alloc, machine, frames, pages, salts, SHA256)
+}
+
+/// Does the same with a hash of the caller's choice: 0 is SHA-256, as `pageshare_make` has it, and 1 is the fast one. The
+/// status is 14 if the handle holds no machine and there is no such hash.
+#[unsafe(no_mangle)]
+pub extern "C" fn pageshare_make_hashed(
+    alloc: Global,
+    machine: &mut Machine,
+    frames: u32,
+    pages: &[u32],
+    salts: &[u32],
+    hash: u32,
+) -> u32
+    ensures made { result ≡ 0 → seen machine.new.slot.core ≡ Some (empty_state frames (shapes salts.now pages.now)) }
+    ensures hash { result ≡ 0 → option_map hash_number machine.new.slot.core ≡ Some hash }
+    ensures kept { result ≢ 0 → machine.new.slot.core ≡ machine.old.slot.core }
+    ensures cause { Makes frames pages.now salts.now hash machine.old.slot.core result }
+{
+    make(alloc, machine, frames, pages, salts, hash)
 }
 
 /// Frees the machine. The status is 6 if the handle holds none.
@@ -164,7 +185,7 @@ pub extern "C" fn pageshare_store_page(
     match machine.take(alloc) {
         None => refuse(Refusal::NoMachine),
         Some(mut core) => {
-            let answer = store_page(&mut core, guest, ppn, page);
+            let answer = core.store_page(guest, ppn, page);
             machine.put(core);
             answer
         }
@@ -191,7 +212,7 @@ pub extern "C" fn pageshare_lend(
     match machine.take(alloc) {
         None => refuse(Refusal::NoMachine),
         Some(mut core) => {
-            let answer = lend(&mut core, guest, ppn, page);
+            let answer = core.lend(guest, ppn, page);
             machine.put(core);
             answer
         }
@@ -217,7 +238,7 @@ pub extern "C" fn pageshare_take_back(
     match machine.take(alloc) {
         None => refuse(Refusal::NoMachine),
         Some(mut core) => {
-            let answer = take_back(&mut core, guest, ppn, room);
+            let answer = core.take_back(guest, ppn, room);
             machine.put(core);
             answer
         }
@@ -245,7 +266,7 @@ pub extern "C" fn pageshare_count(
 /// stays. The status is 6 if the handle holds no machine.
 #[unsafe(no_mangle)]
 pub extern "C" fn pageshare_restart_count(alloc: Global, machine: &mut Machine) -> u32
-    ensures count { machine.new.slot.core ≡ option_map restarted machine.old.slot.core }
+    ensures count { machine.new.slot.core ≡ option_map restarted_core machine.old.slot.core }
     ensures status { result ≡ held_status machine.old.slot.core }
 {
     match machine.take(alloc) {
@@ -269,7 +290,7 @@ pub extern "C" fn pageshare_hash(alloc: Global, machine: &mut Machine, pages: &[
     match machine.take(alloc) {
         None => 6,
         Some(mut core) => {
-            note_hashes(&mut core, pages);
+            core.note_hashes(pages);
             machine.put(core);
             0
         }
@@ -286,7 +307,7 @@ pub extern "C" fn pageshare_report(alloc: Global, machine: &mut Machine, totals:
     match machine.take(alloc) {
         None => 6,
         Some(core) => {
-            *totals = totals_of(&core.report());
+            *totals = core.totals();
             machine.put(core);
             0
         }
@@ -310,7 +331,7 @@ pub extern "C" fn pageshare_read(
     match machine.take(alloc) {
         None => 6,
         Some(core) => {
-            let copied = copy_page(&core, guest, ppn, room);
+            let copied = core.copy_page(guest, ppn, room);
             machine.put(core);
             if copied { 0 } else { 11 }
         }
@@ -335,7 +356,7 @@ pub extern "C" fn pageshare_frame(
     match machine.take(alloc) {
         None => 6,
         Some(core) => {
-            let found = find_frame(&core, guest, ppn);
+            let found = core.find_frame(guest, ppn);
             machine.put(core);
             match found {
                 Err(refusal) => status_of(refusal),
@@ -368,7 +389,7 @@ pub extern "C" fn pageshare_page(
     match machine.take(alloc) {
         None => 6,
         Some(core) => {
-            let found = put_address(&core, guest, ppn, at);
+            let found = core.put_address(guest, ppn, at);
             machine.put(core);
             match found {
                 Err(refusal) => status_of(refusal),

@@ -1,10 +1,9 @@
 //! What C keeps of a machine.
 ghost use Rattle.std.specs.Prelude.{◌≡◌, Some, None, MatchOption, is_some};
 
+use crate::hashed_core::HashedCore;
 use crate::parcel::Parcel;
 use crate::slot::Slot;
-use merge_core::Core;
-use page_digest::Sha256Hash;
 use std::alloc::Global;
 
 /// A handle: room for one machine. It holds none while all its bytes are 0.
@@ -24,7 +23,7 @@ impl Machine {
     }
 
     /// Takes the machine out of the handle. Each call puts it back at its end, which costs a load and a store.
-    pub(crate) fn take(&mut self, alloc: Global) -> Option<Box<Core<Sha256Hash>>>
+    pub(crate) fn take(&mut self, alloc: Global) -> Option<Box<HashedCore>>
         ensures gone { self.new.slot.core ≡ None }
         ensures value { MatchOption result (self.old.slot.core ≡ None) (λ core. self.old.slot.core ≡ Some core.value) }
     {
@@ -37,7 +36,7 @@ impl Machine {
     }
 
     /// Puts a machine into a handle that holds none.
-    pub(crate) fn put(&mut self, core: Box<Core<Sha256Hash>>)
+    pub(crate) fn put(&mut self, core: Box<HashedCore>)
         requires { self.old.slot.core ≡ None }
         ensures { self.new.slot.core ≡ Some core.value }
     {

@@ -93,7 +93,7 @@ fn apply<H: PageHash>(core: &mut Core<H>, guest: u32, request: &Request) -> (Ver
 
 /// Serves a request whose verdict has nothing for C beyond the answer.
 #[tactic(auto, using(crate::proofs::Tellings::not_accepted))]
-fn answer<H: PageHash>(
+pub(crate) fn answer<H: PageHash>(
     core: &mut Core<H>,
     guest: u32,
     asked: &Result<Request, RequestFault>,
@@ -110,7 +110,7 @@ fn answer<H: PageHash>(
 
 /// Serves a load, and puts the bytes into the room.
 #[tactic(auto, using(crate::proofs::Tellings::not_accepted))]
-fn answer_load<H: PageHash>(
+pub(crate) fn answer_load<H: PageHash>(
     core: &mut Core<H>,
     guest: u32,
     asked: &Result<Request, RequestFault>,
@@ -133,7 +133,7 @@ fn answer_load<H: PageHash>(
 
 /// Serves a count, and puts the numbers into the totals.
 #[tactic(auto, using(crate::proofs::Tellings::not_accepted))]
-fn answer_count<H: PageHash>(
+pub(crate) fn answer_count<H: PageHash>(
     core: &mut Core<H>,
     guest: u32,
     asked: &Result<Request, RequestFault>,
@@ -168,7 +168,7 @@ pub(crate) fn serve(
     match machine.take(alloc) {
         None => refuse(Refusal::NoMachine),
         Some(mut core) => {
-            let answer = answer(&mut core, guest, asked);
+            let answer = core.answer(guest, asked);
             machine.put(core);
             answer
         }
@@ -191,7 +191,7 @@ pub(crate) fn serve_load(
     match machine.take(alloc) {
         None => refuse(Refusal::NoMachine),
         Some(mut core) => {
-            let answer = answer_load(&mut core, guest, asked, room);
+            let answer = core.answer_load(guest, asked, room);
             machine.put(core);
             answer
         }
@@ -214,7 +214,7 @@ pub(crate) fn serve_count(
     match machine.take(alloc) {
         None => refuse(Refusal::NoMachine),
         Some(mut core) => {
-            let answer = answer_count(&mut core, guest, asked, totals);
+            let answer = core.answer_count(guest, asked, totals);
             machine.put(core);
             answer
         }

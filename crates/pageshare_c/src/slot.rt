@@ -1,11 +1,11 @@
 //! A core behind an address that says nothing about its type.
 ghost use Rattle.std.specs.Prelude.{◌≡◌, Option, Some, None, IsSome};
 ghost use Rattle.std.specs.Coded.{coded_option};
-ghost use Rattle.merge_core.specs.Shown.{Shown, shown_code};
+ghost use Rattle.pageshare_c.specs.Hashed.{hashed_code};
+ghost use Rattle.pageshare_c.specs.declared.hashed_core.HashedCore.{HashedCore};
 
+use crate::hashed_core::HashedCore;
 use crate::parcel::Parcel;
-use merge_core::Core;
-use page_digest::Sha256Hash;
 use std::alloc::Global;
 use std::marker::Model;
 
@@ -15,7 +15,7 @@ use std::marker::Model;
 #[repr(C)]
 pub struct Slot {
     at: *mut u8,
-    pub ghost core: { Option Shown } by { coded_option shown_code },
+    pub ghost core: { Option HashedCore } by { coded_option hashed_code },
 }
 
 impl Model for Slot {
@@ -29,7 +29,7 @@ unsafe impl Send for Slot {}
 
 impl Slot {
     /// Puts a core into an empty slot.
-    pub(crate) fn fill(&mut self, core: Parcel<Core<Sha256Hash>, Global>)
+    pub(crate) fn fill(&mut self, core: Parcel<HashedCore, Global>)
         requires { self.old.core ≡ None }
         ensures { self.new.core ≡ Some core.value }
     {
@@ -38,12 +38,12 @@ impl Slot {
     }
 
     /// Takes the core out of the slot.
-    pub(crate) fn empty(&mut self, heap: Global) -> Parcel<Core<Sha256Hash>, Global>
+    pub(crate) fn empty(&mut self, heap: Global) -> Parcel<HashedCore, Global>
         requires { IsSome self.old.core }
         ensures { (self.old.core ≡ Some result.value) × (self.new.core ≡ None) }
     {
         Parcel {
-            at: self.at as *mut Core<Sha256Hash>,
+            at: self.at as *mut HashedCore,
             heap,
         }
     }

@@ -7,23 +7,17 @@ use denote.Param.Send.{IsSend, AllSend, owning_send, struct_send, sendable}
 use denote.RawPtr.{Ptr}
 use denote.Struct.Owning.{shape, fields, to}
 use denote.Struct.Struct.{exits_of}
-use Rattle.merge_core.proofs.machine.Core.TheSendSync as core
-use Rattle.merge_core.specs.Shown.{Shown}
-use Rattle.page_digest.proofs.sha256.Sha256Hash.TheSendSync as sha256
-use Rattle.page_digest.specs.Hashes.{sha256_hash}
-use Rattle.page_digest.specs.contracts.Sha256Hash.{the_row as sha256_row}
+use Rattle.pageshare_c.proofs.hashed_core.HashedCore.TheSendSync as core
+use Rattle.pageshare_c.specs.declared.hashed_core.HashedCore.{HashedCore}
 use Rattle.std.proofs.Crossing.{frees}
-use Rattle.std.proofs.alloc.Global.TheSendSync as global
-use Rattle.std.specs.contracts.alloc.Global.{the_row as global_row}
-use Rattle.std.specs.contracts.impls.GlobalAllocator.TheImpl as allocator
 use Rattle.std_alloc.proofs.SendSync.{quiet, lies}
 use Rattle.pageshare_c.specs.Held.{core_row, heap, held_owns}
 use Rattle.pageshare_c.specs.contracts.slot.Slot.{the_row, the_type}
 
 core_send : IsSend core_row
-core_send = core.the_send sha256_row global_row (record { hash_of = sha256_hash }) allocator.ghosts sha256.the_send global.the_send frees
+core_send = core.the_send
 
-held_keyless : (p : Ptr) (v : Option Shown) → Keyless (held_owns p v)
+held_keyless : (p : Ptr) (v : Option HashedCore) → Keyless (held_owns p v)
 held_keyless p None = tt
 held_keyless p (Some x) = (lies core_row core_send p x, frees.frees heap (raw (lone core_row.mir)) p)
 

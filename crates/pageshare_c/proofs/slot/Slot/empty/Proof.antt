@@ -22,7 +22,7 @@ use denote.Signature.{plain, types_at}
 use denote.Steps.{nothing, opens, closes, peeks, heard}
 use denote.Triple.Walked.{Stays, walk_of, says, stay_ref, Goes-ref, stay_dropped, ends_at}
 use Rattle.core.proofs.alloc.Calls.{Goes-blank, handle_tells}
-use Rattle.merge_core.specs.Shown.{Shown}
+use Rattle.pageshare_c.specs.declared.hashed_core.HashedCore.{HashedCore}
 use Rattle.std.proofs.raw_atomic.Walks.{proved_at}
 use Rattle.std.specs.contracts.impls.GlobalAllocator.TheImpl.{ghosts}
 use Rattle.pageshare_c.proofs.Held.{Heap, heap_laws, Core, Slot, held}
@@ -53,7 +53,7 @@ empty_spec 𝓤 𝓛 𝓜 𝓡 wired =
     suffices ! (Runs args) (subst (λ (vs : List Val). ent 𝓤 (Runs args) (Runs vs)) (sym (λ i. at_slot i ++ (bits i ++ []))) (id⊢ 𝓤 (Runs args))) $
     enter ! 𝓣.C 𝓣.Λ code.function args (W.post y) $ alloc_all ! (λ l. pass_all ! refl ((tt, tt), (fits, tt)) $
     move ! (1 ∷ 2 ∷ 3 ∷ []) $ opens ! tt Slot b o (λ words. move ! (1 ∷ []) $ peeks ! Slot _ (shows 𝓛 Slot) before words (λ is. fsplit ! $ move ! (1 ∷ []) $
-    rewrite ! 0 (λ (v : Option Shown). ‵ (held_owns before.at v)) is_x refl $
+    rewrite ! 0 (λ (v : Option HashedCore). ‵ (held_owns before.at v)) is_x refl $
     in_a_block ! before.at (Block core_row Heap heap_laws ghosts heap x) (fst∗ 𝓤 (never 𝓤) (sem 𝓛 (ghosts.dealloc_token heap (bare (lone core_row.mir)) null_ptr))) (λ b' o' at.
     let Cell = λ (vs : List Val). ‵ (cell_at full_share Slot.mir vs b o) in
     let points = lowers.val_is before words is ∙ ap (λ (p : Ptr). lowers.lowered (record before { at = p }) ∷ []) at in
