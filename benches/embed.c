@@ -1,6 +1,7 @@
 /*
- * Times calls of the C library: of two guests with 512 pages each, all mapped. Prints the nanoseconds of one call, the least of
- * several runs, since other programs only ever add to it.
+ * Times calls of the C library: of two guests with 512 pages each, all mapped; and of whole pages, of two guests with 512 pages
+ * each of which none is mapped. Prints the nanoseconds of one call, the least of several runs, since other programs only ever add
+ * to it.
  *
  *     cc -O2 -Iinclude benches/embed.c out/libpageshare.a -o out/embed/bench && out/embed/bench
  */
@@ -44,6 +45,65 @@ static uint32_t reports(struct pageshare *machine) {
     return refused;
 }
 
+enum { PAGES = 512, WHOLE_RUNS = 50 };
+
+/* The contents of 512 pages: all different, or all equal. */
+static uint8_t different[PAGES][PAGESHARE_PAGE_BYTES], equal[PAGES][PAGESHARE_PAGE_BYTES];
+static uint8_t room[PAGESHARE_PAGE_BYTES];
+
+typedef uint32_t whole_call(struct pageshare *, uint32_t guest, uint32_t ppn, uint8_t *page);
+
+static uint32_t lends(struct pageshare *m, uint32_t guest, uint32_t ppn, uint8_t *page) {
+    return pageshare_lend(m, guest, ppn, page).status;
+}
+
+static uint32_t page_stores(struct pageshare *m, uint32_t guest, uint32_t ppn, uint8_t *page) {
+    return pageshare_store_page(m, guest, ppn, page).status;
+}
+
+static uint32_t returns(struct pageshare *m, uint32_t guest, uint32_t ppn, uint8_t *page) {
+    (void)page;
+    return pageshare_take_back(m, guest, ppn, room).status;
+}
+
+/* What a page is copied into by hand, beside a page that is stored. */
+static uint32_t copies(struct pageshare *m, uint32_t guest, uint32_t ppn, uint8_t *page) {
+    static uint8_t to[PAGES][PAGESHARE_PAGE_BYTES];
+    (void)m, (void)guest;
+    memcpy(to[ppn], page, sizeof to[ppn]);
+    __asm__ volatile("" : : "r"(to[ppn]) : "memory");
+    return 0;
+}
+
+/* The nanoseconds of a call on each page of a guest, by turns. */
+static double time_whole(struct pageshare *m, whole_call *call, uint32_t guest, uint8_t pages[PAGES][PAGESHARE_PAGE_BYTES]) {
+    double start = now();
+    for (uint32_t ppn = 0; ppn < PAGES; ppn++)
+        if (call(m, guest, ppn, pages[ppn]) != 0) exit(1);
+    return (now() - start) / PAGES;
+}
+
+static double less(double a, double b) {
+    return a < b ? a : b;
+}
+
+/* Each page of guest 0 is new, and each of guest 1 joins those of the guest, of which all are equal. */
+static void time_whole_pages(struct pageshare *m) {
+    double fresh = 1e18, joins = 1e18, back = 1e18, stored = 1e18, copied = 1e18;
+    for (uint32_t i = 0; i < PAGES; i++) memcpy(different[i], &i, sizeof i);
+    for (int run = 0; run < WHOLE_RUNS; run++) {
+        if (pageshare_restart_count(m) != PAGESHARE_OK) exit(1);
+        fresh = less(fresh, time_whole(m, lends, 0, different));
+        joins = less(joins, time_whole(m, lends, 1, equal));
+        stored = less(stored, time_whole(m, page_stores, 0, different));
+        copied = less(copied, time_whole(m, copies, 0, different));
+        back = less(back, time_whole(m, returns, 0, different));
+        if (time_whole(m, returns, 1, equal) < 0) exit(1);
+    }
+    printf("lend, new %.0f ns\nlend, joins %.0f ns\ntake_back %.0f ns\nstore_page, mapped %.0f ns\nmemcpy of a page %.0f ns\n", fresh,
+           joins, back, stored, copied);
+}
+
 static void time_calls(const char *name, uint32_t (*calls)(struct pageshare *), struct pageshare *machine) {
     double least = 1e18;
     for (int run = 0; run < RUNS; run++) {
@@ -62,5 +122,7 @@ int main(void) {
     time_calls("store", stores, &machine);
     time_calls("load", loads, &machine);
     time_calls("report", reports, &machine);
+    if (pageshare_free(&machine) != PAGESHARE_OK || pageshare_make(&machine, 1024, pages, 2, salts, 2) != PAGESHARE_OK) return 1;
+    time_whole_pages(&machine);
     return pageshare_free(&machine) == PAGESHARE_OK ? 0 : 1;
 }
