@@ -88,7 +88,7 @@ static double less(double a, double b) {
 }
 
 /* Each page of guest 0 is new, and each of guest 1 joins those of the guest, of which all are equal. */
-static void time_whole_pages(struct pageshare *m) {
+static void time_whole_pages(struct pageshare *m, const char *hash) {
     double fresh = 1e18, joins = 1e18, back = 1e18, stored = 1e18, copied = 1e18;
     for (uint32_t i = 0; i < PAGES; i++) memcpy(different[i], &i, sizeof i);
     for (int run = 0; run < WHOLE_RUNS; run++) {
@@ -100,7 +100,7 @@ static void time_whole_pages(struct pageshare *m) {
         back = less(back, time_whole(m, returns, 0, different));
         if (time_whole(m, returns, 1, equal) < 0) exit(1);
     }
-    printf("lend, new %.0f ns\nlend, joins %.0f ns\ntake_back %.0f ns\nstore_page, mapped %.0f ns\nmemcpy of a page %.0f ns\n", fresh,
+    printf("%s: lend, new %.0f ns; lend, joins %.0f ns; take_back %.0f ns; store_page %.0f ns; memcpy of a page %.0f ns\n", hash, fresh,
            joins, back, stored, copied);
 }
 
@@ -122,7 +122,11 @@ int main(void) {
     time_calls("store", stores, &machine);
     time_calls("load", loads, &machine);
     time_calls("report", reports, &machine);
-    if (pageshare_free(&machine) != PAGESHARE_OK || pageshare_make(&machine, 1024, pages, 2, salts, 2) != PAGESHARE_OK) return 1;
-    time_whole_pages(&machine);
-    return pageshare_free(&machine) == PAGESHARE_OK ? 0 : 1;
+    if (pageshare_free(&machine) != PAGESHARE_OK) return 1;
+    for (uint32_t hash = PAGESHARE_SHA256; hash <= PAGESHARE_FOLD; hash++) {
+        if (pageshare_make_hashed(&machine, 1024, pages, 2, salts, 2, hash) != PAGESHARE_OK) return 1;
+        time_whole_pages(&machine, hash == PAGESHARE_FOLD ? "fold" : "SHA-256");
+        if (pageshare_free(&machine) != PAGESHARE_OK) return 1;
+    }
+    return 0;
 }
