@@ -1,17 +1,8 @@
 /* Each call of the C library on its happy path, and each status where it is due. Prints "ok", or what failed. */
+#include "check.h"
 #include "pageshare.h"
 #include <stdio.h>
 #include <string.h>
-
-static int failures = 0;
-
-#define CHECK(condition)                                             \
-    do {                                                             \
-        if (!(condition)) {                                          \
-            printf("line %d: not so: %s\n", __LINE__, #condition);   \
-            failures++;                                              \
-        }                                                            \
-    } while (0)
 
 static const uint32_t PAGES[] = {2, 1}, SALTS[] = {0, 0};
 static const uint8_t LETTER[] = {0x41};

@@ -1,17 +1,8 @@
 /* Pages stored, lent and taken back whole, each answer with its five numbers. Prints "ok", or what failed. */
+#include "check.h"
 #include "pageshare.h"
 #include <stdio.h>
 #include <string.h>
-
-static int failures = 0;
-
-#define CHECK(condition)                                             \
-    do {                                                             \
-        if (!(condition)) {                                          \
-            printf("line %d: not so: %s\n", __LINE__, #condition);   \
-            failures++;                                              \
-        }                                                            \
-    } while (0)
 
 /* Two contents that begin alike and end apart. */
 static uint8_t ones[PAGESHARE_PAGE_BYTES], twos[PAGESHARE_PAGE_BYTES];
