@@ -13,7 +13,7 @@
  *     pageshare_free(&machine);
  *
  * No call has a condition on its numbers: a wrong one is answered by a status above 0, and then nothing has changed. A status
- * is the first cause that holds, in the order of the numbers; but to make a machine checks PAGESHARE_ERROR_IN_USE first, and then
+ * is the first cause that holds, in the order of the numbers; only making a machine checks PAGESHARE_ERROR_IN_USE first, and then
  * PAGESHARE_ERROR_HASH.
  *
  * What the caller owes, and nothing checks:
