@@ -1,54 +1,61 @@
--- A frame's bytes stay: what a request does to the bytes of frames.
-use Rattle.std.specs.Prelude.{◌≡◌, ℕ, if◌then◌else◌, List, length, Option, Some, None}
-use Rattle.page_model.specs.declared.limits.TheConstants.{PAGE_BYTES}
+-- The bytes of frames stay: a frame that pages have before and after holds what it held, unless a store wrote it in place.
+use Rattle.std.specs.Prelude.{◌≡◌, ◌≢◌, ℕ, if◌then◌else◌, List, Option, Some, None}
 use Rattle.page_model.specs.declared.request.Request.{Request}
 use Rattle.page_model.specs.declared.request.Request.TheVariants.{Propose, Store, Load, Release, Count, Close}
 use Rattle.page_model.specs.declared.verdict.Verdict.{Verdict}
-use Rattle.machine_frames.specs.FrameMap.{FrameMap, frame, IsTaken}
-use Rattle.merge_core.specs.Applying.{Applies}
-use Rattle.merge_core.specs.Lending.{TakesBack, StoresPage, Lends, has_joined}
-use Rattle.merge_core.specs.declared.lent.Lent.{Lent}
-use Rattle.merge_core.specs.Shown.{Shown, FramesOfPages}
+use Rattle.page_lending.specs.Lending.{page_stored}
+use Rattle.machine_frames.specs.FrameMap.{frame, IsTaken}
+use Rattle.merge_core.specs.Names.{Names}
+use Rattle.merge_core.specs.Shown.{Shown, FramesOfPages, state_of}
 use Rattle.merge_core.specs.Stays.{frame_at}
+use Rattle.merge_core.specs.Applying.{Applies}
+use Rattle.merge_core.specs.Lending.{StoresPage, Lends, TakesBack, keeps_own, has_joined}
+use Rattle.merge_core.specs.declared.lent.Lent.{Lent}
 use Rattle.merge_core.specs.declared.lent.Returned.{Returned}
 
--- the frame that a request may write to: the one that the named page has afterwards, at a store
-abbrev pub written_frame : Shown → ℕ → Request → Option ℕ
-written_frame new guest (Propose ppn) = None
-written_frame new guest (Store r) = frame_at new.names guest r.ppn
-written_frame new guest (Load r) = None
-written_frame new guest (Release ppn) = None
-written_frame new guest Count = None
-written_frame new guest Close = None
+-- each frame that is taken before and after holds the bytes that it held, except the written one, if there is one
+pub record BytesStay (written : Option ℕ) (old new : Shown) : Type 0 where
+  pub same : (mpn : ℕ) → IsTaken old.frames mpn → IsTaken new.frames mpn → written ≢ Some mpn → frame new.frames mpn ≡ frame old.frames mpn
 
--- each frame that is taken before and after holds the bytes that it held, but for this one
-pub record FramesHold (written : Option ℕ) (old new : FrameMap) : Type 0 where
-  pub hold : (m : ℕ) → IsTaken old m → IsTaken new m → (written ≡ Some m → ⊥) → frame new m ≡ frame old m
+-- The frame that a store to a page writes in place: the page's own, at Stored and Taken. At Mapped and Copied it writes one that
+-- was free.
+abbrev pub written_by_store : Verdict → Option ℕ → Option ℕ
+written_by_store verdict own = if keeps_own verdict then own else None
 
--- of every request that is applied, for every hash, guest and verdict
-abbrev pub BytesStay : Type 0
-BytesStay =
-    (hash : ℕ → List ℕ → ℕ) (guest : ℕ) (request : Request) (verdict : Verdict) (old new : Shown) → FramesOfPages old → FramesOfPages new →
-    Applies hash guest request verdict old new → FramesHold (written_frame new guest request) old.frames new.frames
+-- the frame that a guest's request writes in place, if pages then have these frames: only a store does
+abbrev pub written_by : ℕ → Request → Verdict → Names → Option ℕ
+written_by guest (Propose ppn) verdict names = None
+written_by guest (Store r) verdict names = written_by_store verdict (frame_at names guest r.ppn)
+written_by guest (Load r) verdict names = None
+written_by guest (Release ppn) verdict names = None
+written_by guest Count verdict names = None
+written_by guest Close verdict names = None
 
--- of every whole page that is stored, but for the page's own frame afterwards
-abbrev pub StoredBytesStay : Type 0
-StoredBytesStay =
-    (hash : ℕ → List ℕ → ℕ) (guest ppn : ℕ) (page : List ℕ) (verdict : Verdict) (old new : Shown) → length page ≡ PAGE_BYTES → FramesOfPages old → FramesOfPages new →
-    StoresPage hash guest ppn page verdict old new → FramesHold (frame_at new.names guest ppn) old.frames new.frames
+-- the frame that a lend writes in place: the one that its stores write, unless the page then joined others
+abbrev pub written_by_lend : Verdict → Verdict → Option ℕ → Option ℕ
+written_by_lend stored verdict own = if has_joined verdict then None else written_by_store stored own
 
--- the frame that a lend may write to: the one that the page has afterwards, unless it is that of others, which the page joined
-abbrev pub lent_frame : Lent → Option ℕ → Option ℕ
-lent_frame lent frame = if has_joined lent.verdict then None else frame
+-- over each request
+abbrev pub RequestKeepsBytes : Type 0
+RequestKeepsBytes =
+    (hash : ℕ → List ℕ → ℕ) (guest : ℕ) (request : Request) (verdict : Verdict) (old new : Shown) → FramesOfPages new →
+    Applies hash guest request verdict old new → BytesStay (written_by guest request verdict new.names) old new
 
--- of every page that is lent
-abbrev pub LentBytesStay : Type 0
-LentBytesStay =
-    (hash : ℕ → List ℕ → ℕ) (guest ppn : ℕ) (page : List ℕ) (lent : Lent) (old new : Shown) → length page ≡ PAGE_BYTES → FramesOfPages old → FramesOfPages new →
-    Lends hash guest ppn page lent old new → FramesHold (lent_frame lent (frame_at new.names guest ppn)) old.frames new.frames
+-- over the stores of a whole page
+abbrev pub StoresKeepBytes : Type 0
+StoresKeepBytes =
+    (hash : ℕ → List ℕ → ℕ) (guest ppn : ℕ) (page : List ℕ) (verdict : Verdict) (old new : Shown) → FramesOfPages new →
+    StoresPage hash guest ppn page verdict old new → BytesStay (written_by_store verdict (frame_at new.names guest ppn)) old new
 
--- of every page that is taken back
-abbrev pub TakenBackBytesStay : Type 0
-TakenBackBytesStay =
-    (hash : ℕ → List ℕ → ℕ) (guest ppn : ℕ) (returned : Returned) (before after : List ℕ) (old new : Shown) → FramesOfPages old → FramesOfPages new →
-    TakesBack hash guest ppn returned before after old new → FramesHold None old.frames new.frames
+-- over a lend
+abbrev pub LendKeepsBytes : Type 0
+LendKeepsBytes =
+    (hash : ℕ → List ℕ → ℕ) (guest ppn : ℕ) (page : List ℕ) (lent : Lent) (old new : Shown) → FramesOfPages new →
+    Lends hash guest ppn page lent old new →
+    BytesStay (written_by_lend (page_stored hash (state_of old) guest ppn page).verdict lent.verdict (frame_at new.names guest ppn)) old new
+
+-- over a page taken back
+abbrev pub TakingBackKeepsBytes : Type 0
+TakingBackKeepsBytes =
+    (hash : ℕ → List ℕ → ℕ) (guest ppn : ℕ) (returned : Returned) (before after : List ℕ) (old new : Shown) → FramesOfPages new →
+    TakesBack hash guest ppn returned before after old new → BytesStay None old new

@@ -1,27 +1,27 @@
 //! Laws of frames, for monitors that map a frame for a guest to read for as long as a page has it.
 //!
-//! The functions' bodies are empty: the contract is all there is.
+//! They hold for every hash, guest and value of a core. The functions' bodies are empty: the contract is all there is.
 #![tactic(auto)]
 
-ghost use Rattle.frame_laws.specs.BytesStay.{BytesStay, StoredBytesStay, LentBytesStay, TakenBackBytesStay};
+ghost use Rattle.frame_laws.specs.BytesStay.{RequestKeepsBytes, StoresKeepBytes, LendKeepsBytes, TakingBackKeepsBytes};
 
-/// *A frame's bytes stay*: over a request, each frame that is taken before and after it holds the bytes that it held, but the named
-/// page's own frame at a store.
-pub fn bytes_stay_law()
-    ensures { BytesStay }
+/// *A frame's bytes stay*: each frame that is taken before and after a request holds the bytes that it held, except the page's
+/// own at a store that is `Stored` or `Taken`.
+pub fn request_keeps_bytes_law()
+    ensures { RequestKeepsBytes }
 {}
 
-/// The same over the stores of a whole page, but for the page's own frame afterwards.
-pub fn stored_bytes_stay_law()
-    ensures { StoredBytesStay }
+/// The same for a whole page that is stored.
+pub fn stores_keep_bytes_law()
+    ensures { StoresKeepBytes }
 {}
 
-/// The same over a lend, but for the page's own frame afterwards; a shared frame that the page joined is as it was, too.
-pub fn lent_bytes_stay_law()
-    ensures { LentBytesStay }
+/// The same for a page that is lent. If the page joined others, no frame is excepted.
+pub fn lend_keeps_bytes_law()
+    ensures { LendKeepsBytes }
 {}
 
-/// Where a page is taken back, each frame that is taken before and after it holds the bytes that it held.
-pub fn taken_back_bytes_stay_law()
-    ensures { TakenBackBytesStay }
+/// Taking back a page leaves the bytes of each frame that stays taken.
+pub fn taking_back_keeps_bytes_law()
+    ensures { TakingBackKeepsBytes }
 {}
