@@ -35,10 +35,10 @@ pub struct Guest {
 #[derive(Clone, Copy, Debug, Default, PartialEq, Eq, Hash)]
 #[non_exhaustive]
 pub enum HashKind {
-    /// The first eight bytes of SHA-256: a guest can't aim at another page's hash.
+    /// The first eight bytes of SHA-256.
     #[default]
     Sha256,
-    /// Some 20 times as fast, and not cryptographic: draw salts at random, and keep them secret.
+    /// Some 20 times as fast. Who knows the salt can make a page of any hash, so draw salts at random and keep them secret.
     Fold,
 }
 
