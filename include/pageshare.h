@@ -202,9 +202,9 @@ struct pageshare_page_name {
 };
 
 /*
- * Computes the hashes of `count` pages ahead of their proposals: of SHA-256 four at a time, which takes less than half the time. It skips
- * pages that don't exist, aren't private, or whose hash is known. It is no request and changes no answer, and a store to a page
- * makes its hash unknown again. Answers PAGESHARE_OK or PAGESHARE_ERROR_NO_MACHINE.
+ * Computes the hashes of `count` pages ahead of their proposals: of SHA-256 four at a time, which takes less than half the time.
+ * It skips pages that don't exist, aren't private, or whose hash is known. It is no request and changes no answer, and a store to
+ * a page makes its hash unknown again. Answers PAGESHARE_OK or PAGESHARE_ERROR_NO_MACHINE.
  */
 uint32_t pageshare_hash(struct pageshare *machine, const struct pageshare_page_name *pages, size_t count);
 
