@@ -1,7 +1,7 @@
 pub mod Blank
 pub mod Marked
 pub mod Chained
-pub mod Keyed
+pub mod Fingerprints
 pub mod Noted
 pub mod Tallied
 pub mod Gathered

@@ -8,9 +8,18 @@ use Rattle.page_census.specs.Contents.{Content, is_same, content_at}
 abbrev pub class_of : List Content → Content → ℕ
 class_of all content = position_or_len (is_same content) all
 
+-- the class of the page with this number
+abbrev pub class_at : List Content → ℕ → ℕ
+class_at all n = class_of all (content_at all n)
+
+-- the class of each page
+abbrev pub classes_of : List Content → List ℕ
+classes_of all = map (class_of all) all
+
 -- equal contents have equal marks
 abbrev pub AreAlike : List Content → List ℕ → Type 0
-AreAlike all marks = (i j : ℕ) → i < length all → j < length all → content_at all i ≡ content_at all j → slice_index marks i ≡ slice_index marks j
+AreAlike all marks =
+    (i j : ℕ) → i < length all → j < length all → content_at all i ≡ content_at all j → slice_index marks i ≡ slice_index marks j
 
 -- equal contents have equal marks, and a content with the mark 0 is zeros
 pub record TellApart (all : List Content) (marks : List ℕ) : Type 0 where
@@ -32,8 +41,10 @@ pub record Classed (steady : Type 0) (all : List Content) (marks classes links h
   pub done : length classes ≤ length all
   pub linked : length links ≡ length classes
   pub buckets : 1 ≤ length heads
-  pub heads_are : (bucket : ℕ) → bucket < length heads → slice_index heads bucket ≡ last_in marks classes (length heads) bucket (length classes)
-  pub links_are : (n : ℕ) → n < length classes → slice_index links n ≡ last_in marks classes (length heads) (slice_index marks n % length heads) n
+  pub heads_are : (bucket : ℕ) → bucket < length heads
+      → slice_index heads bucket ≡ last_in marks classes (length heads) bucket (length classes)
+  pub links_are : (n : ℕ) → n < length classes
+      → slice_index links n ≡ last_in marks classes (length heads) (slice_index marks n % length heads) n
   pub below : (n : ℕ) → n < length classes → slice_index classes n ≤ n
   pub alike : steady → AreAlike all marks
   pub told : steady → classes ≡ map (class_of all) (take (length classes) all)

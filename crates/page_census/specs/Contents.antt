@@ -16,6 +16,10 @@ is_same a b = a.0 == b.0 && bytes_eq a.1 b.1
 abbrev pub content_at : List Content → ℕ → Content
 content_at all n = slice_index_or all n (0, [])
 
+-- the pages with these numbers have the same content
+abbrev pub are_same : List Content → ℕ → ℕ → Bool
+are_same all a b = is_same (content_at all a) (content_at all b)
+
 module _ {S : Type 0} where
   -- the contents of a guest's pages
   abbrev pub contents_of : (S → List (List ℕ)) → Guest S → List Content

@@ -6,5 +6,5 @@ pub mod Classes
 pub mod Places
 pub mod Numbers
 pub mod Counted
-pub mod Keys
+pub mod Fingerprints
 pub mod Fewest

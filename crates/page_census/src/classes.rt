@@ -1,13 +1,14 @@
 //! The class of each page: the number of the first page with its content.
 ghost use Rattle.std.specs.Prelude.{◌≡◌, ◌+◌, ◌≤◌, ◌<◌, ◌^◌, ◌%◌, ◌++◌, ◌/◌, [], ◌∷◌, All, IfOk, length, map, replicate, vec_capacity, vec_len, slice_index};
-ghost use Rattle.page_census.specs.Contents.{AreSteady, contents, content_at};
-ghost use Rattle.page_census.specs.Classes.{Classed, TellApart, class_of, headed};
-ghost use Rattle.page_census.specs.Keys.{Sure, seen};
+ghost use Rattle.page_census.specs.Contents.{AreSteady, contents};
+ghost use Rattle.page_census.specs.Classes.{Classed, TellApart, class_at, classes_of, headed};
+ghost use Rattle.page_census.specs.Fingerprints.{Sure, seen};
 
 use crate::compare::Compare;
 use crate::fault::LookFault;
 use crate::part::new_pages;
 use crate::place::is_same;
+use crate::subject::Subject;
 use crate::{Guest, PageSource};
 use page_model::Page;
 use std::alloc::{AllocError, Allocator};
@@ -33,20 +34,25 @@ fn class_of_next<S: PageSource, A: Allocator>(
     known: &Classes<A>,
 ) -> Result<u32, LookFault<S::Fault>>
     requires buffers { (length own.old ≡ 1) × (length other.old ≡ 1) }
-    requires classed { Classed (Sure by (AreSteady S.is_steady guests.now)) (seen by (contents S.pages guests.now) marks.now) marks.now known.now.classes.items known.now.links.items known.now.heads.items }
+    requires classed { Classed (Sure by (AreSteady S.is_steady guests.now)) (seen by (contents S.pages guests.now) marks.now) marks.now
+        known.now.classes.items known.now.links.items known.now.heads.items }
     requires marked { length marks.now ≡ length (contents S.pages guests.now) }
     requires apart { AreSteady S.is_steady guests.now → TellApart (contents S.pages guests.now) marks.now }
     requires more { vec_len known.now.classes < length (contents S.pages guests.now) }
     ensures below { IfOk result (λ class. class ≤ vec_len known.now.classes) }
-    ensures told { IfOk result (λ class. Sure by (AreSteady S.is_steady guests.now) → class ≡ class_of (seen by (contents S.pages guests.now) marks.now) (content_at (seen by (contents S.pages guests.now) marks.now) (vec_len known.now.classes))) }
+    ensures told { IfOk result (λ class. Sure by (AreSteady S.is_steady guests.now)
+        → class ≡ class_at (seen by (contents S.pages guests.now) marks.now) (vec_len known.now.classes)) }
 {
     let number = known.classes.len() as u32;
     let bucket = marks[number as usize] % known.heads.len() as u64;
-    let mut is_read = false;
+    let mut subject = Subject {
+        number,
+        is_read: false,
+    };
     let mut code = known.heads[bucket as usize];
     while code != 0 {
         let first = code - 1;
-        if is_same(guests, marks, by, &mut is_read, own, other, number, first)? {
+        if is_same(guests, marks, by, &mut subject, own, other, first)? {
             return Ok(first);
         }
         code = known.links[first as usize];
@@ -57,13 +63,17 @@ fn class_of_next<S: PageSource, A: Allocator>(
 /// Notes the class of the next page.
 fn note<A: Allocator>(known: &mut Classes<A>, mark: u64, class: u32)
     requires buckets { 1 ≤ vec_len known.old.heads }
-    requires room { (vec_len known.old.classes < vec_capacity known.old.classes) × (vec_len known.old.links < vec_capacity known.old.links) }
+    requires room { (vec_len known.old.classes < vec_capacity known.old.classes)
+        × (vec_len known.old.links < vec_capacity known.old.links) }
     requires few { vec_len known.old.classes + 1 < 2 ^ 32 }
     ensures classes { known.new.classes.items ≡ known.old.classes.items ++ class ∷ [] }
-    ensures links { known.new.links.items ≡ known.old.links.items ++ slice_index known.old.heads.items (mark % length known.old.heads.items) ∷ [] }
-    ensures heads { known.new.heads.items ≡ headed known.old.heads.items (mark % length known.old.heads.items) (length known.old.classes.items) class }
+    ensures links { known.new.links.items
+        ≡ known.old.links.items ++ slice_index known.old.heads.items (mark % length known.old.heads.items) ∷ [] }
+    ensures heads { known.new.heads.items
+        ≡ headed known.old.heads.items (mark % length known.old.heads.items) (length known.old.classes.items) class }
     ensures len { vec_len known.new.classes ≡ vec_len known.old.classes + 1 }
-    ensures capacities { (vec_capacity known.new.classes ≡ vec_capacity known.old.classes) × (vec_capacity known.new.links ≡ vec_capacity known.old.links) }
+    ensures capacities { (vec_capacity known.new.classes ≡ vec_capacity known.old.classes)
+        × (vec_capacity known.new.links ≡ vec_capacity known.old.links) }
 {
     let bucket = (mark % known.heads.len() as u64) as usize;
     let number = known.classes.len() as u32;
@@ -102,7 +112,8 @@ pub(crate) fn classes_of<S: PageSource, A: Allocator + Clone>(
     requires apart { AreSteady S.is_steady guests.now → TellApart (contents S.pages guests.now) marks.now }
     ensures len { IfOk result (λ classes. vec_len classes ≡ length marks.now) }
     ensures below { IfOk result (λ classes. All (λ class. class < length marks.now) classes.items) }
-    ensures told { IfOk result (λ classes. Sure by (AreSteady S.is_steady guests.now) → classes.items ≡ map (class_of (seen by (contents S.pages guests.now) marks.now)) (seen by (contents S.pages guests.now) marks.now)) }
+    ensures told { IfOk result (λ classes. Sure by (AreSteady S.is_steady guests.now)
+        → classes.items ≡ classes_of (seen by (contents S.pages guests.now) marks.now)) }
 {
     let mut own = new_pages(alloc.clone()?, 1)?;
     let mut other = new_pages(alloc.clone()?, 1)?;

@@ -11,6 +11,7 @@ use crate::marks::{count_pages, marks_of_all};
 use crate::numbers::{numbers_of, total_of};
 use crate::table::copies_table;
 use crate::tally::count_copies;
+use crate::workers::Workers;
 use crate::{CensusFault, CopiesClass, Guest, GuestNumbers, PageSource, Progress, TotalNumbers};
 use page_digest::PageHash;
 use std::alloc::Allocator;
@@ -52,9 +53,12 @@ pub fn census<
     ensures few { IfOk result (λ _. length (contents S.pages guests.now) < 2 ^ 32) }
     ensures guests { IfOk result (λ census. AreSteady S.is_steady guests.now → census.guests.items ≡ numbers_of S.pages guests.now) }
     ensures total { IfOk result (λ census. AreSteady S.is_steady guests.now → census.total ≡ total_numbers S.pages guests.now) }
-    ensures fewest { IfOk result (λ census. AreSteady S.is_steady guests.now → AreFewest (contents S.pages guests.now) census.total.frames) }
-    ensures copies { IfOk result (λ census. AreSteady S.is_steady guests.now → census.copies.items ≡ copies_table (contents S.pages guests.now)) }
-    ensures between { IfOk result (λ census. AreSteady S.is_steady guests.now → census.total.reclaimed ≡ census.total.between + sum_alone census.guests.items) }
+    ensures fewest { IfOk result (λ census. AreSteady S.is_steady guests.now
+        → AreFewest (contents S.pages guests.now) census.total.frames) }
+    ensures copies { IfOk result (λ census. AreSteady S.is_steady guests.now
+        → census.copies.items ≡ copies_table (contents S.pages guests.now)) }
+    ensures between { IfOk result (λ census. AreSteady S.is_steady guests.now
+        → census.total.reclaimed ≡ census.total.between + sum_alone census.guests.items) }
 {
     let Some(count) = count_pages(guests) else {
         return Err(CensusFault::TooManyPages);
@@ -85,12 +89,20 @@ fn count_contents<
     requires count { count ≡ length (contents S.pages guests.now) }
     ensures guests { IfOk result (λ census. AreSteady S.is_steady guests.now → census.guests.items ≡ numbers_of S.pages guests.now) }
     ensures total { IfOk result (λ census. AreSteady S.is_steady guests.now → census.total ≡ total_numbers S.pages guests.now) }
-    ensures fewest { IfOk result (λ census. AreSteady S.is_steady guests.now → AreFewest (contents S.pages guests.now) census.total.frames) }
-    ensures copies { IfOk result (λ census. AreSteady S.is_steady guests.now → census.copies.items ≡ copies_table (contents S.pages guests.now)) }
-    ensures between { IfOk result (λ census. AreSteady S.is_steady guests.now → census.total.reclaimed ≡ census.total.between + sum_alone census.guests.items) }
+    ensures fewest { IfOk result (λ census. AreSteady S.is_steady guests.now
+        → AreFewest (contents S.pages guests.now) census.total.frames) }
+    ensures copies { IfOk result (λ census. AreSteady S.is_steady guests.now
+        → census.copies.items ≡ copies_table (contents S.pages guests.now)) }
+    ensures between { IfOk result (λ census. AreSteady S.is_steady guests.now
+        → census.total.reclaimed ≡ census.total.between + sum_alone census.guests.items) }
 {
-    let marks = marks_of_all(rt, &alloc, workers, hash, guests, progress, count)?;
-    let classes = find_classes(rt, &alloc, workers, guests, &marks)?;
+    let workers = Workers {
+        rt,
+        alloc: &alloc,
+        count: workers,
+    };
+    let marks = marks_of_all(&workers, hash, guests, progress, count)?;
+    let classes = find_classes(&workers, guests, &marks)?;
     let tally = count_copies(alloc.clone()?, classes.len(), &classes)?;
     let numbers = numbers_of(&alloc, guests, &tally.copies, &marks, &classes)?;
     let total = total_of(&tally.copies, tally.distinct, &marks, &classes, &numbers);

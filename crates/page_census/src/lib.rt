@@ -15,8 +15,10 @@ mod numbers;
 mod part;
 mod place;
 mod source;
+mod subject;
 mod table;
 mod tally;
+mod workers;
 
 pub use count::{CensusNumbers, census};
 pub use fault::CensusFault;

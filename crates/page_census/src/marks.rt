@@ -6,13 +6,14 @@ ghost use Rattle.page_census.specs.Parts.{IsPart};
 
 use crate::fault::LookFault;
 use crate::part::{RUN, read_marks};
+use crate::workers::Workers;
 use crate::{Guest, PageSource, Progress};
 use page_digest::PageHash;
 use std::alloc::Allocator;
 use std::thread;
 use std::thread::Threads;
 
-/// Appends the marks of all pages of a guest. `workers` workers read parts of equal size; fewer if there are few pages.
+/// Appends the marks of all pages of a guest. The workers read parts of equal size; fewer of them if there are few pages.
 pub(crate) fn push_guest<
     R: Threads + Sync,
     H: PageHash,
@@ -20,29 +21,29 @@ pub(crate) fn push_guest<
     P: Progress,
     A: Allocator + Clone + Send + Sync,
 >(
-    rt: &R,
-    alloc: &A,
-    workers: u32,
+    workers: &Workers<'_, R, A>,
     hash: &H,
     number: usize,
     guest: &Guest<S>,
     progress: &P,
     marks: &mut Vec<u64, A>,
 ) -> Result<(), LookFault<S::Fault>>
-    requires workers { 1 ≤ workers }
+    requires workers { 1 ≤ workers.now.count }
     requires room { vec_len marks.old + length (S.pages guest.now.source) ≤ vec_capacity marks.old }
     ensures len { OnOk result (vec_len marks.new ≡ vec_len marks.old + length (S.pages guest.now.source)) }
-    ensures told { OnOk result (S.is_steady guest.now.source → marks.new.items ≡ marks.old.items ++ marks_of H.hash_of guest.now.salt (S.pages guest.now.source)) }
+    ensures told { OnOk result (S.is_steady guest.now.source
+        → marks.new.items ≡ marks.old.items ++ marks_of H.hash_of guest.now.salt (S.pages guest.now.source)) }
     ensures capacity { vec_capacity marks.old ≤ vec_capacity marks.new }
 {
     let count = guest.source.count();
-    let size = count.div_ceil(workers).max(RUN);
+    let size = count.div_ceil(workers.count).max(RUN);
+    let alloc = workers.alloc;
     let part = move |n: usize| -> Result<Vec<u64, A>, LookFault<S::Fault>>
         requires { (1 ≤ size) × (size * n < length (S.pages guest.now.source)) }
         ensures { IfOk result (λ marks. IsPart S.is_steady S.pages H.hash_of guest.entry.now size n marks) }
     { read_part(alloc, hash, number, guest, progress, size, n) };
     let parts = count.div_ceil(size) as usize;
-    let lists = thread::map_indices(rt, alloc.clone()?, parts, &part)?;
+    let lists = thread::map_indices(workers.rt, alloc.clone()?, parts, &part)?;
     for list in lists {
         append(marks, &list?);
     }
@@ -107,31 +108,21 @@ pub(crate) fn marks_of_all<
     P: Progress,
     A: Allocator + Clone + Send + Sync,
 >(
-    rt: &R,
-    alloc: &A,
-    workers: u32,
+    workers: &Workers<'_, R, A>,
     hash: &H,
     guests: &[Guest<S>],
     progress: &P,
     count: u32,
 ) -> Result<Vec<u64, A>, LookFault<S::Fault>>
-    requires workers { 1 ≤ workers }
+    requires workers { 1 ≤ workers.now.count }
     requires count { count ≡ length (contents S.pages guests.now) }
     ensures len { IfOk result (λ marks. vec_len marks ≡ count) }
-    ensures told { IfOk result (λ marks. AreSteady S.is_steady guests.now → marks.items ≡ map (mark_at H.hash_of) (contents S.pages guests.now)) }
+    ensures told { IfOk result (λ marks. AreSteady S.is_steady guests.now
+        → marks.items ≡ map (mark_at H.hash_of) (contents S.pages guests.now)) }
 {
-    let mut marks = Vec::with_capacity(alloc.clone()?, count as usize)?;
+    let mut marks = Vec::with_capacity(workers.alloc.clone()?, count as usize)?;
     for number in 0..guests.len() {
-        push_guest(
-            rt,
-            alloc,
-            workers,
-            hash,
-            number,
-            &guests[number],
-            progress,
-            &mut marks,
-        )?;
+        push_guest(workers, hash, number, &guests[number], progress, &mut marks)?;
     }
     Ok(marks)
 }

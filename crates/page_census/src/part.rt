@@ -48,7 +48,8 @@ pub(crate) fn read_marks<H: PageHash, S: PageSource, P: Progress, A: Allocator +
     requires within { from + count ≤ length (S.pages guest.now.source) }
     requires fits { from + count < 2 ^ 32 }
     ensures len { IfOk result (λ marks. vec_len marks ≡ count) }
-    ensures told { IfOk result (λ marks. S.is_steady guest.now.source → marks.items ≡ marks_of H.hash_of guest.now.salt (take count (drop from (S.pages guest.now.source)))) }
+    ensures told { IfOk result (λ marks. S.is_steady guest.now.source
+        → marks.items ≡ marks_of H.hash_of guest.now.salt (take count (drop from (S.pages guest.now.source)))) }
 {
     let mut pages = new_pages(alloc.clone()?, RUN as usize)?;
     let mut marks = Vec::with_capacity(alloc.clone()?, count as usize)?;

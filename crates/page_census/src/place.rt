@@ -1,13 +1,14 @@
 //! Where to find a page that is numbered among the pages of all guests.
 ghost use Rattle.std.specs.Prelude.{◌≡◌, ◌<◌, ◌≤◌, ◌^◌, true, length, slice_index_or, slice_index, IfOk, OnOk};
-ghost use Rattle.page_census.specs.Contents.{contents, content_at, is_same, AreSteady};
+ghost use Rattle.page_census.specs.Contents.{contents, are_same, AreSteady};
 ghost use Rattle.page_census.specs.Classes.{TellApart};
-ghost use Rattle.page_census.specs.Keys.{Sure, keys, seen};
+ghost use Rattle.page_census.specs.Fingerprints.{Sure, fingerprints, seen};
 ghost use Rattle.page_census.specs.Places.{Holds, StandsAt};
 
 use crate::compare::Compare;
 use crate::fault::LookFault;
 use crate::part::read_run;
+use crate::subject::Subject;
 use crate::{Guest, PageSource};
 use page_model::Page;
 
@@ -34,46 +35,48 @@ pub(crate) fn place_of<S: PageSource>(guests: &[Guest<S>], number: u32) -> Place
     unreachable!()
 }
 
-/// Reads the page with this number among all, which is at this place, unless it was already read.
+/// Reads this page, which is at this place, unless it was already read.
 fn read_once<S: PageSource>(
     guests: &[Guest<S>],
-    number: u32,
     place: Place,
-    is_read: &mut bool,
+    subject: &mut Subject,
     into: &mut [Page],
 ) -> Result<(), LookFault<S::Fault>>
     requires one { length into.old ≡ 1 }
-    requires stands { StandsAt S.pages guests.now number place }
-    requires held { Holds (AreSteady S.is_steady guests.now) (contents S.pages guests.now) number is_read.old into.old }
-    ensures { OnOk result ((is_read.new ≡ true) × Holds (AreSteady S.is_steady guests.now) (contents S.pages guests.now) number is_read.new into.new) }
+    requires stands { StandsAt S.pages guests.now subject.old.number place }
+    requires held { Holds (AreSteady S.is_steady guests.now) (contents S.pages guests.now) subject.old into.old }
+    ensures read { OnOk result (subject.new ≡ record { number = subject.old.number; is_read = true }) }
+    ensures held { OnOk result (Holds (AreSteady S.is_steady guests.now) (contents S.pages guests.now) subject.new into.new) }
 {
-    if !*is_read {
+    if !subject.is_read {
         read_run(place.guest, &guests[place.guest], place.page, into)?;
-        *is_read = true;
+        subject.is_read = true;
     }
     Ok(())
 }
 
-/// Whether two pages, by their numbers among all, have the same content. Their bytes are read if their marks are equal
-/// and not 0, those of the first page only if they weren't read yet.
+/// Whether a page has the same content as the one with the number `b` among all. Their bytes are read if their marks are
+/// equal and not 0, those of the first page only if they weren't read yet.
 pub(crate) fn is_same_content<S: PageSource>(
     guests: &[Guest<S>],
     marks: &[u64],
-    is_read: &mut bool,
+    subject: &mut Subject,
     own: &mut [Page],
     other: &mut [Page],
-    a: u32,
     b: u32,
 ) -> Result<bool, LookFault<S::Fault>>
     requires buffers { (length own.old ≡ 1) × (length other.old ≡ 1) }
-    requires a_within { a < length (contents S.pages guests.now) }
+    requires a_within { subject.old.number < length (contents S.pages guests.now) }
     requires b_within { b < length (contents S.pages guests.now) }
     requires marked { length marks.now ≡ length (contents S.pages guests.now) }
     requires apart { AreSteady S.is_steady guests.now → TellApart (contents S.pages guests.now) marks.now }
-    requires held { Holds (AreSteady S.is_steady guests.now) (contents S.pages guests.now) a is_read.old own.old }
-    ensures told { IfOk result (λ same. AreSteady S.is_steady guests.now → same ≡ is_same (content_at (contents S.pages guests.now) a) (content_at (contents S.pages guests.now) b)) }
-    ensures held { OnOk result (Holds (AreSteady S.is_steady guests.now) (contents S.pages guests.now) a is_read.new own.new) }
+    requires held { Holds (AreSteady S.is_steady guests.now) (contents S.pages guests.now) subject.old own.old }
+    ensures told { IfOk result (λ same. AreSteady S.is_steady guests.now
+        → same ≡ are_same (contents S.pages guests.now) subject.old.number b) }
+    ensures number { OnOk result (subject.new.number ≡ subject.old.number) }
+    ensures held { OnOk result (Holds (AreSteady S.is_steady guests.now) (contents S.pages guests.now) subject.new own.new) }
 {
+    let a = subject.number;
     if marks[a as usize] != marks[b as usize] {
         return Ok(false);
     }
@@ -85,17 +88,17 @@ pub(crate) fn is_same_content<S: PageSource>(
     if marks[a as usize] == 0 {
         return Ok(true);
     }
-    read_once(guests, a, x, is_read, own)?;
+    read_once(guests, x, subject, own)?;
     read_run(y.guest, &guests[y.guest], y.page, other)?;
     Ok(own[0] == other[0])
 }
 
 /// Whether two pages, by their numbers among all, have the same mark and their guests the same salt.
-fn has_same_key<S: PageSource>(guests: &[Guest<S>], marks: &[u64], a: u32, b: u32) -> bool
+fn has_same_fingerprint<S: PageSource>(guests: &[Guest<S>], marks: &[u64], a: u32, b: u32) -> bool
     requires a_within { a < length (contents S.pages guests.now) }
     requires b_within { b < length (contents S.pages guests.now) }
     requires marked { length marks.now ≡ length (contents S.pages guests.now) }
-    ensures { result ≡ is_same (content_at (keys (contents S.pages guests.now) marks.now) a) (content_at (keys (contents S.pages guests.now) marks.now) b) }
+    ensures { result ≡ are_same (fingerprints (contents S.pages guests.now) marks.now) a b }
 {
     if marks[a as usize] != marks[b as usize] {
         return false;
@@ -105,28 +108,29 @@ fn has_same_key<S: PageSource>(guests: &[Guest<S>], marks: &[u64], a: u32, b: u3
     guests[x.guest].salt == guests[y.guest].salt
 }
 
-/// Whether two pages, by their numbers among all, are the same as `by` compares them.
+/// Whether a page is the same as the one with the number `b` among all, as `by` compares them.
 pub(crate) fn is_same<S: PageSource>(
     guests: &[Guest<S>],
     marks: &[u64],
     by: Compare,
-    is_read: &mut bool,
+    subject: &mut Subject,
     own: &mut [Page],
     other: &mut [Page],
-    a: u32,
     b: u32,
 ) -> Result<bool, LookFault<S::Fault>>
     requires buffers { (length own.old ≡ 1) × (length other.old ≡ 1) }
-    requires a_within { a < length (contents S.pages guests.now) }
+    requires a_within { subject.old.number < length (contents S.pages guests.now) }
     requires b_within { b < length (contents S.pages guests.now) }
     requires marked { length marks.now ≡ length (contents S.pages guests.now) }
     requires apart { AreSteady S.is_steady guests.now → TellApart (contents S.pages guests.now) marks.now }
-    requires held { Holds (AreSteady S.is_steady guests.now) (contents S.pages guests.now) a is_read.old own.old }
-    ensures told { IfOk result (λ same. Sure by (AreSteady S.is_steady guests.now) → same ≡ is_same (content_at (seen by (contents S.pages guests.now) marks.now) a) (content_at (seen by (contents S.pages guests.now) marks.now) b)) }
-    ensures held { OnOk result (Holds (AreSteady S.is_steady guests.now) (contents S.pages guests.now) a is_read.new own.new) }
+    requires held { Holds (AreSteady S.is_steady guests.now) (contents S.pages guests.now) subject.old own.old }
+    ensures told { IfOk result (λ same. Sure by (AreSteady S.is_steady guests.now)
+        → same ≡ are_same (seen by (contents S.pages guests.now) marks.now) subject.old.number b) }
+    ensures number { OnOk result (subject.new.number ≡ subject.old.number) }
+    ensures held { OnOk result (Holds (AreSteady S.is_steady guests.now) (contents S.pages guests.now) subject.new own.new) }
 {
     match by {
-        Compare::Marks => Ok(has_same_key(guests, marks, a, b)),
-        Compare::Bytes => is_same_content(guests, marks, is_read, own, other, a, b),
+        Compare::Marks => Ok(has_same_fingerprint(guests, marks, subject.number, b)),
+        Compare::Bytes => is_same_content(guests, marks, subject, own, other, b),
     }
 }

@@ -21,7 +21,8 @@ pub(crate) fn count_copies<A: Allocator>(
     requires below { All (λ class. class < bound) classes.now }
     requires few { length classes.now < 2 ^ 32 }
     ensures len { IfOk result (λ tally. vec_len tally.copies ≡ bound) }
-    ensures copies { IfOk result (λ tally. (class : ℕ) → class < bound → slice_index tally.copies.items class ≡ copies nat_eq class classes.now) }
+    ensures copies { IfOk result (λ tally. (class : ℕ) → class < bound
+        → slice_index tally.copies.items class ≡ copies nat_eq class classes.now) }
     ensures distinct { IfOk result (λ tally. tally.distinct ≡ distinct nat_eq classes.now) }
     ensures few { IfOk result (λ tally. tally.distinct ≤ length classes.now) }
 {

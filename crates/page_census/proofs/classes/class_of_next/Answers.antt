@@ -2,8 +2,8 @@ use Rattle.std.proofs.Common.{◌≡◌, ◌∙◌, ◌%◌, ◌-◌, ◌<◌, �
 use Rattle.std.proofs.lemmas.List.{get_or_read_under}
 use Rattle.page_census.specs.Classes.{class_of}
 use Rattle.page_census.specs.Contents.{contents, content_at}
-use Rattle.page_census.specs.Keys.{seen}
-use Rattle.page_census.proofs.Keyed.{length-seen}
+use Rattle.page_census.specs.Fingerprints.{seen}
+use Rattle.page_census.proofs.Fingerprints.{length-seen}
 use Rattle.page_census.proofs.Chained.{last_le, starts, at_code, goes_on, ends_same, ends_none}
 use Rattle.page_census.proofs.classes.class_of_next.Goals as goal
 
@@ -22,6 +22,7 @@ loop-code-init g c =
       walk = starts _ all c.args.marks.now known.classes.items known.links.items known.heads.items c.requires.classed c.len-number.result next more c.index-code.result.now
           (get_or_read_under known.heads.items bucket (length known.heads.items) c.index-code.result.now 0 (rw buckets at c.index-code.ensures) within refl ∙ c.requires.classed.heads_are bucket within);
       own = record { told = λ steady read. cc };
+      number = refl;
     }
 
 pub is_same-requires-clause-b_within : goal.is_same-requires-clause-b_within
@@ -65,7 +66,7 @@ returns-then-branch-clause-told g c =
     let lower = f.within in
     let w = c.loop-code.invariant.walk.within in
     let number : c.len-number.result ≡ known.classes.len = c.len-number.ensures in
-    λ steady. ends_same _ all c.args.marks.now known.classes.items known.links.items known.heads.items c.requires.classed c.len-number.result next more c.loop-code.code c.loop-code.invariant.walk steady (c.loop-code.code - 1) first (sym (c.in_ok-is_same.ensures.told steady) ∙ c.if-branch.true)
+    λ steady. ends_same _ all c.args.marks.now known.classes.items known.links.items known.heads.items c.requires.classed c.len-number.result next more c.loop-code.code c.loop-code.invariant.walk steady (c.loop-code.code - 1) first (sym (rw c.loop-code.invariant.number at (c.in_ok-is_same.ensures.told steady)) ∙ c.if-branch.true)
     ∙ ap (λ (n : ℕ). class_of all (content_at all n)) number
 
 pub index-code-requires-in-loop-code : goal.index-code-requires-in-loop-code
@@ -98,8 +99,9 @@ loop-code-preserved g c =
     let within : place < length known.links.items = omega (arith, c.requires.classed.linked) in
     let read : c.index-code-in-loop-code.result.now ≡ get_or known.links.items place 0 = get_or_read_under known.links.items place (length known.links.items) c.index-code-in-loop-code.result.now 0 c.index-code-in-loop-code.ensures within refl in
     record {
-      walk = goes_on _ all c.args.marks.now known.classes.items known.links.items known.heads.items c.requires.classed c.len-number.result next more c.loop-code.code c.loop-code.invariant.walk place c.index-code-in-loop-code.result.now first read (λ steady. sym (c.in_ok-is_same.ensures.told steady) ∙ c.if-branch.false);
+      walk = goes_on _ all c.args.marks.now known.classes.items known.links.items known.heads.items c.requires.classed c.len-number.result next more c.loop-code.code c.loop-code.invariant.walk place c.index-code-in-loop-code.result.now first read (λ steady. sym (rw c.loop-code.invariant.number at (c.in_ok-is_same.ensures.told steady)) ∙ c.if-branch.false);
       own = c.in_ok-is_same.ensures.held;
+      number = c.in_ok-is_same.ensures.number ∙ c.loop-code.invariant.number;
     }
 
 pub loop-code-smaller : goal.loop-code-smaller

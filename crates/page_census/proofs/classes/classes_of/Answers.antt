@@ -2,8 +2,8 @@ use Rattle.std.proofs.Common.{◌≡◌, ◌<◌, ◌≤◌, length, ap, arith}
 use Rattle.std.proofs.lemmas.List.{get_or_default}
 use Rattle.page_census.specs.Contents.{AreSteady, contents, content_at}
 use Rattle.page_census.specs.Classes.{class_of}
-use Rattle.page_census.specs.Keys.{Sure, seen}
-use Rattle.page_census.proofs.Keyed.{alike_seen, length-seen}
+use Rattle.page_census.specs.Fingerprints.{Sure, seen}
+use Rattle.page_census.proofs.Fingerprints.{alike_seen, length-seen}
 use Rattle.page_census.proofs.Noted.{none_known, noted}
 use Rattle.page_census.proofs.classes.classes_of.Goals as goal
 

@@ -1,7 +1,7 @@
 use Rattle.std.proofs.Common.{◌≡◌, ◌≤◌, length, vec_len, vec_capacity}
 use Rattle.page_census.specs.Classes.{Classed}
 use Rattle.page_census.specs.Contents.{AreSteady, contents}
-use Rattle.page_census.specs.Keys.{Sure, seen}
+use Rattle.page_census.specs.Fingerprints.{Sure, seen}
 use Rattle.page_census.proofs.classes.classes_of.Given as goal
 
 abbrev pub invariant-loop-number : goal.invariant-loop-number

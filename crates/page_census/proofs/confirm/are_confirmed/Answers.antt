@@ -3,8 +3,8 @@ use Rattle.std.proofs.lemmas.Grind.{common_steps}
 use Rattle.std.specs.Prelude.{IfOk}
 use Rattle.std.specs.Vec.Iter.{into_iter_items}
 use Rattle.page_census.specs.Contents.{AreSteady, contents}
-use Rattle.page_census.specs.Keys.{AreConfirmed}
-use Rattle.page_census.proofs.Keyed.{all_confirmed, part_confirmed}
+use Rattle.page_census.specs.Fingerprints.{AreConfirmed}
+use Rattle.page_census.proofs.Fingerprints.{all_confirmed, part_confirmed}
 use Rattle.page_census.proofs.Marked.{at_next, parts_cover}
 use Rattle.page_census.proofs.confirm.are_confirmed.Goals as goal
 

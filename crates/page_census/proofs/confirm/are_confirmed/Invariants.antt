@@ -1,7 +1,7 @@
 use Rattle.std.proofs.Common.{◌≡◌, ◌*◌, ◌++◌, length}
 use Rattle.std.specs.Vec.Iter.{into_iter_items}
 use Rattle.page_census.specs.Contents.{AreSteady, contents}
-use Rattle.page_census.specs.Keys.{AreConfirmed}
+use Rattle.page_census.specs.Fingerprints.{AreConfirmed}
 use Rattle.page_census.proofs.confirm.are_confirmed.Given as goal
 
 abbrev pub invariant-loop-answer : goal.invariant-loop-answer

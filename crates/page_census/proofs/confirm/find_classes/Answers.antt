@@ -1,5 +1,5 @@
 use Rattle.page_census.specs.Contents.{AreSteady, contents}
-use Rattle.page_census.proofs.Keyed.{confirmed_right}
+use Rattle.page_census.proofs.Fingerprints.{confirmed_right}
 use Rattle.page_census.proofs.confirm.find_classes.Goals as goal
 
 pub returns-then-branch-clause-told : goal.returns-then-branch-clause-told

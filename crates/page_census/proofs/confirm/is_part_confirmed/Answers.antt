@@ -1,6 +1,6 @@
 use Rattle.std.proofs.Common.{arith}
 use Rattle.page_census.specs.Contents.{contents}
-use Rattle.page_census.proofs.Keyed.{one_confirmed}
+use Rattle.page_census.proofs.Fingerprints.{one_confirmed}
 use Rattle.page_census.proofs.confirm.is_part_confirmed.Goals as goal
 
 pub loop-number-preserved : goal.loop-number-preserved

@@ -1,4 +1,4 @@
--- The keys of pages, which represent their contents until the bytes are compared.
+-- The fingerprints of pages, which represent their contents until the bytes are compared.
 use Rattle.std.specs.Prelude.{◌≡◌, ℕ, ◌^◌, ◌<◌, ◌≤◌, List, [], ◌∷◌, All, length, map, slice_index}
 use Rattle.std.specs.List.{range_with_len}
 use Rattle.page_census.specs.Classes.{TellApart}
@@ -6,16 +6,16 @@ use Rattle.page_census.specs.Contents.{Content, content_at}
 use Rattle.page_census.specs.declared.compare.Compare.{Compare}
 use Rattle.page_census.specs.declared.compare.Compare.TheVariants.{Marks, Bytes}
 
--- the key of the page with this number: its guest's salt, and its mark instead of its bytes
-abbrev pub key_at : List Content → List ℕ → ℕ → Content
-key_at all marks n = ((content_at all n).0, slice_index marks n ∷ [])
+-- the fingerprint of the page with this number: its guest's salt, and its mark instead of its bytes
+abbrev pub fingerprint_at : List Content → List ℕ → ℕ → Content
+fingerprint_at all marks n = ((content_at all n).0, slice_index marks n ∷ [])
 
-abbrev pub keys : List Content → List ℕ → List Content
-keys all marks = map (key_at all marks) (range_with_len 0 (length all))
+abbrev pub fingerprints : List Content → List ℕ → List Content
+fingerprints all marks = map (fingerprint_at all marks) (range_with_len 0 (length all))
 
 -- how pages are compared
 abbrev pub seen : Compare → List Content → List ℕ → List Content
-seen Marks all marks = keys all marks
+seen Marks all marks = fingerprints all marks
 seen Bytes all marks = all
 
 -- when a comparison is right: one of marks always is, and one of bytes is if they are read from steady sources
