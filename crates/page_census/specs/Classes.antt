@@ -1,5 +1,6 @@
 -- The class of a page: the number of the first page with its content.
-use Rattle.std.specs.Prelude.{◌≡◌, ℕ, zero, suc, ◌^◌, ◌%◌, ◌<◌, ◌≤◌, ◌==◌, ◌&&◌, if◌then◌else◌, List, map, take, length, slice_index, slice_set, ◌+◌}
+use Rattle.std.specs.Prelude.{◌≡◌, ℕ, zero, suc, ◌^◌, ◌%◌, ◌<◌, ◌≤◌, ◌==◌, ◌&&◌, if◌then◌else◌, ◌+◌}
+use Rattle.std.specs.Prelude.{List, map, take, length, slice_index, slice_set}
 use Rattle.std.specs.List.{position_or_len}
 use Rattle.page_model.specs.Pages.{blank}
 use Rattle.page_census.specs.Contents.{Content, is_same, content_at}

@@ -1,5 +1,6 @@
 -- The same numbers, by marks and classes instead of contents.
-use Rattle.std.specs.Prelude.{ℕ, zero, suc, ◌+◌, ◌-◌, ◌==◌, ◌&&◌, nat_eq, nat_lt, Bool, if◌then◌else◌, List, [], ◌∷◌, length, map, take, drop, count_by, filter, slice_index, sum_by}
+use Rattle.std.specs.Prelude.{ℕ, zero, suc, ◌+◌, ◌-◌, ◌==◌, ◌&&◌, nat_eq, nat_lt, Bool, if◌then◌else◌}
+use Rattle.std.specs.Prelude.{List, [], ◌∷◌, length, map, take, drop, count_by, filter, slice_index, sum_by}
 use Rattle.page_census.specs.Numbers.{class_numbers, distinct, fewest, has_contents, is_between, most, shared, sum_alone}
 use Rattle.page_census.specs.declared.numbers.GuestNumbers.{GuestNumbers}
 use Rattle.page_census.specs.declared.numbers.TotalNumbers.{TotalNumbers}

@@ -1,5 +1,6 @@
 //! The class of each page: the number of the first page with its content.
-ghost use Rattle.std.specs.Prelude.{◌≡◌, ◌+◌, ◌≤◌, ◌<◌, ◌^◌, ◌%◌, ◌++◌, ◌/◌, [], ◌∷◌, All, IfOk, length, map, replicate, vec_capacity, vec_len, slice_index};
+ghost use Rattle.std.specs.Prelude.{◌≡◌, ◌+◌, ◌≤◌, ◌<◌, ◌^◌, ◌%◌, ◌++◌, ◌/◌, [], ◌∷◌, All, IfOk};
+ghost use Rattle.std.specs.Prelude.{length, map, replicate, vec_capacity, vec_len, slice_index};
 ghost use Rattle.page_census.specs.Contents.{AreSteady, contents};
 ghost use Rattle.page_census.specs.Classes.{Classed, TellApart, class_at, classes_of, headed};
 ghost use Rattle.page_census.specs.Fingerprints.{Sure, seen};

@@ -1,5 +1,6 @@
 //! The marks of a guest's pages, found by several workers.
-ghost use Rattle.std.specs.Prelude.{◌≡◌, ◌+◌, ◌*◌, ◌^◌, ◌<◌, ◌≤◌, ◌++◌, OnOk, IfOk, MatchOption, length, map, vec_len, vec_capacity, take, drop};
+ghost use Rattle.std.specs.Prelude.{◌≡◌, ◌+◌, ◌*◌, ◌^◌, ◌<◌, ◌≤◌, ◌++◌, OnOk, IfOk, MatchOption};
+ghost use Rattle.std.specs.Prelude.{length, map, vec_len, vec_capacity, take, drop};
 ghost use Rattle.page_census.specs.Contents.{AreSteady, contents};
 ghost use Rattle.page_census.specs.Marks.{mark_at, marks_of};
 ghost use Rattle.page_census.specs.Parts.{IsPart};

@@ -66,7 +66,8 @@ returns-then-branch-clause-told g c =
     let lower = f.within in
     let w = c.loop-code.invariant.walk.within in
     let number : c.len-number.result ≡ known.classes.len = c.len-number.ensures in
-    λ steady. ends_same _ all c.args.marks.now known.classes.items known.links.items known.heads.items c.requires.classed c.len-number.result next more c.loop-code.code c.loop-code.invariant.walk steady (c.loop-code.code - 1) first (sym (rw c.loop-code.invariant.number at (c.in_ok-is_same.ensures.told steady)) ∙ c.if-branch.true)
+    λ steady. ends_same _ all c.args.marks.now known.classes.items known.links.items known.heads.items c.requires.classed c.len-number.result next more
+        c.loop-code.code c.loop-code.invariant.walk steady (c.loop-code.code - 1) first (sym (rw c.loop-code.invariant.number at (c.in_ok-is_same.ensures.told steady)) ∙ c.if-branch.true)
     ∙ ap (λ (n : ℕ). class_of all (content_at all n)) number
 
 pub index-code-requires-in-loop-code : goal.index-code-requires-in-loop-code
@@ -99,7 +100,8 @@ loop-code-preserved g c =
     let within : place < length known.links.items = omega (arith, c.requires.classed.linked) in
     let read : c.index-code-in-loop-code.result.now ≡ get_or known.links.items place 0 = get_or_read_under known.links.items place (length known.links.items) c.index-code-in-loop-code.result.now 0 c.index-code-in-loop-code.ensures within refl in
     record {
-      walk = goes_on _ all c.args.marks.now known.classes.items known.links.items known.heads.items c.requires.classed c.len-number.result next more c.loop-code.code c.loop-code.invariant.walk place c.index-code-in-loop-code.result.now first read (λ steady. sym (rw c.loop-code.invariant.number at (c.in_ok-is_same.ensures.told steady)) ∙ c.if-branch.false);
+      walk = goes_on _ all c.args.marks.now known.classes.items known.links.items known.heads.items c.requires.classed c.len-number.result next more
+          c.loop-code.code c.loop-code.invariant.walk place c.index-code-in-loop-code.result.now first read (λ steady. sym (rw c.loop-code.invariant.number at (c.in_ok-is_same.ensures.told steady)) ∙ c.if-branch.false);
       own = c.in_ok-is_same.ensures.held;
       number = c.in_ok-is_same.ensures.number ∙ c.loop-code.invariant.number;
     }
