@@ -193,7 +193,10 @@ module _ (keys : List ℕ) (blocks : Slab PageList) (len capacity n key : ℕ) (
     keeps : (len' : ℕ) → Holds (block_of keys blocks') (length keys) len' capacity → AreBlocks keys blocks' len' capacity
     keeps len' holds = record { most = sound.most; filled = all_filled; apart = sound.apart; holds = holds }
 
-  pub rewritten : n < len → (change : List ℕ → List ℕ) (blocks' : Slab PageList) → blocks' ≡ changed (λ block. with_page block (n % 512) (change (page_in block (n % 512)))) blocks key → After keys blocks' len capacity (set (pages_in (block_of keys blocks) len) n (change (slice_index_or (pages_in (block_of keys blocks) len) n [])))
+  pub rewritten : n < len → (change : List ℕ → List ℕ) (blocks' : Slab PageList)
+      → blocks' ≡ changed (λ block. with_page block (n % 512) (change (page_in block (n % 512)))) blocks key
+      → After keys blocks' len capacity
+      (set (pages_in (block_of keys blocks) len) n (change (slice_index_or (pages_in (block_of keys blocks) len) n [])))
   rewritten below change blocks' e =
       let f : PageList → PageList = λ block. with_page block (n % 512) (change (page_in block (n % 512))) in
       let page = change (page_in the_block.0 (n % 512)) in
@@ -227,7 +230,9 @@ abbrev pub listed : ℕ → List (List ℕ) → PageList
 listed room pages = record { pages = pages; room = room }
 
 -- one more block, with no page
-module _ (keys : List ℕ) (blocks : Slab PageList) (capacity key : ℕ) (block : PageList) (blocks' : Slab PageList) (sound : AreBlocks keys blocks 0 capacity) (vacant : get blocks key ≡ None) (updates : Updates blocks blocks' key (Some block)) (empty : block.pages ≡ []) (roomy : (j : ℕ) → j < 512 → 512 * length keys + j < capacity → j < block.room) where
+module _ (keys : List ℕ) (blocks : Slab PageList) (capacity key : ℕ) (block : PageList) (blocks' : Slab PageList)
+    (sound : AreBlocks keys blocks 0 capacity) (vacant : get blocks key ≡ None) (updates : Updates blocks blocks' key (Some block))
+    (empty : block.pages ≡ []) (roomy : (j : ℕ) → j < 512 → 512 * length keys + j < capacity → j < block.room) where
   abbrev pub longer : List ℕ
   longer = keys ++ key ∷ []
 

@@ -30,7 +30,9 @@ module _ (free : List ℕ) (list : PageList) where
   frame-frames_of mpn h = get_or-map-range_with_len (taken_page free list.pages) 0 list.room mpn mpn None h (zero-add mpn)
 
 -- frames that differ at one place
-frames_changed : (free free' : List ℕ) (list : PageList) (pages' : Pages) (m : ℕ) (new : Option (List ℕ)) → m < list.room → taken_page free' pages' m ≡ new → ((i : ℕ) → i ≢ m → taken_page free' pages' i ≡ taken_page free list.pages i) → frames_of free' (record { pages = pages'; room = list.room }) ≡ set (frames_of free list) m new
+frames_changed : (free free' : List ℕ) (list : PageList) (pages' : Pages) (m : ℕ) (new : Option (List ℕ)) → m < list.room
+    → taken_page free' pages' m ≡ new → ((i : ℕ) → i ≢ m → taken_page free' pages' i ≡ taken_page free list.pages i)
+    → frames_of free' (record { pages = pages'; room = list.room }) ≡ set (frames_of free list) m new
 unfolding frames_of
 frames_changed free free' list pages' m new within same others = map_changed None (taken_page free list.pages) (taken_page free' pages') list.room m new within same (λ i x differs. others i differs)
 
@@ -322,7 +324,9 @@ not_all_taken free list m within was_free all =
     omega (arith, less, all)
 
 -- the frames after a write
-pub written_at : (free : List ℕ) (list : PageList) (m : ℕ) (change : List ℕ → List ℕ) (list' : PageList) → IsSound free list → IsTaken (frames_of free list) m → list' ≡ with_page list m (change (page_in list m)) → Changed free list' (frames_of free list) m (option_map change (frame (frames_of free list) m))
+pub written_at : (free : List ℕ) (list : PageList) (m : ℕ) (change : List ℕ → List ℕ) (list' : PageList) → IsSound free list
+    → IsTaken (frames_of free list) m → list' ≡ with_page list m (change (page_in list m))
+    → Changed free list' (frames_of free list) m (option_map change (frame (frames_of free list) m))
 written_at free list m change list' sound h e =
     let k = known free list m sound h in
     let new_is : option_map change (frame (frames_of free list) m) ≡ Some (change (page_in list m)) = ap (λ (o : Option (List ℕ)). option_map change o) k.page in

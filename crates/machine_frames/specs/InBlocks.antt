@@ -1,6 +1,7 @@
 -- How pages are kept in blocks: page n is page n mod 512 of block n div 512. A slab has the blocks, and `keys` has
 -- their keys in the blocks' order.
-use Rattle.std.specs.Prelude.{◌≡◌, ℕ, ◌+◌, ◌*◌, ◌/◌, ◌%◌, ◌<◌, ◌≤◌, List, [], length, map, Option, None, Some, IsSomeAnd, slice_index, slice_index_or, slice_set, option_map}
+use Rattle.std.specs.Prelude.{◌≡◌, ℕ, ◌+◌, ◌*◌, ◌/◌, ◌%◌, ◌<◌, ◌≤◌, List, [], length, map, Option, None}
+use Rattle.std.specs.Prelude.{Some, IsSomeAnd, slice_index, slice_index_or, slice_set, option_map}
 use Rattle.std.specs.List.{range_with_len}
 use Rattle.slab.specs.Slab.{Slab, get, ContainsKey}
 use Rattle.page_model.specs.declared.limits.TheConstants.{MAX_FRAMES}
@@ -16,7 +17,11 @@ HasRoom blocks key = IsSomeAnd (get blocks key) (λ block. length block.pages < 
 
 -- the slab with one block changed
 abbrev pub changed : (PageList → PageList) → Slab PageList → ℕ → Slab PageList
-changed change blocks key = record { slots = slice_set blocks.slots key (option_map change (get blocks key)); vacant_key = blocks.vacant_key; capacity = blocks.capacity }
+changed change blocks key = record {
+  slots = slice_set blocks.slots key (option_map change (get blocks key));
+  vacant_key = blocks.vacant_key;
+  capacity = blocks.capacity;
+}
 
 -- the block with each number
 abbrev pub block_of : List ℕ → Slab PageList → ℕ → Option PageList

@@ -1,7 +1,8 @@
 //! Machine memory: frames of 4,096 bytes, numbered by machine page numbers (MPNs) below a fixed total.
 #![tactic(auto)]
 
-ghost use Rattle.std.specs.Prelude.{◌≡◌, ◌+◌, ◌≤◌, ◌<◌, ◌↔◌, ◌⊎◌, length, None, Some, IsNone, IfNone, IfSome, IfOk, IfErr, slice_set, option_map};
+ghost use Rattle.std.specs.Prelude.{◌≡◌, ◌+◌, ◌≤◌, ◌<◌, ◌↔◌, ◌⊎◌, length, None, Some, IsNone};
+ghost use Rattle.std.specs.Prelude.{IfNone, IfSome, IfOk, IfErr, slice_set, option_map};
 ghost use Rattle.page_model.specs.Pages.{blank, written};
 ghost use Rattle.machine_frames.specs.FrameMap.{frame, IsTaken, used, no_frames, IsPage};
 

@@ -1,7 +1,7 @@
 //! The hashes of many frames, by several workers.
 ghost use Rattle.std.specs.Prelude.{◌≡◌, ◌≤◌, All, IfOk, length, take, drop};
 ghost use Rattle.page_digest.specs.Many.{AreTaken, frame_hashes};
-ghost use Rattle.page_digest.specs.Parts.{CanShare, IsReady, hashes_of_parts, task_parts};
+ghost use Rattle.page_digest.specs.Parts.{CanShare, IsReady, hashes_of_part, hashes_of_parts, task_parts};
 
 use crate::PageHash;
 use crate::part::push_hashes;
@@ -69,11 +69,18 @@ pub fn hash_many<
         |scope| -> Result<Vec<u64, A>, HashFault>
             requires { CanShare frames.now pairs.now size hashes }
             ensures { IfOk result (λ all. all.items ≡ frame_hashes H.hash_of frames.entry.now pairs.entry.now) }
-        { hash_in(scope, rt, alloc, hash, frames, pairs, size, hashes) },
+        {
+            let part = Part {
+                hash,
+                frames,
+                pairs,
+            };
+            hash_in(scope, rt, alloc, Task { part, hashes }, size)
+        },
     )
 }
 
-/// Does the same in a scope, with parts of the given size. The calling thread hashes the first part.
+/// Returns the hashes of a task in a scope, shared out in parts of the given size. The calling thread hashes the first part.
 fn hash_in<
     's,
     E,
@@ -85,15 +92,18 @@ fn hash_in<
     scope: &Scope<'s, E>,
     rt: &'s R,
     alloc: A,
-    hash: &'s H,
-    frames: &'s Frames<B>,
-    pairs: &'s [(u32, u32)],
+    task: Task<'s, H, A, B>,
     size: usize,
-    mut hashes: Vec<u64, A>,
 ) -> Result<Vec<u64, A>, HashFault>
-    requires { CanShare frames.now pairs.now size hashes }
-    ensures { IfOk result (λ all. all.items ≡ frame_hashes H.hash_of frames.now pairs.now) }
+    requires { CanShare task.part.frames.now task.part.pairs.now size task.hashes }
+    ensures { IfOk result (λ all. all.items ≡ hashes_of_part H.hash_of task.entry.part) }
 {
+    let Task { part, mut hashes } = task;
+    let Part {
+        hash,
+        frames,
+        pairs,
+    } = part;
     let tasks = new_tasks(&alloc, hash, frames, &pairs[size..], size)?;
     let count = tasks.len();
     let mut handles = Vec::with_capacity(alloc, count)?;
@@ -118,7 +128,8 @@ fn new_tasks<'a, H: PageHash, A: Allocator + Clone, B: Allocator>(
     requires size { 1 ≤ size }
     requires taken { AreTaken frames.now pairs.now }
     ensures ready { IfOk result (λ tasks. All IsReady tasks.items) }
-    ensures parts { IfOk result (λ tasks. hashes_of_parts H.hash_of (task_parts tasks.items) ≡ frame_hashes H.hash_of frames.now pairs.now) }
+    ensures parts { IfOk result (λ tasks. hashes_of_parts H.hash_of (task_parts tasks.items)
+        ≡ frame_hashes H.hash_of frames.now pairs.now) }
 {
     let count = pairs.len().div_ceil(size);
     let mut tasks = Vec::with_capacity(alloc.clone()?, count)?;

@@ -49,23 +49,31 @@ returns-then-is_full-clause-full g c =
 pub invariant_of-self-2 : goal.invariant_of-self-2
 invariant_of-self-2 g c =
     let i = c.self.inside in
-    let a = first_at i.free.items i.pages c.add_zeroed.result c.pop.new.self.items c.add_zeroed.new.self blank c.self.invariant.0 c.add_zeroed.ensures.value (is_below (length i.pages.pages) i.pages.room c.self.invariant.0.few c.if-is_full.ensures) c.in_default.ensures.items c.add_zeroed.ensures.more in
+    let a = first_at i.free.items i.pages c.add_zeroed.result c.pop.new.self.items c.add_zeroed.new.self blank c.self.invariant.0
+    c.add_zeroed.ensures.value (is_below (length i.pages.pages) i.pages.room c.self.invariant.0.few c.if-is_full.ensures)
+    c.in_default.ensures.items c.add_zeroed.ensures.more in
     (a.after.sound, omega (arith, c.self.invariant.1, c.pop.ensures.capacity, ap (λ (l : PageList). l.room) c.add_zeroed.ensures.more))
 
 pub returns-clause-full : goal.returns-clause-full
 returns-clause-full g c =
     let i = c.self.inside in
-    let a = first_at i.free.items i.pages c.add_zeroed.result c.pop.new.self.items c.add_zeroed.new.self blank c.self.invariant.0 c.add_zeroed.ensures.value (is_below (length i.pages.pages) i.pages.room c.self.invariant.0.few c.if-is_full.ensures) c.in_default.ensures.items c.add_zeroed.ensures.more in
+    let a = first_at i.free.items i.pages c.add_zeroed.result c.pop.new.self.items c.add_zeroed.new.self blank c.self.invariant.0
+    c.add_zeroed.ensures.value (is_below (length i.pages.pages) i.pages.room c.self.invariant.0.few c.if-is_full.ensures)
+    c.in_default.ensures.items c.add_zeroed.ensures.more in
     (λ e. absurd (true≢false e), λ e. absurd (not_all_taken i.free.items i.pages c.add_zeroed.result a.within a.was_free (rw (← c.self.view_is) at e)))
 
 pub returns-clause-free : goal.returns-clause-free
 returns-clause-free g c =
     let i = c.self.inside in
-    let a = first_at i.free.items i.pages c.add_zeroed.result c.pop.new.self.items c.add_zeroed.new.self blank c.self.invariant.0 c.add_zeroed.ensures.value (is_below (length i.pages.pages) i.pages.room c.self.invariant.0.few c.if-is_full.ensures) c.in_default.ensures.items c.add_zeroed.ensures.more in
+    let a = first_at i.free.items i.pages c.add_zeroed.result c.pop.new.self.items c.add_zeroed.new.self blank c.self.invariant.0
+    c.add_zeroed.ensures.value (is_below (length i.pages.pages) i.pages.room c.self.invariant.0.few c.if-is_full.ensures)
+    c.in_default.ensures.items c.add_zeroed.ensures.more in
     rw (← c.self.view_is) (omega (arith, a.within, length-frames_of i.free.items i.pages), a.was_free)
 
 pub returns-clause-taken : goal.returns-clause-taken
 returns-clause-taken g c =
     let i = c.self.inside in
-    let a = first_at i.free.items i.pages c.add_zeroed.result c.pop.new.self.items c.add_zeroed.new.self blank c.self.invariant.0 c.add_zeroed.ensures.value (is_below (length i.pages.pages) i.pages.room c.self.invariant.0.few c.if-is_full.ensures) c.in_default.ensures.items c.add_zeroed.ensures.more in
+    let a = first_at i.free.items i.pages c.add_zeroed.result c.pop.new.self.items c.add_zeroed.new.self blank c.self.invariant.0
+    c.add_zeroed.ensures.value (is_below (length i.pages.pages) i.pages.room c.self.invariant.0.few c.if-is_full.ensures)
+    c.in_default.ensures.items c.add_zeroed.ensures.more in
     rw (← c.self.view_is) a.after.is
