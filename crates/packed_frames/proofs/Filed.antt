@@ -41,7 +41,10 @@ not_there p q r qs once is m i =
 twice : (p q : ℕ) (qs : List ℕ) → times p (q ∷ qs) ≤ 1 → q ≡ p → 1 ≤ times p qs → ⊥
 twice p q qs once is m = not_there p q p qs once is m refl
 
-other_step : (k : Key) (f g : ℕ → Entry) (p q : ℕ) (e : Entry) (qs : List ℕ) (b : Bool) → g p ≡ e → ((r : ℕ) → r ≢ p → g r ≡ f r) → times p (q ∷ qs) ≤ 1 → has_key k (f q) ≡ b → cond b (Some q) (first_of (λ r. has_key k (f r)) qs) ≡ Some p → (first_of (λ r. has_key k (f r)) qs ≡ Some p → map g qs ≡ with_other k e (map f qs)) → g q ∷ map g qs ≡ cond b (e ∷ map f qs) (f q ∷ with_other k e (map f qs))
+other_step : (k : Key) (f g : ℕ → Entry) (p q : ℕ) (e : Entry) (qs : List ℕ) (b : Bool) → g p ≡ e → ((r : ℕ) → r ≢ p → g r ≡ f r)
+    → times p (q ∷ qs) ≤ 1 → has_key k (f q) ≡ b → cond b (Some q) (first_of (λ r. has_key k (f r)) qs) ≡ Some p
+    → (first_of (λ r. has_key k (f r)) qs ≡ Some p → map g qs ≡ with_other k e (map f qs))
+    → g q ∷ map g qs ≡ cond b (e ∷ map f qs) (f q ∷ with_other k e (map f qs))
 other_step k f g p q e qs true at same once t h ih =
     let is : q ≡ p = some_same q p h in
     let rest : map g qs ≡ map f qs = map_kept f g qs (λ r m. same r (λ i. not_there p q r qs once is m i)) in
@@ -59,7 +62,10 @@ map_other k f g p e (q ∷ qs) at same once h =
 true_is_false : true ≡ false → ⊥
 true_is_false h = cc
 
-gone_step : (k : Key) (f : ℕ → Entry) (p q : ℕ) (qs : List ℕ) (b c : Bool) → eqb p q ≡ c → has_key k (f q) ≡ b → (q ≡ p → b ≡ true) → cond b (Some q) (first_of (λ r. has_key k (f r)) qs) ≡ Some p → (first_of (λ r. has_key k (f r)) qs ≡ Some p → map f (without p qs) ≡ without_first k (map f qs)) → map f (cond c qs (q ∷ without p qs)) ≡ cond b (map f qs) (f q ∷ without_first k (map f qs))
+gone_step : (k : Key) (f : ℕ → Entry) (p q : ℕ) (qs : List ℕ) (b c : Bool) → eqb p q ≡ c → has_key k (f q) ≡ b → (q ≡ p → b ≡ true)
+    → cond b (Some q) (first_of (λ r. has_key k (f r)) qs) ≡ Some p
+    → (first_of (λ r. has_key k (f r)) qs ≡ Some p → map f (without p qs) ≡ without_first k (map f qs))
+    → map f (cond c qs (q ∷ without p qs)) ≡ cond b (map f qs) (f q ∷ without_first k (map f qs))
 gone_step k f p q qs true true e t all h ih = refl
 gone_step k f p q qs true false e t all h ih = absurd (other_tells p q e (sym (some_same q p h)))
 gone_step k f p q qs false true e t all h ih = absurd (true_is_false (sym (all (sym (same_tells p q e)))))

@@ -160,7 +160,11 @@ Follows-headless next next' code p (q ∷ qs) f e once same =
     let kept = Follows-kept next next' (next q) qs (λ r h. same r (rw is at (not_head r q qs (once q) h))) f.1 in
     rw (rest, ← is) kept
 
-cut_step : (next next' : ℕ → ℕ) (p q r : ℕ) (rs : List ℕ) (b : Bool) → eqb p r ≡ b → Follows next (next q) (r ∷ rs) → ((s : ℕ) → times s (q ∷ (r ∷ rs)) ≤ 1) → p ≢ q → next' (cond b q (before p r rs)) ≡ next p → ((s : ℕ) → s ≢ p → s ≢ cond b q (before p r rs) → next' s ≡ next s) → (p ≢ r → next' (before p r rs) ≡ next p → ((s : ℕ) → s ≢ p → s ≢ before p r rs → next' s ≡ next s) → Follows next' (next q) (without p (r ∷ rs))) → Follows next' (next' q) (cond b rs (r ∷ without p rs))
+cut_step : (next next' : ℕ → ℕ) (p q r : ℕ) (rs : List ℕ) (b : Bool) → eqb p r ≡ b → Follows next (next q) (r ∷ rs)
+    → ((s : ℕ) → times s (q ∷ (r ∷ rs)) ≤ 1) → p ≢ q → next' (cond b q (before p r rs)) ≡ next p
+    → ((s : ℕ) → s ≢ p → s ≢ cond b q (before p r rs) → next' s ≡ next s)
+    → (p ≢ r → next' (before p r rs) ≡ next p → ((s : ℕ) → s ≢ p → s ≢ before p r rs → next' s ≡ next s)
+    → Follows next' (next q) (without p (r ∷ rs))) → Follows next' (next' q) (cond b rs (r ∷ without p rs))
 cut_step next next' p q r rs true e f once ne at same ih =
     let is : p ≡ r = same_tells p r e in
     let kept : Follows next' (next r) rs = Follows-kept next next' (next r) rs (λ s h. same s (rw is (not_head s r rs (omega (arith, once r, times_more r q (r ∷ rs))) h)) (not_head s q (r ∷ rs) (once q) (omega (arith, times_more s r rs)))) f.1 in
@@ -232,7 +236,11 @@ pub once_each : (next : ℕ → ℕ) (cap free : ℕ) (heads spare : List ℕ) (
 once_each next cap free heads spare chains L p = at_most_one _ (nat_lt p cap) (L.each_once p)
 
 -- one bucket's chain and the spare places are others; the links of all other places stay
-pub replaced : (next next' : ℕ → ℕ) (cap free free' : ℕ) (heads spare spare' : List ℕ) (chains : List (List ℕ)) (b h : ℕ) (ps : List ℕ) → Linked next cap free heads spare chains → b < length chains → ((q : ℕ) → times q spare ≡ 0 → times q (get_or chains b []) ≡ 0 → next' q ≡ next q) → Follows next' free' spare' → Follows next' h ps → ((q : ℕ) → times q spare' + times q ps ≡ times q spare + times q (get_or chains b [])) → length spare' + length ps ≡ length spare + length (get_or chains b []) → Linked next' cap free' (set heads b h) spare' (set chains b ps)
+pub replaced : (next next' : ℕ → ℕ) (cap free free' : ℕ) (heads spare spare' : List ℕ) (chains : List (List ℕ)) (b h : ℕ) (ps : List ℕ)
+    → Linked next cap free heads spare chains → b < length chains
+    → ((q : ℕ) → times q spare ≡ 0 → times q (get_or chains b []) ≡ 0 → next' q ≡ next q) → Follows next' free' spare' → Follows next' h ps
+    → ((q : ℕ) → times q spare' + times q ps ≡ times q spare + times q (get_or chains b []))
+    → length spare' + length ps ≡ length spare + length (get_or chains b []) → Linked next' cap free' (set heads b h) spare' (set chains b ps)
 replaced next next' cap free free' heads spare spare' chains b h ps L l same new_spare new counts len = record {
   spare_ends = new_spare;
   chains_end = FollowAll-set next next' heads chains b h ps
@@ -273,7 +281,9 @@ spare_place next cap free heads (q ∷ qs) chains L room =
     (omega arith, omega arith, rw same none)
 
 -- the first spare place is put at the head of a chain
-pub added : (next next' : ℕ → ℕ) (cap free : ℕ) (heads spare : List ℕ) (chains : List (List ℕ)) (b p : ℕ) → Linked next cap free heads spare chains → b < length chains → free ≡ p + 1 → next' p ≡ get_or heads b 0 → ((q : ℕ) → q ≢ p → next' q ≡ next q) → Linked next' cap (next p) (set heads b (p + 1)) (drop 1 spare) (set chains b (p ∷ get_or chains b []))
+pub added : (next next' : ℕ → ℕ) (cap free : ℕ) (heads spare : List ℕ) (chains : List (List ℕ)) (b p : ℕ) → Linked next cap free heads spare chains
+    → b < length chains → free ≡ p + 1 → next' p ≡ get_or heads b 0 → ((q : ℕ) → q ≢ p → next' q ≡ next q)
+    → Linked next' cap (next p) (set heads b (p + 1)) (drop 1 spare) (set chains b (p ∷ get_or chains b []))
 added next next' cap free heads [] chains b p L l e at same = absurd (omega (arith, L.spare_ends))
 added next next' cap free heads (r ∷ qs) chains b p L l e at same =
     let is : r ≡ p = omega (arith, L.spare_ends.0) in
@@ -294,7 +304,10 @@ in_list : (p q : ℕ) (ps : List ℕ) → 1 ≤ times p ps → times q ps ≡ 0 
 in_list p q ps h n e = let P : ℕ → Type 0 = λ x. times x ps ≡ 0 in let z : times p ps ≡ 0 = subst P e n in omega arith
 
 -- the head of a chain is freed
-pub freed_head : (next next' : ℕ → ℕ) (cap free : ℕ) (heads spare : List ℕ) (chains : List (List ℕ)) (b p : ℕ) → Linked next cap free heads spare chains → b < length chains → get_or heads b 0 ≡ p + 1 → 1 ≤ times p (get_or chains b []) → next' p ≡ free → ((q : ℕ) → q ≢ p → next' q ≡ next q) → Linked next' cap (p + 1) (set heads b (next p)) (p ∷ spare) (set chains b (without p (get_or chains b [])))
+pub freed_head : (next next' : ℕ → ℕ) (cap free : ℕ) (heads spare : List ℕ) (chains : List (List ℕ)) (b p : ℕ)
+    → Linked next cap free heads spare chains → b < length chains → get_or heads b 0 ≡ p + 1 → 1 ≤ times p (get_or chains b []) → next' p ≡ free
+    → ((q : ℕ) → q ≢ p → next' q ≡ next q)
+    → Linked next' cap (p + 1) (set heads b (next p)) (p ∷ spare) (set chains b (without p (get_or chains b [])))
 freed_head next next' cap free heads spare chains b p L l e there at same =
     replaced next next' cap free (p + 1) heads spare (p ∷ spare) chains b (next p) (without p (get_or chains b [])) L l
     (λ q s c. same q (in_list p q _ there c))
@@ -304,7 +317,10 @@ freed_head next next' cap free heads spare chains b p L l e there at same =
     (omega (arith, length_without p (get_or chains b []) there))
 
 -- another place of a chain is freed
-pub freed_inner : (next next' : ℕ → ℕ) (cap free : ℕ) (heads spare : List ℕ) (chains : List (List ℕ)) (b p r : ℕ) (rs : List ℕ) → Linked next cap free heads spare chains → b < length chains → get_or chains b [] ≡ r ∷ rs → p ≢ r → 1 ≤ times p (get_or chains b []) → next' (before p r rs) ≡ next p → next' p ≡ free → ((q : ℕ) → q ≢ p → q ≢ before p r rs → next' q ≡ next q) → Linked next' cap (p + 1) heads (p ∷ spare) (set chains b (without p (get_or chains b [])))
+pub freed_inner : (next next' : ℕ → ℕ) (cap free : ℕ) (heads spare : List ℕ) (chains : List (List ℕ)) (b p r : ℕ) (rs : List ℕ)
+    → Linked next cap free heads spare chains → b < length chains → get_or chains b [] ≡ r ∷ rs → p ≢ r → 1 ≤ times p (get_or chains b [])
+    → next' (before p r rs) ≡ next p → next' p ≡ free → ((q : ℕ) → q ≢ p → q ≢ before p r rs → next' q ≡ next q)
+    → Linked next' cap (p + 1) heads (p ∷ spare) (set chains b (without p (get_or chains b [])))
 freed_inner next next' cap free heads spare chains b p r rs L l is ne there cut at same =
     let P : List ℕ → Type 0 = λ c. Follows next' (get_or heads b 0) (without p c) in
     let kept : (q : ℕ) → times q (get_or chains b []) ≡ 0 → next' q ≡ next q = λ q c. same q (in_list p q _ there c) (in_list (before p r rs) q (r ∷ rs) (times_before p r rs) (rw is at c)) in
@@ -441,7 +457,10 @@ module _ (heads links : List ℕ) (free used : ℕ) (K : IsKept heads links free
         pub chain_from : get_or chains_of b [] ≡ at ∷ walk (link_in links) (length links) (link_in links at)
         chain_from = rest.is
 
-        pub remove_inner : p ≢ at → (o after : ℕ) → o < length links → o ≡ before p at (walk (link_in links) (length links) (link_in links at)) → after ≡ get_or links p after → Linked (link_in (set (set links o after) p free)) (length links) (p + 1) heads (p ∷ spare_of) (set chains_of b (without p (get_or chains_of b [])))
+        pub remove_inner : p ≢ at → (o after : ℕ) → o < length links → o ≡ before p at (walk (link_in links) (length links) (link_in links at))
+            → after ≡ get_or links p after
+            → Linked (link_in (set (set links o after) p free)) (length links) (p + 1) heads (p ∷ spare_of)
+            (set chains_of b (without p (get_or chains_of b [])))
         remove_inner ne o after lo oe ae =
             let rs : List ℕ = walk (link_in links) (length links) (link_in links at) in
             let apart : o ≢ p = λ e. before_other p at rs ne (sym oe ∙ e) in

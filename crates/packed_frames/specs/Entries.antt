@@ -1,5 +1,6 @@
 -- What a contract sees of `Chains`: how many entries fit, and each bucket's chain of entries.
-use Rattle.std.specs.Prelude.{ℕ, ◌+◌, ◌-◌, ◌%◌, ◌==◌, if◌then◌else◌, List, [], ◌∷◌, Option, Some, None, length, map, replicate, slice_index_or, slice_set as set}
+use Rattle.std.specs.Prelude.{ℕ, ◌+◌, ◌-◌, ◌%◌, ◌==◌, if◌then◌else◌, List, [], ◌∷◌, Option, Some}
+use Rattle.std.specs.Prelude.{None, length, map, replicate, slice_index_or, slice_set as set}
 use Rattle.packed_frames.specs.declared.entry.Entry.{Entry}
 use Rattle.packed_frames.specs.declared.entry.Entry.TheVariants.{Shared, Hint}
 use Rattle.packed_frames.specs.declared.key.Key.{Key}

@@ -1,6 +1,7 @@
 -- Lists of places that are threaded through a table of links. A code is 0 for the end of a list, and
 -- n + 1 for place n; `next p` is the code in place p.
-use Rattle.std.specs.Prelude.{◌≡◌, ℕ, ◌+◌, ◌≤◌, ◌<◌, Bool, true, List, [], ◌∷◌, length, Option, Some, None, if◌then◌else◌, ◌==◌, nat_lt, slice_index_or, map, replicate, slice_set as set}
+use Rattle.std.specs.Prelude.{◌≡◌, ℕ, ◌+◌, ◌≤◌, ◌<◌, Bool, true, List, [], ◌∷◌, length, Option, Some, None}
+use Rattle.std.specs.Prelude.{if◌then◌else◌, ◌==◌, nat_lt, slice_index_or, map, replicate, slice_set as set}
 use Rattle.packed_frames.specs.declared.entry.Entry.{Entry}
 use Rattle.packed_frames.specs.Places.{no_entry}
 use Prim.Native.Nat.{suc, zero}

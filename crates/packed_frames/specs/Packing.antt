@@ -1,5 +1,6 @@
 -- A packed frame: two big-endian words of 64 bits, whose fields are listed from the most significant bit down.
-use Rattle.std.specs.Prelude.{ℕ, ◌+◌, ◌*◌, ◌/◌, ◌%◌, ◌^◌, List, ◌++◌, take, drop, Option, Some, None, if◌then◌else◌, ◌==◌, nat_lt, Bool, not, false}
+use Rattle.std.specs.Prelude.{ℕ, ◌+◌, ◌*◌, ◌/◌, ◌%◌, ◌^◌, List, ◌++◌, take, drop, Option}
+use Rattle.std.specs.Prelude.{Some, None, if◌then◌else◌, ◌==◌, nat_lt, Bool, not, false}
 use Rattle.std.specs.Int.{w64, to_be_bytes, from_be_bytes}
 use Rattle.packed_frames.specs.declared.entry.Entry.{Entry}
 use Rattle.packed_frames.specs.declared.entry.Entry.TheVariants.{Shared, Hint}

@@ -112,7 +112,8 @@ impl<A: Allocator> Chains<A> {
     pub fn count_up(&mut self, hash: u64) -> u16
         requires present { IsSome (first_with (keys.Shared hash) (chain_of self.old (keys.Shared hash))) }
         ensures before { result ≡ field_in (first_with (keys.Shared hash) (chain_of self.old (keys.Shared hash))) }
-        ensures counted { self.new ≡ counted_up self.old (keys.Shared hash) (first_with (keys.Shared hash) (chain_of self.old (keys.Shared hash))) }
+        ensures counted { self.new
+            ≡ counted_up self.old (keys.Shared hash) (first_with (keys.Shared hash) (chain_of self.old (keys.Shared hash))) }
     {
         let key = Key::Shared(hash);
         let found = self.places.find(self.bucket(key), key).unwrap();
@@ -144,7 +145,8 @@ impl<A: Allocator> Chains<A> {
     pub fn count_down(&mut self, hash: u64) -> u16
         requires present { IsSome (first_with (keys.Shared hash) (chain_of self.old (keys.Shared hash))) }
         ensures before { result ≡ field_in (first_with (keys.Shared hash) (chain_of self.old (keys.Shared hash))) }
-        ensures counted { self.new ≡ counted_down self.old (keys.Shared hash) (first_with (keys.Shared hash) (chain_of self.old (keys.Shared hash))) }
+        ensures counted { self.new
+            ≡ counted_down self.old (keys.Shared hash) (first_with (keys.Shared hash) (chain_of self.old (keys.Shared hash))) }
     {
         let key = Key::Shared(hash);
         let bucket = self.bucket(key);

@@ -1,7 +1,8 @@
 //! A frame of 16 bytes.
 ghost use Rattle.std.specs.Prelude.{◌≡◌, ◌+◌, ◌<◌, ◌≤◌, ◌^◌, ◌++◌, Some, IfSome, IsSome, is_none, take, drop};
 ghost use Rattle.std.specs.Int.{w64, to_be_bytes, from_be_bytes};
-ghost use Rattle.packed_frames.specs.Packing.{packed_bytes, packed_shared, packed_hint, unpacked, is_refused, tail_word, hint_word, bits_of, word_at};
+ghost use Rattle.packed_frames.specs.Packing.{packed_bytes, packed_shared, packed_hint, unpacked};
+ghost use Rattle.packed_frames.specs.Packing.{is_refused, tail_word, hint_word, bits_of, word_at};
 ghost use Rattle.packed_frames.specs.Places.{frame_in, with_link};
 ghost use Rattle.packed_frames.specs.Keys.{has_key};
 

@@ -5,7 +5,8 @@
 ghost use Rattle.std.specs.Prelude.{◌≡◌, ◌≤◌, ◌<◌, ◌^◌, IfOk, IfSome, length, option_map};
 ghost use Rattle.packed_frames.specs.Keys.{has_key};
 ghost use Rattle.packed_frames.specs.Places.{no_entry};
-ghost use Rattle.packed_frames.specs.Linked.{Chained, no_chains, chain_at, entry_at, used, times, times_in, with_place, without_place, code_before, first_of, with_entry_at};
+ghost use Rattle.packed_frames.specs.Linked.{Chained, no_chains, chain_at, entry_at, used, times, times_in};
+ghost use Rattle.packed_frames.specs.Linked.{with_place, without_place, code_before, first_of, with_entry_at};
 
 use crate::frame::Frame;
 use crate::{Entry, Key, Packed, U23, U24};
