@@ -285,7 +285,9 @@ module _ {X : Type 0} (kind : Entry → Option (ℕ × X)) (key : ℕ → Key) (
       found_from n 0 (home n (key q)) q cs (λ i. let e : i ≡ 0 + i = omega arith in subst (λ x. BelongInto n x (get_or cs i [])) e (h i)) (omega arith)
 
   -- ---- one chain becomes another
-  changed_step : (n b k q : ℕ) (cs : List (List Entry)) (es : List Entry) (v : Option X) → b < length cs → home n (key k) ≡ b → found q (pairs kind es) ≡ cond (tied q k) v (found q (pairs kind (get_or cs b []))) → (t s : Bool) → eqb (home n (key q)) b ≡ t → tied q k ≡ s → found q (pairs kind (get_or (set cs b es) (home n (key q)) [])) ≡ cond s v (found q (pairs kind (get_or cs (home n (key q)) [])))
+  changed_step : (n b k q : ℕ) (cs : List (List Entry)) (es : List Entry) (v : Option X) → b < length cs → home n (key k) ≡ b
+      → found q (pairs kind es) ≡ cond (tied q k) v (found q (pairs kind (get_or cs b []))) → (t s : Bool) → eqb (home n (key q)) b ≡ t → tied q k ≡ s
+      → found q (pairs kind (get_or (set cs b es) (home n (key q)) [])) ≡ cond s v (found q (pairs kind (get_or cs (home n (key q)) [])))
   changed_step n b k q cs es v l at h true s e f =
       let is : home n (key q) ≡ b = equal_tells _ _ e in
       ap (λ i. found q (pairs kind (get_or (set cs b es) i []))) is
@@ -298,14 +300,19 @@ module _ {X : Type 0} (kind : Entry → Option (ℕ × X)) (key : ℕ → Key) (
   changed_step n b k q cs es v l at h false false e f =
       ap (λ c. found q (pairs kind c)) (get_or-set_other cs b (home n (key q)) es [] (differ_tells _ _ e))
 
-  pub changed : (n b k : ℕ) (cs : List (List Entry)) (es : List Entry) (v : Option X) → ((i : ℕ) → BelongInto n i (get_or cs i [])) → ((i : ℕ) → BelongInto n i (get_or (set cs b es) i [])) → b < length cs → home n (key k) ≡ b → ((q : ℕ) → found q (pairs kind es) ≡ cond (tied q k) v (found q (pairs kind (get_or cs b [])))) → (q : ℕ) → found q (all_pairs kind (set cs b es)) ≡ cond (tied q k) v (found q (all_pairs kind cs))
+  pub changed : (n b k : ℕ) (cs : List (List Entry)) (es : List Entry) (v : Option X) → ((i : ℕ) → BelongInto n i (get_or cs i []))
+      → ((i : ℕ) → BelongInto n i (get_or (set cs b es) i [])) → b < length cs → home n (key k) ≡ b
+      → ((q : ℕ) → found q (pairs kind es) ≡ cond (tied q k) v (found q (pairs kind (get_or cs b [])))) → (q : ℕ)
+      → found q (all_pairs kind (set cs b es)) ≡ cond (tied q k) v (found q (all_pairs kind cs))
   changed n b k cs es v old new l at h q =
       found_there n q (set cs b es) new
       ∙ changed_step n b k q cs es v l at (h q) (eqb (home n (key q)) b) (tied q k) refl refl
       ∙ ap (cond (tied q k) v) (sym (found_there n q cs old))
 
   -- ---- a write and a removal in one chain
-  other_tied : (k q : ℕ) (p : ℕ × X) (v : X) (ps : List (ℕ × X)) (s : Option X) (b : Bool) → tied k p.0 ≡ b → (b ≡ false → s ≡ cond (tied q k) (Some v) (found q ps)) → cond b (cond (tied q k) (Some v) (found q ps)) (cond (tied q p.0) (Some p.1) s) ≡ cond (tied q k) (Some v) (cond (tied q p.0) (Some p.1) (found q ps))
+  other_tied : (k q : ℕ) (p : ℕ × X) (v : X) (ps : List (ℕ × X)) (s : Option X) (b : Bool) → tied k p.0 ≡ b
+      → (b ≡ false → s ≡ cond (tied q k) (Some v) (found q ps)) → cond b (cond (tied q k) (Some v) (found q ps)) (cond (tied q p.0) (Some p.1) s)
+      ≡ cond (tied q k) (Some v) (cond (tied q p.0) (Some p.1) (found q ps))
   other_tied k q p v ps s true e h =
       under (tied q k) (Some v) (Some p.1) (found q ps)
       ∙ ap (λ x. cond (tied q k) (Some v) (cond (tied q x) (Some p.1) (found q ps))) (tied_same k p.0 e)
@@ -316,7 +323,11 @@ module _ {X : Type 0} (kind : Entry → Option (ℕ × X)) (key : ℕ → Key) (
   abbrev pushed : Bool → X → ℕ → ℕ → List (ℕ × X) → Option (ℕ × X) → List (ℕ × X) → Option X
   pushed b v k q ps o rest = cond b (cond (tied q k) (Some v) (found q ps)) (found q (before_pairs o rest))
 
-  other_step : (o : Option (ℕ × X)) (k q : ℕ) (new e : Entry) (es : List Entry) (v : X) (b : Bool) → kind e ≡ o → kind new ≡ Some (k, v) → b ≡ tells o k → IsSome (cond b (Some e) (first_with (key k) es)) → (IsSome (first_with (key k) es) → found q (pairs kind (with_other (key k) new es)) ≡ cond (tied q k) (Some v) (found q (pairs kind es))) → pushed b v k q (pairs kind es) o (pairs kind (with_other (key k) new es)) ≡ cond (tied q k) (Some v) (found q (before_pairs o (pairs kind es)))
+  other_step : (o : Option (ℕ × X)) (k q : ℕ) (new e : Entry) (es : List Entry) (v : X) (b : Bool) → kind e ≡ o → kind new ≡ Some (k, v)
+      → b ≡ tells o k → IsSome (cond b (Some e) (first_with (key k) es))
+      → (IsSome (first_with (key k) es) → found q (pairs kind (with_other (key k) new es)) ≡ cond (tied q k) (Some v) (found q (pairs kind es)))
+      → pushed b v k q (pairs kind es) o (pairs kind (with_other (key k) new es))
+      ≡ cond (tied q k) (Some v) (found q (before_pairs o (pairs kind es)))
   other_step None k q new e es v b is at t h ih = let there : IsSome (first_with (key k) es) = rw t at h in rw t (ih there)
   other_step (Some p) k q new e es v b is at t h ih =
       rw t (other_tied k q p v (pairs kind es) (found q (pairs kind (with_other (key k) new es))) (tied k p.0) refl (λ f. ih (let g : b ≡ false = t ∙ f in rw g at h)))
@@ -331,14 +342,19 @@ module _ {X : Type 0} (kind : Entry → Option (ℕ × X)) (key : ℕ → Key) (
       push_step k q new e es v (has_key (key k) e) at
       ∙ other_step (kind e) k q new e es v (has_key (key k) e) refl at (K.finds k e) h (found_other k q new es v at)
 
-  gone_tied : (k q : ℕ) (p : ℕ × X) (ps : List (ℕ × X)) (s : Option X) (b : Bool) → tied k p.0 ≡ b → (b ≡ true → found k ps ≡ None) → (b ≡ false → s ≡ cond (tied q k) None (found q ps)) → cond b (found q ps) (cond (tied q p.0) (Some p.1) s) ≡ cond (tied q k) None (cond (tied q p.0) (Some p.1) (found q ps))
+  gone_tied : (k q : ℕ) (p : ℕ × X) (ps : List (ℕ × X)) (s : Option X) (b : Bool) → tied k p.0 ≡ b → (b ≡ true → found k ps ≡ None)
+      → (b ≡ false → s ≡ cond (tied q k) None (found q ps))
+      → cond b (found q ps) (cond (tied q p.0) (Some p.1) s) ≡ cond (tied q k) None (cond (tied q p.0) (Some p.1) (found q ps))
   gone_tied k q p ps s true e n h =
       left (tied q k) (tied q p.0) p.1 (found q ps) (ap (tied q) (sym (tied_same k p.0 e))) (λ t. ap (λ x. found x ps) (tied_same q k t) ∙ n refl)
   gone_tied k q p ps s false e n h =
       ap (cond (tied q p.0) (Some p.1)) (h refl)
       ∙ swapped (tied q p.0) (tied q k) p.1 None (found q ps) (λ x y. true_not_false (tied k p.0) (ap (λ z. tied z p.0) (sym (tied_same q k y)) ∙ x) e)
 
-  gone_step : (o : Option (ℕ × X)) (k q : ℕ) (e : Entry) (es : List Entry) (b : Bool) → kind e ≡ o → b ≡ tells o k → first_with (key_of e) es ≡ None → found q (pairs kind (without_first (key k) es)) ≡ cond (tied q k) None (found q (pairs kind es)) → cond b (found q (pairs kind es)) (found q (before_pairs o (pairs kind (without_first (key k) es)))) ≡ cond (tied q k) None (found q (before_pairs o (pairs kind es)))
+  gone_step : (o : Option (ℕ × X)) (k q : ℕ) (e : Entry) (es : List Entry) (b : Bool) → kind e ≡ o → b ≡ tells o k → first_with (key_of e) es ≡ None
+      → found q (pairs kind (without_first (key k) es)) ≡ cond (tied q k) None (found q (pairs kind es))
+      → cond b (found q (pairs kind es)) (found q (before_pairs o (pairs kind (without_first (key k) es))))
+      ≡ cond (tied q k) None (found q (before_pairs o (pairs kind es)))
   gone_step None k q e es b is t n ih = rw t ih
   gone_step (Some p) k q e es b is t n ih =
       rw t (gone_tied k q p (pairs kind es) (found q (pairs kind (without_first (key k) es))) (tied k p.0) refl
@@ -389,7 +405,10 @@ pub each_set : (P : ℕ → List Entry → Type 0) (cs : List (List Entry)) (b :
 each_set P cs b es all new l i = each_step P cs b es all new l i (eqb i b) refl
 
 -- ---- what a search of a chain told of a shared frame
-value_of_head : (h : ℕ) (e : Entry) (r : Option Entry) (m f : ℕ) (b : Bool) → has_key (keys.Shared h) e ≡ b → shared_parts (cond b (Some e) r) ≡ Some (m, f) → (shared_parts r ≡ Some (m, f) → Some (record { hash = h; mpn = m; field = f }) ≡ value_of shared_of r) → Some (record { hash = h; mpn = m; field = f }) ≡ value_of shared_of (cond b (Some e) r)
+value_of_head : (h : ℕ) (e : Entry) (r : Option Entry) (m f : ℕ) (b : Bool) → has_key (keys.Shared h) e ≡ b
+    → shared_parts (cond b (Some e) r) ≡ Some (m, f)
+    → (shared_parts r ≡ Some (m, f) → Some (record { hash = h; mpn = m; field = f }) ≡ value_of shared_of r)
+    → Some (record { hash = h; mpn = m; field = f }) ≡ value_of shared_of (cond b (Some e) r)
 value_of_head h (Shared x n c) r m f true t is ih =
     let parts : (n, c) ≡ (m, f) = some_same _ _ is in
     rw (same_number h x t, ← ap (λ (p : ℕ × ℕ). p.0) parts, ← ap (λ (p : ℕ × ℕ). p.1) parts) refl

@@ -21,7 +21,8 @@ use Rattle.share_table.specs.declared.entries.SharedEntry.{SharedEntry}
 use Rattle.share_table.specs.Buckets.{IsGreatestPower}
 use Rattle.share_table.specs.Stored.{WideMap, widened, frame_of, Agrees, shared_of, hint_of, all_pairs, value_of, shared_in, maps_of, rewidened, BelongInto, HasEachOnce, IsFiled, IsCounted, IsKept}
 use Rattle.share_table.proofs.Maps.{true_not_false, tied, found, len_new, len_gone}
-use Rattle.share_table.proofs.Chained.{shared_kind, hint_kind, found_value, found_there, absent_first, changed, found_other, found_without, all_stay, stay_other, stay_without, no_hint, no_shared, each_set, once_without, once_other, belong_without, belong_other, length_other, length_without, entries_in_set}
+use Rattle.share_table.proofs.Chained.{shared_kind, hint_kind, found_value, found_there, absent_first, changed, found_other, found_without, all_stay, stay_other, stay_without}
+use Rattle.share_table.proofs.Chained.{no_hint, no_shared, each_set, once_without, once_other, belong_without, belong_other, length_other, length_without, entries_in_set}
 use Rattle.share_table.proofs.Tables.{frames, frame_got, frame_is, agrees_entry, count_most, count_least, none_of_map, some_of_map, nothing_counted, added_frames, added_counted, len_added, recounted_frames, recounted, len_recounted, removed_frames, removed_counted, len_removed}
 
 same_maps : (capacity : ℕ) (a b : SharedMap) (c d : HintMap) → a ≡ b → c ≡ d → ◌≡◌ {A = TableMaps} (record { capacity = capacity; shared = a; hints = c }) (record { capacity = capacity; shared = b; hints = d })

@@ -152,7 +152,10 @@ stored_count : (new : SharedEntry) (c : ℕ) (b : Bool) → new.field ≡ cond b
 stored_count new c true f = f
 stored_count new c false f = refl
 
-stored_len : (e : SharedEntry) (wide : WideMap) (hash c : ℕ) (w : Option ℕ) → get wide hash ≡ w → Agrees (Some e) w → (b z : Bool) → nat_le c 65535 ≡ b → nat_eq e.field 0 ≡ z → len (cond b (cond z (remove wide hash) wide) (insert wide hash c)) + cond (nat_lt 65535 (widened e.field w)) 1 0 ≡ cond (nat_lt 65535 c) 1 0 + len wide
+stored_len : (e : SharedEntry) (wide : WideMap) (hash c : ℕ) (w : Option ℕ) → get wide hash ≡ w → Agrees (Some e) w → (b z : Bool)
+    → nat_le c 65535 ≡ b → nat_eq e.field 0 ≡ z
+    → len (cond b (cond z (remove wide hash) wide) (insert wide hash c)) + cond (nat_lt 65535 (widened e.field w)) 1 0
+    ≡ cond (nat_lt 65535 c) 1 0 + len wide
 stored_len e wide hash c None g a b true h f = absurd (grind (arith, nat_tests, a.0))
 stored_len e wide hash c (Some x) g a b false h f = absurd (grind (arith, nat_tests, a.0))
 stored_len e wide hash c None g a true false h f =

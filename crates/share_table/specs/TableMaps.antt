@@ -15,7 +15,8 @@ shared_code = code_by (ℕ × ℕ) (coded× coded_ℕ coded_ℕ) (λ s. (s.mpn, 
 
 abbrev pub hint_code : Coded HintFrame
 hint_code =
-    code_by (ℕ × (ℕ × ℕ)) (coded× coded_ℕ (coded× coded_ℕ coded_ℕ)) (λ h. (h.guest, (h.ppn, h.mpn))) (λ p. record { guest = p.0; ppn = p.1.0; mpn = p.1.1 }) (λ _. refl)
+    code_by (ℕ × (ℕ × ℕ)) (coded× coded_ℕ (coded× coded_ℕ coded_ℕ)) (λ h. (h.guest, (h.ppn, h.mpn)))
+    (λ p. record { guest = p.0; ppn = p.1.0; mpn = p.1.1 }) (λ _. refl)
 
 abbrev pub SharedMap : Type 0
 SharedMap = map.FinMap nat_cmp SharedFrame

@@ -16,7 +16,8 @@ mod wide;
 
 ghost use Rattle.std.specs.Prelude.{◌≡◌, ◌+◌, ◌*◌, ◌≤◌, ◌<◌, ◌^◌, None, IsSome, IfOk, option_map};
 ghost use Rattle.share_table.specs.Buckets.{IsRoom};
-ghost use Rattle.share_table.specs.TableMaps.{shared_at, hint_at, entry_count, references, extended, field_of, count_at, with_shared, with_count, with_one_less, with_hint, without_hint, empty_table};
+ghost use Rattle.share_table.specs.TableMaps.{shared_at, hint_at, entry_count, references, extended, field_of, count_at, with_shared};
+ghost use Rattle.share_table.specs.TableMaps.{with_count, with_one_less, with_hint, without_hint, empty_table};
 
 use buckets::bucket_count;
 use entries::EXTENDED;

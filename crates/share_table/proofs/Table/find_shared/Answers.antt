@@ -8,7 +8,9 @@ returns-in_err-entry g c =
 
 pub count_of-requires : goal.count_of-requires
 count_of-requires g c =
-    entry_agrees c.self.inside.references c.self.inside.chains c.self.inside.wide c.self.invariant c.in_ok-entry.entry (entry_in c.self.inside.references c.self.inside.chains c.self.inside.wide c.self.invariant c.args.hash c.shared_frame.result c.shared_frame.ensures.found c.in_ok-entry.entry c.in_ok-entry.was c.in_ok-entry.ensures.hash)
+    entry_agrees c.self.inside.references c.self.inside.chains c.self.inside.wide c.self.invariant c.in_ok-entry.entry
+    (entry_in c.self.inside.references c.self.inside.chains c.self.inside.wide c.self.invariant c.args.hash c.shared_frame.result
+    c.shared_frame.ensures.found c.in_ok-entry.entry c.in_ok-entry.was c.in_ok-entry.ensures.hash)
 
 pub returns : goal.returns
 returns g c =

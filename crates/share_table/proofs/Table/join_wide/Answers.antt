@@ -69,5 +69,14 @@ returns-clause-joined g c =
     let at = entry_in c.self.inside.references c.self.inside.chains c.self.inside.wide c.self.invariant c.args.hash c.shared_frame.result c.shared_frame.ensures.found e c.unwrap-entry.ensures hash_is in
     let first = first_in c.self.inside.references c.self.inside.chains c.self.inside.wide c.self.invariant c.args.hash c.shared_frame.result c.shared_frame.ensures.found e c.unwrap-entry.ensures hash_is in
     let n : ℕ = c.count_of-count.result in
-    rw (← c.self.view_is, ← hash_is, entry_counts c.self.inside.references c.self.inside.chains c.self.inside.wide c.self.invariant e at, ← c.count_of-count.ensures, counts_as c.self.inside.references c.self.inside.chains c.self.inside.wide c.self.invariant e at (n + 1), c.replace.ensures, c.of.ensures, c.store-field.ensures.counts)
+    rw (
+      ← c.self.view_is,
+      ← hash_is,
+      entry_counts c.self.inside.references c.self.inside.chains c.self.inside.wide c.self.invariant e at,
+      ← c.count_of-count.ensures,
+      counts_as c.self.inside.references c.self.inside.chains c.self.inside.wide c.self.invariant e at (n + 1),
+      c.replace.ensures,
+      c.of.ensures,
+      c.store-field.ensures.counts,
+    )
     (count_changed c.self.inside.references c.self.inside.chains c.self.inside.wide c.self.invariant e first at (n + 1) c.store-field.result c.store-field.ensures.field (omega arith))

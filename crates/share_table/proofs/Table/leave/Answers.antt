@@ -12,7 +12,13 @@ leave_wide-requires-clause-wide g c =
     let F = frame_for c.self.inside.references c.self.inside.chains c.self.inside.wide c.self.invariant c.args.hash (rw (← c.self.view_is) at c.requires.present) in
     let same : c.count_down-field.result ≡ F.e.field = c.count_down-field.ensures.before ∙ field_at c.self.inside.references c.self.inside.chains c.self.inside.wide c.self.invariant c.args.hash F.e F.hash_is F.first_is F.entry_is in
     let zero : F.e.field ≡ 0 = sym same ∙ c.if-field-eq-EXTENDED.true in
-    rw (c.count_down-field.ensures.counted, down_none c.self.inside.references c.self.inside.chains c.self.inside.wide c.self.invariant c.args.hash F.e F.hash_is F.first_is F.entry_is zero) (wide_at c.self.inside.references c.self.inside.chains c.self.inside.wide c.self.invariant c.args.hash F.e F.hash_is F.first_is F.entry_is zero)
+    rw (
+      c.count_down-field.ensures.counted,
+      down_none c.self.inside.references c.self.inside.chains c.self.inside.wide c.self.invariant c.args.hash
+          F.e F.hash_is F.first_is F.entry_is zero,
+    )
+    (wide_at c.self.inside.references c.self.inside.chains c.self.inside.wide c.self.invariant c.args.hash F.e F.hash_is F.first_is F.entry_is
+    zero)
 
 pub overflow_sub-self : goal.overflow_sub-self
 overflow_sub-self g c =

@@ -49,7 +49,9 @@ store-field-requires-clause-room g c =
     let least = entry_least c.self.inside.references c.self.inside.chains c.self.inside.wide c.self.invariant e at in
     let most = entry_most c.self.inside.references c.self.inside.chains c.self.inside.wide c.self.invariant e at in
     let wide_count : 65536 ≤ count_at (maps_of c.self.inside.chains c.self.inside.wide) c.args.hash = rw (← c.self.view_is) at c.requires.wide in
-    let same_count : count_at (maps_of c.self.inside.chains c.self.inside.wide) c.args.hash ≡ widened e.field (get c.self.inside.wide e.hash) = ap (count_at (maps_of c.self.inside.chains c.self.inside.wide)) (sym hash_is) ∙ entry_counts c.self.inside.references c.self.inside.chains c.self.inside.wide c.self.invariant e at in
+    let same_count : count_at (maps_of c.self.inside.chains c.self.inside.wide) c.args.hash ≡ widened e.field (get c.self.inside.wide e.hash) =
+    ap (count_at (maps_of c.self.inside.chains c.self.inside.wide)) (sym hash_is)
+    ∙ entry_counts c.self.inside.references c.self.inside.chains c.self.inside.wide c.self.invariant e at in
     let more : 1 ≤ n - 1 = omega (arith, wide_count, same_count, c.count_of-count.ensures) in
     let kept = count_kept c.self.inside.references c.self.inside.chains c.self.inside.wide c.self.invariant e first at (n - 1) (field_of (n - 1)) refl more (c.self.inside.references - 1) (omega (arith, least, most, c.count_of-count.ensures)) (omega (arith, c.self.invariant.counted.bounded)) in
     wide_fits _ _ _ kept.counted
@@ -64,10 +66,14 @@ invariant_of-self g c =
     let least = entry_least c.self.inside.references c.self.inside.chains c.self.inside.wide c.self.invariant e at in
     let most = entry_most c.self.inside.references c.self.inside.chains c.self.inside.wide c.self.invariant e at in
     let wide_count : 65536 ≤ count_at (maps_of c.self.inside.chains c.self.inside.wide) c.args.hash = rw (← c.self.view_is) at c.requires.wide in
-    let same_count : count_at (maps_of c.self.inside.chains c.self.inside.wide) c.args.hash ≡ widened e.field (get c.self.inside.wide e.hash) = ap (count_at (maps_of c.self.inside.chains c.self.inside.wide)) (sym hash_is) ∙ entry_counts c.self.inside.references c.self.inside.chains c.self.inside.wide c.self.invariant e at in
+    let same_count : count_at (maps_of c.self.inside.chains c.self.inside.wide) c.args.hash ≡ widened e.field (get c.self.inside.wide e.hash) =
+    ap (count_at (maps_of c.self.inside.chains c.self.inside.wide)) (sym hash_is)
+    ∙ entry_counts c.self.inside.references c.self.inside.chains c.self.inside.wide c.self.invariant e at in
     let more : 1 ≤ n - 1 = omega (arith, wide_count, same_count, c.count_of-count.ensures) in
     rw (c.replace.ensures, c.of.ensures, c.store-field.ensures.counts)
-    (count_kept c.self.inside.references c.self.inside.chains c.self.inside.wide c.self.invariant e first at (n - 1) c.store-field.result c.store-field.ensures.field more (c.self.inside.references - 1) (omega (arith, least, most, c.count_of-count.ensures)) (omega (arith, c.self.invariant.counted.bounded)))
+    (count_kept c.self.inside.references c.self.inside.chains c.self.inside.wide c.self.invariant e first at
+    (n - 1) c.store-field.result c.store-field.ensures.field more (c.self.inside.references - 1)
+    (omega (arith, least, most, c.count_of-count.ensures)) (omega (arith, c.self.invariant.counted.bounded)))
 
 pub returns-clause-count : goal.returns-clause-count
 returns-clause-count g c =
@@ -87,7 +93,9 @@ returns-clause-left g c =
     let least = entry_least c.self.inside.references c.self.inside.chains c.self.inside.wide c.self.invariant e at in
     let most = entry_most c.self.inside.references c.self.inside.chains c.self.inside.wide c.self.invariant e at in
     let wide_count : 65536 ≤ count_at (maps_of c.self.inside.chains c.self.inside.wide) c.args.hash = rw (← c.self.view_is) at c.requires.wide in
-    let same_count : count_at (maps_of c.self.inside.chains c.self.inside.wide) c.args.hash ≡ widened e.field (get c.self.inside.wide e.hash) = ap (count_at (maps_of c.self.inside.chains c.self.inside.wide)) (sym hash_is) ∙ entry_counts c.self.inside.references c.self.inside.chains c.self.inside.wide c.self.invariant e at in
+    let same_count : count_at (maps_of c.self.inside.chains c.self.inside.wide) c.args.hash ≡ widened e.field (get c.self.inside.wide e.hash) =
+    ap (count_at (maps_of c.self.inside.chains c.self.inside.wide)) (sym hash_is)
+    ∙ entry_counts c.self.inside.references c.self.inside.chains c.self.inside.wide c.self.invariant e at in
     let more : 1 ≤ n - 1 = omega (arith, wide_count, same_count, c.count_of-count.ensures) in
     rw (← c.self.view_is, ← hash_is, one_less_of_more c.self.inside.references c.self.inside.chains c.self.inside.wide c.self.invariant e at (n - 1) (omega (arith, least, c.count_of-count.ensures)) more, c.replace.ensures, c.of.ensures, c.store-field.ensures.counts)
     (count_changed c.self.inside.references c.self.inside.chains c.self.inside.wide c.self.invariant e first at (n - 1) c.store-field.result c.store-field.ensures.field more)
