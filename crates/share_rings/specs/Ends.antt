@@ -93,7 +93,8 @@ module _ {A : Type 0} where
 
   -- some request has no verdict yet, and the first such request is `Close` exactly when `closed` is true
   abbrev pub IsUnanswered : MergerEnd A → Bool → Type 0
-  IsUnanswered e closed = (length (end_given e) < length (end_taken e)) × ((d : Request) → closed ≡ is_close (slice_index_or (end_taken e) (length (end_given e)) d))
+  IsUnanswered e closed = (length (end_given e) < length (end_taken e))
+      × ((d : Request) → closed ≡ is_close (slice_index_or (end_taken e) (length (end_given e)) d))
 
   -- the two ends of one guest's rings
   abbrev pub IsOnePair : ClosedPort A → MergerEnd A → Type 0

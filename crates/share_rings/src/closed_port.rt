@@ -28,9 +28,11 @@ impl<A: Allocator> ClosedPort<A> {
     pub fn verdict(&mut self) -> Option<Verdict>
         ensures pair { closed_name self.new ≡ closed_name self.old }
         ensures capacity { closed_capacity self.new ≡ closed_capacity self.old }
-        ensures got { MatchOption result (closed_got self.new ≡ closed_got self.old) (λ v. closed_got self.new ≡ closed_got self.old ++ v ∷ []) }
+        ensures got { MatchOption result (closed_got self.new ≡ closed_got self.old)
+            (λ v. closed_got self.new ≡ closed_got self.old ++ v ∷ []) }
         ensures drained { last_closed (closed_got self.old) ≡ true → IsNone result × (self.new ≡ self.old) }
-        ensures known { last_closed (closed_got self.old) ≡ false → MatchOption result (closed_known self.old ≡ []) (λ v. IsPrefix (closed_known self.old) (v ∷ closed_known self.new)) }
+        ensures known { last_closed (closed_got self.old) ≡ false
+            → MatchOption result (closed_known self.old ≡ []) (λ v. IsPrefix (closed_known self.old) (v ∷ closed_known self.new)) }
         ensures sent { closed_sent self.new ≡ closed_sent self.old }
     {
         if self.drained {

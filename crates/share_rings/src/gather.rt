@@ -1,7 +1,8 @@
 //! Both ends of a pair in one thread.
 ghost use Rattle.std.specs.Prelude.{◌≡◌, ◌≤◌, ◌++◌};
 ghost use Rattle.share_rings.specs.Closing.{has_closed, last_closed};
-ghost use Rattle.share_rings.specs.Ends.{closed_sent, closed_got, closed_known, closed_view, end_taken, end_given, end_known, end_free, end_view, IsOnePair};
+ghost use Rattle.share_rings.specs.Ends.{closed_sent, closed_got, closed_known, closed_view, end_taken};
+ghost use Rattle.share_rings.specs.Ends.{end_given, end_known, end_free, end_view, IsOnePair};
 ghost use Rattle.share_rings.specs.Meet.{MeetingIs};
 
 use crate::closed_port::ClosedPort;

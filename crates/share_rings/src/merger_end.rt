@@ -35,7 +35,8 @@ impl<A: Allocator> MergerEnd<A> {
     pub fn free(&mut self) -> u32
         ensures pair { end_name self.new ≡ end_name self.old }
         ensures capacity { end_capacity self.new ≡ end_capacity self.old }
-        ensures lists { (end_taken self.new ≡ end_taken self.old) × (end_given self.new ≡ end_given self.old) × (end_known self.new ≡ end_known self.old) }
+        ensures lists { (end_taken self.new ≡ end_taken self.old) × (end_given self.new ≡ end_given self.old)
+            × (end_known self.new ≡ end_known self.old) }
         ensures value { result ≡ end_free self.new }
         ensures more { end_free self.old ≤ end_free self.new }
         ensures least { end_capacity self.old ≤ result + length (end_given self.old) }
@@ -48,9 +49,12 @@ impl<A: Allocator> MergerEnd<A> {
     pub fn take(&mut self) -> Option<Request>
         ensures pair { end_name self.new ≡ end_name self.old }
         ensures capacity { end_capacity self.new ≡ end_capacity self.old }
-        ensures taken { MatchOption result (end_taken self.new ≡ end_taken self.old) (λ r. end_taken self.new ≡ end_taken self.old ++ r ∷ []) }
+        ensures taken { MatchOption result (end_taken self.new ≡ end_taken self.old)
+            (λ r. end_taken self.new ≡ end_taken self.old ++ r ∷ []) }
         ensures closed { has_close (end_taken self.old) ≡ true → IsNone result × (self.new ≡ self.old) }
-        ensures known { has_close (end_taken self.old) ≡ false → MatchOption result ((end_known self.old ≡ []) × (end_known self.new ≡ [])) (λ r. IsPrefix (end_known self.old) (r ∷ end_known self.new)) }
+        ensures known { has_close (end_taken self.old) ≡ false
+            → MatchOption result ((end_known self.old ≡ []) × (end_known self.new ≡ []))
+            (λ r. IsPrefix (end_known self.old) (r ∷ end_known self.new)) }
         ensures given { end_given self.new ≡ end_given self.old }
         ensures free { end_free self.new ≡ end_free self.old }
     {

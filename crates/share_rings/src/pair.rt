@@ -1,6 +1,7 @@
 //! Making a pair.
 ghost use Rattle.std.specs.Prelude.{◌≡◌, [], IfOk, MatchResult};
-ghost use Rattle.share_rings.specs.Ends.{port_sent, port_got, port_known, port_name, port_capacity, end_taken, end_given, end_known, end_name, end_free, end_capacity};
+ghost use Rattle.share_rings.specs.Ends.{port_sent, port_got, port_known, port_name, port_capacity, end_taken};
+ghost use Rattle.share_rings.specs.Ends.{end_given, end_known, end_name, end_free, end_capacity};
 ghost use Rattle.share_rings.specs.Faults.{IsCapacity, NoPairFor};
 
 use crate::merger_end::MergerEnd;
@@ -39,7 +40,8 @@ pub fn ring_pair<A: Allocator + Copy>(
     ensures pair { IfOk result (λ (port, end). port_name port ≡ end_name end) }
     ensures capacity { IfOk result (λ (port, end). (port_capacity port ≡ capacity) × (end_capacity end ≡ capacity)) }
     ensures port { IfOk result (λ (port, end). (port_sent port ≡ []) × (port_got port ≡ []) × (port_known port ≡ [])) }
-    ensures end { IfOk result (λ (port, end). (end_taken end ≡ []) × (end_given end ≡ []) × (end_known end ≡ []) × (end_free end ≡ capacity)) }
+    ensures end { IfOk result (λ (port, end). (end_taken end ≡ []) × (end_given end ≡ []) × (end_known end ≡ [])
+        × (end_free end ≡ capacity)) }
     ensures fault { MatchResult result (λ _. IsCapacity capacity) (λ fault. NoPairFor capacity fault) }
 {
     if capacity == 0 || capacity > MAX_RING_CAPACITY {
@@ -57,7 +59,8 @@ pub fn open_pair<A: Allocator + Copy>(
     ensures pair { IfOk result (λ (port, end). port_name port ≡ end_name end) }
     ensures capacity { IfOk result (λ (port, end). (port_capacity port ≡ capacity) × (end_capacity end ≡ capacity)) }
     ensures port { IfOk result (λ (port, end). (port_sent port ≡ []) × (port_got port ≡ []) × (port_known port ≡ [])) }
-    ensures end { IfOk result (λ (port, end). (end_taken end ≡ []) × (end_given end ≡ []) × (end_known end ≡ []) × (end_free end ≡ capacity)) }
+    ensures end { IfOk result (λ (port, end). (end_taken end ≡ []) × (end_given end ≡ []) × (end_known end ≡ [])
+        × (end_free end ≡ capacity)) }
 {
     let (requests, taking) = RingBuffer::new(alloc, capacity as usize)?;
     let (giving, verdicts) = RingBuffer::new(alloc, capacity as usize)?;

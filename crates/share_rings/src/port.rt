@@ -25,7 +25,8 @@ impl<A: Allocator> Port<A> {
     ghost use mathlib.Core.List.{IsPrefix};
     ghost use Rattle.page_model.specs.Faults.{Fits};
     ghost use Rattle.share_rings.specs.Closing.{is_close};
-    ghost use Rattle.share_rings.specs.Ends.{Sends, HasFilled, port_sent, port_got, port_name, port_capacity, port_known, closed_sent, closed_got, closed_name, closed_capacity, closed_known};
+    ghost use Rattle.share_rings.specs.Ends.{Sends, HasFilled, port_sent, port_got, port_name, port_capacity, port_known};
+    ghost use Rattle.share_rings.specs.Ends.{closed_sent, closed_got, closed_name, closed_capacity, closed_known};
     ghost use Rattle.share_rings.specs.Faults.{NotSentFor};
 
     /// Sends a request, or returns it if no slot is known to be free.
@@ -52,7 +53,8 @@ impl<A: Allocator> Port<A> {
     /// Sends a store of these bytes to page `ppn`, starting at `at`.
     pub fn store(&mut self, ppn: u32, at: u32, bytes: &[u8]) -> Result<(), SendFault>
         ensures sends { Sends self.old self.new (Request.Store (record { ppn = ppn; at = at; bytes = bytes.now })) result }
-        ensures fault { MatchResult result (λ _. Fits at (length bytes.now)) (λ fault. NotSentFor at (length bytes.now) (port_capacity self.old) (length (port_sent self.old)) fault) }
+        ensures fault { MatchResult result (λ _. Fits at (length bytes.now))
+            (λ fault. NotSentFor at (length bytes.now) (port_capacity self.old) (length (port_sent self.old)) fault) }
     {
         let request = Request::store(ppn, at, bytes)?;
         self.send(request)?;
@@ -62,7 +64,8 @@ impl<A: Allocator> Port<A> {
     /// Sends a load of `len` bytes of page `ppn`, starting at `at`.
     pub fn load(&mut self, ppn: u32, at: u32, len: u32) -> Result<(), SendFault>
         ensures sends { Sends self.old self.new (Request.Load (record { ppn = ppn; at = at; len = len })) result }
-        ensures fault { MatchResult result (λ _. Fits at len) (λ fault. NotSentFor at len (port_capacity self.old) (length (port_sent self.old)) fault) }
+        ensures fault { MatchResult result (λ _. Fits at len)
+            (λ fault. NotSentFor at len (port_capacity self.old) (length (port_sent self.old)) fault) }
     {
         let request = Request::load(ppn, at, len)?;
         self.send(request)?;
@@ -105,8 +108,10 @@ impl<A: Allocator> Port<A> {
     /// Sends `Close`, or returns the port unchanged if no slot is known to be free.
     pub fn close(self) -> Result<ClosedPort<A>, Port<A>>
         ensures pair { MatchResult result (λ closed. closed_name closed ≡ port_name self) (λ port. port_name port ≡ port_name self) }
-        ensures capacity { MatchResult result (λ closed. closed_capacity closed ≡ port_capacity self) (λ port. port_capacity port ≡ port_capacity self) }
-        ensures sent { MatchResult result (λ closed. closed_sent closed ≡ port_sent self ++ Request.Close ∷ []) (λ port. port_sent port ≡ port_sent self) }
+        ensures capacity { MatchResult result (λ closed. closed_capacity closed ≡ port_capacity self)
+            (λ port. port_capacity port ≡ port_capacity self) }
+        ensures sent { MatchResult result (λ closed. closed_sent closed ≡ port_sent self ++ Request.Close ∷ [])
+            (λ port. port_sent port ≡ port_sent self) }
         ensures busy { IfErr result (λ _. HasFilled self) }
         ensures got { MatchResult result (λ closed. closed_got closed ≡ port_got self) (λ port. port_got port ≡ port_got self) }
         ensures known { MatchResult result (λ closed. closed_known closed ≡ port_known self) (λ port. port_known port ≡ port_known self) }
