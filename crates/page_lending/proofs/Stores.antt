@@ -50,7 +50,9 @@ abbrev pub state : ℕ → List Guest → ℕ → State
 state total gs entries = record { total = total; guests = gs; entries = entries }
 
 -- a store is one step of the model
-stepped : (hash : ℕ → List ℕ → ℕ) (total entries : ℕ) (gs : List Guest) (guest ppn at : ℕ) (bytes : List ℕ) (o : Outcome) → store_at total gs guest ppn at bytes ≡ o → step hash (state total gs entries) guest (Store (record { ppn = ppn; at = at; bytes = bytes })) ≡ record { state = state total o.guests (entries + 1); verdict = o.verdict }
+stepped : (hash : ℕ → List ℕ → ℕ) (total entries : ℕ) (gs : List Guest) (guest ppn at : ℕ) (bytes : List ℕ) (o : Outcome)
+    → store_at total gs guest ppn at bytes ≡ o → step hash (state total gs entries) guest (Store (record { ppn = ppn; at = at; bytes = bytes }))
+    ≡ record { state = state total o.guests (entries + 1); verdict = o.verdict }
 unfolding step answered
 stepped hash total entries gs guest ppn at bytes o e = ap (λ (x : Outcome). let s : Step = record { state = state total x.guests (entries + 1); verdict = x.verdict } in s) e
 
@@ -64,7 +66,10 @@ in_place_step total gs guest ppn salt at old bytes hint here = rw here refl
 
 module _ (hash : ℕ → List ℕ → ℕ) (total guest ppn salt : ℕ) (hint : Option ℕ) where
   -- once a page is private, its stores are done in place
-  pub in_place : (n entries at : ℕ) (gs : List Guest) (front old bytes : List ℕ) → length front ≡ at → page_at gs guest ppn ≡ Some (salt, Private (front ++ drop at old) hint) → length bytes ≡ n * 64 → state_after hash (state total gs entries) (entries_of guest (stores_from n ppn at bytes)) ≡ state total (with_slot gs guest ppn (Private (front ++ bytes ++ drop (at + length bytes) old) hint)) (entries + n)
+  pub in_place : (n entries at : ℕ) (gs : List Guest) (front old bytes : List ℕ) → length front ≡ at
+      → page_at gs guest ppn ≡ Some (salt, Private (front ++ drop at old) hint) → length bytes ≡ n * 64
+      → state_after hash (state total gs entries) (entries_of guest (stores_from n ppn at bytes))
+      ≡ state total (with_slot gs guest ppn (Private (front ++ bytes ++ drop (at + length bytes) old) hint)) (entries + n)
   unfolding state_after stores_from
   in_place zero entries at gs front old bytes before here size =
       let none : bytes ≡ [] = none_left bytes (omega arith) in
@@ -123,7 +128,9 @@ module _ (hash : ℕ → List ℕ → ℕ) (total guest ppn : ℕ) (gs : List Gu
       ∙ ap (λ (x : List Verdict). verdict ∷ x) (all_refused_verdicts n (entries + 1) (at + 64) (drop 64 bytes))
 
 -- stores of which the first is done
-module _ (hash : ℕ → List ℕ → ℕ) (total guest ppn salt : ℕ) (gs : List Guest) (slot : Slot) (hint : Option ℕ) (verdict : Verdict) (here : page_at gs guest ppn ≡ Some (salt, slot)) (is : (at : ℕ) (bytes : List ℕ) → store_at total gs guest ppn at bytes ≡ sets gs guest ppn (Private (written (bytes_of slot) at bytes) hint) verdict) where
+module _ (hash : ℕ → List ℕ → ℕ) (total guest ppn salt : ℕ) (gs : List Guest) (slot : Slot) (hint : Option ℕ) (verdict : Verdict)
+    (here : page_at gs guest ppn ≡ Some (salt, slot)) (is : (at : ℕ) (bytes : List ℕ)
+    → store_at total gs guest ppn at bytes ≡ sets gs guest ppn (Private (written (bytes_of slot) at bytes) hint) verdict) where
   all_done : (n entries : ℕ) (bytes : List ℕ) → length bytes ≡ suc n * 64 → state_after hash (state total gs entries) (entries_of guest (stores_from (suc n) ppn 0 bytes)) ≡ state total (with_slot gs guest ppn (Private (written (bytes_of slot) 0 bytes) hint)) (entries + suc n)
   unfolding state_after stores_from
   all_done n entries bytes size =

@@ -1,5 +1,6 @@
 -- What the stores of a whole page come to.
-use Rattle.std.specs.Prelude.{◌≡◌, ℕ, ◌+◌, ◌-◌, ◌==◌, Bool, true, false, ◌&&◌, if◌then◌else◌, List, [], ◌∷◌, length, replicate, All, Some, IfSome}
+use Rattle.std.specs.Prelude.{◌≡◌, ℕ, ◌+◌, ◌-◌, ◌==◌, Bool, true, false, ◌&&◌, if◌then◌else◌}
+use Rattle.std.specs.Prelude.{List, [], ◌∷◌, length, replicate, All, Some, IfSome}
 use Rattle.page_model.specs.Pages.{State, page_at}
 use Rattle.page_model.specs.Steps.{Step, Outcome, stored, at_page}
 use Rattle.page_model.specs.Replay.{state_after, verdicts_of}
@@ -15,13 +16,17 @@ use Rattle.page_lending.specs.Lending.{stores_of, entries_of, page_stored, page_
 
 -- the state after one store of all of a page's bytes, which counts as many requests as the stores that it stands for
 abbrev pub at_once : State → Outcome → Step
-at_once s outcome = record { state = record { total = s.total; guests = outcome.guests; entries = s.entries + STORES_A_PAGE }; verdict = outcome.verdict }
+at_once s outcome = record {
+  state = record { total = s.total; guests = outcome.guests; entries = s.entries + STORES_A_PAGE };
+  verdict = outcome.verdict;
+}
 
 -- storing a whole page is one store of all its bytes at place 0
 abbrev pub StoresAtOnce : Type 0
 StoresAtOnce =
     (hash : ℕ → List ℕ → ℕ) (s : State) (guest ppn : ℕ) (page : List ℕ) → length page ≡ PAGE_BYTES →
-    page_stored hash s guest ppn page ≡ at_once s (at_page s.guests guest ppn (λ salt slot. stored s.total s.guests guest ppn 0 page salt slot))
+    page_stored hash s guest ppn page
+    ≡ at_once s (at_page s.guests guest ppn (λ salt slot. stored s.total s.guests guest ppn 0 page salt slot))
 
 -- the verdict of a store to a page right after another one with this verdict
 abbrev pub verdict_after : Verdict → Verdict
@@ -54,6 +59,7 @@ LeavesPage guest ppn e = (e.guest == guest && writes_page ppn e.request) ≡ fal
 -- after a page was lent, and not refused, it has the bytes that were lent, until an entry stores to it or releases it
 abbrev pub LentIsTakenBack : Type 0
 LentIsTakenBack =
-    (hash : ℕ → List ℕ → ℕ) (s : State) (guest ppn : ℕ) (page : List ℕ) (later : List Entry) → length page ≡ PAGE_BYTES → IsWhole s guest ppn →
+    (hash : ℕ → List ℕ → ℕ) (s : State) (guest ppn : ℕ) (page : List ℕ) (later : List Entry) →
+    length page ≡ PAGE_BYTES → IsWhole s guest ppn →
     is_done (page_stored hash s guest ppn page).verdict ≡ true → All (LeavesPage guest ppn) later →
     text_at (state_after hash (page_lent hash s guest ppn page).state later).guests guest ppn ≡ Some page

@@ -15,7 +15,8 @@ use Rattle.page_lending.specs.declared.pieces.TheConstants.{STORES_A_PAGE}
 unfoldable pub stores_from : ℕ → ℕ → ℕ → List ℕ → List Request
 stores_from zero ppn at bytes = []
 stores_from (suc n) ppn at bytes =
-    Store (record { ppn = ppn; at = at; bytes = take MAX_ACCESS_BYTES bytes }) ∷ stores_from n ppn (at + MAX_ACCESS_BYTES) (drop MAX_ACCESS_BYTES bytes)
+    Store (record { ppn = ppn; at = at; bytes = take MAX_ACCESS_BYTES bytes })
+    ∷ stores_from n ppn (at + MAX_ACCESS_BYTES) (drop MAX_ACCESS_BYTES bytes)
 
 -- the 64 stores that write a whole page
 abbrev pub stores_of : ℕ → List ℕ → List Request
