@@ -57,7 +57,8 @@ impl<H: PageHash> Forecasts<H> {
         ppn: u32,
     ) -> bool
         requires { place < FORECASTS }
-        ensures forecast { self.new ≡ slice_set self.old place (expected salt (left_by before.now guest ppn (option_map (λ page. page.now) bytes.entry))) }
+        ensures forecast { self.new
+            ≡ slice_set self.old place (expected salt (left_by before.now guest ppn (option_map (λ page. page.now) bytes.entry))) }
         ensures mapped { result ≡ is_some (left_by before.now guest ppn (option_map (λ page. page.now) bytes.entry)) }
     {
         match place {
