@@ -217,7 +217,10 @@ own_case : (hash : ℕ → List ℕ → ℕ) (s : State) (i a : ℕ) (t : State)
     (Alike (step hash s a r).state i (step hash t 0 r).state → Ends hash (last (step hash s a r).state) i (step hash t 0 r).state rs (vs (step hash s a r).state)) →
     Ends hash (last (step hash s a r).state) i t (r ∷ rs) ((step hash s a r).verdict ∷ vs (step hash s a r).state)
 own_case hash s i a t r last rs vs e alike h =
-    let P : ℕ → Type 0 = λ n. is_no_frame (step hash s n r).verdict ≡ false → (Alike (step hash s n r).state i (step hash t 0 r).state → Ends hash (last (step hash s n r).state) i (step hash t 0 r).state rs (vs (step hash s n r).state)) → Ends hash (last (step hash s n r).state) i t (r ∷ rs) ((step hash s n r).verdict ∷ vs (step hash s n r).state) in
+    let P : ℕ → Type 0 = λ n. is_no_frame (step hash s n r).verdict ≡ false
+    → (Alike (step hash s n r).state i (step hash t 0 r).state
+    → Ends hash (last (step hash s n r).state) i (step hash t 0 r).state rs (vs (step hash s n r).state))
+    → Ends hash (last (step hash s n r).state) i t (r ∷ rs) ((step hash s n r).verdict ∷ vs (step hash s n r).state) in
     let here : P i = λ g k. own_entry hash s i t r (last (step hash s i r).state) rs (vs (step hash s i r).state) alike (k (both hash s i t r alike g)) in
     subst P (sym e) here h
 

@@ -88,7 +88,9 @@ exact (Own c ∷ hs) h =
     omega (arith, rest, one)
 exact (Common c ∷ hs) h =
     let few : 1 ≤ copies c (owns hs) → 1 + (copies c (owns hs) + copies c (commons hs)) ≤ 1 = λ some. let l = h c some in omega (arith, l, copies_self c (all hs), copies_parts c hs) in
-    let e = once_same (list_any (same c) (all hs)) (list_any (same c) (commons hs)) (copies c (all hs)) (copies c (commons hs)) (any_copies c (all hs)) (any_copies c (commons hs)) (omega (arith, copies_parts c hs)) (λ some. some_common (copies c (owns hs)) (copies c (commons hs)) few (omega (arith, some, copies_parts c hs))) in
+    let e = once_same (list_any (same c) (all hs)) (list_any (same c) (commons hs)) (copies c (all hs)) (copies c (commons hs))
+    (any_copies c (all hs)) (any_copies c (commons hs)) (omega (arith, copies_parts c hs))
+    (λ some. some_common (copies c (owns hs)) (copies c (commons hs)) few (omega (arith, some, copies_parts c hs))) in
     let rest = exact hs (λ p some. let l = h p some in omega (arith, l, copies_cons p c (all hs))) in
     omega (arith, rest, e)
 

@@ -105,7 +105,9 @@ data Ready (hash : ℕ → List ℕ → ℕ) (gs : List Guest) (g p h q salt : �
   first_hinted : page_at gs g p ≡ Some (salt, Private bytes (Some (key_for hash salt bytes))) → (hint : Option ℕ) → page_at gs h q ≡ Some (salt, Private bytes hint) → Unmatched hash gs salt bytes → Ready hash gs g p h q salt bytes
 
 -- a hint whose content has another key is another page
-other_content : (hash : ℕ → List ℕ → ℕ) (gs : List Guest) (g p h q salt : ℕ) (bytes : List ℕ) (hint : Option ℕ) → page_at gs h q ≡ Some (salt, Private bytes hint) → (w : Holder gs g p (key_for hash salt bytes)) → (key_for hash w.salt w.bytes ≡ key_for hash salt bytes → ⊥) → h ≡ w.guest → q ≡ w.ppn → ⊥
+other_content : (hash : ℕ → List ℕ → ℕ) (gs : List Guest) (g p h q salt : ℕ) (bytes : List ℕ) (hint : Option ℕ)
+    → page_at gs h q ≡ Some (salt, Private bytes hint) → (w : Holder gs g p (key_for hash salt bytes))
+    → (key_for hash w.salt w.bytes ≡ key_for hash salt bytes → ⊥) → h ≡ w.guest → q ≡ w.ppn → ⊥
 other_content hash gs g p h q salt bytes hint at w ne i j =
     let mine : page_at gs h q ≡ Some (w.salt, Private w.bytes (Some (key_for hash salt bytes))) = ap (λ x. page_at gs x q) i ∙ ap (page_at gs w.guest) j ∙ w.at in
     let same = same_page (page_at gs h q) w.salt salt (Private w.bytes (Some (key_for hash salt bytes))) (Private bytes hint) mine at in
@@ -117,7 +119,9 @@ private_of gs g p salt bytes none c = pick (present gs g p salt bytes c) where
   pick (is_shared at) = absurd (false≢true (sym none ∙ shared_found gs g p salt bytes at))
   pick (is_private hint at) = (hint, at)
 
-first_ends : (hash : ℕ → List ℕ → ℕ) (gs : List Guest) (g p h q salt : ℕ) (bytes : List ℕ) (hint : Option ℕ) (o : Outcome) → (g ≡ h → p ≡ q → ⊥) → page_at gs g p ≡ Some (salt, Private bytes hint) → HasContent gs h q salt bytes → HasOwnKey hash gs salt bytes → Ends hash gs g p salt bytes o → Ready hash o.guests g p h q salt bytes
+first_ends : (hash : ℕ → List ℕ → ℕ) (gs : List Guest) (g p h q salt : ℕ) (bytes : List ℕ) (hint : Option ℕ) (o : Outcome) → (g ≡ h → p ≡ q → ⊥)
+    → page_at gs g p ≡ Some (salt, Private bytes hint) → HasContent gs h q salt bytes → HasOwnKey hash gs salt bytes → Ends hash gs g p salt bytes o
+    → Ready hash o.guests g p h q salt bytes
 first_ends hash gs g p h q salt bytes hint o apart at c own ends = pick ends where
   key : ℕ
   key = key_for hash salt bytes
@@ -163,7 +167,9 @@ record BothShared (gs : List Guest) (g p h q salt : ℕ) (bytes : List ℕ) : Ty
   second : page_at gs h q ≡ Some (salt, Shared bytes)
 
 -- the second proposal finds its content among the shared pages
-second_joins : (hash : ℕ → List ℕ → ℕ) (gs : List Guest) (g p h q salt : ℕ) (bytes : List ℕ) (hint : Option ℕ) (o : Outcome) → (g ≡ h → p ≡ q → ⊥) → page_at gs g p ≡ Some (salt, Shared bytes) → page_at gs h q ≡ Some (salt, Private bytes hint) → Ends hash gs h q salt bytes o → BothShared o.guests g p h q salt bytes
+second_joins : (hash : ℕ → List ℕ → ℕ) (gs : List Guest) (g p h q salt : ℕ) (bytes : List ℕ) (hint : Option ℕ) (o : Outcome) → (g ≡ h → p ≡ q → ⊥)
+    → page_at gs g p ≡ Some (salt, Shared bytes) → page_at gs h q ≡ Some (salt, Private bytes hint) → Ends hash gs h q salt bytes o
+    → BothShared o.guests g p h q salt bytes
 second_joins hash gs g p h q salt bytes hint o apart one two ends = pick ends where
   refuted : any_page (is_shared_as salt bytes) gs ≡ false → ⊥
   refuted none = false≢true (sym none ∙ shared_found gs g p salt bytes one)
@@ -181,7 +187,9 @@ second_joins hash gs g p h q salt bytes hint o apart one two ends = pick ends wh
   pick (clashes_hint un w e ne now) = absurd (refuted un.content)
 
 -- the second proposal finds the first page as the hint
-second_pairs : (hash : ℕ → List ℕ → ℕ) (gs : List Guest) (g p h q salt : ℕ) (bytes : List ℕ) (hint : Option ℕ) (o : Outcome) → (g ≡ h → p ≡ q → ⊥) → HoldsOnce gs → page_at gs g p ≡ Some (salt, Private bytes (Some (key_for hash salt bytes))) → page_at gs h q ≡ Some (salt, Private bytes hint) → Unmatched hash gs salt bytes → Ends hash gs h q salt bytes o → BothShared o.guests g p h q salt bytes
+second_pairs : (hash : ℕ → List ℕ → ℕ) (gs : List Guest) (g p h q salt : ℕ) (bytes : List ℕ) (hint : Option ℕ) (o : Outcome) → (g ≡ h → p ≡ q → ⊥)
+    → HoldsOnce gs → page_at gs g p ≡ Some (salt, Private bytes (Some (key_for hash salt bytes))) → page_at gs h q ≡ Some (salt, Private bytes hint)
+    → Unmatched hash gs salt bytes → Ends hash gs h q salt bytes o → BothShared o.guests g p h q salt bytes
 second_pairs hash gs g p h q salt bytes hint o apart once at two un ends = pick ends where
   key : ℕ
   key = key_for hash salt bytes

@@ -62,7 +62,10 @@ entries_of guest rs = map (λ r. record { guest = guest; request = r }) rs
 -- there. An event with nothing to move changes nothing.
 abbrev pub happens : World → Event → World
 happens w (Send guest r) = record { traffic = at_guest guest (sends r) w.traffic; journal = w.journal }
-happens w (Take guest) = record { traffic = at_guest guest takes w.traffic; journal = w.journal ++ entries_of guest (next (w.traffic guest).taken (w.traffic guest).sent) }
+happens w (Take guest) = record {
+  traffic = at_guest guest takes w.traffic;
+  journal = w.journal ++ entries_of guest (next (w.traffic guest).taken (w.traffic guest).sent);
+}
 happens w (Give guest) = record { traffic = at_guest guest (gives (places guest w.journal)) w.traffic; journal = w.journal }
 happens w (Get guest) = record { traffic = at_guest guest gets w.traffic; journal = w.journal }
 

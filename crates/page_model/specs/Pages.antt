@@ -1,5 +1,6 @@
 -- The pages of a machine, and what is counted and found among them.
-use Rattle.std.specs.Prelude.{ℕ, zero, suc, ◌+◌, ◌-◌, ◌==◌, Bool, true, false, ◌&&◌, ◌||◌, if◌then◌else◌, List, [], ◌∷◌, ◌++◌, length, take, drop, replicate, Option, Some, None, slice_get, slice_set, sum_by, count_by, is_some}
+use Rattle.std.specs.Prelude.{ℕ, zero, suc, ◌+◌, ◌-◌, ◌==◌, Bool, true, false, ◌&&◌, ◌||◌, if◌then◌else◌, List, [], ◌∷◌, ◌++◌, length}
+use Rattle.std.specs.Prelude.{take, drop, replicate, Option, Some, None, slice_get, slice_set, sum_by, count_by, is_some}
 use Rattle.std.specs.List.{list_any}
 use Rattle.std.specs.Option.{option_map, option_and_then}
 use Rattle.std.specs.Str.{bytes_eq}
@@ -109,7 +110,8 @@ distinct_in salt [] later = 0
 distinct_in salt (Unmapped ∷ slots) later = distinct_in salt slots later
 distinct_in salt (Private bytes hint ∷ slots) later = distinct_in salt slots later
 distinct_in salt (Shared bytes ∷ slots) later =
-    (if list_any (is_shared_as salt bytes salt) slots || any_page (is_shared_as salt bytes) later then 0 else 1) + distinct_in salt slots later
+    (if list_any (is_shared_as salt bytes salt) slots || any_page (is_shared_as salt bytes) later then 0 else 1)
+    + distinct_in salt slots later
 
 -- how many distinct contents the shared pages have
 abbrev pub distinct : List Guest → ℕ

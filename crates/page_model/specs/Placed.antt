@@ -22,7 +22,8 @@ PlacesHoldAnswers es guest =
 
 -- each entry of the guest is at one of its places
 abbrev pub AllArePlaced : List Entry → ℕ → Type 0
-AllArePlaced es guest = (p : ℕ) (r : Request) → slice_get es p ≡ Some (entry_of guest r) → (k : ℕ) × (slice_get (places guest es) k ≡ Some p)
+AllArePlaced es guest = (p : ℕ) (r : Request) → slice_get es p ≡ Some (entry_of guest r)
+    → (k : ℕ) × (slice_get (places guest es) k ≡ Some p)
 
 -- the places rise
 abbrev pub PlacesRise : List Entry → ℕ → Type 0

@@ -47,7 +47,8 @@ EqualPagesShare es =
     let s = state_after hash (empty_state total shapes) es in
     (guest ≡ other → ppn ≡ place → ⊥) →
     HasContent s.guests guest ppn salt bytes → HasContent s.guests other place salt bytes → HasOwnKey hash s.guests salt bytes →
-    let after = state_after hash s (record { guest = guest; request = Propose ppn } ∷ record { guest = other; request = Propose place } ∷ []) in
+    let after = state_after hash s
+    (record { guest = guest; request = Propose ppn } ∷ record { guest = other; request = Propose place } ∷ []) in
     (page_at after.guests guest ppn ≡ Some (salt, Shared bytes)) × (page_at after.guests other place ≡ Some (salt, Shared bytes))
 
 -- a hash that is the first two bytes of a page: its key is the second byte alone

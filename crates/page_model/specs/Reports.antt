@@ -25,4 +25,5 @@ ReportCountsEntries es = (hash : ℕ → List ℕ → ℕ) (total : ℕ) (shapes
 
 -- after this journal at most as many frames are in use as the machine has, even if it has none
 abbrev pub FramesSuffice : List Entry → Type 0
-FramesSuffice es = (hash : ℕ → List ℕ → ℕ) (total : ℕ) (shapes : List Shape) → used (state_after hash (empty_state total shapes) es).guests ≤ total
+FramesSuffice es = (hash : ℕ → List ℕ → ℕ) (total : ℕ) (shapes : List Shape)
+    → used (state_after hash (empty_state total shapes) es).guests ≤ total

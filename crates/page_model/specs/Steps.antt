@@ -2,7 +2,8 @@
 -- each of its decisions. They look for pages by content alone, and don't mention frames.
 use Rattle.std.specs.Prelude.{ℕ, ◌+◌, ◌%◌, ◌^◌, ◌==◌, true, ◌&&◌, if◌then◌else◌, List, take, drop, Option, Some, None}
 use Rattle.std.specs.Str.{bytes_eq}
-use Rattle.page_model.specs.Pages.{Slot, Unmapped, Private, Shared, Guest, State, blank, bytes_of, written, has_hint, is_shared_as, is_shared_under, any_page, peers, used, find_page, page_at, with_slot, totals}
+use Rattle.page_model.specs.Pages.{Slot, Unmapped, Private, Shared, Guest, State, blank, bytes_of, written, has_hint, is_shared_as}
+use Rattle.page_model.specs.Pages.{is_shared_under, any_page, peers, used, find_page, page_at, with_slot, totals}
 use Rattle.page_model.specs.declared.request.Request.{Request}
 use Rattle.page_model.specs.declared.request.Request.TheVariants.{Propose, Store, Load, Release, Count, Close}
 use Rattle.page_model.specs.declared.verdict.Verdict.{Verdict}

@@ -1,5 +1,6 @@
 -- The byte last stored to a place of a page, from the requests and their verdicts alone, without mention of sharing.
-use Rattle.std.specs.Prelude.{◌≡◌, ℕ, ◌+◌, ◌-◌, ◌<◌, Bool, true, false, ◌&&◌, ◌==◌, nat_lt, nat_le, if◌then◌else◌, List, [], ◌∷◌, length, Option, Some, None, slice_index, unwrap_or}
+use Rattle.std.specs.Prelude.{◌≡◌, ℕ, ◌+◌, ◌-◌, ◌<◌, Bool, true, false, ◌&&◌, ◌==◌, nat_lt, nat_le, if◌then◌else◌}
+use Rattle.std.specs.Prelude.{List, [], ◌∷◌, length, Option, Some, None, slice_index, unwrap_or}
 use Rattle.std.specs.Option.{option_map}
 use Rattle.page_model.specs.Parts.{StoreParts}
 use Rattle.page_model.specs.Pages.{Guest, State, bytes_of, page_at}
@@ -32,7 +33,8 @@ covers r k = nat_le r.at k && nat_lt k (r.at + length r.bytes)
 -- own byte if it covers the place, a release that was done puts 0, and anything else puts nothing.
 abbrev pub put_by : ℕ → Request → Verdict → ℕ → ℕ → ℕ → Option ℕ
 put_by asker (Propose page) verdict guest ppn k = None
-put_by asker (Store r) verdict guest ppn k = if is_done verdict && (asker == guest && r.ppn == ppn) && covers r k then Some (slice_index r.bytes (k - r.at)) else None
+put_by asker (Store r) verdict guest ppn k =
+    if is_done verdict && (asker == guest && r.ppn == ppn) && covers r k then Some (slice_index r.bytes (k - r.at)) else None
 put_by asker (Load r) verdict guest ppn k = None
 put_by asker (Release page) verdict guest ppn k = if is_released verdict && (asker == guest && page == ppn) then Some 0 else None
 put_by asker Count verdict guest ppn k = None
@@ -42,7 +44,8 @@ put_by asker Close verdict guest ppn k = None
 abbrev pub last_from : ℕ → List Entry → List Verdict → ℕ → ℕ → ℕ → ℕ
 last_from byte [] verdicts guest ppn k = byte
 last_from byte (e ∷ es) [] guest ppn k = byte
-last_from byte (e ∷ es) (verdict ∷ verdicts) guest ppn k = last_from (unwrap_or (put_by e.guest e.request verdict guest ppn k) byte) es verdicts guest ppn k
+last_from byte (e ∷ es) (verdict ∷ verdicts) guest ppn k =
+    last_from (unwrap_or (put_by e.guest e.request verdict guest ppn k) byte) es verdicts guest ppn k
 
 -- the byte last stored at place k of a page, 0 if none was or the page was released since
 abbrev pub last_stored : List Entry → List Verdict → ℕ → ℕ → ℕ → ℕ

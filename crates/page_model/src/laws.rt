@@ -1,7 +1,8 @@
 //! Laws of the definitions, for every journal, machine and hash. The functions' bodies are empty: the contract is
 //! all there is.
 ghost use Rattle.std.specs.Prelude.{◌≡◌, ℕ, [], ◌∷◌};
-ghost use Rattle.page_model.specs.declared.limits.TheConstants.{PAGE_BYTES, MAX_ACCESS_BYTES, MAX_GUESTS, MAX_PAGES, MAX_FRAMES, MAX_RING_CAPACITY, MAX_ENTRIES, MAX_WORKERS, MAX_WATCHES, MAX_TEXT_BYTES};
+ghost use Rattle.page_model.specs.declared.limits.TheConstants.{PAGE_BYTES, MAX_ACCESS_BYTES, MAX_GUESTS, MAX_PAGES, MAX_FRAMES};
+ghost use Rattle.page_model.specs.declared.limits.TheConstants.{MAX_RING_CAPACITY, MAX_ENTRIES, MAX_WORKERS, MAX_WATCHES, MAX_TEXT_BYTES};
 ghost use Rattle.page_model.specs.Stored.{ReadsLastStored};
 ghost use Rattle.page_model.specs.Journal.{places, asked};
 ghost use Rattle.page_model.specs.Growth.{EntriesNeverFall, OneVerdictEach, VerdictsStay};
@@ -87,7 +88,8 @@ pub fn equal_pages_law(entries: &[Entry])
 /// Two equal pages stay unshared if a page with other content is the hint under their key, even though its hash
 /// differs.
 pub fn key_clash()
-    ensures { verdicts_of first_two three_pages clashing ≡ Verdict.Mapped ∷ Verdict.Hinted ∷ Verdict.Mapped ∷ Verdict.Mapped ∷ Verdict.Ineligible ∷ Verdict.Ineligible ∷ [] }
+    ensures { verdicts_of first_two three_pages clashing
+        ≡ Verdict.Mapped ∷ Verdict.Hinted ∷ Verdict.Mapped ∷ Verdict.Mapped ∷ Verdict.Ineligible ∷ Verdict.Ineligible ∷ [] }
 {}
 
 /// In whatever order guests send and get, and the merger takes and gives, each list of a guest's traffic is a
@@ -104,7 +106,8 @@ pub fn schedule_law(events: &[Event])
 
 /// The world after a get and a take of nothing, a send, a take, a get of nothing, a give and a get.
 pub fn events_out_of_order()
-    ensures traffic { (world_after out_of_order).traffic 0 ≡ record { sent = Request.Count ∷ []; taken = Request.Count ∷ []; given = 0 ∷ []; got = 0 ∷ [] } }
+    ensures traffic { (world_after out_of_order).traffic 0
+        ≡ record { sent = Request.Count ∷ []; taken = Request.Count ∷ []; given = 0 ∷ []; got = 0 ∷ [] } }
     ensures journal { (world_after out_of_order).journal ≡ record { guest = 0; request = Request.Count } ∷ [] }
 {}
 

@@ -65,7 +65,8 @@ impl<'a> MachineShape<'a> {
         salts: &'a [u32],
     ) -> Result<MachineShape<'a>, ShapeFault>
         ensures ok { IfOk result (λ shape. shape ≡ record { frames = frames; pages = pages.now; salts = salts.now }) }
-        ensures fault { MatchResult result (λ _. AreLimits frames pages.now salts.now) (λ fault. NoShapeFor frames pages.now salts.now fault) }
+        ensures fault { MatchResult result (λ _. AreLimits frames pages.now salts.now)
+            (λ fault. NoShapeFor frames pages.now salts.now fault) }
     {
         if frames == 0 || frames > MAX_FRAMES {
             return Err(ShapeFault::Frames);

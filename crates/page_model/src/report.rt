@@ -22,11 +22,25 @@ impl Model for Report {
 
     ghost Value = { Totals };
 
-    ghost view = { λ r. record { entries = r.entries; mapped = r.mapped; shared = r.shared; frames = r.frames; reclaimed = r.reclaimed; hints = r.hints } };
+    ghost view = { λ r. record {
+      entries = r.entries;
+      mapped = r.mapped;
+      shared = r.shared;
+      frames = r.frames;
+      reclaimed = r.reclaimed;
+      hints = r.hints;
+    } };
 
     ghost invariant = { λ r. (r.reclaimed + r.frames ≡ r.mapped) × (r.shared ≤ r.mapped) × (r.hints ≤ r.frames) };
 
-    ghost inverse = { λ r. record { entries = r.entries; mapped = r.mapped; shared = r.shared; frames = r.frames; reclaimed = r.reclaimed; hints = r.hints } };
+    ghost inverse = { λ r. record {
+      entries = r.entries;
+      mapped = r.mapped;
+      shared = r.shared;
+      frames = r.frames;
+      reclaimed = r.reclaimed;
+      hints = r.hints;
+    } };
 }
 
 impl Report {
@@ -35,7 +49,14 @@ impl Report {
         requires frames { frames ≤ mapped }
         requires shared { shared ≤ mapped }
         requires hints { hints ≤ frames }
-        ensures { result ≡ record { entries = entries; mapped = mapped; shared = shared; frames = frames; reclaimed = mapped - frames; hints = hints } }
+        ensures { result ≡ record {
+          entries = entries;
+          mapped = mapped;
+          shared = shared;
+          frames = frames;
+          reclaimed = mapped - frames;
+          hints = hints;
+        } }
     {
         Report {
             entries,

@@ -23,7 +23,8 @@ impl Model for StoreReq {
 
     ghost use Rattle.page_model.specs.declared.limits.TheConstants.{MAX_ACCESS_BYTES, PAGE_BYTES};
 
-    ghost invariant = { λ s. (1 ≤ length s.bytes.items) × (length s.bytes.items ≤ MAX_ACCESS_BYTES) × (s.at + length s.bytes.items ≤ PAGE_BYTES) };
+    ghost invariant = { λ s. (1 ≤ length s.bytes.items) × (length s.bytes.items ≤ MAX_ACCESS_BYTES)
+        × (s.at + length s.bytes.items ≤ PAGE_BYTES) };
 
     ghost inverse = { λ s. record { ppn = s.ppn; at = s.at; bytes = record { items = s.bytes } } };
 }
