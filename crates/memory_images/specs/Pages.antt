@@ -1,5 +1,6 @@
 -- The pages that segments hold.
-use Rattle.std.specs.Prelude.{◌≡◌, ℕ, ◌+◌, ◌-◌, ◌*◌, ◌/◌, ◌<◌, ◌≤◌, List, ◌++◌, length, take, drop, map, replicate, flat_map, slice_index, sum_by, All}
+use Rattle.std.specs.Prelude.{◌≡◌, ℕ, ◌+◌, ◌-◌, ◌*◌, ◌/◌, ◌<◌, ◌≤◌, List, ◌++◌, length, take}
+use Rattle.std.specs.Prelude.{drop, map, replicate, flat_map, slice_index, sum_by, All}
 use Rattle.std.specs.List.{range_with_len}
 use Rattle.memory_images.specs.Words.{part}
 use Rattle.memory_images.specs.declared.segment.Segment.{Segment}

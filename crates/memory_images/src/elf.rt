@@ -25,7 +25,8 @@ pub(crate) fn core_segments<R: ReadAt, A: Allocator>(
     alloc: A,
     reader: &R,
 ) -> Result<Vec<Segment, A>, ImageFault<R::Fault>>
-    ensures told { R.is_steady reader.now → Tells (λ segments. segments.items) result (said.core_segments (R.bytes reader.now)) }
+    ensures told { R.is_steady reader.now
+        → Tells (λ segments. segments.items) result (said.core_segments (R.bytes reader.now)) }
     ensures within { IfOk result (λ segments. AreWithin (length (R.bytes reader.now)) segments.items) }
 {
     let header = core_header(reader)?;
@@ -89,7 +90,8 @@ fn table_segments<R: ReadAt, A: Allocator>(
     table: u64,
     count: u32,
 ) -> Result<Vec<Segment, A>, ImageFault<R::Fault>>
-    ensures told { R.is_steady reader.now → Tells (λ segments. segments.items) result (said.table_segments (R.bytes reader.now) table count) }
+    ensures told { R.is_steady reader.now
+        → Tells (λ segments. segments.items) result (said.table_segments (R.bytes reader.now) table count) }
     ensures within { IfOk result (λ segments. AreWithin (length (R.bytes reader.now)) segments.items) }
 {
     let size = reader.len();

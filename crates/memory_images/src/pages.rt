@@ -53,7 +53,8 @@ pub(crate) fn read_run<R: ReadAt>(
     requires size { length (R.bytes reader.now) < 2 ^ 64 }
     requires pages { first + length into.old ≤ page_count segment.len }
     requires fits { first + length into.old < 4294967296 }
-    ensures { OnOk result (R.is_steady reader.now → into.new ≡ take (length into.old) (drop first (segment_pages (R.bytes reader.now) segment))) }
+    ensures { OnOk result (R.is_steady reader.now
+        → into.new ≡ take (length into.old) (drop first (segment_pages (R.bytes reader.now) segment))) }
 {
     let whole = whole_pages(segment, first, into.len());
     read_whole(reader, segment, first, &mut into[..whole])?;
@@ -80,7 +81,8 @@ fn read_whole<R: ReadAt>(
     requires within { segment.offset + segment.len ≤ length (R.bytes reader.now) }
     requires size { length (R.bytes reader.now) < 2 ^ 64 }
     requires whole { 0 < length into.old → 4096 * (first + length into.old) ≤ segment.len }
-    ensures { OnOk result (R.is_steady reader.now → into.new ≡ take (length into.old) (drop first (segment_pages (R.bytes reader.now) segment))) }
+    ensures { OnOk result (R.is_steady reader.now
+        → into.new ≡ take (length into.old) (drop first (segment_pages (R.bytes reader.now) segment))) }
 {
     if into.is_empty() {
         return Ok(());
@@ -101,7 +103,8 @@ fn read_each<R: ReadAt>(
     requires size { length (R.bytes reader.now) < 2 ^ 64 }
     requires pages { first + length into.old ≤ page_count segment.len }
     requires fits { first + length into.old < 4294967296 }
-    ensures { OnOk result (R.is_steady reader.now → into.new ≡ take (length into.old) (drop first (segment_pages (R.bytes reader.now) segment))) }
+    ensures { OnOk result (R.is_steady reader.now
+        → into.new ≡ take (length into.old) (drop first (segment_pages (R.bytes reader.now) segment))) }
 {
     for i in 0..into.len() {
         read_page(reader, segment, first + i as u32, &mut into[i])?;

@@ -42,7 +42,8 @@ fn read_from<R: ReadAt>(
     requires few { count_of segments.now < 2 ^ 32 }
     requires begun { AreStarts segments.now starts.now }
     requires within { first + length into.old ≤ length (pages_of segments.now (R.bytes reader.now)) }
-    ensures { OnOk result (R.is_steady reader.now → into.new ≡ take (length into.old) (drop first (pages_of segments.now (R.bytes reader.now)))) }
+    ensures { OnOk result (R.is_steady reader.now
+        → into.new ≡ take (length into.old) (drop first (pages_of segments.now (R.bytes reader.now)))) }
 {
     if starts.is_empty() {
         return Ok(());
@@ -84,7 +85,8 @@ fn read_pages<R: ReadAt>(
     requires size { length (R.bytes reader.now) < 2 ^ 64 }
     requires few { count_of segments.now < 2 ^ 32 }
     requires within { first + length into.old ≤ length (pages_of segments.now (R.bytes reader.now)) }
-    ensures { OnOk result (R.is_steady reader.now → into.new ≡ take (length into.old) (drop first (pages_of segments.now (R.bytes reader.now)))) }
+    ensures { OnOk result (R.is_steady reader.now
+        → into.new ≡ take (length into.old) (drop first (pages_of segments.now (R.bytes reader.now)))) }
 {
     let mut skipped = first;
     let mut done = 0;
