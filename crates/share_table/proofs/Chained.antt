@@ -1,16 +1,16 @@
--- The frames of one kind in chains of entries, as a map, after a change of one chain.
+-- The entries of one kind in chains, as a map, after a change of one chain.
 use Rattle.std.proofs.Common.{◌≡◌, ◌≢◌, ℕ, ◌+◌, ◌<◌, Bool, true, false, cond, eqb, List, [], ◌∷◌, ◌++◌, length, get_or, Option, Some, None, IsSome, sym, refl, ap, ◌∙◌, arith, subst}
 use Prim.Native.Nat.{zero, suc}
 use Rattle.std.proofs.Math.ListN.{set}
 use Rattle.std.specs.Cmp.{unsigned_tied}
 use Rattle.std.proofs.lemmas.Bool.Decides.{nat_tests}
 use Rattle.std.proofs.lemmas.List.{get_or-set_same, get_or-set_other}
-use Rattle.packed_frames.specs.declared.entry.Entry.{Entry}
-use Rattle.packed_frames.specs.declared.entry.Entry.TheVariants.{Shared, Hint}
-use Rattle.packed_frames.specs.declared.key.Key.{Key}
-use Rattle.packed_frames.specs.declared.key.Key.TheVariants as keys
-use Rattle.packed_frames.specs.Keys.{key_of, has_key, first_with, with_other, without_first, shared_parts}
-use Rattle.packed_frames.specs.Entries.{home, entries_in}
+use Rattle.packed_entries.specs.declared.entry.Entry.{Entry}
+use Rattle.packed_entries.specs.declared.entry.Entry.TheVariants.{Shared, Hint}
+use Rattle.packed_entries.specs.declared.key.Key.{Key}
+use Rattle.packed_entries.specs.declared.key.Key.TheVariants as keys
+use Rattle.packed_entries.specs.Keys.{key_of, has_key, first_with, with_other, without_first, shared_parts}
+use Rattle.packed_entries.specs.Entries.{home, entries_in}
 use Rattle.share_table.specs.TableMaps.{HintFrame}
 use Rattle.share_table.specs.declared.entries.SharedEntry.{SharedEntry}
 use Rattle.share_table.specs.Stored.{shared_of, hint_of, before_pairs, pairs, all_pairs, second_of, value_of, BelongInto, HasEachOnce}
@@ -371,7 +371,7 @@ module _ {X : Type 0} (kind : Entry → Option (ℕ × X)) (key : ℕ → Key) (
       pull_step k q e es (has_key (key k) e)
       ∙ gone_step (kind e) k q e es (has_key (key k) e) refl (K.finds k e) o.0 (found_without k q es o.1)
 
--- ---- the frames of the other kind stay
+-- ---- the entries of the other kind stay
 module _ {X : Type 0} (kind : Entry → Option (ℕ × X)) (j : Key) (skips : (e : Entry) → has_key j e ≡ true → kind e ≡ None) where
   stay_other_step : (new e : Entry) (es : List Entry) (b : Bool) → has_key j e ≡ b → kind new ≡ None → pairs kind (with_other j new es) ≡ pairs kind es → pairs kind (cond b (new ∷ es) (e ∷ with_other j new es)) ≡ before_pairs (kind e) (pairs kind es)
   stay_other_step new e es true t at ih = ap (λ o. before_pairs o (pairs kind es)) (at ∙ sym (skips e t))

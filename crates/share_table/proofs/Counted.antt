@@ -1,13 +1,13 @@
--- What a count that stands in its frame tells, and what the table is once the frame has one page more or less.
+-- What a count that stands in its entry tells, and what the table is once the frame has one page more or less.
 use Rattle.std.proofs.Common.{◌≡◌, ℕ, ◌+◌, ◌-◌, ◌≤◌, ◌≢◌, Bool, true, false, cond, eqb, nat_le, List, [], ◌∷◌, Option, Some, None, IsSome, sym, refl, ap, ◌∙◌, arith, rules}
 use Rattle.std.proofs.lemmas.Bool.Decides.{nat_tests}
 use Rattle.std.specs.FinMap.{get}
-use Rattle.packed_frames.specs.declared.entry.Entry.{Entry}
-use Rattle.packed_frames.specs.declared.entry.Entry.TheVariants.{Shared, Hint}
-use Rattle.packed_frames.specs.declared.key.Key.{Key}
-use Rattle.packed_frames.specs.declared.key.Key.TheVariants as keys
-use Rattle.packed_frames.specs.Keys.{has_key, first_with, with_other, without_first, field_in}
-use Rattle.packed_frames.specs.Entries.{EntryChains, chain_of, with_chain, counted_up, counted_down}
+use Rattle.packed_entries.specs.declared.entry.Entry.{Entry}
+use Rattle.packed_entries.specs.declared.entry.Entry.TheVariants.{Shared, Hint}
+use Rattle.packed_entries.specs.declared.key.Key.{Key}
+use Rattle.packed_entries.specs.declared.key.Key.TheVariants as keys
+use Rattle.packed_entries.specs.Keys.{has_key, first_with, with_other, without_first, field_in}
+use Rattle.packed_entries.specs.Entries.{EntryChains, chain_of, with_chain, counted_up, counted_down}
 use Rattle.share_table.specs.TableMaps.{shared_at, with_shared, with_count, with_one_less, count_at, field_of}
 use Rattle.share_table.specs.declared.entries.SharedEntry.{SharedEntry}
 use Rattle.share_table.specs.Stored.{WideMap, widened, Agrees, shared_of, all_pairs, value_of, shared_in, maps_of, rewidened, IsKept}
@@ -55,7 +55,7 @@ first_has k [] e h = absurd (cc)
 first_has k (x ∷ es) e h = first_has_step k x e es (has_key k x) refl h (first_has k es e)
 
 module _ (total : ℕ) (T : EntryChains) (wide : WideMap) (k : IsKept total T wide) where
-  -- the frame that a hash finds
+  -- the entry that a hash finds
   pub record FrameOf (h : ℕ) : Type 0 where
     pub e : SharedEntry
     pub hash_is : e.hash ≡ h
@@ -101,7 +101,7 @@ module _ (total : ℕ) (T : EntryChains) (wide : WideMap) (k : IsKept total T wi
         let least = wide_least e (get wide e.hash) zero agrees in
         rw (← hash_is, entry_counts total T wide k e entry_is) least
 
-    -- nothing changes where the count doesn't stand in the frame, or won't fit it
+    -- nothing changes where the count doesn't stand in the entry, or won't fit it
     pub up_none : e.field ≡ 0 → counted_up T (keys.Shared h) (first_with (keys.Shared h) (chain_of T (keys.Shared h))) ≡ T
     up_none zero = rw (← hash_is, first_is, zero) refl
 

@@ -10,12 +10,12 @@ use Rattle.std.specs.Ordering.{nat_cmp}
 use Rattle.std.specs.Cmp.{nat_cmp_total}
 use Rattle.std.specs.FinMap.{from_entries, insert, remove, get, len, empty, nat_cmp-IsAntisymmetric, same_map, get-from_entries, get-insert, get-remove, len-empty}
 use Rattle.std.proofs.lemmas.List.{length-set, length-replicate}
-use Rattle.packed_frames.specs.declared.entry.Entry.{Entry}
-use Rattle.packed_frames.specs.declared.entry.Entry.TheVariants.{Shared, Hint}
-use Rattle.packed_frames.specs.declared.key.Key.{Key}
-use Rattle.packed_frames.specs.declared.key.Key.TheVariants as keys
-use Rattle.packed_frames.specs.Keys.{truncated, first_with, with_other, without_first}
-use Rattle.packed_frames.specs.Entries.{EntryChains, home, entries_in, chain_of, with_chain, empty_chains, entry_count as chained}
+use Rattle.packed_entries.specs.declared.entry.Entry.{Entry}
+use Rattle.packed_entries.specs.declared.entry.Entry.TheVariants.{Shared, Hint}
+use Rattle.packed_entries.specs.declared.key.Key.{Key}
+use Rattle.packed_entries.specs.declared.key.Key.TheVariants as keys
+use Rattle.packed_entries.specs.Keys.{truncated, first_with, with_other, without_first}
+use Rattle.packed_entries.specs.Entries.{EntryChains, home, entries_in, chain_of, with_chain, empty_chains, entry_count as chained}
 use Rattle.share_table.specs.TableMaps.{SharedFrame, HintFrame, SharedMap, HintMap, TableMaps, shared_at, hint_at, entry_count, empty_table, with_shared, with_hint, without_hint, with_count, with_one_less, count_at, field_of}
 use Rattle.share_table.specs.declared.entries.SharedEntry.{SharedEntry}
 use Rattle.share_table.specs.Buckets.{IsGreatestPower}

@@ -11,7 +11,7 @@ pub record IsGreatestPower (limit number : ℕ) : Type 0 where
   pub within : number ≤ limit
   pub greatest : limit < 2 * number
 
--- how many bytes the room for this many entries takes: 16 for each frame, and 4 for the head of each bucket
+-- how many bytes the room for this many entries takes: 16 for each packed entry, and 4 for the head of each bucket
 pub record IsRoom (capacity bytes : ℕ) : Type 0 where
   pub heads : ℕ
   pub buckets : IsGreatestPower capacity heads

@@ -3,10 +3,10 @@ use Rattle.std.specs.Prelude.{◌≡◌, ℕ, ◌≤◌, List, [], ◌∷◌, �
 use Rattle.std.specs.Prelude.{Option, Some, None, if◌then◌else◌, ◌==◌, nat_le}
 use Rattle.std.specs.Ordering.{nat_cmp}
 use Rattle.std.specs.FinMap as maps
-use Rattle.packed_frames.specs.declared.entry.Entry.{Entry}
-use Rattle.packed_frames.specs.declared.entry.Entry.TheVariants.{Shared, Hint}
-use Rattle.packed_frames.specs.Keys.{key_of, first_with}
-use Rattle.packed_frames.specs.Entries.{EntryChains, home, entry_count as chained}
+use Rattle.packed_entries.specs.declared.entry.Entry.{Entry}
+use Rattle.packed_entries.specs.declared.entry.Entry.TheVariants.{Shared, Hint}
+use Rattle.packed_entries.specs.Keys.{key_of, first_with}
+use Rattle.packed_entries.specs.Entries.{EntryChains, home, entry_count as chained}
 use Rattle.share_table.specs.Buckets.{IsGreatestPower}
 use Rattle.share_table.specs.TableMaps.{SharedFrame, HintFrame, TableMaps, references, extended, entry_count}
 use Rattle.share_table.specs.declared.entries.SharedEntry.{SharedEntry}
@@ -31,12 +31,12 @@ frame_of wide e = record { mpn = e.mpn; count = widened e.field wide }
 abbrev pub frame_pair : WideMap → ℕ × SharedEntry → ℕ × SharedFrame
 frame_pair wide p = (p.0, frame_of (maps.get wide p.0) p.1)
 
--- a shared frame, with its hash
+-- what an entry has of a shared frame, with its hash
 abbrev pub shared_of : Entry → Option (ℕ × SharedEntry)
 shared_of (Shared hash mpn count) = Some (hash, record { hash = hash; mpn = mpn; field = count })
 shared_of (Hint key guest ppn mpn) = None
 
--- a hint frame, with its key
+-- what an entry has of a hint frame, with its key
 abbrev pub hint_of : Entry → Option (ℕ × HintFrame)
 hint_of (Shared hash mpn count) = None
 hint_of (Hint key guest ppn mpn) = Some (key, record { guest = guest; ppn = ppn; mpn = mpn })
@@ -45,7 +45,7 @@ abbrev pub before_pairs : {X : Type 0} → Option (ℕ × X) → List (ℕ × X)
 before_pairs None ps = ps
 before_pairs (Some p) ps = p ∷ ps
 
--- the frames of one kind in a chain
+-- the entries of one kind in a chain
 abbrev pub pairs : {X : Type 0} → (Entry → Option (ℕ × X)) → List Entry → List (ℕ × X)
 pairs kind [] = []
 pairs kind (e ∷ es) = before_pairs (kind e) (pairs kind es)
@@ -54,12 +54,12 @@ abbrev pub second_of : {X : Type 0} → Option (ℕ × X) → Option X
 second_of None = None
 second_of (Some p) = Some p.1
 
--- the frame that a search for one kind found
+-- the entry that a search for one kind found
 abbrev pub value_of : {X : Type 0} → (Entry → Option (ℕ × X)) → Option Entry → Option X
 value_of kind None = None
 value_of kind (Some e) = second_of (kind e)
 
--- the frames of one kind in all chains
+-- the entries of one kind in all chains
 abbrev pub all_pairs : {X : Type 0} → (Entry → Option (ℕ × X)) → List (List Entry) → List (ℕ × X)
 all_pairs kind [] = []
 all_pairs kind (c ∷ cs) = pairs kind c ++ all_pairs kind cs
@@ -87,11 +87,11 @@ abbrev pub HasDistinctKeys : {X : Type 0} → List (ℕ × X) → Type 0
 HasDistinctKeys [] = Unit {0}
 HasDistinctKeys (e ∷ es) = (maps.find nat_cmp e.0 es ≡ None) × HasDistinctKeys es
 
--- the shared frame with this hash, if there is one
+-- the entry of the shared frame with this hash, if there is one
 abbrev pub shared_in : List (ℕ × SharedEntry) → ℕ → Option SharedEntry
 shared_in shared hash = maps.find nat_cmp hash shared
 
--- a frame's field is 0 exactly if the overflow table has its count, which doesn't fit in the field
+-- an entry's field is 0 exactly if the overflow table has its count, which doesn't fit in the field
 abbrev pub Agrees : Option SharedEntry → Option ℕ → Type 0
 Agrees None None = Unit {0}
 Agrees None (Some count) = ⊥

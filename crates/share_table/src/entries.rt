@@ -11,7 +11,7 @@ pub struct HintFrame {
     pub mpn: u32,
 }
 
-// A shared frame. Its field is the number of its pages, or `EXTENDED`.
+// The entry of a shared frame. Its field is the number of its pages, or `EXTENDED`.
 #[derive(Clone, Copy)]
 pub(crate) struct SharedEntry {
     pub(crate) hash: u64,
@@ -19,7 +19,7 @@ pub(crate) struct SharedEntry {
     pub(crate) field: u16,
 }
 
-// The field of a frame whose count doesn't fit in it, and is in the overflow table.
+// The field of an entry whose count doesn't fit in it, and is in the overflow table.
 pub(crate) const EXTENDED: u16 = 0;
 
 // A count above 65,535.

@@ -5,13 +5,13 @@
 //! is that of a private page, under the key that the page's content had when the key was noted.
 //!
 //! As in VMware ESX Server (C. Waldspurger, "Memory Resource Management in VMware ESX Server", OSDI
-//! 2002, section 4), a shared frame has a field of 16 bits for its count, and the few counts that don't
+//! 2002, section 4), a shared frame's entry has a field of 16 bits for its count, and the few counts that don't
 //! fit in it are in an overflow table.
 #![tactic(auto)]
 
 mod buckets;
 mod entries;
-mod frames;
+mod searches;
 mod wide;
 
 ghost use Rattle.std.specs.Prelude.{◌≡◌, ◌+◌, ◌*◌, ◌≤◌, ◌<◌, ◌^◌, None, IsSome, IfOk, option_map};
@@ -22,9 +22,9 @@ ghost use Rattle.share_table.specs.TableMaps.{with_count, with_one_less, with_hi
 use buckets::bucket_count;
 use entries::EXTENDED;
 pub use entries::HintFrame;
-use frames::{hint_frame, shared_frame};
-pub use packed_frames::Packed;
-use packed_frames::{Chains, Entry, Key, U24};
+pub use packed_entries::Packed;
+use packed_entries::{Chains, Entry, Key, U24};
+use searches::{hint_entry, shared_entry};
 use std::alloc::{AllocError, Allocator, Global};
 use std::marker::Model;
 use wide::WideCounts;
@@ -95,7 +95,7 @@ impl<A: Allocator> Table<A> {
         self.wide.len() as u32
     }
 
-    /// Returns how many bytes the room for the entries takes: 16 for each frame, and 4 for each bucket head. The number of
+    /// Returns how many bytes the room for the entries takes: 16 for each packed entry, and 4 for each bucket head. The number of
     /// bucket heads is the greatest power of two that is at most the capacity. So it's at most 20 bytes for each frame,
     /// which is under 0.5 % of the frame's 4,096.
     pub fn bytes(&self) -> u64
@@ -109,7 +109,7 @@ impl<A: Allocator> Table<A> {
     pub fn find_shared(&self, hash: u64) -> Option<(u32, u32)>
         ensures { result ≡ option_map (λ frame. (frame.mpn, frame.count)) (shared_at self.now hash) }
     {
-        let entry = shared_frame(&self.chains, hash)?;
+        let entry = shared_entry(&self.chains, hash)?;
         Some((entry.mpn, self.wide.count_of(entry)))
     }
 
@@ -123,11 +123,12 @@ impl<A: Allocator> Table<A> {
         }
     }
 
-    /// Returns the 16-bit field of the shared frame with this hash: its count if that is at most 65,535, and 0 otherwise.
+    /// Returns the 16-bit field in the entry of the shared frame with this hash: its count if that is at most 65,535, and 0
+    /// otherwise.
     pub fn field(&self, hash: u64) -> Option<u16>
         ensures { result ≡ option_map (λ frame. field_of frame.count) (shared_at self.now hash) }
     {
-        let entry = shared_frame(&self.chains, hash)?;
+        let entry = shared_entry(&self.chains, hash)?;
         Some(entry.field)
     }
 
@@ -169,7 +170,7 @@ impl<A: Allocator> Table<A> {
         ensures count { result ≡ count_at self.old hash + 1 }
         ensures joined { self.new ≡ with_count self.old hash (count_at self.old hash + 1) }
     {
-        let entry = shared_frame(&self.chains, hash).unwrap();
+        let entry = shared_entry(&self.chains, hash).unwrap();
         let count = self.wide.count_of(entry) + 1;
         let field = self.wide.store(entry, count);
         self.chains.replace(Entry::Shared {
@@ -203,7 +204,7 @@ impl<A: Allocator> Table<A> {
         ensures count { result + 1 ≡ count_at self.old hash }
         ensures left { self.new ≡ with_one_less self.old hash }
     {
-        let entry = shared_frame(&self.chains, hash).unwrap();
+        let entry = shared_entry(&self.chains, hash).unwrap();
         let count = self.wide.count_of(entry) - 1;
         self.references -= 1;
         let field = self.wide.store(entry, count);
@@ -219,7 +220,7 @@ impl<A: Allocator> Table<A> {
     pub fn find_hint(&self, key: u32) -> Option<HintFrame>
         ensures { result ≡ hint_at self.now key }
     {
-        hint_frame(&self.chains, key)
+        hint_entry(&self.chains, key)
     }
 
     /// Adds a hint frame.

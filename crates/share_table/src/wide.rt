@@ -1,4 +1,4 @@
-//! The overflow table: counts that don't fit in a frame's field.
+//! The overflow table: counts that don't fit in an entry's field.
 ghost use Rattle.std.specs.Prelude.{◌≡◌, ◌≤◌, ◌==◌, IsSome, Some, position};
 ghost use Rattle.std.specs.FinMap as map;
 ghost use Rattle.share_table.specs.Stored.{widened, Agrees, rewidened};

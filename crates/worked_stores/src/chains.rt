@@ -1,7 +1,7 @@
 //! Two shared frames and a hint of one truncated hash, in one of two buckets.
 ghost use Rattle.std.specs.Prelude.{◌≡◌, IfOk};
 
-use packed_frames::{Chains, Entry, Key, U24};
+use packed_entries::{Chains, Entry, Key, U24};
 use std::alloc::{AllocError, Allocator, Global};
 use std::process::Abort;
 use std::test::Fail;

@@ -1,6 +1,6 @@
 ghost use Rattle.std.specs.Prelude.{◌≡◌, IfOk};
 
-use packed_frames::Packed;
+use packed_entries::Packed;
 use refusing::Refusing;
 use share_table::{HintFrame, Table};
 use std::alloc::{AllocError, Allocator, Global};

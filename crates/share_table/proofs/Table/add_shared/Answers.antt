@@ -1,5 +1,5 @@
 use Rattle.std.proofs.Common.{◌≡◌, ◌+◌, ◌<◌, ◌≤◌, None, arith}
-use Rattle.packed_frames.specs.Entries.{entry_count as chained}
+use Rattle.packed_entries.specs.Entries.{entry_count as chained}
 use Rattle.share_table.specs.TableMaps.{shared_at, entry_count, references}
 use Rattle.share_table.specs.Stored.{maps_of}
 use Rattle.share_table.proofs.Kept.{count_is, frame_added, frame_kept}

@@ -9,42 +9,42 @@ use Rattle.share_table.proofs.Table.leave_wide.Goals as goal
 
 pub unwrap-entry-requires : goal.unwrap-entry-requires
 unwrap-entry-requires g c =
-    some_frame c.self.inside.references c.self.inside.chains c.self.inside.wide c.self.invariant c.args.hash c.shared_frame.result c.shared_frame.ensures.found (rw (← c.self.view_is) at c.requires.present)
+    some_frame c.self.inside.references c.self.inside.chains c.self.inside.wide c.self.invariant c.args.hash c.shared_entry.result c.shared_entry.ensures.found (rw (← c.self.view_is) at c.requires.present)
 
 pub count_of-count-requires : goal.count_of-count-requires
 count_of-count-requires g c =
     let e : SharedEntry = c.unwrap-entry.result in
-    let hash_is : e.hash ≡ c.args.hash = rw c.unwrap-entry.ensures at c.shared_frame.ensures.hash in
-    let at = entry_in c.self.inside.references c.self.inside.chains c.self.inside.wide c.self.invariant c.args.hash c.shared_frame.result c.shared_frame.ensures.found e c.unwrap-entry.ensures hash_is in
+    let hash_is : e.hash ≡ c.args.hash = rw c.unwrap-entry.ensures at c.shared_entry.ensures.hash in
+    let at = entry_in c.self.inside.references c.self.inside.chains c.self.inside.wide c.self.invariant c.args.hash c.shared_entry.result c.shared_entry.ensures.found e c.unwrap-entry.ensures hash_is in
     entry_agrees c.self.inside.references c.self.inside.chains c.self.inside.wide c.self.invariant e at
 
 pub overflow_sub-count : goal.overflow_sub-count
 overflow_sub-count g c =
     let e : SharedEntry = c.unwrap-entry.result in
-    let hash_is : e.hash ≡ c.args.hash = rw c.unwrap-entry.ensures at c.shared_frame.ensures.hash in
-    let at = entry_in c.self.inside.references c.self.inside.chains c.self.inside.wide c.self.invariant c.args.hash c.shared_frame.result c.shared_frame.ensures.found e c.unwrap-entry.ensures hash_is in
+    let hash_is : e.hash ≡ c.args.hash = rw c.unwrap-entry.ensures at c.shared_entry.ensures.hash in
+    let at = entry_in c.self.inside.references c.self.inside.chains c.self.inside.wide c.self.invariant c.args.hash c.shared_entry.result c.shared_entry.ensures.found e c.unwrap-entry.ensures hash_is in
     omega (arith, entry_least c.self.inside.references c.self.inside.chains c.self.inside.wide c.self.invariant e at, c.count_of-count.ensures)
 
 pub overflow_sub-self : goal.overflow_sub-self
 overflow_sub-self g c =
     let e : SharedEntry = c.unwrap-entry.result in
-    let hash_is : e.hash ≡ c.args.hash = rw c.unwrap-entry.ensures at c.shared_frame.ensures.hash in
-    let at = entry_in c.self.inside.references c.self.inside.chains c.self.inside.wide c.self.invariant c.args.hash c.shared_frame.result c.shared_frame.ensures.found e c.unwrap-entry.ensures hash_is in
+    let hash_is : e.hash ≡ c.args.hash = rw c.unwrap-entry.ensures at c.shared_entry.ensures.hash in
+    let at = entry_in c.self.inside.references c.self.inside.chains c.self.inside.wide c.self.invariant c.args.hash c.shared_entry.result c.shared_entry.ensures.found e c.unwrap-entry.ensures hash_is in
     omega (arith, entry_least c.self.inside.references c.self.inside.chains c.self.inside.wide c.self.invariant e at, entry_most c.self.inside.references c.self.inside.chains c.self.inside.wide c.self.invariant e at)
 
 pub store-field-requires-clause-agrees : goal.store-field-requires-clause-agrees
 store-field-requires-clause-agrees g c =
     let e : SharedEntry = c.unwrap-entry.result in
-    let hash_is : e.hash ≡ c.args.hash = rw c.unwrap-entry.ensures at c.shared_frame.ensures.hash in
-    let at = entry_in c.self.inside.references c.self.inside.chains c.self.inside.wide c.self.invariant c.args.hash c.shared_frame.result c.shared_frame.ensures.found e c.unwrap-entry.ensures hash_is in
+    let hash_is : e.hash ≡ c.args.hash = rw c.unwrap-entry.ensures at c.shared_entry.ensures.hash in
+    let at = entry_in c.self.inside.references c.self.inside.chains c.self.inside.wide c.self.invariant c.args.hash c.shared_entry.result c.shared_entry.ensures.found e c.unwrap-entry.ensures hash_is in
     entry_agrees c.self.inside.references c.self.inside.chains c.self.inside.wide c.self.invariant e at
 
 pub store-field-requires-clause-room : goal.store-field-requires-clause-room
 store-field-requires-clause-room g c =
     let e : SharedEntry = c.unwrap-entry.result in
-    let hash_is : e.hash ≡ c.args.hash = rw c.unwrap-entry.ensures at c.shared_frame.ensures.hash in
-    let at = entry_in c.self.inside.references c.self.inside.chains c.self.inside.wide c.self.invariant c.args.hash c.shared_frame.result c.shared_frame.ensures.found e c.unwrap-entry.ensures hash_is in
-    let first = first_in c.self.inside.references c.self.inside.chains c.self.inside.wide c.self.invariant c.args.hash c.shared_frame.result c.shared_frame.ensures.found e c.unwrap-entry.ensures hash_is in
+    let hash_is : e.hash ≡ c.args.hash = rw c.unwrap-entry.ensures at c.shared_entry.ensures.hash in
+    let at = entry_in c.self.inside.references c.self.inside.chains c.self.inside.wide c.self.invariant c.args.hash c.shared_entry.result c.shared_entry.ensures.found e c.unwrap-entry.ensures hash_is in
+    let first = first_in c.self.inside.references c.self.inside.chains c.self.inside.wide c.self.invariant c.args.hash c.shared_entry.result c.shared_entry.ensures.found e c.unwrap-entry.ensures hash_is in
     let n : ℕ = c.count_of-count.result in
     let least = entry_least c.self.inside.references c.self.inside.chains c.self.inside.wide c.self.invariant e at in
     let most = entry_most c.self.inside.references c.self.inside.chains c.self.inside.wide c.self.invariant e at in
@@ -59,9 +59,9 @@ store-field-requires-clause-room g c =
 pub invariant_of-self : goal.invariant_of-self
 invariant_of-self g c =
     let e : SharedEntry = c.unwrap-entry.result in
-    let hash_is : e.hash ≡ c.args.hash = rw c.unwrap-entry.ensures at c.shared_frame.ensures.hash in
-    let at = entry_in c.self.inside.references c.self.inside.chains c.self.inside.wide c.self.invariant c.args.hash c.shared_frame.result c.shared_frame.ensures.found e c.unwrap-entry.ensures hash_is in
-    let first = first_in c.self.inside.references c.self.inside.chains c.self.inside.wide c.self.invariant c.args.hash c.shared_frame.result c.shared_frame.ensures.found e c.unwrap-entry.ensures hash_is in
+    let hash_is : e.hash ≡ c.args.hash = rw c.unwrap-entry.ensures at c.shared_entry.ensures.hash in
+    let at = entry_in c.self.inside.references c.self.inside.chains c.self.inside.wide c.self.invariant c.args.hash c.shared_entry.result c.shared_entry.ensures.found e c.unwrap-entry.ensures hash_is in
+    let first = first_in c.self.inside.references c.self.inside.chains c.self.inside.wide c.self.invariant c.args.hash c.shared_entry.result c.shared_entry.ensures.found e c.unwrap-entry.ensures hash_is in
     let n : ℕ = c.count_of-count.result in
     let least = entry_least c.self.inside.references c.self.inside.chains c.self.inside.wide c.self.invariant e at in
     let most = entry_most c.self.inside.references c.self.inside.chains c.self.inside.wide c.self.invariant e at in
@@ -78,17 +78,17 @@ invariant_of-self g c =
 pub returns-clause-count : goal.returns-clause-count
 returns-clause-count g c =
     let e : SharedEntry = c.unwrap-entry.result in
-    let hash_is : e.hash ≡ c.args.hash = rw c.unwrap-entry.ensures at c.shared_frame.ensures.hash in
-    let at = entry_in c.self.inside.references c.self.inside.chains c.self.inside.wide c.self.invariant c.args.hash c.shared_frame.result c.shared_frame.ensures.found e c.unwrap-entry.ensures hash_is in
+    let hash_is : e.hash ≡ c.args.hash = rw c.unwrap-entry.ensures at c.shared_entry.ensures.hash in
+    let at = entry_in c.self.inside.references c.self.inside.chains c.self.inside.wide c.self.invariant c.args.hash c.shared_entry.result c.shared_entry.ensures.found e c.unwrap-entry.ensures hash_is in
     let least = entry_least c.self.inside.references c.self.inside.chains c.self.inside.wide c.self.invariant e at in
     rw (← c.self.view_is, ← hash_is, entry_counts c.self.inside.references c.self.inside.chains c.self.inside.wide c.self.invariant e at) (omega (arith, least, c.count_of-count.ensures))
 
 pub returns-clause-left : goal.returns-clause-left
 returns-clause-left g c =
     let e : SharedEntry = c.unwrap-entry.result in
-    let hash_is : e.hash ≡ c.args.hash = rw c.unwrap-entry.ensures at c.shared_frame.ensures.hash in
-    let at = entry_in c.self.inside.references c.self.inside.chains c.self.inside.wide c.self.invariant c.args.hash c.shared_frame.result c.shared_frame.ensures.found e c.unwrap-entry.ensures hash_is in
-    let first = first_in c.self.inside.references c.self.inside.chains c.self.inside.wide c.self.invariant c.args.hash c.shared_frame.result c.shared_frame.ensures.found e c.unwrap-entry.ensures hash_is in
+    let hash_is : e.hash ≡ c.args.hash = rw c.unwrap-entry.ensures at c.shared_entry.ensures.hash in
+    let at = entry_in c.self.inside.references c.self.inside.chains c.self.inside.wide c.self.invariant c.args.hash c.shared_entry.result c.shared_entry.ensures.found e c.unwrap-entry.ensures hash_is in
+    let first = first_in c.self.inside.references c.self.inside.chains c.self.inside.wide c.self.invariant c.args.hash c.shared_entry.result c.shared_entry.ensures.found e c.unwrap-entry.ensures hash_is in
     let n : ℕ = c.count_of-count.result in
     let least = entry_least c.self.inside.references c.self.inside.chains c.self.inside.wide c.self.invariant e at in
     let most = entry_most c.self.inside.references c.self.inside.chains c.self.inside.wide c.self.invariant e at in
