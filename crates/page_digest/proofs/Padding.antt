@@ -4,8 +4,8 @@ use Rattle.std.proofs.lemmas.Bool.{ne_eqb}
 use Rattle.std.proofs.lemmas.List.{append_assoc, drop-drop, take-append-drop, take_all}
 use Rattle.std.specs.Int.{w32, to_be_bytes}
 use Rattle.sha2.specs.Sha256.{padded_message, padding, sha256}
-use Rattle.sha256_lanes.specs.Hashes.{leading_number}
-use Rattle.page_digest.specs.Hashes.{salted, sha256_hash}
+use Rattle.sha256_lanes.specs.Hashes.{leading_digest, leading_number}
+use Rattle.page_digest.specs.Hashes.{salted, content_digest, sha256_hash}
 
 -- of the page alone
 pub plain_message : (salt : ℕ) (page : List ℕ) → salt ≡ 0 → length page ≡ 4096
@@ -41,3 +41,8 @@ salted_message salt page ne len =
 pub number_is_hash : (salt : ℕ) (page padded : List ℕ) → padded ≡ padded_message (salted salt page) → leading_number padded ≡ sha256_hash salt page
 unfolding leading_number sha256_hash sha256
 number_is_hash salt page padded e = rw e refl
+
+-- and its digest that of the content
+pub digest_is_of_content : (salt : ℕ) (page padded : List ℕ) → padded ≡ padded_message (salted salt page) → leading_digest padded ≡ content_digest salt page
+unfolding leading_digest content_digest sha256
+digest_is_of_content salt page padded e = rw e refl

@@ -2,7 +2,7 @@
 use Rattle.std.specs.Prelude.{ℕ, ◌+◌, ◌*◌, ◌^◌, ◌==◌, if◌then◌else◌, List, [], ◌∷◌, ◌++◌, take, slice_index}
 use Rattle.std.specs.Hash.{le_bytes}
 use Rattle.std.specs.Hash.FoldHasher.{initial, write, finish}
-use Rattle.std.specs.Int.{w32, w64, from_be_bytes, to_be_bytes}
+use Rattle.std.specs.Int.{w32, w64, w128, from_be_bytes, to_be_bytes}
 use Rattle.sha2.specs.Sha256.{sha256}
 
 -- the message that is digested: the page alone under salt 0, and otherwise the salt's four big-endian bytes and the page
@@ -12,6 +12,10 @@ salted salt page = if salt == 0 then page else to_be_bytes w32 salt ++ page
 -- the first eight bytes of the message's SHA-256 digest (FIPS 180-4), read big-endian
 unfoldable pub sha256_hash : ℕ → List ℕ → ℕ
 sha256_hash salt page = from_be_bytes w64 (take 8 (sha256 (salted salt page)))
+
+-- the first sixteen bytes of the message's SHA-256 digest, read big-endian
+unfoldable pub content_digest : ℕ → List ℕ → ℕ
+content_digest salt page = from_be_bytes w128 (take 16 (sha256 (salted salt page)))
 
 -- the result of std's fast hasher that was fed the salt's four bytes, the lowest first, and then the page
 abbrev pub fold_hash : ℕ → List ℕ → ℕ

@@ -3,6 +3,7 @@
 //! Nothing is assumed about collisions: pages are compared in full before they share a frame.
 #![tactic(auto)]
 
+mod content;
 mod fold_hash;
 mod many;
 mod message;
@@ -12,6 +13,7 @@ mod sha256;
 mod short;
 mod workers;
 
+pub use content::{digest_content, digest_four_contents};
 pub use fold_hash::FoldHash;
 pub use many::{HashFault, hash_many};
 pub use page_hash::PageHash;

@@ -35,7 +35,8 @@ impl PageHash for Sha256Hash {
     }
 }
 
-fn digest(salt: u32, page: &Page) -> [u8; 32]
+/// Returns the SHA-256 digest of a page under a salt.
+pub(crate) fn digest(salt: u32, page: &Page) -> [u8; 32]
     ensures { result ≡ sha256 (salted salt page.now) }
 {
     if salt == 0 {

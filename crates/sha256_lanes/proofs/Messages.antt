@@ -1,11 +1,11 @@
 -- A padded message by its blocks, and its hash value by theirs.
 use Rattle.std.proofs.Common.{◌≡◌, ℕ, ◌+◌, ◌-◌, ◌*◌, ◌/◌, ◌^◌, ◌<◌, ◌≤◌, List, [], ◌∷◌, ◌++◌, length, take, drop, slice_index, refl, sym, ap, ◌∙◌, arith, mod-lt, pow_pos, length-append, length-drop}
 use Rattle.std.proofs.lemmas.List.{append_assoc, drop-append-le, drop-drop, drop_at, take-append-le, take_all, take_at}
-use Rattle.std.specs.Int.{w64, from_be_bytes}
+use Rattle.std.specs.Int.{w64, w128, from_be_bytes}
 use Rattle.sha2.specs.Sha256.{compress, digest_bytes, hash_after, initial_hash_256}
 use Rattle.sha2.proofs.Absorbing256.{hash_after_next}
-use Rattle.sha256_lanes.specs.Hashes.{leading_number}
-use Rattle.sha256_lanes.specs.Lanes.{lane, one_of}
+use Rattle.sha256_lanes.specs.Hashes.{hash_value, leading_number, leading_digest}
+use Rattle.sha256_lanes.specs.Lanes.{one_of, four_words_of}
 use Rattle.sha256_lanes.proofs.Lanes.{in_each}
 
 module _ (first middle last : List ℕ) (lf : length first ≡ 64) (ll : length last ≡ 64) where
@@ -41,9 +41,18 @@ pub none_taken : (padded before : List ℕ) → before ≡ initial_hash_256 → 
 unfolding hash_after
 none_taken padded before eb = eb
 
-compress-lt : (h b : List ℕ) → (slice_index (compress h b) 0 < 2 ^ 32) × (slice_index (compress h b) 1 < 2 ^ 32)
+compress-lt : (h b : List ℕ) (i : ℕ) → i < 4 → slice_index (compress h b) i < 2 ^ 32
 unfolding compress
-compress-lt h b = (mod-lt _ (pow_pos 32), mod-lt _ (pow_pos 32))
+compress-lt h b = in_each (λ i. slice_index (compress h b) i < 2 ^ 32) (mod-lt _ (pow_pos 32)) (mod-lt _ (pow_pos 32)) (mod-lt _ (pow_pos 32)) (mod-lt _ (pow_pos 32))
+
+-- each of the first words of a message's hash value has 32 bits
+value-lt : (padded : List ℕ) → 64 ≤ length padded → (i : ℕ) → i < 4 → slice_index (hash_value padded) i < 2 ^ 32
+value-lt padded some i lt =
+    let n = length padded / 64 - 1 in
+    let blocks : length padded / 64 ≡ n + 1 = omega (arith, some) in
+    let end : hash_value padded ≡ compress (hash_after initial_hash_256 padded n) (take 64 (drop (n * 64) padded)) =
+    ap (hash_after initial_hash_256 padded) blocks ∙ hash_after_next initial_hash_256 padded n in
+    rw end (compress-lt _ _ i lt)
 
 -- the first eight bytes are the first two words
 two_words : (h : List ℕ) → slice_index h 0 < 2 ^ 32 → slice_index h 1 < 2 ^ 32
@@ -51,36 +60,44 @@ two_words : (h : List ℕ) → slice_index h 0 < 2 ^ 32 → slice_index h 1 < 2 
 unfolding digest_bytes
 two_words h high low = omega arith
 
+-- the first sixteen bytes are the first four words
+four_words : (h : List ℕ) → slice_index h 0 < 2 ^ 32 → slice_index h 1 < 2 ^ 32 → slice_index h 2 < 2 ^ 32 → slice_index h 3 < 2 ^ 32
+    → from_be_bytes w128 (take 16 (digest_bytes h 8)) ≡ four_words_of h
+unfolding digest_bytes
+four_words h one two three four = omega arith
+
 -- the number of a message from its hash value
-pub number_is : (padded hash : List ℕ) (n number : ℕ) → length padded ≡ 64 * (n + 1) → hash ≡ hash_after initial_hash_256 padded (n + 1)
+pub number_is : (padded hash : List ℕ) (number : ℕ) → 64 ≤ length padded → hash ≡ hash_value padded
     → number ≡ slice_index hash 0 * 2 ^ 32 + slice_index hash 1 → number ≡ leading_number padded
 unfolding leading_number
-number_is padded hash n number len eh en =
-    let blocks : length padded / 64 ≡ n + 1 = omega arith in
-    let end : hash ≡ compress (hash_after initial_hash_256 padded n) (take 64 (drop (n * 64) padded)) = eh ∙ hash_after_next initial_hash_256 padded n in
-    let small : (slice_index hash 0 < 2 ^ 32) × (slice_index hash 1 < 2 ^ 32) = rw end (compress-lt _ _) in
-    rw (blocks, ← eh) (en ∙ sym (two_words hash small.0 small.1))
+number_is padded hash number some eh en =
+    let small = value-lt padded some in
+    en ∙ rw eh (sym (two_words (hash_value padded) (small 0 (omega arith)) (small 1 (omega arith))))
+
+-- and its digest
+pub digest_is : (padded hash : List ℕ) (number : ℕ) → 64 ≤ length padded → hash ≡ hash_value padded
+    → number ≡ four_words_of hash → number ≡ leading_digest padded
+unfolding leading_digest
+digest_is padded hash number some eh en =
+    let small = value-lt padded some in
+    en ∙ rw eh (sym (four_words (hash_value padded) (small 0 (omega arith)) (small 1 (omega arith)) (small 2 (omega arith)) (small 3 (omega arith))))
 
 -- the blocks that four messages have at one place
 pub blocks_of : (at : List ℕ → List ℕ) (a b c d x y z w : List ℕ) → x ≡ at a → y ≡ at b → z ≡ at c → w ≡ at d
     → (j : ℕ) → j < 4 → one_of j x y z w ≡ at (one_of j a b c d)
 blocks_of at a b c d x y z w ex ey ez ew = in_each (λ j. one_of j x y z w ≡ at (one_of j a b c d)) ex ey ez ew
 
--- the numbers of four messages from their hash values
-pub four_numbers : (a b c d : List ℕ) (n : ℕ) (state : List (List ℕ)) (numbers : List ℕ) → length numbers ≡ 4
-    → length a ≡ 64 * (n + 1) → length b ≡ length a → length c ≡ length a → length d ≡ length a
-    → ((j : ℕ) → j < 4 → lane j state ≡ hash_after initial_hash_256 (one_of j a b c d) (n + 1))
-    → ((j : ℕ) → j < 4 → slice_index numbers j ≡ slice_index (lane j state) 0 * 2 ^ 32 + slice_index (lane j state) 1)
-    → numbers ≡ leading_number a ∷ leading_number b ∷ leading_number c ∷ leading_number d ∷ []
-four_numbers a b c d n state [] four la lb lc ld hashes words = absurd (omega arith)
-four_numbers a b c d n state (p ∷ []) four la lb lc ld hashes words = absurd (omega arith)
-four_numbers a b c d n state (p ∷ q ∷ []) four la lb lc ld hashes words = absurd (omega arith)
-four_numbers a b c d n state (p ∷ q ∷ r ∷ []) four la lb lc ld hashes words = absurd (omega arith)
-four_numbers a b c d n state (p ∷ q ∷ r ∷ s ∷ t ∷ more) four la lb lc ld hashes words = absurd (omega arith)
-four_numbers a b c d n state (p ∷ q ∷ r ∷ s ∷ []) four la lb lc ld hashes words =
-    rw (
-      number_is a (lane 0 state) n p la (hashes 0 (omega arith)) (words 0 (omega arith)),
-      number_is b (lane 1 state) n q (omega arith) (hashes 1 (omega arith)) (words 1 (omega arith)),
-      number_is c (lane 2 state) n r (omega arith) (hashes 2 (omega arith)) (words 2 (omega arith)),
-      number_is d (lane 3 state) n s (omega arith) (hashes 3 (omega arith)) (words 3 (omega arith)),
-    ) refl
+-- what four messages of one length have in common with the first
+pub each_long : (n : ℕ) (a b c d : List ℕ) → length a ≡ n → length b ≡ length a → length c ≡ length a → length d ≡ length a
+    → (j : ℕ) → j < 4 → length (one_of j a b c d) ≡ n
+each_long n a b c d la lb lc ld = in_each (λ j. length (one_of j a b c d) ≡ n) la (omega (arith, la, lb)) (omega (arith, la, lc)) (omega (arith, la, ld))
+
+-- the numbers of four messages from the number of each
+pub four_of : (f : List ℕ → ℕ) (a b c d numbers : List ℕ) → length numbers ≡ 4 → ((j : ℕ) → j < 4 → slice_index numbers j ≡ f (one_of j a b c d))
+    → numbers ≡ f a ∷ f b ∷ f c ∷ f d ∷ []
+four_of f a b c d [] four each = absurd (omega arith)
+four_of f a b c d (p ∷ []) four each = absurd (omega arith)
+four_of f a b c d (p ∷ q ∷ []) four each = absurd (omega arith)
+four_of f a b c d (p ∷ q ∷ r ∷ []) four each = absurd (omega arith)
+four_of f a b c d (p ∷ q ∷ r ∷ s ∷ t ∷ more) four each = absurd (omega arith)
+four_of f a b c d (p ∷ q ∷ r ∷ s ∷ []) four each = rw (each 0 (omega arith), each 1 (omega arith), each 2 (omega arith), each 3 (omega arith)) refl

@@ -1,5 +1,5 @@
 -- Four messages side by side: each word is a vector of four numbers, one for each message.
-use Rattle.std.specs.Prelude.{ℕ, zero, suc, List, map, slice_index}
+use Rattle.std.specs.Prelude.{ℕ, zero, suc, ◌+◌, ◌*◌, ◌^◌, List, map, slice_index}
 
 -- the words of message j
 abbrev pub lane : ℕ → List (List ℕ) → List ℕ
@@ -11,3 +11,7 @@ one_of zero a b c d = a
 one_of (suc zero) a b c d = b
 one_of (suc (suc zero)) a b c d = c
 one_of (suc (suc (suc _))) a b c d = d
+
+-- the first four words as one number, the first word highest
+abbrev pub four_words_of : List ℕ → ℕ
+four_words_of words = (slice_index words 0 * 2 ^ 32 + slice_index words 1) * 2 ^ 64 + (slice_index words 2 * 2 ^ 32 + slice_index words 3)

@@ -12,5 +12,5 @@ mod rounds;
 mod schedule;
 mod vectors;
 
-pub use hashing::hash_four;
+pub use hashing::{digest_four, hash_four};
 pub use padded::{BLOCK_BYTES, Padded};

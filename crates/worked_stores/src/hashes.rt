@@ -1,5 +1,6 @@
 //! Hashes of pages: values from outside, four pages together compared with each alone, and many by several workers.
 mod apart;
+mod contents;
 mod folded;
 mod known;
 mod makes;

@@ -1,0 +1,16 @@
+use Rattle.std.proofs.Common.{◌≤◌, ℕ, ◌<◌, arith, length, refl}
+use Rattle.sha256_lanes.specs.Hashes.{leading_digest}
+use Rattle.sha256_lanes.specs.Lanes.{one_of}
+use Rattle.sha256_lanes.proofs.Messages.{each_long, four_of, digest_is}
+use Rattle.sha256_lanes.proofs.hashing.digest_four.Goals as goal
+
+pub returns : goal.returns
+returns c =
+    let a = c.args.a.now in
+    let b = c.args.b.now in
+    let third = c.args.c.now in
+    let d = c.args.d.now in
+    let long : (j : ℕ) → j < 4 → 64 ≤ length (one_of j a b third d) =
+    λ j lt. omega (arith, c.state_after.ensures.some, each_long (length a) a b third d refl c.requires.b c.requires.c c.requires.d j lt) in
+    four_of leading_digest a b third d c.leading_digests.result c.leading_digests.ensures.len
+    (λ j lt. digest_is (one_of j a b third d) _ _ (long j lt) (c.state_after.ensures.each j lt) (c.leading_digests.ensures.each j lt))
