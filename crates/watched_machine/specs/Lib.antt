@@ -1,3 +1,1 @@
-pub mod View
 pub mod Publishing
-pub mod Opened

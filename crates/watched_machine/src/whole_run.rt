@@ -7,12 +7,10 @@ ghost use Rattle.merge_reports.specs.Lists.{published};
 ghost use Rattle.merge_run.specs.Fronts.{AreOfFronts};
 ghost use Rattle.merge_run.specs.Observed.{ObservesRun};
 ghost use Rattle.merge_run.specs.Runs.{CanBeRun, IsWholeRun, NotRunFor};
-ghost use Rattle.watched_machine.specs.View.{plain_settled};
 
 use crate::causes::find_cause;
 use crate::finished::Finished;
 use crate::lent_publisher::LentPublisher;
-use crate::settled::Settled;
 use crate::view::{end_view, view};
 use crate::viewer::Viewer;
 use merge_machine::Config;
@@ -55,7 +53,7 @@ pub fn run<
     viewer: &V,
 ) -> Result<Finished<H, A>, RunFault>
     requires scripts { CanBeRun config.now scripts.items }
-    ensures run { MatchResult result (λ f. IsWholeRun H.hash_of config.now scripts.items (plain_settled f.settled) f.verdicts.items) (λ fault. NotRunFor config.now scripts.items fault) }
+    ensures run { MatchResult result (λ f. IsWholeRun H.hash_of config.now scripts.items f.settled f.verdicts.items) (λ fault. NotRunFor config.now scripts.items fault) }
 {
     let Ok(mut publisher) = Publisher::new(alloc, rt) else {
         return Err(find_cause(config, &scripts));
@@ -72,13 +70,13 @@ pub fn run<
     );
     match ran {
         Ok(finished) => {
-            let merge_run::Finished {
-                settled: plain,
-                verdicts,
-            } = finished;
-            let settled = Settled { plain, publisher };
+            let merge_run::Finished { settled, verdicts } = finished;
             viewer.show(&settled.report());
-            Ok(Finished { settled, verdicts })
+            Ok(Finished {
+                settled,
+                publisher,
+                verdicts,
+            })
         }
         Err(fault) => {
             publisher.end(rt);

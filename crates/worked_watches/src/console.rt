@@ -1,15 +1,15 @@
 //! A console in its own thread, with two guests in threads and the merger in the test's.
 ghost use Rattle.std.specs.Prelude.{◌≡◌, ◌<◌};
-ghost use Rattle.watched_machine.specs.View.{end_names, ends_of, guest_count, plain_of};
+ghost use Rattle.merge_run.specs.View.{end_names, ends_of, guest_count};
 
 use crate::guests::{LOADS, start};
-use crate::makes::{Watched, both, list_of_both, new_machine, settled};
+use crate::watched::{Watched, both, new_machine};
+use merge_run::{Step, settle};
 use page_model::Report;
-use std::alloc::Global;
 use std::sync::Wait;
 use std::test::Fail;
 use std::thread;
-use watched_machine::{Step, Watch};
+use watched_machine::Watch;
 
 const TRIES: u64 = 1 << 30;
 
@@ -33,20 +33,15 @@ struct Tally {
 }
 
 /// Steps a guest, and publishes after each tenth step that served a request. Returns whether the guest has ended.
-fn step_and_publish<R: Wait>(
-    rt: &R,
-    merger: &mut Watched<Global>,
-    guest: u8,
-    served: &mut Served,
-) -> bool
-    requires { guest < guest_count (plain_of merger.old) }
-    ensures names { end_names (ends_of (plain_of merger.new)) ≡ end_names (ends_of (plain_of merger.old)) }
-    ensures guests { guest_count (plain_of merger.new) ≡ guest_count (plain_of merger.old) }
+fn step_and_publish<R: Wait>(rt: &R, watched: &mut Watched, guest: u8, served: &mut Served) -> bool
+    requires { guest < guest_count watched.old.merger }
+    ensures names { end_names (ends_of watched.new.merger) ≡ end_names (ends_of watched.old.merger) }
+    ensures guests { guest_count watched.new.merger ≡ guest_count watched.old.merger }
 {
-    let answer = merger.step(guest);
+    let answer = watched.step(guest);
     if answer == Ok(Step::Done) {
         served.steps = served.steps.wrapping_add(1);
-        if served.steps % STEPS == 0 && merger.publish(rt).is_ok() {
+        if served.steps % STEPS == 0 && watched.publish(rt).is_ok() {
             served.published = served.published.wrapping_add(1);
         }
     }
@@ -54,17 +49,17 @@ fn step_and_publish<R: Wait>(
 }
 
 /// Steps both guests in turn until both have ended.
-fn serve_both<R: Wait>(rt: &R, merger: &mut Watched<Global>) -> Served
-    requires { guest_count (plain_of merger.old) ≡ 2 }
-    ensures { end_names (ends_of (plain_of merger.new)) ≡ end_names (ends_of (plain_of merger.old)) }
+fn serve_both<R: Wait>(rt: &R, watched: &mut Watched) -> Served
+    requires { guest_count watched.old.merger ≡ 2 }
+    ensures { end_names (ends_of watched.new.merger) ≡ end_names (ends_of watched.old.merger) }
 {
     let mut served = Served {
         steps: 0,
         published: 0,
     };
     for _ in 0..TRIES {
-        let first = step_and_publish(rt, merger, 0, &mut served);
-        let second = step_and_publish(rt, merger, 1, &mut served);
+        let first = step_and_publish(rt, watched, 0, &mut served);
+        let second = step_and_publish(rt, watched, 1, &mut served);
         if first && second {
             break;
         }
@@ -108,15 +103,15 @@ fn read_often(watch: Watch) -> Tally {
 
 #[test]
 fn entries_never_fall(rt: HostRuntime) -> Result<(), Fail> {
-    let (mut merger, ports) = new_machine(&rt, rt.alloc(), 1, &[1, 1], 2, 202)?;
-    let watch = merger.watch().expect(&rt, "a watch");
+    let (mut watched, ports) = new_machine(&rt, rt.alloc(), 1, &[1, 1], 2, 202)?;
+    let watch = watched.publisher.watch().expect(&rt, "a watch");
     let Ok(reading) = thread::spawn(&rt, move || read_often(watch)) else {
         panic!(rt; "no thread");
     };
     let (first, second) = both(ports).expect(&rt, "two ports");
     let first = start(&rt, first).expect(&rt, "a thread");
     let second = start(&rt, second).expect(&rt, "a thread");
-    let served = serve_both(&rt, &mut merger);
+    let served = serve_both(&rt, &mut watched);
     let first = first
         .join(&rt)
         .expect(&rt, "a port that isn't busy to the end");
@@ -134,9 +129,14 @@ fn entries_never_fall(rt: HostRuntime) -> Result<(), Fail> {
         falls: 0,
     };
     assert_eq!(rt; tally, never);
-    let ports = list_of_both(rt.alloc(), first, second).expect(&rt, "memory");
-    let settled = settled(&rt, merger, ports);
+    let Watched { merger, publisher } = watched;
+    publisher.end(&rt);
+    let mut ports = Vec::with_capacity(rt.alloc(), 2)?;
+    ports.push_reserved(first);
+    ports.push_reserved(second);
+    let Ok(settled) = settle(merger, ports) else {
+        panic!(rt; "not settled");
+    };
     assert_eq!(rt; settled.report(), Report::new(202, 0, 0, 0, 0));
-    settled.end(&rt);
     Ok(())
 }

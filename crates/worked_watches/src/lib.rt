@@ -2,25 +2,21 @@
 #![tactic(auto)]
 
 #[cfg(test)]
+mod config;
+#[cfg(test)]
 mod console;
 #[cfg(test)]
-mod dropped;
-#[cfg(test)]
 mod guests;
-#[cfg(test)]
-mod makes;
-#[cfg(test)]
-mod places;
 #[cfg(test)]
 mod refused;
 #[cfg(test)]
 mod runs;
 #[cfg(test)]
-mod settling;
-#[cfg(test)]
 mod sharing;
 #[cfg(test)]
 mod viewing;
+#[cfg(test)]
+mod watched;
 #[cfg(test)]
 mod watching;
 #[cfg(test)]

@@ -1,11 +1,24 @@
 //! Memory that is refused to a watched machine.
-use crate::makes::{new_machine, only};
+ghost use Rattle.std.specs.Prelude.{◌≡◌, false, All, length, IfOk};
+ghost use Rattle.share_rings.specs.Closing.{has_close};
+
+use crate::config::config_of;
+use crate::watched::{new_machine, only};
 use crate::watching::watch_and_end;
+use merge_run::Fault;
+use page_digest::Sha256Hash;
+use page_model::{Report, Request};
 use refusing::Refusing;
+use std::alloc::{AllocError, Allocator, Global};
+use std::sync::atomic::{AtomicBool, Ordering};
 use std::test::Fail;
-use watched_machine::Fault;
+use std::thread;
+use watched_machine::{Gate, Viewer, run};
 
 const MOST: u64 = 100;
+
+// Enough tries for some seconds.
+const TRIES: u64 = 1 << 24;
 
 // The requests before those of the machine: for the two lists of the configuration.
 const BEFORE: u64 = 2;
@@ -19,9 +32,9 @@ fn each_growth_refused_in_turn(rt: HostRuntime) -> Result<(), Fail> {
     for n in 0..MOST {
         let heap = Refusing::new(rt.alloc(), BEFORE + n, 0);
         match new_machine(&rt, &heap, 1, &[1], 4, 4) {
-            Ok((merger, ports)) => {
+            Ok((watched, ports)) => {
                 let port = only(ports).expect(&rt, "one port");
-                watch_and_end(&rt, merger, port);
+                watch_and_end(&rt, watched, port);
                 publish_refused = publish_refused || heap.has_refused();
             }
             Err(fault) => {
@@ -37,5 +50,67 @@ fn each_growth_refused_in_turn(rt: HostRuntime) -> Result<(), Fail> {
     }
     assert!(rt; whole_at.is_some());
     assert!(rt; publish_refused);
+    Ok(())
+}
+
+/// Refuses all memory from the guest's first request on, and holds its second one back until that refused a publish.
+#[derive(Drop)]
+struct Miser<'h> {
+    heap: &'h Refusing<Global>,
+    missed: AtomicBool,
+}
+
+impl<'h> Gate for Miser<'h> {
+    fn before(&self, _guest: u8, nth: u32) {
+        if nth == 0 {
+            self.heap.refuse_all();
+            return;
+        }
+        for _ in 0..TRIES {
+            if self.heap.has_refused() {
+                return;
+            }
+            thread::yield_now();
+        }
+        self.missed.store(true, Ordering::SeqCst);
+    }
+
+    fn after(&self, _guest: u8, _nth: u32) {}
+}
+
+/// A viewer that sees nothing.
+struct Blind;
+
+impl Viewer for Blind {
+    fn show(&self, _report: &Report) {}
+}
+
+/// Makes the script of one guest, which requests the counts twice.
+fn two_counts<A: Allocator + Copy>(alloc: A) -> Result<Vec<Vec<Request, A>, A>, AllocError>
+    ensures each { IfOk result (λ scripts. length scripts.items ≡ 1) }
+    ensures plain { IfOk result (λ scripts. All (λ script. has_close script.items ≡ false) scripts.items) }
+{
+    let mut script = Vec::with_capacity(alloc, 2)?;
+    script.push_reserved(Request::Count);
+    script.push_reserved(Request::Count);
+    let mut scripts = Vec::with_capacity(alloc, 1)?;
+    scripts.push_reserved(script);
+    Ok(scripts)
+}
+
+// A run goes on where its publishes are refused.
+#[test]
+fn refused_publishes_stop_no_run(rt: HostRuntime) -> Result<(), Fail> {
+    let heap = Refusing::new(rt.alloc(), u64::MAX, 0);
+    let config = config_of(&heap, 1, &[1], 3, 3)?;
+    let scripts = two_counts(&heap)?;
+    let miser = Miser {
+        heap: &heap,
+        missed: AtomicBool::new(false),
+    };
+    let finished = run(&rt, &heap, &config, Sha256Hash, scripts, &miser, &Blind)?;
+    assert!(rt; !miser.missed.load(Ordering::SeqCst));
+    let plain = finished.unwatched(&rt);
+    assert_eq!(rt; plain.settled.report(), Report::new(3, 0, 0, 0, 0));
     Ok(())
 }

@@ -2,7 +2,7 @@
 ghost use Rattle.std.specs.Prelude.{◌≡◌, false, All, length, IfOk};
 ghost use Rattle.share_rings.specs.Closing.{has_close, is_close};
 
-use crate::makes::config_of;
+use crate::config::config_of;
 use page_digest::Sha256Hash;
 use page_model::{Report, Request, Verdict};
 use refusing::Refusing;
@@ -47,10 +47,11 @@ impl Viewer for Blind {
     fn show(&self, _report: &Report) {}
 }
 
-// Some front of the run was published, or none; its last report is, if memory for it can be had.
-fn watch_and_end<R: Abort + Wait, A: Allocator>(rt: &R, finished: Finished<Sha256Hash, A>) {
+// Some front of the run was published, or nothing.
+fn check_and_end<R: Abort + Wait, A: Allocator>(rt: &R, finished: Finished<Sha256Hash, A>) {
     let Finished {
-        mut settled,
+        settled,
+        mut publisher,
         verdicts,
     } = finished;
     let first = [Verdict::Mapped, Verdict::Closed];
@@ -58,33 +59,24 @@ fn watch_and_end<R: Abort + Wait, A: Allocator>(rt: &R, finished: Finished<Sha25
     assert!(rt; verdicts.len() == 2);
     assert_eq!(rt; verdicts[0].as_slice(), first.as_slice());
     assert_eq!(rt; verdicts[1].as_slice(), second.as_slice());
-    let mut watch = settled.watch().expect(rt, "a watch");
+    assert_eq!(rt; settled.report(), Report::new(5, 2, 0, 2, 1));
+    let mut watch = publisher.watch().expect(rt, "a watch");
     let front = watch.read().expect(rt, "a report");
     assert!(rt; front.entries() <= 5);
-    if let Ok(told) = settled.publish(rt) {
-        watch.learn(told);
-        assert_eq!(rt; watch.read(), Some(Report::new(5, 2, 0, 2, 1)));
-    } else {
-        assert_eq!(rt; watch.read(), Some(front));
-    }
-    settled.end(rt);
+    publisher.end(rt);
 }
 
 // The nth request for memory is refused, with n counting up until a run has no refusal: those of the run, and then
-// those of what it publishes and of its last publish, which stop no run.
+// those of what it publishes, which stop no run.
 #[test]
 fn run_refused_in_turn(rt: HostRuntime) -> Result<(), Fail> {
-    let mut publish_refused = false;
     let mut whole_at = None;
     for n in 0..MOST {
         let heap = Refusing::new(rt.alloc(), BEFORE + n, 0);
         let config = config_of(&heap, 2, &[1, 1], 1, 5)?;
         let scripts = two_scripts(&heap)?;
         match run(&rt, &heap, &config, Sha256Hash, scripts, &OpenGate, &Blind) {
-            Ok(finished) => {
-                watch_and_end(&rt, finished);
-                publish_refused = publish_refused || heap.has_refused();
-            }
+            Ok(finished) => check_and_end(&rt, finished),
             Err(fault) => {
                 assert!(rt; heap.has_refused(), "at {n}");
                 assert_eq!(rt; fault, RunFault::OutOfMemory, "at {n}");
@@ -98,7 +90,6 @@ fn run_refused_in_turn(rt: HostRuntime) -> Result<(), Fail> {
         }
     }
     assert!(rt; whole_at.is_some());
-    assert!(rt; publish_refused);
     Ok(())
 }
 
@@ -122,7 +113,7 @@ fn want_of_memory_is_told_last(rt: HostRuntime) -> Result<(), Fail> {
         let scripts = two_scripts(&heap)?;
         heap.refuse_all();
         match run(&rt, &heap, &config, Sha256Hash, scripts, &OpenGate, &Blind) {
-            Ok(finished) => watch_and_end(&rt, finished),
+            Ok(finished) => check_and_end(&rt, finished),
             Err(answer) => assert_eq!(rt; answer, fault, "{frames} {ring} {journal}"),
         }
         assert!(rt; heap.has_refused());
@@ -151,7 +142,7 @@ fn faults_with_memory(rt: HostRuntime) -> Result<(), Fail> {
             &OpenGate,
             &Blind,
         ) {
-            Ok(finished) => watch_and_end(&rt, finished),
+            Ok(finished) => check_and_end(&rt, finished),
             Err(answer) => assert_eq!(rt; answer, fault),
         }
     }
