@@ -1,6 +1,5 @@
 -- A request that has changed the pages has been applied, once it is counted.
 use Rattle.std.proofs.Common.{◌≡◌, ◌+◌, ℕ, List, length, refl, ap, ◌∙◌}
-use Rattle.page_model.specs.Pages.{Guest}
 use Rattle.page_model.specs.Steps.{Outcome, Step, counted, answered, step}
 use Rattle.page_model.specs.declared.request.Request.{Request}
 use Rattle.page_model.specs.declared.request.Request.TheVariants.{Propose, Store, Load, Release, Count, Close}

@@ -1,9 +1,9 @@
 -- Pages that are lent: what their stores and their proposal do together.
-use Rattle.std.proofs.Common.{◌≡◌, ℕ, ◌≤◌, Bool, true, false, cond, List, length, Option, Some, None, Result, Ok, Err, IfSome, refl, ap, sym, ◌∙◌, inl, inr, arith}
+use Rattle.std.proofs.Common.{◌≡◌, ℕ, ◌≤◌, Bool, true, false, cond, List, length, Option, Some, None, Ok, Err, IfSome, refl, ap, sym, ◌∙◌, inl, inr, arith}
 use Rattle.std.specs.Prelude.{◌==◌, ◌&&◌, replicate}
 use Rattle.std.specs.Str.{bytes_eq}
 use Rattle.std.proofs.lemmas.List.{length-replicate}
-use Rattle.page_model.specs.Pages.{SlotOf, Slot, Unmapped, Private, Shared, Guest, blank, bytes_of, written, used, peers, page_at, with_slot, is_shared_as, is_shared_under, any_page, count_pages, find_page, has_hint}
+use Rattle.page_model.specs.Pages.{Slot, Unmapped, Private, Shared, Guest, blank, bytes_of, written, used, peers, page_at, with_slot, is_shared_as, is_shared_under, any_page, find_page, has_hint}
 use Rattle.page_model.specs.Steps.{Outcome, stays, sets, stored, weighed, held as held_hint, offered, matched, proposed, on_page, at_page, key_of, kept_hint}
 use Rattle.page_model.specs.Stored.{is_done}
 use Rattle.page_model.specs.declared.verdict.Verdict.{Verdict}
@@ -12,8 +12,8 @@ use Rattle.page_model.proofs.Anys.{AnyIsCount, any_is_count}
 use Rattle.page_model.proofs.Places.{at_same, again}
 use Rattle.page_model.proofs.Used.{pages_counted}
 use Rattle.machine_frames.specs.FrameMap.{FrameMap, frame}
-use Rattle.merge_core.specs.Names.{Names, bytes_in, frame_of}
-use Rattle.merge_core.specs.Lending.{keeps_own, has_joined, LendKeeps, page_outcome, lent_outcome, own_freed, LendsPage}
+use Rattle.merge_core.specs.Names.{Names}
+use Rattle.merge_core.specs.Lending.{keeps_own, LendKeeps, page_outcome, own_freed, LendsPage}
 use Rattle.merge_core.specs.Stays.{frame_at, Change, Keeps, TakesFree, JoinsAnother, GivesUp, change_at, HasTheirs, NamedFrame, OthersKeep}
 use Rattle.merge_core.specs.View.{names_of, guests_of}
 use Rattle.merge_core.specs.declared.held.Held.{Held}

@@ -1,6 +1,6 @@
 -- A whole page has been stored or lent, once its requests are counted.
-use Rattle.std.proofs.Common.{◌≡◌, ◌+◌, ◌≤◌, ℕ, Bool, true, false, cond, List, length, None, Ok, Err, refl, ap, sym, ◌∙◌, arith}
-use Rattle.page_model.specs.Steps.{Outcome, Step, stored, proposed, at_page, answered, step}
+use Rattle.std.proofs.Common.{◌≡◌, ◌+◌, ℕ, true, false, cond, List, length, None, Ok, Err, refl, ap, sym, ◌∙◌, arith}
+use Rattle.page_model.specs.Steps.{Outcome, Step, proposed, at_page, answered, step}
 use Rattle.page_model.specs.Stored.{is_done}
 use Rattle.page_model.specs.declared.request.Request.TheVariants.{Propose}
 use Rattle.page_model.specs.declared.verdict.Verdict.{Verdict}

@@ -17,7 +17,6 @@ use Rattle.merge_core.specs.View.{names_of, guests_of}
 use Rattle.merge_core.specs.declared.held.Held.{Held}
 use Rattle.merge_core.specs.declared.lent.Lent.{Lent}
 use Rattle.merge_core.specs.declared.lent.Returned.{Returned}
-use Rattle.merge_core.specs.declared.lent.Returned.TheVariants as Returned
 
 -- A guest's whole page was stored. The model takes the steps of the page's stores, of which the first one gets the verdict, and
 -- the frames of all pages are as that verdict says.

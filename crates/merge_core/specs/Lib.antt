@@ -1,6 +1,7 @@
 pub mod Ahead
 pub mod Applying
 pub mod Hashing
+pub mod Kept
 pub mod Lending
 pub mod Names
 pub mod Noted

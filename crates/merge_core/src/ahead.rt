@@ -2,6 +2,7 @@
 ghost use Rattle.std.specs.Prelude.{◌≡◌, ◌∷◌, [], All, IfSome};
 ghost use Rattle.machine_frames.specs.FrameMap.{IsTaken};
 ghost use Rattle.merge_core.specs.Ahead.{IsPrivate, hash_in};
+ghost use Rattle.merge_core.specs.Kept.{OnlyNotes};
 ghost use Rattle.merge_core.specs.View.{names_of, Whole};
 
 use crate::held::{Held, PageEntry, Place};
@@ -21,10 +22,7 @@ pub struct PrivatePage {
 /// Notes the hashes of those of these pages that are private and whose hashes aren't known.
 pub fn note_hashes<H: PageHash, A: Allocator>(held: &mut Held<H, A>, pages: &[(u8, u32)])
     requires whole { Whole H.hash_of held.old }
-    ensures whole { Whole H.hash_of held.new }
-    ensures frames { held.new.frames ≡ held.old.frames }
-    ensures table { held.new.table ≡ held.old.table }
-    ensures names { names_of held.new ≡ names_of held.old }
+    ensures kept { OnlyNotes H.hash_of held.old held.new }
 {
     let mut waiting: ArrayVec<PrivatePage, 4> = ArrayVec::new();
     for (guest, ppn) in pages {
@@ -47,10 +45,7 @@ fn with_page<H: PageHash, A: Allocator>(
     requires whole { Whole H.hash_of held.old }
     requires waiting { All (IsPrivate (names_of held.old)) waiting.items }
     requires private { IsPrivate (names_of held.old) private }
-    ensures whole { Whole H.hash_of held.new }
-    ensures frames { held.new.frames ≡ held.old.frames }
-    ensures table { held.new.table ≡ held.old.table }
-    ensures names { names_of held.new ≡ names_of held.old }
+    ensures kept { OnlyNotes H.hash_of held.old held.new }
     ensures private { All (IsPrivate (names_of held.old)) result.items }
 {
     let mut waiting = match waiting.into_inner() {
@@ -107,10 +102,7 @@ pub fn is_noted<H: PageHash, A: Allocator>(held: &Held<H, A>, mpn: u32) -> bool
 pub fn note_four<H: PageHash, A: Allocator>(held: &mut Held<H, A>, pages: [PrivatePage; 4])
     requires whole { Whole H.hash_of held.old }
     requires private { All (IsPrivate (names_of held.old)) pages }
-    ensures whole { Whole H.hash_of held.new }
-    ensures frames { held.new.frames ≡ held.old.frames }
-    ensures table { held.new.table ≡ held.old.table }
-    ensures names { names_of held.new ≡ names_of held.old }
+    ensures kept { OnlyNotes H.hash_of held.old held.new }
 {
     let [a, b, c, d] = pages;
     let codes = hash_four(held, a, b, c, d);
@@ -149,10 +141,7 @@ pub fn note<H: PageHash, A: Allocator>(held: &mut Held<H, A>, private: PrivatePa
     requires whole { Whole H.hash_of held.old }
     requires private { IsPrivate (names_of held.old) private }
     requires code { code ≡ hash_in H.hash_of held.old.frames private }
-    ensures whole { Whole H.hash_of held.new }
-    ensures frames { held.new.frames ≡ held.old.frames }
-    ensures table { held.new.table ≡ held.old.table }
-    ensures names { names_of held.new ≡ names_of held.old }
+    ensures kept { OnlyNotes H.hash_of held.old held.new }
 {
     learn(held, private.mpn, private.page.salt, code);
 }
@@ -161,10 +150,7 @@ pub fn note<H: PageHash, A: Allocator>(held: &mut Held<H, A>, private: PrivatePa
 fn note_one<H: PageHash, A: Allocator>(held: &mut Held<H, A>, private: PrivatePage)
     requires whole { Whole H.hash_of held.old }
     requires private { IsPrivate (names_of held.old) private }
-    ensures whole { Whole H.hash_of held.new }
-    ensures frames { held.new.frames ≡ held.old.frames }
-    ensures table { held.new.table ≡ held.old.table }
-    ensures names { names_of held.new ≡ names_of held.old }
+    ensures kept { OnlyNotes H.hash_of held.old held.new }
 {
     hash_frame(held, private.mpn, private.page.salt);
 }
@@ -173,10 +159,7 @@ fn note_one<H: PageHash, A: Allocator>(held: &mut Held<H, A>, private: PrivatePa
 fn note_each<H: PageHash, A: Allocator>(held: &mut Held<H, A>, pages: &[PrivatePage])
     requires whole { Whole H.hash_of held.old }
     requires private { All (IsPrivate (names_of held.old)) pages.now }
-    ensures whole { Whole H.hash_of held.new }
-    ensures frames { held.new.frames ≡ held.old.frames }
-    ensures table { held.new.table ≡ held.old.table }
-    ensures names { names_of held.new ≡ names_of held.old }
+    ensures kept { OnlyNotes H.hash_of held.old held.new }
 {
     for private in pages {
         note_one(held, *private);

@@ -3,6 +3,7 @@ ghost use Rattle.std.specs.Prelude.{◌≡◌, ◌≤◌, [], All, IfOk, IfSome,
 ghost use Rattle.std.specs.Option.{option_map};
 ghost use Rattle.page_digest.specs.Many.{frame_hashes};
 ghost use Rattle.merge_core.specs.Hashing.{IsPaged, page_hash, page_hashes};
+ghost use Rattle.merge_core.specs.Kept.{OnlyNotes};
 ghost use Rattle.merge_core.specs.Names.{bytes_in};
 ghost use Rattle.merge_core.specs.View.{names_of, guests_of, Whole};
 
@@ -32,10 +33,7 @@ pub fn note_by_workers<
     requires workers { (1 ≤ workers) × (workers ≤ 64) }
     requires least { 1 ≤ least }
     requires whole { Whole H.hash_of held.old }
-    ensures whole { Whole H.hash_of held.new }
-    ensures frames { held.new.frames ≡ held.old.frames }
-    ensures table { held.new.table ≡ held.old.table }
-    ensures names { names_of held.new ≡ names_of held.old }
+    ensures kept { OnlyNotes H.hash_of held.old held.new }
 {
     let pairs = unknown_frames(held, alloc.clone()?, pages)?;
     let paying = paying_workers(workers, pairs.len() / least);
@@ -128,10 +126,7 @@ fn note_frames<H: PageHash, A: Allocator>(
     requires whole { Whole H.hash_of held.old }
     requires paged { All (λ pair. IsPaged (names_of held.old) pair.0 pair.1) pairs.now }
     requires hashes { hashes.now ≡ frame_hashes H.hash_of held.old.frames pairs.now }
-    ensures whole { Whole H.hash_of held.new }
-    ensures frames { held.new.frames ≡ held.old.frames }
-    ensures table { held.new.table ≡ held.old.table }
-    ensures names { names_of held.new ≡ names_of held.old }
+    ensures kept { OnlyNotes H.hash_of held.old held.new }
 {
     for n in 0..pairs.len() {
         let (salt, mpn) = pairs[n];
@@ -144,10 +139,7 @@ fn note_frame<H: PageHash, A: Allocator>(held: &mut Held<H, A>, salt: u32, mpn: 
     requires whole { Whole H.hash_of held.old }
     requires paged { IsPaged (names_of held.old) salt mpn }
     requires code { code ≡ H.hash_of salt (bytes_in held.old.frames mpn) }
-    ensures whole { Whole H.hash_of held.new }
-    ensures frames { held.new.frames ≡ held.old.frames }
-    ensures table { held.new.table ≡ held.old.table }
-    ensures names { names_of held.new ≡ names_of held.old }
+    ensures kept { OnlyNotes H.hash_of held.old held.new }
 {
     learn(held, mpn, salt, code);
 }
@@ -161,10 +153,7 @@ pub fn note_page<H: PageHash, A: Allocator>(
 )
     requires whole { Whole H.hash_of held.old }
     requires code { IfSome (page_hash H.hash_of (guests_of held.old) guest ppn) (λ h. code ≡ h) }
-    ensures whole { Whole H.hash_of held.new }
-    ensures frames { held.new.frames ≡ held.old.frames }
-    ensures table { held.new.table ≡ held.old.table }
-    ensures names { names_of held.new ≡ names_of held.old }
+    ensures kept { OnlyNotes H.hash_of held.old held.new }
 {
     if let Some((salt, mpn)) = frame_of(held, guest, ppn) {
         note_frame(held, salt, mpn, code);
@@ -180,10 +169,7 @@ pub fn push_hashes<H: PageHash, A: Allocator, B: Allocator>(
 )
     requires whole { Whole H.hash_of held.old }
     requires room { (hashes.old.items ≡ []) × (length pages.now ≤ vec_capacity hashes.old) }
-    ensures whole { Whole H.hash_of held.new }
-    ensures frames { held.new.frames ≡ held.old.frames }
-    ensures table { held.new.table ≡ held.old.table }
-    ensures names { names_of held.new ≡ names_of held.old }
+    ensures kept { OnlyNotes H.hash_of held.old held.new }
     ensures hashes { hashes.new.items ≡ page_hashes H.hash_of (guests_of held.old) pages.now }
 {
     for n in 0..pages.len() {
@@ -199,10 +185,7 @@ fn hash_page<H: PageHash, A: Allocator>(
     ppn: usize,
 ) -> Option<u64>
     requires whole { Whole H.hash_of held.old }
-    ensures whole { Whole H.hash_of held.new }
-    ensures frames { held.new.frames ≡ held.old.frames }
-    ensures table { held.new.table ≡ held.old.table }
-    ensures names { names_of held.new ≡ names_of held.old }
+    ensures kept { OnlyNotes H.hash_of held.old held.new }
     ensures hash { result ≡ page_hash H.hash_of (guests_of held.old) guest ppn }
 {
     match frame_of(held, guest, ppn) {
@@ -215,10 +198,7 @@ fn hash_page<H: PageHash, A: Allocator>(
 fn hash_paged<H: PageHash, A: Allocator>(held: &mut Held<H, A>, salt: u32, mpn: u32) -> u64
     requires whole { Whole H.hash_of held.old }
     requires paged { IsPaged (names_of held.old) salt mpn }
-    ensures whole { Whole H.hash_of held.new }
-    ensures frames { held.new.frames ≡ held.old.frames }
-    ensures table { held.new.table ≡ held.old.table }
-    ensures names { names_of held.new ≡ names_of held.old }
+    ensures kept { OnlyNotes H.hash_of held.old held.new }
     ensures hash { result ≡ H.hash_of salt (bytes_in held.old.frames mpn) }
 {
     hash_frame(held, mpn, salt)

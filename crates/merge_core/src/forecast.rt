@@ -2,6 +2,7 @@
 ghost use Rattle.std.specs.Prelude.{◌≡◌, ◌<◌, All, IfSome};
 ghost use Rattle.merge_core.specs.Ahead.{IsPrivate, hash_in};
 ghost use Rattle.merge_core.specs.Hashing.{IsPaged};
+ghost use Rattle.merge_core.specs.Kept.{OnlyNotes};
 ghost use Rattle.merge_core.specs.View.{names_of, Whole};
 ghost use Rattle.page_forecasts.specs.declared.forecasts.TheConstants.{FORECASTS};
 
@@ -29,10 +30,7 @@ pub fn foresee<H: PageHash, A: Allocator>(
     next: &[Entry],
 )
     requires whole { Whole H.hash_of held.old }
-    ensures whole { Whole H.hash_of held.new }
-    ensures frames { held.new.frames ≡ held.old.frames }
-    ensures table { held.new.table ≡ held.old.table }
-    ensures names { names_of held.new ≡ names_of held.old }
+    ensures kept { OnlyNotes H.hash_of held.old held.new }
 {
     let Some(private) = unhashed(held, guest as usize, ppn as usize) else {
         return;
@@ -54,10 +52,7 @@ fn hash_together<H: PageHash, A: Allocator>(
 )
     requires whole { Whole H.hash_of held.old }
     requires private { IsPrivate (names_of held.old) private }
-    ensures whole { Whole H.hash_of held.new }
-    ensures frames { held.new.frames ≡ held.old.frames }
-    ensures table { held.new.table ≡ held.old.table }
-    ensures names { names_of held.new ≡ names_of held.old }
+    ensures kept { OnlyNotes H.hash_of held.old held.new }
 {
     if let Ok(four) = at_rest(held, private, next).into_inner() {
         note_four(held, four);

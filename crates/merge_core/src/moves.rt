@@ -2,6 +2,7 @@
 ghost use Rattle.std.specs.Prelude.{◌≡◌, ◌+◌, ◌<◌, ◌≤◌, ◌==◌, length, false, None, Some, option_map, slice_set, IfSome, IsSome};
 ghost use Rattle.page_model.specs.Pages.{blank, written, with_slot, page_at, used, peers};
 ghost use Rattle.page_model.specs.Pages as s;
+ghost use Rattle.merge_core.specs.Kept.{OnlyNotes};
 ghost use Rattle.merge_core.specs.Names.{bytes_in, slot_in, known_at};
 ghost use Rattle.merge_core.specs.View.{slot_of, names_in, names_of, guests_of, notes_of, Whole};
 ghost use Rattle.machine_frames.specs.FrameMap as fm;
@@ -191,10 +192,7 @@ pub fn hash_frame<H: PageHash, A: Allocator>(held: &mut Held<H, A>, mpn: u32, sa
     requires taken { fm.IsTaken held.old.frames mpn }
     requires salt { (known_at (notes_of held.old) mpn).salt ≡ salt }
     ensures hash { result ≡ H.hash_of salt (bytes_in held.old.frames mpn) }
-    ensures whole { Whole H.hash_of held.new }
-    ensures frames { held.new.frames ≡ held.old.frames }
-    ensures table { held.new.table ≡ held.old.table }
-    ensures names { names_of held.new ≡ names_of held.old }
+    ensures kept { OnlyNotes H.hash_of held.old held.new }
     ensures shown { guests_of held.new ≡ guests_of held.old }
 {
     if let Some(code) = held.notes.known_hash(mpn) {
@@ -211,10 +209,7 @@ pub fn learn<H: PageHash, A: Allocator>(held: &mut Held<H, A>, mpn: u32, salt: u
     requires taken { fm.IsTaken held.old.frames mpn }
     requires salt { (known_at (notes_of held.old) mpn).salt ≡ salt }
     requires code { code ≡ H.hash_of salt (bytes_in held.old.frames mpn) }
-    ensures whole { Whole H.hash_of held.new }
-    ensures frames { held.new.frames ≡ held.old.frames }
-    ensures table { held.new.table ≡ held.old.table }
-    ensures names { names_of held.new ≡ names_of held.old }
+    ensures kept { OnlyNotes H.hash_of held.old held.new }
     ensures shown { guests_of held.new ≡ guests_of held.old }
     ensures known { known_at (notes_of held.new) mpn ≡ record { salt = salt; hash = Some code } }
 {

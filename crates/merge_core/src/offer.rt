@@ -5,6 +5,7 @@ ghost use Rattle.page_model.specs.Pages.{page_at, with_slot};
 ghost use Rattle.page_model.specs.Pages as s;
 ghost use Rattle.page_model.specs.declared.verdict.Verdict.TheVariants.{Paired};
 ghost use Rattle.merge_core.specs.Lending.{has_joined};
+ghost use Rattle.merge_core.specs.Kept.{OnlyNotes};
 ghost use Rattle.merge_core.specs.Names.{bytes_in, known_at};
 ghost use Rattle.merge_core.specs.Stays.{AllKeep, OthersKeep};
 ghost use Rattle.share_table.specs.TableMaps.{hint_at, shared_at, count_at};
@@ -264,10 +265,7 @@ fn has_key<H: PageHash, A: Allocator>(held: &mut Held<H, A>, mpn: u32, salt: u32
     requires taken { fm.IsTaken held.old.frames mpn }
     requires salt { (known_at (notes_of held.old) mpn).salt ≡ salt }
     ensures key { result ≡ (key_of (H.hash_of salt (bytes_in held.old.frames mpn)) == key) }
-    ensures whole { Whole H.hash_of held.new }
-    ensures frames { held.new.frames ≡ held.old.frames }
-    ensures table { held.new.table ≡ held.old.table }
-    ensures names { names_of held.new ≡ names_of held.old }
+    ensures kept { OnlyNotes H.hash_of held.old held.new }
     ensures shown { guests_of held.new ≡ guests_of held.old }
 {
     let code = hash_frame(held, mpn, salt);

@@ -1,11 +1,7 @@
-use Rattle.std.proofs.Common.{◌≡◌}
-use Rattle.merge_core.specs.View.{names_of, Whole}
+use Rattle.merge_core.specs.Kept.{OnlyNotes}
 use Rattle.merge_core.proofs.ahead.note_each.Given as goal
 
 abbrev pub invariant-loop-private : goal.invariant-loop-private
 invariant-loop-private g l = record {
-  whole : Whole g.H.HashFunction.hash_of l.held;
-  frames : l.held.frames ≡ l.fn.held.frames;
-  table : l.held.table ≡ l.fn.held.table;
-  names : names_of l.held ≡ names_of l.fn.held;
+  kept : OnlyNotes g.H.HashFunction.hash_of l.fn.held l.held;
 }

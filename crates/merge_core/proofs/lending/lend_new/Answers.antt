@@ -1,4 +1,4 @@
-use Rattle.std.proofs.Common.{◌≡◌, ℕ, Some, refl, ◌∙◌}
+use Rattle.std.proofs.Common.{ℕ, ◌∙◌}
 use Rattle.page_model.specs.Pages.{Unmapped, Shared}
 use Rattle.share_table.specs.TableMaps.{SharedFrame, count_at}
 use Rattle.merge_core.specs.View.{names_of, guests_of, notes_of}

@@ -1,5 +1,5 @@
-use Rattle.std.proofs.Common.{◌≡◌, ℕ, Option, List, Some, refl, ap, sym, ◌∙◌}
-use Rattle.page_model.specs.Pages.{Private, written, with_slot}
+use Rattle.std.proofs.Common.{ℕ, List, refl, ap, sym, ◌∙◌}
+use Rattle.page_model.specs.Pages.{Private, written}
 use Rattle.page_model.specs.declared.verdict.Verdict.TheVariants as v
 use Rattle.merge_core.specs.Lending.{own_freed}
 use Rattle.merge_core.specs.Names.{bytes_in}

@@ -1,4 +1,4 @@
-use Rattle.std.proofs.Common.{◌≡◌, ℕ, Option, List, length, Some, None, refl, ap, sym, ◌∙◌}
+use Rattle.std.proofs.Common.{◌≡◌, ℕ, List, length, None, refl, ap, sym, ◌∙◌}
 use Rattle.page_model.specs.Pages.{Unmapped, Private, Shared, written, with_slot}
 use Rattle.page_model.specs.declared.verdict.Verdict.TheVariants as v
 use Rattle.page_model.proofs.Places.{again}
@@ -19,16 +19,16 @@ returns-then-count-eq1-clause-lends g c =
     let salt : ℕ = c.args.page.salt in
     let page : List ℕ = c.args.bytes.now in
     let old : List ℕ = bytes_in held.frames c.args.mpn in
-    let p = rw (c.hash_frame-code.ensures.shown, c.hash_frame-code.ensures.frames) at c.peers_of-count.ensures.peers in
-    let bytes : bytes_in c.write.new.held.frames c.args.mpn ≡ written old 0 page = rw (c.keep.ensures.frames, c.hash_frame-code.ensures.frames) at c.write.ensures.bytes in
+    let p = rw (c.hash_frame-code.ensures.shown, c.hash_frame-code.ensures.kept.frames) at c.peers_of-count.ensures.peers in
+    let bytes : bytes_in c.write.new.held.frames c.args.mpn ≡ written old 0 page = rw (c.keep.ensures.frames, c.hash_frame-code.ensures.kept.frames) at c.write.ensures.bytes in
     let guests : guests_of c.write.new.held ≡ with_slot (guests_of held) a b (Private (written old 0 page) None) =
-    (rw (c.keep.ensures.guests, c.keep.ensures.frames, c.hash_frame-code.ensures.shown, c.hash_frame-code.ensures.frames) at c.write.ensures.guests) ∙ again (guests_of held) a b _ _ in
+    (rw (c.keep.ensures.guests, c.keep.ensures.frames, c.hash_frame-code.ensures.shown, c.hash_frame-code.ensures.kept.frames) at c.write.ensures.guests) ∙ again (guests_of held) a b _ _ in
     let step = rw (bytes, guests) at c.propose_own.ensures.step in
     let offer = is_offer g.H.HashFunction.hash_of _ _ a b salt _ c.propose_own.result.verdict step in
     let first = all_stay held.frames a b v.Taken (names_of held) (with_slot (names_of held) a b (Private c.args.mpn None)) refl (one_keeps (names_of held) a b salt (Shared c.args.mpn) (Private c.args.mpn None) c.requires.page refl) in
-    let second = rw (c.write.ensures.name, c.keep.ensures.name, c.hash_frame-code.ensures.names) at c.propose_own.ensures.stay in
+    let second = rw (c.write.ensures.name, c.keep.ensures.name, c.hash_frame-code.ensures.kept.names) at c.propose_own.ensures.stay in
     let own = frame_is (names_of held) a b salt (Shared c.args.mpn) c.requires.page in
-    let total = rw (c.keep.ensures.frames, c.hash_frame-code.ensures.frames) at c.write.ensures.total in
+    let total = rw (c.keep.ensures.frames, c.hash_frame-code.ensures.kept.frames) at c.write.ensures.total in
     lends_done g.H.HashFunction.hash_of a b salt page held c.propose_own.new.held (Shared old) (page_in_is held.frames (names_of held) a b salt (Shared c.args.mpn) c.requires.page) (written old 0 page) None v.Taken c.propose_own.result
     (stored_taken _ (guests_of held) a b 0 page salt old (sym p ∙ c.if-count-eq1.true)) refl (c.propose_own.ensures.total ∙ total) step
     (then_offered held.frames _ a b v.Taken c.propose_own.result.verdict (names_of held) _ _ offer first second)
@@ -41,11 +41,11 @@ returns-then-is_full-clause-lends g c =
     let b : ℕ = c.args.page.ppn in
     let salt : ℕ = c.args.page.salt in
     let old : List ℕ = bytes_in held.frames c.args.mpn in
-    let p = rw (c.hash_frame-code.ensures.shown, c.hash_frame-code.ensures.frames) at c.peers_of-count.ensures.peers in
-    let full = rw (c.if-is_full.true, c.hash_frame-code.ensures.shown, c.hash_frame-code.ensures.frames) at c.is_full.ensures.full in
+    let p = rw (c.hash_frame-code.ensures.shown, c.hash_frame-code.ensures.kept.frames) at c.peers_of-count.ensures.peers in
+    let full = rw (c.if-is_full.true, c.hash_frame-code.ensures.shown, c.hash_frame-code.ensures.kept.frames) at c.is_full.ensures.full in
     lends_nothing g.H.HashFunction.hash_of a b salt c.args.bytes.now held c.hash_frame-code.new.held (Shared old) (page_in_is held.frames (names_of held) a b salt (Shared c.args.mpn) c.requires.page) v.NoFrame
     (stored_full _ (guests_of held) a b 0 c.args.bytes.now salt old (λ e. c.if-count-eq1.false (p ∙ e)) (sym full)) refl refl refl
-    (ap length c.hash_frame-code.ensures.frames) c.hash_frame-code.ensures.shown c.hash_frame-code.ensures.names
+    (ap length c.hash_frame-code.ensures.kept.frames) c.hash_frame-code.ensures.shown c.hash_frame-code.ensures.kept.names
 
 pub returns-clause-lends : goal.returns-clause-lends
 returns-clause-lends g c =
@@ -56,18 +56,18 @@ returns-clause-lends g c =
     let page : List ℕ = c.args.bytes.now in
     let old : List ℕ = bytes_in held.frames c.args.mpn in
     let copy = c.map_copy-copy.result in
-    let p = rw (c.hash_frame-code.ensures.shown, c.hash_frame-code.ensures.frames) at c.peers_of-count.ensures.peers in
-    let room = rw (c.if-is_full.false, c.hash_frame-code.ensures.shown, c.hash_frame-code.ensures.frames) at c.is_full.ensures.full in
-    let bytes : bytes_in c.write-2.new.held.frames copy ≡ written old 0 page = rw (c.map_copy-copy.ensures.bytes, c.leave.ensures.frames, c.hash_frame-code.ensures.frames) at c.write-2.ensures.bytes in
+    let p = rw (c.hash_frame-code.ensures.shown, c.hash_frame-code.ensures.kept.frames) at c.peers_of-count.ensures.peers in
+    let room = rw (c.if-is_full.false, c.hash_frame-code.ensures.shown, c.hash_frame-code.ensures.kept.frames) at c.is_full.ensures.full in
+    let bytes : bytes_in c.write-2.new.held.frames copy ≡ written old 0 page = rw (c.map_copy-copy.ensures.bytes, c.leave.ensures.frames, c.hash_frame-code.ensures.kept.frames) at c.write-2.ensures.bytes in
     let guests : guests_of c.write-2.new.held ≡ with_slot (guests_of held) a b (Private (written old 0 page) None) =
-    (rw (c.map_copy-copy.ensures.guests, c.map_copy-copy.ensures.bytes, c.leave.ensures.guests, c.leave.ensures.frames, c.hash_frame-code.ensures.shown, c.hash_frame-code.ensures.frames) at c.write-2.ensures.guests)
+    (rw (c.map_copy-copy.ensures.guests, c.map_copy-copy.ensures.bytes, c.leave.ensures.guests, c.leave.ensures.frames, c.hash_frame-code.ensures.shown, c.hash_frame-code.ensures.kept.frames) at c.write-2.ensures.guests)
     ∙ again (with_slot (guests_of held) a b Unmapped) a b _ _ ∙ again (guests_of held) a b _ _ in
     let step = rw (bytes, guests) at c.propose_private-verdict.ensures.step in
     let offer = is_offer g.H.HashFunction.hash_of _ _ a b salt _ c.propose_private-verdict.result step in
-    let free = rw (c.leave.ensures.frames, c.hash_frame-code.ensures.frames) at c.map_copy-copy.ensures.free in
+    let free = rw (c.leave.ensures.frames, c.hash_frame-code.ensures.kept.frames) at c.map_copy-copy.ensures.free in
     let first = takes_free held.frames a b copy v.Copied (names_of held) (with_slot (with_slot (names_of held) a b Unmapped) a b (Private copy None)) refl free (moved_twice (names_of held) a b salt (Shared c.args.mpn) Unmapped (Private copy None) c.requires.page) in
-    let second = rw (c.write-2.ensures.name, c.map_copy-copy.ensures.name, c.leave.ensures.name, c.hash_frame-code.ensures.names) at c.propose_private-verdict.ensures.stay in
-    let total = rw (c.map_copy-copy.ensures.total, c.leave.ensures.frames, c.hash_frame-code.ensures.frames) at c.write-2.ensures.total in
+    let second = rw (c.write-2.ensures.name, c.map_copy-copy.ensures.name, c.leave.ensures.name, c.hash_frame-code.ensures.kept.names) at c.propose_private-verdict.ensures.stay in
+    let total = rw (c.map_copy-copy.ensures.total, c.leave.ensures.frames, c.hash_frame-code.ensures.kept.frames) at c.write-2.ensures.total in
     lends_done g.H.HashFunction.hash_of a b salt page held c.propose_private-verdict.new.held (Shared old) (page_in_is held.frames (names_of held) a b salt (Shared c.args.mpn) c.requires.page) (written old 0 page) None v.Copied (record { verdict = c.propose_private-verdict.result; freed = None })
     (stored_copied _ (guests_of held) a b 0 page salt old (λ e. c.if-count-eq1.false (p ∙ e)) (sym room)) refl (c.propose_private-verdict.ensures.total ∙ total) step
     (then_offered held.frames _ a b v.Copied c.propose_private-verdict.result (names_of held) _ _ offer first second) refl (record {})

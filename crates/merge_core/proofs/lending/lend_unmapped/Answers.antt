@@ -1,5 +1,5 @@
-use Rattle.std.proofs.Common.{◌≡◌, ℕ, Option, List, None, refl, ap, sym, ◌∙◌}
-use Rattle.page_model.specs.Pages.{Slot, Unmapped, Private}
+use Rattle.std.proofs.Common.{ℕ, List, None, refl, ap, sym, ◌∙◌}
+use Rattle.page_model.specs.Pages.{Unmapped, Private}
 use Rattle.page_model.specs.Steps.{sets}
 use Rattle.page_model.specs.declared.verdict.Verdict.TheVariants as v
 use Rattle.merge_core.specs.View.{names_of, guests_of}

@@ -1,5 +1,5 @@
-use Rattle.std.proofs.Common.{◌≡◌, ℕ, List, Some, None, refl, ap, sym, ◌∙◌}
-use Rattle.page_model.specs.Pages.{Guest, Private, blank, written, with_slot}
+use Rattle.std.proofs.Common.{◌≡◌, ℕ, List, None, refl, ap, sym, ◌∙◌}
+use Rattle.page_model.specs.Pages.{Private, blank, written, with_slot}
 use Rattle.page_model.specs.declared.verdict.Verdict.TheVariants as v
 use Rattle.page_model.proofs.Places.{again}
 use Rattle.merge_core.specs.Names.{bytes_in}
@@ -21,7 +21,7 @@ returns-clause-step g c =
     let same : bytes_in c.write.new.held.frames c.map_zeroed-mpn.result ≡ page = c.write.ensures.bytes ∙ ap (λ (x : List ℕ). written x 0 page) c.map_zeroed-mpn.ensures.bytes ∙ over_zeros page c.told-bytes in
     let guests : guests_of c.write.new.held ≡ with_slot (guests_of held) a b (Private page None) =
     (rw (c.map_zeroed-mpn.ensures.guests, c.map_zeroed-mpn.ensures.bytes, over_zeros page c.told-bytes) at c.write.ensures.guests) ∙ again (guests_of held) a b (Private blank None) (Private page None) in
-    (rw (c.learn.ensures.shown, c.learn.ensures.frames, same, guests) at c.propose_private.ensures.step)
+    (rw (c.learn.ensures.shown, c.learn.ensures.kept.frames, same, guests) at c.propose_private.ensures.step)
 
 pub returns-clause-stay : goal.returns-clause-stay
 returns-clause-stay g c =
@@ -31,5 +31,5 @@ returns-clause-stay g c =
     let mpn = c.map_zeroed-mpn.result in
     let offer = is_offer g.H.HashFunction.hash_of _ _ a b c.args.page.salt _ c.propose_private.result c.propose_private.ensures.step in
     let first = takes_free held.frames a b mpn v.Mapped (names_of held) _ refl c.map_zeroed-mpn.ensures.free (moved_to (names_of held) _ a b c.args.page.salt (Private mpn None) c.map_zeroed-mpn.ensures.name c.map_zeroed-mpn.ensures.page) in
-    let second = rw (c.learn.ensures.names, c.write.ensures.name) at c.propose_private.ensures.stay in
+    let second = rw (c.learn.ensures.kept.names, c.write.ensures.name) at c.propose_private.ensures.stay in
     then_offered held.frames _ a b v.Mapped c.propose_private.result (names_of held) _ _ offer first second

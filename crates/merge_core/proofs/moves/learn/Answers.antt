@@ -1,13 +1,38 @@
 use Rattle.merge_core.proofs.FrameLemmas.{known_same, taken_within}
-use Rattle.std.proofs.Common.{◌<◌, length, Some, arith}
+use Rattle.std.proofs.Common.{◌<◌, length, Some, refl, arith}
 use Rattle.merge_core.specs.View.{names_of, notes_of}
 use Rattle.merge_core.proofs.Changes.{learnt_ties}
 use Rattle.merge_core.proofs.moves.learn.Goals as goal
 
-pub returns-clause-whole : goal.returns-clause-whole
-returns-clause-whole g c =
+pub returns-clause-kept : goal.returns-clause-kept
+returns-clause-kept g c =
     let held = c.args.held.now in
-    record { ties = rw c.learn.ensures.notes (learnt_ties g.H.HashFunction.hash_of (names_of held) held.frames held.table (notes_of held) c.args.mpn c.args.salt c.args.code c.requires.whole.ties c.requires.taken c.requires.salt c.requires.code); few = c.requires.whole.few; total = c.requires.whole.total; hints = c.requires.whole.hints }
+    let hash = g.H.HashFunction.hash_of in
+    let ties =
+    learnt_ties
+    hash
+    (names_of held)
+    held.frames
+    held.table
+    (notes_of held)
+    c.args.mpn
+    c.args.salt
+    c.args.code
+    c.requires.whole.ties
+    c.requires.taken
+    c.requires.salt
+    c.requires.code in
+    record {
+      whole = record {
+        ties = rw c.learn.ensures.notes ties;
+        few = c.requires.whole.few;
+        total = c.requires.whole.total;
+        hints = c.requires.whole.hints;
+      };
+      frames = refl;
+      table = refl;
+      names = refl;
+    }
 
 pub returns-clause-known : goal.returns-clause-known
 returns-clause-known g c =

@@ -8,12 +8,12 @@ use Rattle.merge_core.proofs.offer.propose_private.Goals as goal
 pub returns-clause-step : goal.returns-clause-step
 returns-clause-step g c =
     let held = c.args.held.now in
-    let e = rw (c.settle_hint-kept.ensures.guests, c.settle_hint-kept.ensures.frames, c.settle_hint-kept.ensures.kept, c.key_of.ensures, c.hash_frame-code.ensures.shown, c.hash_frame-code.ensures.frames) at c.find_match.ensures.step in
+    let e = rw (c.settle_hint-kept.ensures.guests, c.settle_hint-kept.ensures.frames, c.settle_hint-kept.ensures.kept, c.key_of.ensures, c.hash_frame-code.ensures.shown, c.hash_frame-code.ensures.kept.frames) at c.find_match.ensures.step in
     e ∙ sym (proposed_matched g.H.HashFunction.hash_of (guests_of held) c.args.page.guest c.args.page.ppn c.args.page.salt (bytes_in held.frames c.args.mpn) c.hash_frame-code.result c.args.hint c.hash_frame-code.ensures.hash)
 
 pub returns-clause-stay : goal.returns-clause-stay
 returns-clause-stay g c =
     let held = c.args.held.now in
-    let kept = rw c.hash_frame-code.ensures.names at c.settle_hint-kept.ensures.stay in
-    let rest = rw (c.settle_hint-kept.ensures.frames, c.hash_frame-code.ensures.frames) at c.find_match.ensures.stay in
+    let kept = rw c.hash_frame-code.ensures.kept.names at c.settle_hint-kept.ensures.stay in
+    let rest = rw (c.settle_hint-kept.ensures.frames, c.hash_frame-code.ensures.kept.frames) at c.find_match.ensures.stay in
     keep_then held.frames c.args.page.guest c.args.page.ppn _ (names_of held) _ _ kept rest

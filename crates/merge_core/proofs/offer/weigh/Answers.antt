@@ -52,7 +52,7 @@ has_key-requires-clause-taken g c κs live =
 pub drop_hint-requires-clause-page : goal.drop_hint-requires-clause-page
 drop_hint-requires-clause-page g c κs live =
     let held = c.args.held.now in
-    rw (c.has_key.ensures.names, c.key_of-key.ensures) (hint_page g.H.HashFunction.hash_of (names_of held) held.frames held.table (notes_of held) (key_of c.args.code) c.args.hint.guest c.args.hint.ppn c.args.hint.mpn c.requires.whole.ties c.requires.hint c.salt-salt.result c.salt-salt.ensures.salt)
+    rw (c.has_key.ensures.kept.names, c.key_of-key.ensures) (hint_page g.H.HashFunction.hash_of (names_of held) held.frames held.table (notes_of held) (key_of c.args.code) c.args.hint.guest c.args.hint.ppn c.args.hint.mpn c.requires.whole.ties c.requires.hint c.salt-salt.result c.salt-salt.ensures.salt)
 
 pub put_hint-requires-clause-page : goal.put_hint-requires-clause-page
 put_hint-requires-clause-page g c κs live =
@@ -60,7 +60,7 @@ put_hint-requires-clause-page g c κs live =
     let key : ℕ = key_of c.args.code in
     let theirs : page_at (names_of held) c.args.hint.guest c.args.hint.ppn ≡ Some (c.salt-salt.result, Private c.args.hint.mpn (Some key)) = hint_page g.H.HashFunction.hash_of (names_of held) held.frames held.table (notes_of held) key c.args.hint.guest c.args.hint.ppn c.args.hint.mpn c.requires.whole.ties c.requires.hint c.salt-salt.result c.salt-salt.ensures.salt in
     let apart : c.args.page.guest ≡ c.args.hint.guest → c.args.page.ppn ≡ c.args.hint.ppn → ⊥ = hint_apart (names_of held) c.args.page.guest c.args.page.ppn c.args.hint.guest c.args.hint.ppn c.args.page.salt c.salt-salt.result c.args.mpn c.args.hint.mpn key c.requires.page theirs in
-    rw (c.drop_hint.ensures.name, c.has_key.ensures.names) (at_other (names_of held) c.args.hint.guest c.args.hint.ppn (Private c.args.hint.mpn None) c.args.page.guest c.args.page.ppn apart ∙ c.requires.page)
+    rw (c.drop_hint.ensures.name, c.has_key.ensures.kept.names) (at_other (names_of held) c.args.hint.guest c.args.hint.ppn (Private c.args.hint.mpn None) c.args.page.guest c.args.page.ppn apart ∙ c.requires.page)
 
 pub put_hint-requires-clause-absent : goal.put_hint-requires-clause-absent
 put_hint-requires-clause-absent g c κs live = rw c.drop_hint.ensures.table (gone_same _ c.key_of-key.result)
@@ -71,7 +71,7 @@ returns-clause-step g c =
     let key : ℕ = key_of c.args.code in
     let theirs : page_at (names_of held) c.args.hint.guest c.args.hint.ppn ≡ Some (c.salt-salt.result, Private c.args.hint.mpn (Some key)) = hint_page g.H.HashFunction.hash_of (names_of held) held.frames held.table (notes_of held) key c.args.hint.guest c.args.hint.ppn c.args.hint.mpn c.requires.whole.ties c.requires.hint c.salt-salt.result c.salt-salt.ensures.salt in
     let apart : c.args.page.guest ≡ c.args.hint.guest → c.args.page.ppn ≡ c.args.hint.ppn → ⊥ = hint_apart (names_of held) c.args.page.guest c.args.page.ppn c.args.hint.guest c.args.hint.ppn c.args.page.salt c.salt-salt.result c.args.mpn c.args.hint.mpn key c.requires.page theirs in
-    let e = rw (c.drop_hint.ensures.guests, c.drop_hint.ensures.frames, c.has_key.ensures.shown, c.has_key.ensures.frames, c.key_of-key.ensures) at c.put_hint.ensures.guests in
+    let e = rw (c.drop_hint.ensures.guests, c.drop_hint.ensures.frames, c.has_key.ensures.shown, c.has_key.ensures.kept.frames, c.key_of-key.ensures) at c.put_hint.ensures.guests in
     let found = found_is (names_of held) held.frames held.table.hints key c.requires.whole.ties.hinted c.args.hint c.requires.hint in
     outcome v.Replaced _ _ e
     ∙ sym (offered_other g.H.HashFunction.hash_of (guests_of held) c.args.page.guest c.args.page.ppn c.args.page.salt (bytes_in held.frames c.args.mpn) key c.args.hint.guest c.args.hint.ppn c.salt-salt.result (slot_in held.frames (Private c.args.hint.mpn (Some key))) found (λ p q. apart (sym p) (sym q)) (page_in_is held.frames (names_of held) c.args.hint.guest c.args.hint.ppn c.salt-salt.result (Private c.args.hint.mpn (Some key)) theirs)
@@ -98,7 +98,7 @@ returns-clause-stay g c =
     let theirs : page_at (names_of held) c.args.hint.guest c.args.hint.ppn ≡ Some (c.salt-salt.result, Private c.args.hint.mpn (Some (key_of c.args.code))) = hint_page g.H.HashFunction.hash_of (names_of held) held.frames held.table (notes_of held) (key_of c.args.code) c.args.hint.guest c.args.hint.ppn c.args.hint.mpn c.requires.whole.ties c.requires.hint c.salt-salt.result c.salt-salt.ensures.salt in
     let dropped : Names = with_slot (names_of held) c.args.hint.guest c.args.hint.ppn (Private c.args.hint.mpn None) in
     let first : AllKeep (names_of held) dropped = one_keeps (names_of held) c.args.hint.guest c.args.hint.ppn c.salt-salt.result (Private c.args.hint.mpn (Some (key_of c.args.code))) (Private c.args.hint.mpn None) theirs refl in
-    let name = rw (c.drop_hint.ensures.name, c.has_key.ensures.names) at c.put_hint.ensures.name in
+    let name = rw (c.drop_hint.ensures.name, c.has_key.ensures.kept.names) at c.put_hint.ensures.name in
     let one = moved_to dropped _ mine.guest mine.ppn mine.salt (Private c.args.mpn (Some key)) name c.put_hint.ensures.page in
     let second = moves_nowhere mine.guest mine.ppn (Some c.args.mpn) dropped _ one (first.keeps mine.guest mine.ppn ∙ frame_is (names_of held) mine.guest mine.ppn mine.salt (Private c.args.mpn None) c.requires.page) in
     all_stay held.frames mine.guest mine.ppn v.Replaced (names_of held) _ refl (keep_keep (names_of held) dropped _ first second)
@@ -106,4 +106,4 @@ returns-clause-stay g c =
 pub returns-then-has_key-clause-stay : goal.returns-then-has_key-clause-stay
 returns-then-has_key-clause-stay g c =
     let held = c.args.held.now in
-    rw c.has_key.ensures.names (none_moves held.frames c.args.page.guest c.args.page.ppn v.Ineligible (names_of held) refl)
+    rw c.has_key.ensures.kept.names (none_moves held.frames c.args.page.guest c.args.page.ppn v.Ineligible (names_of held) refl)

@@ -4,7 +4,6 @@ use Rattle.page_model.specs.declared.verdict.Verdict.TheVariants as v
 use Rattle.page_model.proofs.Places.{again}
 use Rattle.merge_core.specs.View.{names_of, guests_of}
 use Rattle.merge_core.proofs.Staying.{moved_to, keep_move, gives_up}
-use Rattle.merge_core.proofs.FrameLemmas.{frame_same, taken_within}
 use Rattle.merge_core.proofs.serve.release_private.Goals as goal
 
 pub returns-clause-stay : goal.returns-clause-stay

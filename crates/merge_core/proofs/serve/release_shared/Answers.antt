@@ -16,23 +16,23 @@ outcome v x y e = ap (λ (z : List Guest). stays z v) e
 pub returns-then-count-eq1-clause-step : goal.returns-then-count-eq1-clause-step
 returns-then-count-eq1-clause-step g c =
     let held = c.args.held.now in
-    let p = rw (c.hash_frame-code.ensures.shown, c.hash_frame-code.ensures.frames) at c.peers_of-count.ensures.peers in
-    let e = rw (c.keep.ensures.guests, c.hash_frame-code.ensures.shown, c.hash_frame-code.ensures.frames) at c.unmap.ensures.guests in
+    let p = rw (c.hash_frame-code.ensures.shown, c.hash_frame-code.ensures.kept.frames) at c.peers_of-count.ensures.peers in
+    let e = rw (c.keep.ensures.guests, c.hash_frame-code.ensures.shown, c.hash_frame-code.ensures.kept.frames) at c.unmap.ensures.guests in
     outcome (v.Released true) _ _ (e ∙ again (guests_of held) c.args.page.guest c.args.page.ppn _ _) ∙ sym (released_last (guests_of held) c.args.page.guest c.args.page.ppn c.args.page.salt (bytes_in held.frames c.args.mpn) (sym p ∙ c.if-count-eq1.true))
 
 pub returns-clause-step : goal.returns-clause-step
 returns-clause-step g c =
     let held = c.args.held.now in
-    let p = rw (c.hash_frame-code.ensures.shown, c.hash_frame-code.ensures.frames) at c.peers_of-count.ensures.peers in
+    let p = rw (c.hash_frame-code.ensures.shown, c.hash_frame-code.ensures.kept.frames) at c.peers_of-count.ensures.peers in
     let e = rw c.hash_frame-code.ensures.shown at c.leave.ensures.guests in
     outcome (v.Released false) _ _ e ∙ sym (released_more (guests_of held) c.args.page.guest c.args.page.ppn c.args.page.salt (bytes_in held.frames c.args.mpn) (λ e. c.if-count-eq1.false (p ∙ e)))
 
 pub returns-then-count-eq1-clause-stay : goal.returns-then-count-eq1-clause-stay
 returns-then-count-eq1-clause-stay g c =
     let held = c.args.held.now in
-    rw (c.unmap.ensures.name, c.keep.ensures.name, c.hash_frame-code.ensures.names) (gives_up held.frames c.args.page.guest c.args.page.ppn (v.Released true) (names_of held) (with_slot (with_slot (names_of held) c.args.page.guest c.args.page.ppn (Private c.args.mpn None)) c.args.page.guest c.args.page.ppn Unmapped) refl (moved_twice (names_of held) c.args.page.guest c.args.page.ppn c.args.page.salt (Shared c.args.mpn) (Private c.args.mpn None) Unmapped c.requires.page))
+    rw (c.unmap.ensures.name, c.keep.ensures.name, c.hash_frame-code.ensures.kept.names) (gives_up held.frames c.args.page.guest c.args.page.ppn (v.Released true) (names_of held) (with_slot (with_slot (names_of held) c.args.page.guest c.args.page.ppn (Private c.args.mpn None)) c.args.page.guest c.args.page.ppn Unmapped) refl (moved_twice (names_of held) c.args.page.guest c.args.page.ppn c.args.page.salt (Shared c.args.mpn) (Private c.args.mpn None) Unmapped c.requires.page))
 
 pub returns-clause-stay : goal.returns-clause-stay
 returns-clause-stay g c =
     let held = c.args.held.now in
-    rw (c.leave.ensures.name, c.hash_frame-code.ensures.names) (gives_up held.frames c.args.page.guest c.args.page.ppn (v.Released false) (names_of held) (with_slot (names_of held) c.args.page.guest c.args.page.ppn Unmapped) refl (one_moves (names_of held) c.args.page.guest c.args.page.ppn c.args.page.salt (Shared c.args.mpn) Unmapped c.requires.page))
+    rw (c.leave.ensures.name, c.hash_frame-code.ensures.kept.names) (gives_up held.frames c.args.page.guest c.args.page.ppn (v.Released false) (names_of held) (with_slot (names_of held) c.args.page.guest c.args.page.ppn Unmapped) refl (one_moves (names_of held) c.args.page.guest c.args.page.ppn c.args.page.salt (Shared c.args.mpn) Unmapped c.requires.page))

@@ -16,37 +16,37 @@ outcome v x y e = ap (λ (z : List Guest). stays z v) e
 pub returns-then-count-eq1-clause-step : goal.returns-then-count-eq1-clause-step
 returns-then-count-eq1-clause-step g c =
     let held = c.args.held.now in
-    let p = rw (c.hash_frame-code.ensures.shown, c.hash_frame-code.ensures.frames) at c.peers_of-count.ensures.peers in
-    let e = rw (c.keep.ensures.guests, c.keep.ensures.frames, c.hash_frame-code.ensures.shown, c.hash_frame-code.ensures.frames) at c.write.ensures.guests in
+    let p = rw (c.hash_frame-code.ensures.shown, c.hash_frame-code.ensures.kept.frames) at c.peers_of-count.ensures.peers in
+    let e = rw (c.keep.ensures.guests, c.keep.ensures.frames, c.hash_frame-code.ensures.shown, c.hash_frame-code.ensures.kept.frames) at c.write.ensures.guests in
     outcome v.Taken _ _ (e ∙ again (guests_of held) c.args.page.guest c.args.page.ppn _ _) ∙ sym (stored_taken (length held.frames) (guests_of held) c.args.page.guest c.args.page.ppn c.args.at c.args.bytes.now c.args.page.salt (bytes_in held.frames c.args.mpn) (sym p ∙ c.if-count-eq1.true))
 
 pub returns-then-is_full-clause-step : goal.returns-then-is_full-clause-step
 returns-then-is_full-clause-step g c =
     let held = c.args.held.now in
-    let p = rw (c.hash_frame-code.ensures.shown, c.hash_frame-code.ensures.frames) at c.peers_of-count.ensures.peers in
-    let full = rw (c.if-is_full.true, c.hash_frame-code.ensures.shown, c.hash_frame-code.ensures.frames) at c.is_full.ensures.full in
+    let p = rw (c.hash_frame-code.ensures.shown, c.hash_frame-code.ensures.kept.frames) at c.peers_of-count.ensures.peers in
+    let full = rw (c.if-is_full.true, c.hash_frame-code.ensures.shown, c.hash_frame-code.ensures.kept.frames) at c.is_full.ensures.full in
     outcome v.NoFrame _ _ c.hash_frame-code.ensures.shown ∙ sym (stored_full (length held.frames) (guests_of held) c.args.page.guest c.args.page.ppn c.args.at c.args.bytes.now c.args.page.salt (bytes_in held.frames c.args.mpn) (λ e. c.if-count-eq1.false (p ∙ e)) (sym full))
 
 pub returns-clause-step : goal.returns-clause-step
 returns-clause-step g c =
     let held = c.args.held.now in
-    let p = rw (c.hash_frame-code.ensures.shown, c.hash_frame-code.ensures.frames) at c.peers_of-count.ensures.peers in
-    let full = rw (c.if-is_full.false, c.hash_frame-code.ensures.shown, c.hash_frame-code.ensures.frames) at c.is_full.ensures.full in
-    let e = rw (c.map_copy-copy.ensures.guests, c.map_copy-copy.ensures.bytes, c.leave.ensures.guests, c.leave.ensures.frames, c.hash_frame-code.ensures.shown, c.hash_frame-code.ensures.frames) at c.write-2.ensures.guests in
+    let p = rw (c.hash_frame-code.ensures.shown, c.hash_frame-code.ensures.kept.frames) at c.peers_of-count.ensures.peers in
+    let full = rw (c.if-is_full.false, c.hash_frame-code.ensures.shown, c.hash_frame-code.ensures.kept.frames) at c.is_full.ensures.full in
+    let e = rw (c.map_copy-copy.ensures.guests, c.map_copy-copy.ensures.bytes, c.leave.ensures.guests, c.leave.ensures.frames, c.hash_frame-code.ensures.shown, c.hash_frame-code.ensures.kept.frames) at c.write-2.ensures.guests in
     outcome v.Copied _ _ (e ∙ again (with_slot (guests_of held) c.args.page.guest c.args.page.ppn Unmapped) c.args.page.guest c.args.page.ppn _ _ ∙ again (guests_of held) c.args.page.guest c.args.page.ppn _ _) ∙ sym (stored_copied (length held.frames) (guests_of held) c.args.page.guest c.args.page.ppn c.args.at c.args.bytes.now c.args.page.salt (bytes_in held.frames c.args.mpn) (λ e. c.if-count-eq1.false (p ∙ e)) (sym full))
 
 pub returns-then-count-eq1-clause-stay : goal.returns-then-count-eq1-clause-stay
 returns-then-count-eq1-clause-stay g c =
     let held = c.args.held.now in
-    rw (c.write.ensures.name, c.keep.ensures.name, c.hash_frame-code.ensures.names) (all_stay held.frames c.args.page.guest c.args.page.ppn v.Taken (names_of held) (with_slot (names_of held) c.args.page.guest c.args.page.ppn (Private c.args.mpn None)) refl (one_keeps (names_of held) c.args.page.guest c.args.page.ppn c.args.page.salt (Shared c.args.mpn) (Private c.args.mpn None) c.requires.page refl))
+    rw (c.write.ensures.name, c.keep.ensures.name, c.hash_frame-code.ensures.kept.names) (all_stay held.frames c.args.page.guest c.args.page.ppn v.Taken (names_of held) (with_slot (names_of held) c.args.page.guest c.args.page.ppn (Private c.args.mpn None)) refl (one_keeps (names_of held) c.args.page.guest c.args.page.ppn c.args.page.salt (Shared c.args.mpn) (Private c.args.mpn None) c.requires.page refl))
 
 pub returns-then-is_full-clause-stay : goal.returns-then-is_full-clause-stay
 returns-then-is_full-clause-stay g c =
     let held = c.args.held.now in
-    rw c.hash_frame-code.ensures.names (none_moves held.frames c.args.page.guest c.args.page.ppn v.NoFrame (names_of held) refl)
+    rw c.hash_frame-code.ensures.kept.names (none_moves held.frames c.args.page.guest c.args.page.ppn v.NoFrame (names_of held) refl)
 
 pub returns-clause-stay : goal.returns-clause-stay
 returns-clause-stay g c =
     let held = c.args.held.now in
-    let free = rw (c.leave.ensures.frames, c.hash_frame-code.ensures.frames) at c.map_copy-copy.ensures.free in
-    rw (c.write-2.ensures.name, c.map_copy-copy.ensures.name, c.leave.ensures.name, c.hash_frame-code.ensures.names) (takes_free held.frames c.args.page.guest c.args.page.ppn c.map_copy-copy.result v.Copied (names_of held) (with_slot (with_slot (names_of held) c.args.page.guest c.args.page.ppn Unmapped) c.args.page.guest c.args.page.ppn (Private c.map_copy-copy.result None)) refl free (moved_twice (names_of held) c.args.page.guest c.args.page.ppn c.args.page.salt (Shared c.args.mpn) Unmapped (Private c.map_copy-copy.result None) c.requires.page))
+    let free = rw (c.leave.ensures.frames, c.hash_frame-code.ensures.kept.frames) at c.map_copy-copy.ensures.free in
+    rw (c.write-2.ensures.name, c.map_copy-copy.ensures.name, c.leave.ensures.name, c.hash_frame-code.ensures.kept.names) (takes_free held.frames c.args.page.guest c.args.page.ppn c.map_copy-copy.result v.Copied (names_of held) (with_slot (with_slot (names_of held) c.args.page.guest c.args.page.ppn Unmapped) c.args.page.guest c.args.page.ppn (Private c.map_copy-copy.result None)) refl free (moved_twice (names_of held) c.args.page.guest c.args.page.ppn c.args.page.salt (Shared c.args.mpn) Unmapped (Private c.map_copy-copy.result None) c.requires.page))
