@@ -8,8 +8,9 @@ ghost use Rattle.page_model.specs.declared.verdict.Verdict.TheVariants.{Mapped};
 ghost use Rattle.machine_frames.specs.FrameMap as fm;
 ghost use Rattle.share_table.specs.TableMaps.{shared_at, count_at};
 ghost use Rattle.merge_core.specs.Lending.{has_joined, LendKeeps, LendsPage, release_verdict, room_after, FreesOwn};
+ghost use Rattle.merge_core.specs.Kept.{Served};
 ghost use Rattle.merge_core.specs.Names.{bytes_in, known_at};
-ghost use Rattle.merge_core.specs.Stays.{frame_at, OthersKeep};
+ghost use Rattle.merge_core.specs.Stays.{frame_at};
 ghost use Rattle.merge_core.specs.View.{names_of, guests_of, notes_of, Whole};
 
 use crate::held::{Held, PageEntry, Place};
@@ -121,9 +122,7 @@ fn propose_own<H: PageHash, A: Allocator>(
 ) -> Lent
     requires whole { Whole H.hash_of held.old }
     requires page { page_at (names_of held.old) page.guest page.ppn ≡ Some (page.salt, s.Private mpn hint) }
-    ensures whole { Whole H.hash_of held.new }
-    ensures total { length held.new.frames ≡ length held.old.frames }
-    ensures stay { OthersKeep held.old.frames page.guest page.ppn result.verdict (names_of held.old) (names_of held.new) }
+    ensures served { Served H.hash_of page.guest page.ppn result.verdict held.old held.new }
     ensures step { record { guests = guests_of held.new; verdict = result.verdict }
         ≡ proposed H.hash_of (guests_of held.old) page.guest page.ppn page.salt (s.Private (bytes_in held.old.frames mpn) hint) }
     ensures freed { result.freed ≡ (if has_joined result.verdict then Some mpn else None) }
@@ -223,9 +222,7 @@ pub fn take_back<H: PageHash, A: Allocator>(
     room: &mut Page,
 ) -> Returned
     requires whole { Whole H.hash_of held.old }
-    ensures whole { Whole H.hash_of held.new }
-    ensures total { length held.new.frames ≡ length held.old.frames }
-    ensures stay { OthersKeep held.old.frames guest ppn (release_verdict result) (names_of held.old) (names_of held.new) }
+    ensures served { Served H.hash_of guest ppn (release_verdict result) held.old held.new }
     ensures step { record { guests = guests_of held.new; verdict = release_verdict result }
         ≡ at_page (guests_of held.old) guest ppn (λ salt slot. released (guests_of held.old) guest ppn salt slot) }
     ensures room { Some room.new ≡ room_after result room.old (text_at (guests_of held.old) guest ppn) }

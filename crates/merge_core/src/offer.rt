@@ -1,13 +1,13 @@
 //! Proposals.
-ghost use Rattle.std.specs.Prelude.{◌≡◌, ◌<◌, ◌==◌, ◌&&◌, ⊤, length, Some, None, MatchBool};
+ghost use Rattle.std.specs.Prelude.{◌≡◌, ◌<◌, ◌==◌, ◌&&◌, ⊤, Some, None, MatchBool};
 ghost use Rattle.page_model.specs.Steps.{proposed, matched, offered, at_page, key_of, kept_hint};
 ghost use Rattle.page_model.specs.Pages.{page_at, with_slot};
 ghost use Rattle.page_model.specs.Pages as s;
 ghost use Rattle.page_model.specs.declared.verdict.Verdict.TheVariants.{Paired};
 ghost use Rattle.merge_core.specs.Lending.{has_joined};
-ghost use Rattle.merge_core.specs.Kept.{OnlyNotes};
+ghost use Rattle.merge_core.specs.Kept.{OnlyNotes, Served};
 ghost use Rattle.merge_core.specs.Names.{bytes_in, known_at};
-ghost use Rattle.merge_core.specs.Stays.{AllKeep, OthersKeep};
+ghost use Rattle.merge_core.specs.Stays.{AllKeep};
 ghost use Rattle.share_table.specs.TableMaps.{hint_at, shared_at, count_at};
 ghost use Rattle.merge_core.specs.View.{names_of, guests_of, notes_of, Whole};
 ghost use Rattle.machine_frames.specs.FrameMap as fm;
@@ -32,9 +32,7 @@ fn key_of(code: u64) -> u32
 #[tactic(auto, unfolding(page_model::specs::Steps::proposed))]
 pub fn propose<H: PageHash, A: Allocator>(held: &mut Held<H, A>, guest: usize, ppn: u32) -> Verdict
     requires whole { Whole H.hash_of held.old }
-    ensures whole { Whole H.hash_of held.new }
-    ensures total { length held.new.frames ≡ length held.old.frames }
-    ensures stay { OthersKeep held.old.frames guest ppn result (names_of held.old) (names_of held.new) }
+    ensures served { Served H.hash_of guest ppn result held.old held.new }
     ensures step { record { guests = guests_of held.new; verdict = result }
         ≡ at_page (guests_of held.old) guest ppn (λ salt slot. proposed H.hash_of (guests_of held.old) guest ppn salt slot) }
 {
@@ -59,9 +57,7 @@ pub fn propose_private<H: PageHash, A: Allocator>(
 ) -> Verdict
     requires whole { Whole H.hash_of held.old }
     requires page { page_at (names_of held.old) page.guest page.ppn ≡ Some (page.salt, s.Private mpn hint) }
-    ensures whole { Whole H.hash_of held.new }
-    ensures total { length held.new.frames ≡ length held.old.frames }
-    ensures stay { OthersKeep held.old.frames page.guest page.ppn result (names_of held.old) (names_of held.new) }
+    ensures served { Served H.hash_of page.guest page.ppn result held.old held.new }
     ensures step { record { guests = guests_of held.new; verdict = result }
         ≡ proposed H.hash_of (guests_of held.old) page.guest page.ppn page.salt (s.Private (bytes_in held.old.frames mpn) hint) }
     ensures freed { MatchBool (has_joined result) (fm.frame held.new.frames mpn ≡ None) ⊤ }
@@ -113,9 +109,7 @@ fn find_match<H: PageHash, A: Allocator>(
     requires page { page_at (names_of held.old) page.guest page.ppn ≡ Some (page.salt, s.Private mpn kept) }
     requires fits { kept_hint (key_of code) kept ≡ kept }
     requires code { code ≡ H.hash_of page.salt (bytes_in held.old.frames mpn) }
-    ensures whole { Whole H.hash_of held.new }
-    ensures total { length held.new.frames ≡ length held.old.frames }
-    ensures stay { OthersKeep held.old.frames page.guest page.ppn result (names_of held.old) (names_of held.new) }
+    ensures served { Served H.hash_of page.guest page.ppn result held.old held.new }
     ensures step { record { guests = guests_of held.new; verdict = result }
         ≡ matched H.hash_of (guests_of held.old) page.guest page.ppn page.salt (bytes_in held.old.frames mpn) code }
     ensures freed { MatchBool (has_joined result) (fm.frame held.new.frames mpn ≡ None) ⊤ }
@@ -174,9 +168,7 @@ fn join_match<H: PageHash, A: Allocator>(
     requires found { shared_at held.old.table code ≡ Some (record { mpn = theirs; count = count_at held.old.table code }) }
     requires salt { (known_at (notes_of held.old) theirs).salt ≡ page.salt }
     requires bytes { bytes_in held.old.frames theirs ≡ bytes_in held.old.frames mpn }
-    ensures whole { Whole H.hash_of held.new }
-    ensures total { length held.new.frames ≡ length held.old.frames }
-    ensures stay { OthersKeep held.old.frames page.guest page.ppn result (names_of held.old) (names_of held.new) }
+    ensures served { Served H.hash_of page.guest page.ppn result held.old held.new }
     ensures step { record { guests = guests_of held.new; verdict = result }
         ≡ matched H.hash_of (guests_of held.old) page.guest page.ppn page.salt (bytes_in held.old.frames mpn) code }
     ensures freed { MatchBool (has_joined result) (fm.frame held.new.frames mpn ≡ None) ⊤ }
@@ -199,9 +191,7 @@ fn offer<H: PageHash, A: Allocator>(
     requires fits { kept_hint (key_of code) kept ≡ kept }
     requires code { code ≡ H.hash_of page.salt (bytes_in held.old.frames mpn) }
     requires absent { shared_at held.old.table code ≡ None }
-    ensures whole { Whole H.hash_of held.new }
-    ensures total { length held.new.frames ≡ length held.old.frames }
-    ensures stay { OthersKeep held.old.frames page.guest page.ppn result (names_of held.old) (names_of held.new) }
+    ensures served { Served H.hash_of page.guest page.ppn result held.old held.new }
     ensures step { record { guests = guests_of held.new; verdict = result }
         ≡ offered H.hash_of (guests_of held.old) page.guest page.ppn page.salt (bytes_in held.old.frames mpn) (key_of code) }
     ensures freed { MatchBool (has_joined result) (fm.frame held.new.frames mpn ≡ None) ⊤ }
@@ -232,9 +222,7 @@ fn weigh<H: PageHash, A: Allocator>(
     requires hint { hint_at held.old.table (key_of code) ≡ Some hint }
     requires code { code ≡ H.hash_of page.salt (bytes_in held.old.frames mpn) }
     requires absent { shared_at held.old.table code ≡ None }
-    ensures whole { Whole H.hash_of held.new }
-    ensures total { length held.new.frames ≡ length held.old.frames }
-    ensures stay { OthersKeep held.old.frames page.guest page.ppn result (names_of held.old) (names_of held.new) }
+    ensures served { Served H.hash_of page.guest page.ppn result held.old held.new }
     ensures step { record { guests = guests_of held.new; verdict = result }
         ≡ offered H.hash_of (guests_of held.old) page.guest page.ppn page.salt (bytes_in held.old.frames mpn) (key_of code) }
     ensures freed { MatchBool (has_joined result) (fm.frame held.new.frames mpn ≡ None) ⊤ }
@@ -288,9 +276,7 @@ fn pair<H: PageHash, A: Allocator>(
     requires bytes { bytes_in held.old.frames theirs ≡ bytes_in held.old.frames mpn }
     requires code { code ≡ H.hash_of page.salt (bytes_in held.old.frames mpn) }
     requires absent { shared_at held.old.table code ≡ None }
-    ensures whole { Whole H.hash_of held.new }
-    ensures total { length held.new.frames ≡ length held.old.frames }
-    ensures stay { OthersKeep held.old.frames page.guest page.ppn Paired (names_of held.old) (names_of held.new) }
+    ensures served { Served H.hash_of page.guest page.ppn Paired held.old held.new }
     ensures guests { guests_of held.new ≡ with_slot (with_slot (guests_of held.old) first.guest first.ppn (s.Shared (bytes_in held.old.frames theirs))) page.guest page.ppn (s.Shared (bytes_in held.old.frames mpn)) }
     ensures freed { fm.frame held.new.frames mpn ≡ None }
 {

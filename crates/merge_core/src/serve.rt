@@ -4,8 +4,9 @@ ghost use Rattle.page_model.specs.Steps.{stored, released, loaded, at_page};
 ghost use Rattle.page_model.specs.Pages.{page_at, with_slot, blank};
 ghost use Rattle.page_model.specs.Pages as s;
 ghost use Rattle.page_model.specs.declared.verdict.Verdict.TheVariants.{Released};
+ghost use Rattle.merge_core.specs.Kept.{Served};
 ghost use Rattle.merge_core.specs.Names.{bytes_in};
-ghost use Rattle.merge_core.specs.Stays.{AllKeep, OthersKeep};
+ghost use Rattle.merge_core.specs.Stays.{AllKeep};
 ghost use Rattle.machine_frames.specs.FrameMap as fm;
 ghost use Rattle.merge_core.specs.View.{names_of, guests_of, Whole};
 
@@ -26,9 +27,7 @@ pub fn store<H: PageHash, A: Allocator>(
     request: &StoreReq,
 ) -> Verdict
     requires whole { Whole H.hash_of held.old }
-    ensures whole { Whole H.hash_of held.new }
-    ensures total { length held.new.frames ≡ length held.old.frames }
-    ensures stay { OthersKeep held.old.frames guest request.now.ppn result (names_of held.old) (names_of held.new) }
+    ensures served { Served H.hash_of guest request.now.ppn result held.old held.new }
     ensures step { record { guests = guests_of held.new; verdict = result }
         ≡ at_page (guests_of held.old) guest request.now.ppn (λ salt slot. stored (length held.old.frames) (guests_of held.old) guest request.now.ppn request.now.at request.now.bytes salt slot) }
 {
@@ -47,9 +46,7 @@ pub fn store_bytes<H: PageHash, A: Allocator>(
 ) -> Verdict
     requires whole { Whole H.hash_of held.old }
     requires fits { at + length bytes.now ≤ 4096 }
-    ensures whole { Whole H.hash_of held.new }
-    ensures total { length held.new.frames ≡ length held.old.frames }
-    ensures stay { OthersKeep held.old.frames guest ppn result (names_of held.old) (names_of held.new) }
+    ensures served { Served H.hash_of guest ppn result held.old held.new }
     ensures step { record { guests = guests_of held.new; verdict = result }
         ≡ at_page (guests_of held.old) guest ppn (λ salt slot. stored (length held.old.frames) (guests_of held.old) guest ppn at bytes.now salt slot) }
 {
@@ -86,9 +83,7 @@ fn store_shared<H: PageHash, A: Allocator>(
     requires whole { Whole H.hash_of held.old }
     requires page { page_at (names_of held.old) page.guest page.ppn ≡ Some (page.salt, s.Shared mpn) }
     requires fits { at + length bytes.now ≤ 4096 }
-    ensures whole { Whole H.hash_of held.new }
-    ensures total { length held.new.frames ≡ length held.old.frames }
-    ensures stay { OthersKeep held.old.frames page.guest page.ppn result (names_of held.old) (names_of held.new) }
+    ensures served { Served H.hash_of page.guest page.ppn result held.old held.new }
     ensures step { record { guests = guests_of held.new; verdict = result }
         ≡ stored (length held.old.frames) (guests_of held.old) page.guest page.ppn at bytes.now page.salt (s.Shared (bytes_in held.old.frames mpn)) }
 {
@@ -141,9 +136,7 @@ pub fn release_private<H: PageHash, A: Allocator>(
 )
     requires whole { Whole H.hash_of held.old }
     requires page { page_at (names_of held.old) page.guest page.ppn ≡ Some (page.salt, s.Private mpn hint) }
-    ensures whole { Whole H.hash_of held.new }
-    ensures total { length held.new.frames ≡ length held.old.frames }
-    ensures stay { OthersKeep held.old.frames page.guest page.ppn (Released true) (names_of held.old) (names_of held.new) }
+    ensures served { Served H.hash_of page.guest page.ppn (Released true) held.old held.new }
     ensures guests { guests_of held.new ≡ with_slot (guests_of held.old) page.guest page.ppn s.Unmapped }
     ensures freed { fm.frame held.new.frames mpn ≡ None }
 {
@@ -160,9 +153,7 @@ pub fn release_shared<H: PageHash, A: Allocator>(
 ) -> bool
     requires whole { Whole H.hash_of held.old }
     requires page { page_at (names_of held.old) page.guest page.ppn ≡ Some (page.salt, s.Shared mpn) }
-    ensures whole { Whole H.hash_of held.new }
-    ensures total { length held.new.frames ≡ length held.old.frames }
-    ensures stay { OthersKeep held.old.frames page.guest page.ppn (Released result) (names_of held.old) (names_of held.new) }
+    ensures served { Served H.hash_of page.guest page.ppn (Released result) held.old held.new }
     ensures step { record { guests = guests_of held.new; verdict = Released result }
         ≡ released (guests_of held.old) page.guest page.ppn page.salt (s.Shared (bytes_in held.old.frames mpn)) }
     ensures freed { MatchBool result (fm.frame held.new.frames mpn ≡ None) ⊤ }
@@ -182,9 +173,7 @@ pub fn release_shared<H: PageHash, A: Allocator>(
 #[tactic(auto, using(page_model::proofs::Places::again), unfolding(page_model::specs::Steps::released))]
 pub fn release<H: PageHash, A: Allocator>(held: &mut Held<H, A>, guest: usize, ppn: u32) -> Verdict
     requires whole { Whole H.hash_of held.old }
-    ensures whole { Whole H.hash_of held.new }
-    ensures total { length held.new.frames ≡ length held.old.frames }
-    ensures stay { OthersKeep held.old.frames guest ppn result (names_of held.old) (names_of held.new) }
+    ensures served { Served H.hash_of guest ppn result held.old held.new }
     ensures step { record { guests = guests_of held.new; verdict = result }
         ≡ at_page (guests_of held.old) guest ppn (λ salt slot. released (guests_of held.old) guest ppn salt slot) }
 {

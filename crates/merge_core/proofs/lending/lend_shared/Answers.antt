@@ -26,11 +26,11 @@ returns-then-count-eq1-clause-lends g c =
     let step = rw (bytes, guests) at c.propose_own.ensures.step in
     let offer = is_offer g.H.HashFunction.hash_of _ _ a b salt _ c.propose_own.result.verdict step in
     let first = all_stay held.frames a b v.Taken (names_of held) (with_slot (names_of held) a b (Private c.args.mpn None)) refl (one_keeps (names_of held) a b salt (Shared c.args.mpn) (Private c.args.mpn None) c.requires.page refl) in
-    let second = rw (c.write.ensures.name, c.keep.ensures.name, c.hash_frame-code.ensures.kept.names) at c.propose_own.ensures.stay in
+    let second = rw (c.write.ensures.name, c.keep.ensures.name, c.hash_frame-code.ensures.kept.names) at c.propose_own.ensures.served.stay in
     let own = frame_is (names_of held) a b salt (Shared c.args.mpn) c.requires.page in
     let total = rw (c.keep.ensures.frames, c.hash_frame-code.ensures.kept.frames) at c.write.ensures.total in
     lends_done g.H.HashFunction.hash_of a b salt page held c.propose_own.new.held (Shared old) (page_in_is held.frames (names_of held) a b salt (Shared c.args.mpn) c.requires.page) (written old 0 page) None v.Taken c.propose_own.result
-    (stored_taken _ (guests_of held) a b 0 page salt old (sym p ∙ c.if-count-eq1.true)) refl (c.propose_own.ensures.total ∙ total) step
+    (stored_taken _ (guests_of held) a b 0 page salt old (sym p ∙ c.if-count-eq1.true)) refl (c.propose_own.ensures.served.total ∙ total) step
     (then_offered held.frames _ a b v.Taken c.propose_own.result.verdict (names_of held) _ _ offer first second)
     (c.propose_own.ensures.freed ∙ sym (ap (own_freed v.Taken c.propose_own.result.verdict) own)) c.propose_own.ensures.free
 
@@ -66,8 +66,8 @@ returns-clause-lends g c =
     let offer = is_offer g.H.HashFunction.hash_of _ _ a b salt _ c.propose_private-verdict.result step in
     let free = rw (c.leave.ensures.frames, c.hash_frame-code.ensures.kept.frames) at c.map_copy-copy.ensures.free in
     let first = takes_free held.frames a b copy v.Copied (names_of held) (with_slot (with_slot (names_of held) a b Unmapped) a b (Private copy None)) refl free (moved_twice (names_of held) a b salt (Shared c.args.mpn) Unmapped (Private copy None) c.requires.page) in
-    let second = rw (c.write-2.ensures.name, c.map_copy-copy.ensures.name, c.leave.ensures.name, c.hash_frame-code.ensures.kept.names) at c.propose_private-verdict.ensures.stay in
+    let second = rw (c.write-2.ensures.name, c.map_copy-copy.ensures.name, c.leave.ensures.name, c.hash_frame-code.ensures.kept.names) at c.propose_private-verdict.ensures.served.stay in
     let total = rw (c.map_copy-copy.ensures.total, c.leave.ensures.frames, c.hash_frame-code.ensures.kept.frames) at c.write-2.ensures.total in
     lends_done g.H.HashFunction.hash_of a b salt page held c.propose_private-verdict.new.held (Shared old) (page_in_is held.frames (names_of held) a b salt (Shared c.args.mpn) c.requires.page) (written old 0 page) None v.Copied (record { verdict = c.propose_private-verdict.result; freed = None })
-    (stored_copied _ (guests_of held) a b 0 page salt old (λ e. c.if-count-eq1.false (p ∙ e)) (sym room)) refl (c.propose_private-verdict.ensures.total ∙ total) step
+    (stored_copied _ (guests_of held) a b 0 page salt old (λ e. c.if-count-eq1.false (p ∙ e)) (sym room)) refl (c.propose_private-verdict.ensures.served.total ∙ total) step
     (then_offered held.frames _ a b v.Copied c.propose_private-verdict.result (names_of held) _ _ offer first second) refl (record {})

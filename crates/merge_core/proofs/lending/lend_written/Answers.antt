@@ -31,5 +31,5 @@ returns-clause-stay g c =
     let mpn = c.map_zeroed-mpn.result in
     let offer = is_offer g.H.HashFunction.hash_of _ _ a b c.args.page.salt _ c.propose_private.result c.propose_private.ensures.step in
     let first = takes_free held.frames a b mpn v.Mapped (names_of held) _ refl c.map_zeroed-mpn.ensures.free (moved_to (names_of held) _ a b c.args.page.salt (Private mpn None) c.map_zeroed-mpn.ensures.name c.map_zeroed-mpn.ensures.page) in
-    let second = rw (c.learn.ensures.kept.names, c.write.ensures.name) at c.propose_private.ensures.stay in
+    let second = rw (c.learn.ensures.kept.names, c.write.ensures.name) at c.propose_private.ensures.served.stay in
     then_offered held.frames _ a b v.Mapped c.propose_private.result (names_of held) _ _ offer first second

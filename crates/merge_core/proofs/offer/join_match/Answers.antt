@@ -1,7 +1,7 @@
 use Rattle.page_model.specs.declared.verdict.Verdict.TheVariants as v
 use Rattle.merge_core.proofs.Staying.{other_page, moved_to, one_moves, keep_move, move_move, joins_another, frame_is}
 use Rattle.page_model.specs.Pages.{Private, Shared, Unmapped}
-use Rattle.std.proofs.Common.{◌≢◌, None, sym, ◌∙◌, ◌≡◌, ℕ, refl, Some}
+use Rattle.std.proofs.Common.{◌≢◌, None, ap, sym, ◌∙◌, ◌≡◌, ℕ, refl, length, Some}
 use Rattle.page_model.proofs.Places.{again}
 use Rattle.share_table.specs.TableMaps.{SharedFrame, count_at}
 use Rattle.merge_core.specs.Names.{bytes_in}
@@ -28,8 +28,8 @@ returns-clause-step g c =
     joined_outcome c.join.result c.args.page.salt (bytes_in held.frames c.args.mpn) _ _ (guests ∙ again _ c.args.page.guest c.args.page.ppn _ _ ∙ again (guests_of held) c.args.page.guest c.args.page.ppn _ _) count
     ∙ sym (matched_joined g.H.HashFunction.hash_of (guests_of held) c.args.page.guest c.args.page.ppn c.args.page.salt (bytes_in held.frames c.args.mpn) c.args.code any)
 
-pub returns-clause-stay : goal.returns-clause-stay
-returns-clause-stay g c =
+pub returns-clause-served : goal.returns-clause-served
+returns-clause-served g c =
     let held = c.args.held.now in
     let a : ℕ = c.args.page.guest in
     let b : ℕ = c.args.page.ppn in
@@ -41,4 +41,8 @@ returns-clause-stay g c =
     let leaves = moved_to _ _ a b c.args.page.salt Unmapped c.unmap.ensures.name c.unmap.ensures.page in
     let joins = one_moves _ a b c.args.page.salt Unmapped (Shared c.args.theirs) c.unmap.ensures.page in
     let all = keep_move a b (Some c.args.theirs) (names_of held) _ _ c.clear_hint.ensures.stay (move_move a b None (Some c.args.theirs) _ _ _ leaves joins) in
-    rw c.join.ensures.name (joins_another held.frames a b o.guest o.ppn c.args.theirs (v.Joined c.join.result) (names_of held) _ refl apart (frame_is (names_of held) o.guest o.ppn o.salt o.slot o.at ∙ o.frame) all)
+    record {
+      whole = c.join.ensures.whole;
+      total = ap length c.join.ensures.frames ∙ c.unmap.ensures.total ∙ ap length c.clear_hint.ensures.frames;
+      stay = rw c.join.ensures.name (joins_another held.frames a b o.guest o.ppn c.args.theirs (v.Joined c.join.result) (names_of held) _ refl apart (frame_is (names_of held) o.guest o.ppn o.salt o.slot o.at ∙ o.frame) all);
+    }

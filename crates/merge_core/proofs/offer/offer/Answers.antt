@@ -1,6 +1,6 @@
 use Rattle.merge_core.proofs.Staying.{moved_to, moves_nowhere, all_stay, frame_is}
 use Rattle.page_model.specs.Pages.{Private}
-use Rattle.std.proofs.Common.{ℕ, sym, ◌∙◌, refl, Some}
+use Rattle.std.proofs.Common.{ℕ, ap, sym, ◌∙◌, refl, length, Some}
 use Rattle.page_model.specs.Steps.{key_of}
 use Rattle.page_model.specs.declared.verdict.Verdict.TheVariants as v
 use Rattle.merge_core.specs.Names.{bytes_in}
@@ -27,8 +27,12 @@ returns-in-None-find_hint-clause-step g c =
     let guests = rw c.key_of-key.ensures at c.put_hint.ensures.guests in
     outcome v.Hinted _ _ guests ∙ sym (offered_hinted g.H.HashFunction.hash_of (guests_of held) c.args.page.guest c.args.page.ppn c.args.page.salt (bytes_in held.frames c.args.mpn) key (found_none (names_of held) held.frames held.table.hints key c.requires.whole.ties.hinted none))
 
-pub returns-in-None-find_hint-clause-stay : goal.returns-in-None-find_hint-clause-stay
-returns-in-None-find_hint-clause-stay g c =
+pub returns-in-None-find_hint-clause-served : goal.returns-in-None-find_hint-clause-served
+returns-in-None-find_hint-clause-served g c =
     let held = c.args.held.now in
     let one = moved_to (names_of held) _ c.args.page.guest c.args.page.ppn c.args.page.salt (Private c.args.mpn (Some c.key_of-key.result)) c.put_hint.ensures.name c.put_hint.ensures.page in
-    all_stay held.frames c.args.page.guest c.args.page.ppn v.Hinted (names_of held) _ refl (moves_nowhere c.args.page.guest c.args.page.ppn (Some c.args.mpn) (names_of held) _ one (frame_is (names_of held) c.args.page.guest c.args.page.ppn c.args.page.salt (Private c.args.mpn c.args.kept) c.requires.page))
+    record {
+      whole = c.put_hint.ensures.whole;
+      total = ap length c.put_hint.ensures.frames;
+      stay = all_stay held.frames c.args.page.guest c.args.page.ppn v.Hinted (names_of held) _ refl (moves_nowhere c.args.page.guest c.args.page.ppn (Some c.args.mpn) (names_of held) _ one (frame_is (names_of held) c.args.page.guest c.args.page.ppn c.args.page.salt (Private c.args.mpn c.args.kept) c.requires.page));
+    }

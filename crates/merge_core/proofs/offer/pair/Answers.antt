@@ -1,7 +1,7 @@
 use Rattle.merge_core.proofs.Staying.{one_keeps, one_moves, keep_move, move_move, move_keep, joins_another, frame_is}
 use Rattle.page_model.specs.declared.verdict.Verdict.TheVariants as v
 use Rattle.merge_core.specs.Stays.{AllKeep}
-use Rattle.std.proofs.Common.{◌≡◌, ◌≢◌, None, ap, sym, ◌∙◌, ℕ, refl, Some}
+use Rattle.std.proofs.Common.{◌≡◌, ◌≢◌, None, ap, sym, ◌∙◌, ℕ, refl, length, Some}
 use Rattle.page_model.specs.Pages.{Private, Shared, Slot, with_slot, page_at, Unmapped}
 use Rattle.page_model.proofs.Places.{at_other, at_same}
 use Rattle.page_model.specs.Steps.{key_of}
@@ -44,8 +44,8 @@ returns-clause-guests g c =
     e ∙ changed_twice (guests_of held) c.args.first.guest c.args.first.ppn c.args.page.guest c.args.page.ppn _ _ (Shared (bytes_in held.frames c.args.theirs)) (Shared (bytes_in held.frames c.args.theirs)) apart
     ∙ ap (λ (x : Slot). with_slot (with_slot (guests_of held) c.args.first.guest c.args.first.ppn (Shared (bytes_in held.frames c.args.theirs))) c.args.page.guest c.args.page.ppn x) (ap Shared c.requires.bytes)
 
-pub returns-clause-stay : goal.returns-clause-stay
-returns-clause-stay g c =
+pub returns-clause-served : goal.returns-clause-served
+returns-clause-served g c =
     let held = c.args.held.now in
     let a : ℕ = c.args.page.guest in
     let b : ℕ = c.args.page.ppn in
@@ -65,4 +65,8 @@ returns-clause-stay g c =
     let shares = one_keeps gone x y c.args.first.salt (Private m None) (Shared m) theirs refl in
     let joins = one_moves shared a b c.args.page.salt Unmapped (Shared m) empty in
     let all = keep_move a b (Some m) (names_of held) dropped (with_slot shared a b (Shared m)) keeps (move_move a b None (Some m) dropped shared (with_slot shared a b (Shared m)) (move_keep a b None dropped gone shared leaves shares) joins) in
-    rw (c.share.ensures.names, c.learn.ensures.kept.names, c.unmap.ensures.name, c.drop_hint.ensures.name) (joins_another held.frames a b x y m v.Paired (names_of held) (with_slot shared a b (Shared m)) refl back (frame_is (names_of held) x y c.args.first.salt (Private m (Some (key_of c.args.code))) c.requires.first) all)
+    record {
+      whole = c.share.ensures.whole;
+      total = ap length (c.share.ensures.frames ∙ c.learn.ensures.kept.frames) ∙ c.unmap.ensures.total ∙ ap length c.drop_hint.ensures.frames;
+      stay = rw (c.share.ensures.names, c.learn.ensures.kept.names, c.unmap.ensures.name, c.drop_hint.ensures.name) (joins_another held.frames a b x y m v.Paired (names_of held) (with_slot shared a b (Shared m)) refl back (frame_is (names_of held) x y c.args.first.salt (Private m (Some (key_of c.args.code))) c.requires.first) all);
+    }

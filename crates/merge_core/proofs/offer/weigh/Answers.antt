@@ -1,7 +1,7 @@
 use Rattle.std.proofs.lemmas.Bool.{eqb-true, eqb-false}
 use Rattle.merge_core.proofs.Staying.{moved_to, moves_nowhere, all_stay, none_moves, frame_is, one_keeps, keep_keep}
 use Rattle.merge_core.specs.Stays.{AllKeep}
-use Rattle.std.proofs.Common.{◌≡◌, ℕ, Some, None, ap, sym, ◌∙◌, refl}
+use Rattle.std.proofs.Common.{◌≡◌, ℕ, Some, None, ap, sym, ◌∙◌, refl, length}
 use Rattle.page_model.specs.Pages.{Private, page_at, with_slot}
 use Rattle.page_model.specs.Steps.{key_of}
 use Rattle.page_model.specs.declared.verdict.Verdict.TheVariants as v
@@ -90,8 +90,8 @@ returns-then-has_key-clause-step g c =
     ∙ sym (offered_other g.H.HashFunction.hash_of (guests_of held) c.args.page.guest c.args.page.ppn c.args.page.salt (bytes_in held.frames c.args.mpn) key c.args.hint.guest c.args.hint.ppn c.salt-salt.result (slot_in held.frames (Private c.args.hint.mpn (Some key))) found (λ p q. apart (sym p) (sym q)) (page_in_is held.frames (names_of held) c.args.hint.guest c.args.hint.ppn c.salt-salt.result (Private c.args.hint.mpn (Some key)) theirs)
     ∙ weighed_ineligible g.H.HashFunction.hash_of (guests_of held) c.args.page.guest c.args.page.ppn c.args.page.salt (bytes_in held.frames c.args.mpn) key c.args.hint.guest c.args.hint.ppn c.salt-salt.result (bytes_in held.frames c.args.hint.mpn) keys (sym differ))
 
-pub returns-clause-stay : goal.returns-clause-stay
-returns-clause-stay g c =
+pub returns-clause-served : goal.returns-clause-served
+returns-clause-served g c =
     let held = c.args.held.now in
     let key : ℕ = c.key_of-key.result in
     let mine = c.args.page in
@@ -101,9 +101,17 @@ returns-clause-stay g c =
     let name = rw (c.drop_hint.ensures.name, c.has_key.ensures.kept.names) at c.put_hint.ensures.name in
     let one = moved_to dropped _ mine.guest mine.ppn mine.salt (Private c.args.mpn (Some key)) name c.put_hint.ensures.page in
     let second = moves_nowhere mine.guest mine.ppn (Some c.args.mpn) dropped _ one (first.keeps mine.guest mine.ppn ∙ frame_is (names_of held) mine.guest mine.ppn mine.salt (Private c.args.mpn None) c.requires.page) in
-    all_stay held.frames mine.guest mine.ppn v.Replaced (names_of held) _ refl (keep_keep (names_of held) dropped _ first second)
+    record {
+      whole = c.put_hint.ensures.whole;
+      total = ap length (c.put_hint.ensures.frames ∙ c.drop_hint.ensures.frames ∙ c.has_key.ensures.kept.frames);
+      stay = all_stay held.frames mine.guest mine.ppn v.Replaced (names_of held) _ refl (keep_keep (names_of held) dropped _ first second);
+    }
 
-pub returns-then-has_key-clause-stay : goal.returns-then-has_key-clause-stay
-returns-then-has_key-clause-stay g c =
+pub returns-then-has_key-clause-served : goal.returns-then-has_key-clause-served
+returns-then-has_key-clause-served g c =
     let held = c.args.held.now in
-    rw c.has_key.ensures.kept.names (none_moves held.frames c.args.page.guest c.args.page.ppn v.Ineligible (names_of held) refl)
+    record {
+      whole = c.has_key.ensures.kept.whole;
+      total = ap length c.has_key.ensures.kept.frames;
+      stay = rw c.has_key.ensures.kept.names (none_moves held.frames c.args.page.guest c.args.page.ppn v.Ineligible (names_of held) refl);
+    }

@@ -1,5 +1,5 @@
 use Rattle.merge_core.proofs.Staying.{gives_up, one_moves, moved_twice}
-use Rattle.std.proofs.Common.{◌≡◌, ap, sym, ◌∙◌, List, true, false, refl, None}
+use Rattle.std.proofs.Common.{◌≡◌, ap, sym, ◌∙◌, List, length, true, false, refl, None}
 use Rattle.page_model.specs.Pages.{Guest, with_slot, Unmapped, Private, Shared}
 use Rattle.page_model.specs.Steps.{stays}
 use Rattle.page_model.specs.declared.verdict.Verdict.{Verdict}
@@ -27,12 +27,20 @@ returns-clause-step g c =
     let e = rw c.hash_frame-code.ensures.shown at c.leave.ensures.guests in
     outcome (v.Released false) _ _ e ∙ sym (released_more (guests_of held) c.args.page.guest c.args.page.ppn c.args.page.salt (bytes_in held.frames c.args.mpn) (λ e. c.if-count-eq1.false (p ∙ e)))
 
-pub returns-then-count-eq1-clause-stay : goal.returns-then-count-eq1-clause-stay
-returns-then-count-eq1-clause-stay g c =
+pub returns-then-count-eq1-clause-served : goal.returns-then-count-eq1-clause-served
+returns-then-count-eq1-clause-served g c =
     let held = c.args.held.now in
-    rw (c.unmap.ensures.name, c.keep.ensures.name, c.hash_frame-code.ensures.kept.names) (gives_up held.frames c.args.page.guest c.args.page.ppn (v.Released true) (names_of held) (with_slot (with_slot (names_of held) c.args.page.guest c.args.page.ppn (Private c.args.mpn None)) c.args.page.guest c.args.page.ppn Unmapped) refl (moved_twice (names_of held) c.args.page.guest c.args.page.ppn c.args.page.salt (Shared c.args.mpn) (Private c.args.mpn None) Unmapped c.requires.page))
+    record {
+      whole = c.unmap.ensures.whole;
+      total = c.unmap.ensures.total ∙ ap length (c.keep.ensures.frames ∙ c.hash_frame-code.ensures.kept.frames);
+      stay = rw (c.unmap.ensures.name, c.keep.ensures.name, c.hash_frame-code.ensures.kept.names) (gives_up held.frames c.args.page.guest c.args.page.ppn (v.Released true) (names_of held) (with_slot (with_slot (names_of held) c.args.page.guest c.args.page.ppn (Private c.args.mpn None)) c.args.page.guest c.args.page.ppn Unmapped) refl (moved_twice (names_of held) c.args.page.guest c.args.page.ppn c.args.page.salt (Shared c.args.mpn) (Private c.args.mpn None) Unmapped c.requires.page));
+    }
 
-pub returns-clause-stay : goal.returns-clause-stay
-returns-clause-stay g c =
+pub returns-clause-served : goal.returns-clause-served
+returns-clause-served g c =
     let held = c.args.held.now in
-    rw (c.leave.ensures.name, c.hash_frame-code.ensures.kept.names) (gives_up held.frames c.args.page.guest c.args.page.ppn (v.Released false) (names_of held) (with_slot (names_of held) c.args.page.guest c.args.page.ppn Unmapped) refl (one_moves (names_of held) c.args.page.guest c.args.page.ppn c.args.page.salt (Shared c.args.mpn) Unmapped c.requires.page))
+    record {
+      whole = c.leave.ensures.whole;
+      total = ap length (c.leave.ensures.frames ∙ c.hash_frame-code.ensures.kept.frames);
+      stay = rw (c.leave.ensures.name, c.hash_frame-code.ensures.kept.names) (gives_up held.frames c.args.page.guest c.args.page.ppn (v.Released false) (names_of held) (with_slot (names_of held) c.args.page.guest c.args.page.ppn Unmapped) refl (one_moves (names_of held) c.args.page.guest c.args.page.ppn c.args.page.salt (Shared c.args.mpn) Unmapped c.requires.page));
+    }

@@ -35,18 +35,30 @@ returns-clause-step g c =
     let e = rw (c.map_copy-copy.ensures.guests, c.map_copy-copy.ensures.bytes, c.leave.ensures.guests, c.leave.ensures.frames, c.hash_frame-code.ensures.shown, c.hash_frame-code.ensures.kept.frames) at c.write-2.ensures.guests in
     outcome v.Copied _ _ (e ∙ again (with_slot (guests_of held) c.args.page.guest c.args.page.ppn Unmapped) c.args.page.guest c.args.page.ppn _ _ ∙ again (guests_of held) c.args.page.guest c.args.page.ppn _ _) ∙ sym (stored_copied (length held.frames) (guests_of held) c.args.page.guest c.args.page.ppn c.args.at c.args.bytes.now c.args.page.salt (bytes_in held.frames c.args.mpn) (λ e. c.if-count-eq1.false (p ∙ e)) (sym full))
 
-pub returns-then-count-eq1-clause-stay : goal.returns-then-count-eq1-clause-stay
-returns-then-count-eq1-clause-stay g c =
+pub returns-then-count-eq1-clause-served : goal.returns-then-count-eq1-clause-served
+returns-then-count-eq1-clause-served g c =
     let held = c.args.held.now in
-    rw (c.write.ensures.name, c.keep.ensures.name, c.hash_frame-code.ensures.kept.names) (all_stay held.frames c.args.page.guest c.args.page.ppn v.Taken (names_of held) (with_slot (names_of held) c.args.page.guest c.args.page.ppn (Private c.args.mpn None)) refl (one_keeps (names_of held) c.args.page.guest c.args.page.ppn c.args.page.salt (Shared c.args.mpn) (Private c.args.mpn None) c.requires.page refl))
+    record {
+      whole = c.write.ensures.whole;
+      total = c.write.ensures.total ∙ ap length (c.keep.ensures.frames ∙ c.hash_frame-code.ensures.kept.frames);
+      stay = rw (c.write.ensures.name, c.keep.ensures.name, c.hash_frame-code.ensures.kept.names) (all_stay held.frames c.args.page.guest c.args.page.ppn v.Taken (names_of held) (with_slot (names_of held) c.args.page.guest c.args.page.ppn (Private c.args.mpn None)) refl (one_keeps (names_of held) c.args.page.guest c.args.page.ppn c.args.page.salt (Shared c.args.mpn) (Private c.args.mpn None) c.requires.page refl));
+    }
 
-pub returns-then-is_full-clause-stay : goal.returns-then-is_full-clause-stay
-returns-then-is_full-clause-stay g c =
+pub returns-then-is_full-clause-served : goal.returns-then-is_full-clause-served
+returns-then-is_full-clause-served g c =
     let held = c.args.held.now in
-    rw c.hash_frame-code.ensures.kept.names (none_moves held.frames c.args.page.guest c.args.page.ppn v.NoFrame (names_of held) refl)
+    record {
+      whole = c.hash_frame-code.ensures.kept.whole;
+      total = ap length c.hash_frame-code.ensures.kept.frames;
+      stay = rw c.hash_frame-code.ensures.kept.names (none_moves held.frames c.args.page.guest c.args.page.ppn v.NoFrame (names_of held) refl);
+    }
 
-pub returns-clause-stay : goal.returns-clause-stay
-returns-clause-stay g c =
+pub returns-clause-served : goal.returns-clause-served
+returns-clause-served g c =
     let held = c.args.held.now in
     let free = rw (c.leave.ensures.frames, c.hash_frame-code.ensures.kept.frames) at c.map_copy-copy.ensures.free in
-    rw (c.write-2.ensures.name, c.map_copy-copy.ensures.name, c.leave.ensures.name, c.hash_frame-code.ensures.kept.names) (takes_free held.frames c.args.page.guest c.args.page.ppn c.map_copy-copy.result v.Copied (names_of held) (with_slot (with_slot (names_of held) c.args.page.guest c.args.page.ppn Unmapped) c.args.page.guest c.args.page.ppn (Private c.map_copy-copy.result None)) refl free (moved_twice (names_of held) c.args.page.guest c.args.page.ppn c.args.page.salt (Shared c.args.mpn) Unmapped (Private c.map_copy-copy.result None) c.requires.page))
+    record {
+      whole = c.write-2.ensures.whole;
+      total = c.write-2.ensures.total ∙ c.map_copy-copy.ensures.total ∙ ap length (c.leave.ensures.frames ∙ c.hash_frame-code.ensures.kept.frames);
+      stay = rw (c.write-2.ensures.name, c.map_copy-copy.ensures.name, c.leave.ensures.name, c.hash_frame-code.ensures.kept.names) (takes_free held.frames c.args.page.guest c.args.page.ppn c.map_copy-copy.result v.Copied (names_of held) (with_slot (with_slot (names_of held) c.args.page.guest c.args.page.ppn Unmapped) c.args.page.guest c.args.page.ppn (Private c.map_copy-copy.result None)) refl free (moved_twice (names_of held) c.args.page.guest c.args.page.ppn c.args.page.salt (Shared c.args.mpn) Unmapped (Private c.map_copy-copy.result None) c.requires.page));
+    }

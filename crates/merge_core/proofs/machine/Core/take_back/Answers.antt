@@ -9,7 +9,7 @@ unfolding answered
 returns g c =
     let core = c.self.inside in
     rw (← c.self.view_is) (record {
-      applies = applied g.H.HashFunction.hash_of c.args.guest (Release c.args.ppn) (release_verdict c.take_back.result) core.entries core.held c.take_back.new.held c.take_back.ensures.step c.take_back.ensures.total c.take_back.ensures.stay;
+      applies = applied g.H.HashFunction.hash_of c.args.guest (Release c.args.ppn) (release_verdict c.take_back.result) core.entries core.held c.take_back.new.held c.take_back.ensures.step c.take_back.ensures.served.total c.take_back.ensures.served.stay;
       room = c.take_back.ensures.room;
       freed = c.take_back.ensures.freed;
     })
