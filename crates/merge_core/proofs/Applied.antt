@@ -29,7 +29,9 @@ module _ {H A : Type 0} (hash : ℕ → List ℕ → ℕ) (guest : ℕ) (r : Req
   abbrev made : ℕ → Outcome → Step
   made total outcome = record { state = record { total = total; guests = outcome.guests; entries = entries + 1 }; verdict = outcome.verdict }
 
-  pub applied : record { guests = guests_of new; verdict = verdict } ≡ answered hash (counted (state_of (shown entries old))) guest r → length new.frames ≡ length old.frames → FramesStay guest r verdict (shown entries old) (shown (entries + 1) new) → Applies hash guest r verdict (shown entries old) (shown (entries + 1) new)
+  pub applied : record { guests = guests_of new; verdict = verdict } ≡ answered hash (counted (state_of (shown entries old))) guest r →
+      length new.frames ≡ length old.frames → FramesStay guest r verdict (shown entries old) (shown (entries + 1) new) →
+      Applies hash guest r verdict (shown entries old) (shown (entries + 1) new)
   unfolding step
   applied outcome total stay =
       record {

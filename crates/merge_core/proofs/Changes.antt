@@ -84,7 +84,10 @@ module _ (hash : ℕ → List ℕ → ℕ) (names : Names) (frames : FrameMap) (
   written_ties = record {
     placed = subst (λ (n : Names). Placed n (slice_set frames m (Some bytes))) same_names (fill_placed names frames table.shared a b salt m (Private m hint) hint bytes at write_lone write_within t.placed);
     noted = subst (λ (n : Names). Noted hash n (slice_set frames m (Some bytes)) (slice_set notes m (record { salt = salt; hash = None }))) same_names (fill_noted names frames table.shared a b salt m (Private m hint) hint bytes at write_lone write_within hash notes t.noted);
-    shares = subst (λ (n : Names). Shares hash n (slice_set frames m (Some bytes)) (slice_set notes m (record { salt = salt; hash = None })) table.shared) same_names (fill_shares names frames table.shared a b salt m (Private m hint) hint bytes at write_lone write_within hash notes t.noted (λ s bs. refl) t.shares);
+    shares =
+        subst (λ (n : Names). Shares hash n (slice_set frames m (Some bytes)) (slice_set notes m (record { salt = salt; hash = None }))
+        table.shared) same_names (fill_shares names frames table.shared a b salt m (Private m hint) hint bytes at write_lone write_within
+        hash notes t.noted (λ s bs. refl) t.shares);
     hinted = t.hinted;
     counted = written_counted;
     owned = write_owned names frames a b salt m hint bytes at t.owned;

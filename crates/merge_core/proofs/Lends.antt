@@ -113,7 +113,9 @@ any_after p gs a b salt old new at calm any =
     some_any _ _ (any_is_count p (with_slot gs a b new)) (omega (arith, e, count_some _ _ (any_is_count p gs) any))
 
 -- a page without a frame joins its equals as it would have after its stores
-pub joins_fresh : (hash : ℕ → List ℕ → ℕ) (gs : List Guest) (a b salt : ℕ) (bytes : List ℕ) (n : ℕ) (new : List Guest) → page_at gs a b ≡ Some (salt, Unmapped) → any_page (is_shared_as salt bytes) gs ≡ true → new ≡ with_slot gs a b (Shared bytes) → n ≡ peers salt bytes new → stays new (v.Joined n) ≡ proposed hash (with_slot gs a b (Private bytes None)) a b salt (Private bytes None)
+pub joins_fresh : (hash : ℕ → List ℕ → ℕ) (gs : List Guest) (a b salt : ℕ) (bytes : List ℕ) (n : ℕ) (new : List Guest) →
+    page_at gs a b ≡ Some (salt, Unmapped) → any_page (is_shared_as salt bytes) gs ≡ true → new ≡ with_slot gs a b (Shared bytes) →
+    n ≡ peers salt bytes new → stays new (v.Joined n) ≡ proposed hash (with_slot gs a b (Private bytes None)) a b salt (Private bytes None)
 joins_fresh hash gs a b salt bytes n new at any is count =
     let own : Slot = Private bytes None in
     let mid : List Guest = with_slot gs a b own in
@@ -135,7 +137,13 @@ module _ {H A : Type 0} (hash : ℕ → List ℕ → ℕ) (guest ppn salt : ℕ)
   store s x = stored (length old.frames) gs guest ppn 0 page s x
 
   -- the stores were done, and then the page was proposed
-  pub lends_done : (bytes : List ℕ) (hint : Option ℕ) (verdict : Verdict) (lent : Lent) → store salt slot ≡ sets gs guest ppn (Private bytes hint) verdict → is_done verdict ≡ true → length new.frames ≡ length old.frames → record { guests = guests_of new; verdict = lent.verdict } ≡ proposed hash (with_slot gs guest ppn (Private bytes hint)) guest ppn salt (Private bytes hint) → LendKeeps old.frames guest ppn verdict lent.verdict (names_of old) (names_of new) → lent.freed ≡ own_freed verdict lent.verdict (frame_at (names_of old) guest ppn) → IfSome lent.freed (λ mpn. frame new.frames mpn ≡ None) → LendsPage hash guest ppn page (Ok lent) old new
+  pub lends_done : (bytes : List ℕ) (hint : Option ℕ) (verdict : Verdict) (lent : Lent) →
+      store salt slot ≡ sets gs guest ppn (Private bytes hint) verdict → is_done verdict ≡ true → length new.frames ≡ length old.frames →
+      record { guests = guests_of new; verdict = lent.verdict }
+      ≡ proposed hash (with_slot gs guest ppn (Private bytes hint)) guest ppn salt (Private bytes hint) →
+      LendKeeps old.frames guest ppn verdict lent.verdict (names_of old) (names_of new) →
+      lent.freed ≡ own_freed verdict lent.verdict (frame_at (names_of old) guest ppn) →
+      IfSome lent.freed (λ mpn. frame new.frames mpn ≡ None) → LendsPage hash guest ppn page (Ok lent) old new
   lends_done bytes hint verdict lent is did total step stay freed free =
       let own : Slot = Private bytes hint in
       let outcome : page_outcome (length old.frames) gs guest ppn page ≡ sets gs guest ppn own verdict = ap (on_page gs store) at ∙ is in
@@ -153,7 +161,9 @@ module _ {H A : Type 0} (hash : ℕ → List ℕ → ℕ) (guest ppn salt : ℕ)
       }
 
   -- the stores were refused
-  pub lends_nothing : (verdict : Verdict) → store salt slot ≡ stays gs verdict → is_done verdict ≡ false → change_at verdict ≡ Keeps → keeps_own verdict ≡ false → length new.frames ≡ length old.frames → guests_of new ≡ gs → names_of new ≡ names_of old → LendsPage hash guest ppn page (Err verdict) old new
+  pub lends_nothing : (verdict : Verdict) → store salt slot ≡ stays gs verdict → is_done verdict ≡ false → change_at verdict ≡ Keeps →
+      keeps_own verdict ≡ false → length new.frames ≡ length old.frames → guests_of new ≡ gs → names_of new ≡ names_of old →
+      LendsPage hash guest ppn page (Err verdict) old new
   lends_nothing verdict is undone calm other total same names =
       let outcome : page_outcome (length old.frames) gs guest ppn page ≡ stays gs verdict = ap (on_page gs store) at ∙ is in
       let told : (page_outcome (length old.frames) gs guest ppn page).verdict ≡ verdict = ap (λ (o : Outcome). o.verdict) outcome in

@@ -62,7 +62,10 @@ module _ (hash : ℕ → List ℕ → ℕ) (names : Names) (frames : FrameMap) (
       ap (is_shared_under hash code s) (sym n.is) ∙ under_none c d s n.slot (is_shared_under hash code s (slot_in frames n.slot)) n.at refl)
 
 -- no shared page has another content than the frame that the table has under its hash
-module _ (hash : ℕ → List ℕ → ℕ) (names : Names) (frames : FrameMap) (notes : List Known) (shared : SharedMap) (salt code : ℕ) (bytes : List ℕ) (f : SharedFrame) (noted : Noted hash names frames notes) (shares : Shares hash names frames notes shared) (found : map.get shared code ≡ Some f) (code_is : hash salt bytes ≡ code) (differs : (known_at notes f.mpn).salt ≡ salt → bytes_in frames f.mpn ≡ bytes → ⊥) where
+module _ (hash : ℕ → List ℕ → ℕ) (names : Names) (frames : FrameMap) (notes : List Known) (shared : SharedMap) (salt code : ℕ)
+    (bytes : List ℕ) (f : SharedFrame) (noted : Noted hash names frames notes) (shares : Shares hash names frames notes shared)
+    (found : map.get shared code ≡ Some f) (code_is : hash salt bytes ≡ code)
+    (differs : (known_at notes f.mpn).salt ≡ salt → bytes_in frames f.mpn ≡ bytes → ⊥) where
   other_none : (c d s : ℕ) (slot : SlotOf ℕ) (t : Bool) → page_at names c d ≡ Some (s, slot) → is_shared_as salt bytes s (slot_in frames slot) ≡ t → t ≡ false
   other_none c d s slot false at e = refl
   other_none c d s Unmapped true at e = absurd (false≢true e)

@@ -17,7 +17,9 @@ pub frames_noted : (total : ℕ) (notes : List Note) → length notes ≤ total 
 frames_noted total notes few = omega (arith, few, length-append (notes_in notes) (replicate (total - length notes) unknown), length-replicate (total - length notes) unknown, length-map notes known_of)
 
 -- the list was lengthened up to a frame, and that frame's note set
-pub noted : (total : ℕ) (old new : List Note) (n : ℕ) (v : Known) → length old ≤ total → n < length (notes_on total old) → notes_in new ≡ set (notes_in old ++ replicate (n + 1 - length old) unknown) n v → length new ≡ length old + (n + 1 - length old) → notes_on total new ≡ set (notes_on total old) n v
+pub noted : (total : ℕ) (old new : List Note) (n : ℕ) (v : Known) → length old ≤ total → n < length (notes_on total old) →
+    notes_in new ≡ set (notes_in old ++ replicate (n + 1 - length old) unknown) n v → length new ≡ length old + (n + 1 - length old) →
+    notes_on total new ≡ set (notes_on total old) n v
 noted total old new n v few l made size =
     let xs : List Known = notes_in old in
     let j : ℕ = n + 1 - length old in

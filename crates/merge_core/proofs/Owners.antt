@@ -80,7 +80,9 @@ less_owned names frames a b salt m at within owned k taken = pick (cases_eq k m)
       move names frames a b salt (Private m None) Unmapped at k (owned k still) (λ f. absurd (n (some_same f)))
 
 -- a shared page of the content that is listed under a hash has the listed frame
-module _ (hash : ℕ → List ℕ → ℕ) (names : Names) (frames : FrameMap) (notes : List Known) (shared : SharedMap) (salt m code n : ℕ) (bytes : List ℕ) (shares : Shares hash names frames notes shared) (found : map.get shared code ≡ Some (record { mpn = m; count = n })) (code_is : hash salt bytes ≡ code) where
+module _ (hash : ℕ → List ℕ → ℕ) (names : Names) (frames : FrameMap) (notes : List Known) (shared : SharedMap) (salt m code n : ℕ)
+    (bytes : List ℕ) (shares : Shares hash names frames notes shared) (found : map.get shared code ≡ Some (record { mpn = m; count = n }))
+    (code_is : hash salt bytes ≡ code) where
   same_entry : (x y : SharedFrame) → Some x ≡ Some y → x ≡ y
   same_entry x y e = cc
 

@@ -21,7 +21,9 @@ module _ {H A : Type 0} (hash : ℕ → List ℕ → ℕ) (guest ppn : ℕ) (pag
   abbrev made : ℕ → Outcome → Step
   made total outcome = record { state = record { total = total; guests = outcome.guests; entries = entries + 64 }; verdict = outcome.verdict }
 
-  pub page_applied : record { guests = guests_of new; verdict = verdict } ≡ store_at (length old.frames) (guests_of old) guest ppn 0 page → length new.frames ≡ length old.frames → OthersKeep old.frames guest ppn verdict (names_of old) (names_of new) → StoresPage hash guest ppn page verdict (shown entries old) (shown (entries + 64) new)
+  pub page_applied : record { guests = guests_of new; verdict = verdict } ≡ store_at (length old.frames) (guests_of old) guest ppn 0 page →
+      length new.frames ≡ length old.frames → OthersKeep old.frames guest ppn verdict (names_of old) (names_of new) →
+      StoresPage hash guest ppn page verdict (shown entries old) (shown (entries + 64) new)
   page_applied outcome total stay =
       record {
         step = ap (λ n. made n (record { guests = guests_of new; verdict = verdict })) total ∙ ap (made (length old.frames)) outcome ∙ sym (stored_at_once hash (state_of (shown entries old)) guest ppn page size);

@@ -47,7 +47,10 @@ module _ (hash : ℕ → List ℕ → ℕ) (names : Names) (frames : FrameMap) (
   no_peers = none_counted _ _ (any_is_count (is_shared_as salt bytes) (guests_in frames names)) no_content
 
 -- the change
-module _ (hash : ℕ → List ℕ → ℕ) (names : Names) (frames : FrameMap) (notes : List Known) (shared : SharedMap) (a b salt m code : ℕ) (at : page_at names a b ≡ Some (salt, Private m None)) (placed : Placed names frames) (noted : Noted hash names frames notes) (shares : Shares hash names frames notes shared) (absent : map.get shared code ≡ None) (code_is : hash salt (bytes_in frames m) ≡ code) where
+module _ (hash : ℕ → List ℕ → ℕ) (names : Names) (frames : FrameMap) (notes : List Known) (shared : SharedMap) (a b salt m code : ℕ)
+    (at : page_at names a b ≡ Some (salt, Private m None)) (placed : Placed names frames) (noted : Noted hash names frames notes)
+    (shares : Shares hash names frames notes shared) (absent : map.get shared code ≡ None)
+    (code_is : hash salt (bytes_in frames m) ≡ code) where
   same_some : (k : ℕ) → Some m ≡ Some k → m ≡ k
   same_some k e = cc
 

@@ -24,7 +24,11 @@ module _ (names : Names) (frames : FrameMap) (a b salt : ℕ) (old new : SlotOf 
   re_peers s bs = rw re_guests (pages_counted (is_shared_as s bs) (guests_in frames names) a b salt (slot_in frames old) (slot_in frames new) (page_in_is frames names a b salt old at))
 
   -- what the new entry owes the others
-  module _ (taken : (k : ℕ) → frame_of new ≡ Some k → IsTaken frames k) (lonely : (k : ℕ) (h : Option ℕ) → new ≡ Private k h → (c d s : ℕ) (slot : SlotOf ℕ) → (c ≡ a → d ≡ b → ⊥) → page_at names c d ≡ Some (s, slot) → frame_of slot ≡ Some k → ⊥) (joint : (k : ℕ) → frame_of new ≡ Some k → (c d s : ℕ) (h : Option ℕ) → (c ≡ a → d ≡ b → ⊥) → page_at names c d ≡ Some (s, Private k h) → ⊥) (p : Placed names frames) where
+  module _ (taken : (k : ℕ) → frame_of new ≡ Some k → IsTaken frames k)
+      (lonely : (k : ℕ) (h : Option ℕ) → new ≡ Private k h → (c d s : ℕ) (slot : SlotOf ℕ) → (c ≡ a → d ≡ b → ⊥) →
+      page_at names c d ≡ Some (s, slot) → frame_of slot ≡ Some k → ⊥)
+      (joint : (k : ℕ) → frame_of new ≡ Some k → (c d s : ℕ) (h : Option ℕ) → (c ≡ a → d ≡ b → ⊥) →
+      page_at names c d ≡ Some (s, Private k h) → ⊥) (p : Placed names frames) where
     re_taken : (c d s : ℕ) (slot : SlotOf ℕ) (k : ℕ) → Changed names a b salt new c d s slot → frame_of slot ≡ Some k → IsTaken frames k
     re_taken c d s slot k (here ca db ss is) f = taken k (sym (ap frame_of is) ∙ f)
     re_taken c d s slot k (elsewhere apart there) f = p.taken c d s slot k there f

@@ -54,7 +54,9 @@ pub last_less_is : (t : TableMaps) (code m : ℕ) → shared_at t code ≡ Some 
 last_less_is t code m h = rw h refl
 
 -- an unmapped page joins
-module _ (hash : ℕ → List ℕ → ℕ) (names : Names) (frames : FrameMap) (table : TableMaps) (notes : List Known) (a b salt m code n : ℕ) (t : Ties hash names frames table notes) (at : page_at names a b ≡ Some (salt, Unmapped)) (found : shared_at table code ≡ Some (record { mpn = m; count = n })) (salt_is : (known_at notes m).salt ≡ salt) where
+module _ (hash : ℕ → List ℕ → ℕ) (names : Names) (frames : FrameMap) (table : TableMaps) (notes : List Known) (a b salt m code n : ℕ)
+    (t : Ties hash names frames table notes) (at : page_at names a b ≡ Some (salt, Unmapped))
+    (found : shared_at table code ≡ Some (record { mpn = m; count = n })) (salt_is : (known_at notes m).salt ≡ salt) where
   pub joined_guests : guests_in frames (with_slot names a b (Shared m)) ≡ with_slot (guests_in frames names) a b (Shared (bytes_in frames m))
   joined_guests = re_guests names frames a b salt Unmapped (Shared m) at
 
@@ -94,7 +96,9 @@ module _ (hash : ℕ → List ℕ → ℕ) (names : Names) (frames : FrameMap) (
   }
 
 -- a shared page, not the last of its content, is unmapped
-module _ (hash : ℕ → List ℕ → ℕ) (names : Names) (frames : FrameMap) (table : TableMaps) (notes : List Known) (a b salt m code n : ℕ) (t : Ties hash names frames table notes) (at : page_at names a b ≡ Some (salt, Shared m)) (found : shared_at table code ≡ Some (record { mpn = m; count = n + 1 })) (some : 1 ≤ n) where
+module _ (hash : ℕ → List ℕ → ℕ) (names : Names) (frames : FrameMap) (table : TableMaps) (notes : List Known) (a b salt m code n : ℕ)
+    (t : Ties hash names frames table notes) (at : page_at names a b ≡ Some (salt, Shared m))
+    (found : shared_at table code ≡ Some (record { mpn = m; count = n + 1 })) (some : 1 ≤ n) where
   pub left_guests : guests_in frames (with_slot names a b Unmapped) ≡ with_slot (guests_in frames names) a b Unmapped
   left_guests = re_guests names frames a b salt (Shared m) Unmapped at
 
@@ -127,7 +131,11 @@ module _ (hash : ℕ → List ℕ → ℕ) (names : Names) (frames : FrameMap) (
   left_owned k f =
       let same : m ≡ k = is f in
       let e = left_count hash names frames notes table.shared a b salt m code n at t.placed t.noted t.shares found some in
-      subst (Owner (with_slot names a b Unmapped)) same (sharer hash (with_slot names a b Unmapped) frames notes (map.insert table.shared code (record { mpn = m; count = n })) salt m code n (bytes_in frames m) (left_shares hash names frames notes table.shared a b salt m code n at t.placed t.noted t.shares found some) (got_same table.shared code (record { mpn = m; count = n })) left_code (omega (arith, e, some))) where
+      subst (Owner (with_slot names a b Unmapped)) same
+      (sharer hash (with_slot names a b Unmapped) frames notes (map.insert table.shared code (record { mpn = m; count = n })) salt m
+      code n (bytes_in frames m)
+      (left_shares hash names frames notes table.shared a b salt m code n at t.placed t.noted t.shares found some)
+      (got_same table.shared code (record { mpn = m; count = n })) left_code (omega (arith, e, some))) where
         is : Some m ≡ Some k → m ≡ k
         is e = cc
 
@@ -179,7 +187,9 @@ module _ (hash : ℕ → List ℕ → ℕ) (names : Names) (frames : FrameMap) (
   }
 
 -- a private page becomes the first shared page of its content
-module _ (hash : ℕ → List ℕ → ℕ) (names : Names) (frames : FrameMap) (table : TableMaps) (notes : List Known) (a b salt m code : ℕ) (t : Ties hash names frames table notes) (at : page_at names a b ≡ Some (salt, Private m None)) (absent : shared_at table code ≡ None) (code_is : hash salt (bytes_in frames m) ≡ code) where
+module _ (hash : ℕ → List ℕ → ℕ) (names : Names) (frames : FrameMap) (table : TableMaps) (notes : List Known) (a b salt m code : ℕ)
+    (t : Ties hash names frames table notes) (at : page_at names a b ≡ Some (salt, Private m None)) (absent : shared_at table code ≡ None)
+    (code_is : hash salt (bytes_in frames m) ≡ code) where
   pub first_guests : guests_in frames (with_slot names a b (Shared m)) ≡ with_slot (guests_in frames names) a b (Shared (bytes_in frames m))
   first_guests = re_guests names frames a b salt (Private m None) (Shared m) at
 
@@ -213,7 +223,10 @@ module _ (hash : ℕ → List ℕ → ℕ) (names : Names) (frames : FrameMap) (
   }
 
 -- a private page and a page without a frame become the first two shared pages of a content
-module _ (hash : ℕ → List ℕ → ℕ) (names : Names) (frames : FrameMap) (table : TableMaps) (notes : List Known) (a b salt m c d code : ℕ) (t : Ties hash names frames table notes) (at : page_at names a b ≡ Some (salt, Private m None)) (there : page_at names c d ≡ Some (salt, Unmapped)) (absent : shared_at table code ≡ None) (code_is : hash salt (bytes_in frames m) ≡ code) where
+module _ (hash : ℕ → List ℕ → ℕ) (names : Names) (frames : FrameMap) (table : TableMaps) (notes : List Known) (a b salt m c d code : ℕ)
+    (t : Ties hash names frames table notes) (at : page_at names a b ≡ Some (salt, Private m None))
+    (there : page_at names c d ≡ Some (salt, Unmapped)) (absent : shared_at table code ≡ None)
+    (code_is : hash salt (bytes_in frames m) ≡ code) where
   no_frame : Private m None ≡ Unmapped → ⊥
   no_frame e = cc
 

@@ -38,7 +38,12 @@ other_content hash s salt bs bytes n = pick (cases_Bool (is_shared_as s bs salt 
   pick (inr f) = f
 
 -- the entries of the table at a change of one page that has, or had, the frame m
-module _ (hash : ℕ → List ℕ → ℕ) (names : Names) (frames : FrameMap) (notes : List Known) (shared : SharedMap) (a b salt m code : ℕ) (old new : SlotOf ℕ) (at : page_at names a b ≡ Some (salt, old)) (code_is : hash salt (bytes_in frames m) ≡ code) (salt_is : (known_at notes m).salt ≡ salt) (calm_old : (s : ℕ) (bs : List ℕ) → (hash s bs ≡ code → ⊥) → is_shared_as s bs salt (slot_in frames old) ≡ false) (calm_new : (s : ℕ) (bs : List ℕ) → (hash s bs ≡ code → ⊥) → is_shared_as s bs salt (slot_in frames new) ≡ false) (well : (c : ℕ) (f : SharedFrame) → map.get shared c ≡ Some f → SharedWell hash (guests_in frames names) frames notes c f) where
+module _ (hash : ℕ → List ℕ → ℕ) (names : Names) (frames : FrameMap) (notes : List Known) (shared : SharedMap) (a b salt m code : ℕ)
+    (old new : SlotOf ℕ) (at : page_at names a b ≡ Some (salt, old)) (code_is : hash salt (bytes_in frames m) ≡ code)
+    (salt_is : (known_at notes m).salt ≡ salt)
+    (calm_old : (s : ℕ) (bs : List ℕ) → (hash s bs ≡ code → ⊥) → is_shared_as s bs salt (slot_in frames old) ≡ false)
+    (calm_new : (s : ℕ) (bs : List ℕ) → (hash s bs ≡ code → ⊥) → is_shared_as s bs salt (slot_in frames new) ≡ false)
+    (well : (c : ℕ) (f : SharedFrame) → map.get shared c ≡ Some f → SharedWell hash (guests_in frames names) frames notes c f) where
   abbrev gs' : List Guest
   gs' = guests_in frames (with_slot names a b new)
 
@@ -92,7 +97,10 @@ apart_insert shared code m n k old differ c f (inl e) there is =
 apart_insert shared code m n k old differ c f (inr d) there is = old c f (sym (got_other shared code (record { mpn = m; count = n }) c d) ∙ there) is
 
 -- an unmapped page joins the frame under its hash
-module _ (hash : ℕ → List ℕ → ℕ) (names : Names) (frames : FrameMap) (notes : List Known) (shared : SharedMap) (a b salt m code n : ℕ) (at : page_at names a b ≡ Some (salt, Unmapped)) (placed : Placed names frames) (noted : Noted hash names frames notes) (shares : Shares hash names frames notes shared) (found : map.get shared code ≡ Some (record { mpn = m; count = n })) (salt_is : (known_at notes m).salt ≡ salt) where
+module _ (hash : ℕ → List ℕ → ℕ) (names : Names) (frames : FrameMap) (notes : List Known) (shared : SharedMap) (a b salt m code n : ℕ)
+    (at : page_at names a b ≡ Some (salt, Unmapped)) (placed : Placed names frames) (noted : Noted hash names frames notes)
+    (shares : Shares hash names frames notes shared) (found : map.get shared code ≡ Some (record { mpn = m; count = n }))
+    (salt_is : (known_at notes m).salt ≡ salt) where
   abbrev was : SharedFrame
   was = record { mpn = m; count = n }
 
@@ -151,7 +159,10 @@ module _ (hash : ℕ → List ℕ → ℕ) (names : Names) (frames : FrameMap) (
   }
 
 -- a shared page, not the last of its content, is unmapped
-module _ (hash : ℕ → List ℕ → ℕ) (names : Names) (frames : FrameMap) (notes : List Known) (shared : SharedMap) (a b salt m code n : ℕ) (at : page_at names a b ≡ Some (salt, Shared m)) (placed : Placed names frames) (noted : Noted hash names frames notes) (shares : Shares hash names frames notes shared) (found : map.get shared code ≡ Some (record { mpn = m; count = n + 1 })) (some : 1 ≤ n) where
+module _ (hash : ℕ → List ℕ → ℕ) (names : Names) (frames : FrameMap) (notes : List Known) (shared : SharedMap) (a b salt m code n : ℕ)
+    (at : page_at names a b ≡ Some (salt, Shared m)) (placed : Placed names frames) (noted : Noted hash names frames notes)
+    (shares : Shares hash names frames notes shared) (found : map.get shared code ≡ Some (record { mpn = m; count = n + 1 }))
+    (some : 1 ≤ n) where
   abbrev left : SharedFrame
   left = record { mpn = m; count = n + 1 }
 
@@ -213,7 +224,9 @@ has_peer gs c d s salt bytes at e =
     omega (arith, counted)
 
 -- the last shared page of its content becomes private
-module _ (hash : ℕ → List ℕ → ℕ) (names : Names) (frames : FrameMap) (notes : List Known) (shared : SharedMap) (a b salt m code : ℕ) (at : page_at names a b ≡ Some (salt, Shared m)) (placed : Placed names frames) (noted : Noted hash names frames notes) (shares : Shares hash names frames notes shared) (found : map.get shared code ≡ Some (record { mpn = m; count = 1 })) where
+module _ (hash : ℕ → List ℕ → ℕ) (names : Names) (frames : FrameMap) (notes : List Known) (shared : SharedMap) (a b salt m code : ℕ)
+    (at : page_at names a b ≡ Some (salt, Shared m)) (placed : Placed names frames) (noted : Noted hash names frames notes)
+    (shares : Shares hash names frames notes shared) (found : map.get shared code ≡ Some (record { mpn = m; count = 1 })) where
   abbrev last : SharedFrame
   last = record { mpn = m; count = 1 }
 

@@ -27,5 +27,7 @@ mapped_parts (g ∷ gs) = omega (arith, mapped_parts gs, slots_parts g.slots, su
 pub mapped_is : (gs : List Guest) (frames : FrameMap) (table : TableMaps) → Counted gs frames table → fm.used frames - maps.len table.shared + references table ≡ count_pages (λ _. is_mapped) gs
 mapped_is gs frames table c = omega (arith, c.used, c.shared, c.references, mapped_parts gs)
 
-pub totals_are : (entries m s f h : ℕ) (gs : List Guest) → m ≡ count_pages (λ _. is_mapped) gs → s ≡ count_pages (λ _. is_shared) gs → f ≡ used gs → h ≡ count_pages (λ _. is_hinted) gs → record { entries = entries; mapped = m; shared = s; frames = f; reclaimed = m - f; hints = h } ≡ totals entries gs
+pub totals_are : (entries m s f h : ℕ) (gs : List Guest) → m ≡ count_pages (λ _. is_mapped) gs → s ≡ count_pages (λ _. is_shared) gs →
+    f ≡ used gs → h ≡ count_pages (λ _. is_hinted) gs →
+    record { entries = entries; mapped = m; shared = s; frames = f; reclaimed = m - f; hints = h } ≡ totals entries gs
 totals_are entries m s f h gs p q r t = rw (p, q, r, t) refl

@@ -1,5 +1,6 @@
 -- What storing, lending and taking back a whole page do to a core.
-use Rattle.std.specs.Prelude.{◌≡◌, ◌+◌, ◌≤◌, ℕ, ⊤, Bool, true, false, ◌&&◌, if◌then◌else◌, List, length, Option, Some, None, IfSome, is_some, Result, Ok, Err, is_ok}
+use Rattle.std.specs.Prelude.{◌≡◌, ◌+◌, ◌≤◌, ◌&&◌, if◌then◌else◌}
+use Rattle.std.specs.Prelude.{ℕ, ⊤, Bool, true, false, List, length, Option, Some, None, IfSome, is_some, Result, Ok, Err, is_ok}
 use Rattle.page_model.specs.Pages.{Guest}
 use Rattle.page_model.specs.Steps.{Outcome, stored, proposed, at_page}
 use Rattle.page_model.specs.Stored.{is_done, text_at}
@@ -74,7 +75,8 @@ pub record LendKeeps (free : FrameMap) (guest ppn : ℕ) (stored verdict : Verdi
 abbrev pub lent_outcome : (ℕ → List ℕ → ℕ) → ℕ → List Guest → ℕ → ℕ → List ℕ → Outcome
 lent_outcome hash total guests guest ppn page =
     let stored = page_outcome total guests guest ppn page in
-    if is_done stored.verdict then at_page stored.guests guest ppn (λ salt slot. proposed hash stored.guests guest ppn salt slot) else stored
+    let after = at_page stored.guests guest ppn (λ salt slot. proposed hash stored.guests guest ppn salt slot) in
+    if is_done stored.verdict then after else stored
 
 -- the verdict of a lend, and the frame that it freed: an error is the refusal of its stores
 abbrev pub lend_verdict : Result Lent Verdict → Verdict
@@ -90,12 +92,18 @@ abbrev pub own_freed : Verdict → Verdict → Option ℕ → Option ℕ
 own_freed stored verdict own = if keeps_own stored && has_joined verdict then own else None
 
 -- what a lend does to the parts of a core
-pub record LendsPage {H A : Type 0} (hash : ℕ → List ℕ → ℕ) (guest ppn : ℕ) (page : List ℕ) (result : Result Lent Verdict) (old new : Held H A) : Type 0 where
+pub record LendsPage {H A : Type 0} (hash : ℕ → List ℕ → ℕ) (guest ppn : ℕ) (page : List ℕ) (result : Result Lent Verdict)
+    (old new : Held H A) : Type 0 where
   pub total : length new.frames ≡ length old.frames
-  pub step : record { guests = guests_of new; verdict = lend_verdict result } ≡ lent_outcome hash (length old.frames) (guests_of old) guest ppn page
+  pub step : record { guests = guests_of new; verdict = lend_verdict result }
+      ≡ lent_outcome hash (length old.frames) (guests_of old) guest ppn page
   pub done : is_ok result ≡ is_done (page_outcome (length old.frames) (guests_of old) guest ppn page).verdict
-  pub stay : LendKeeps old.frames guest ppn (page_outcome (length old.frames) (guests_of old) guest ppn page).verdict (lend_verdict result) (names_of old) (names_of new)
-  pub freed : lend_freed result ≡ own_freed (page_outcome (length old.frames) (guests_of old) guest ppn page).verdict (lend_verdict result) (frame_at (names_of old) guest ppn)
+  pub stay :
+      LendKeeps old.frames guest ppn (page_outcome (length old.frames) (guests_of old) guest ppn page).verdict (lend_verdict result)
+      (names_of old) (names_of new)
+  pub freed : lend_freed result
+      ≡ own_freed (page_outcome (length old.frames) (guests_of old) guest ppn page).verdict (lend_verdict result)
+      (frame_at (names_of old) guest ppn)
   pub free : IfSome (lend_freed result) (λ mpn. frame new.frames mpn ≡ None)
 
 -- A guest's page was lent. The model takes the steps of its stores and of its proposal, or of the stores alone if they were

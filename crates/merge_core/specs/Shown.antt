@@ -23,10 +23,14 @@ state_of c = record { total = length c.frames; guests = guests_in c.frames c.nam
 -- frame exactly when both are shared with the same content. So the frames in use are those that the pages name, and their
 -- number is the one that the model counts.
 pub record FramesOfPages (c : Shown) : Type 0 where
-  pub taken : (a b salt : ℕ) (slot : SlotOf ℕ) (m : ℕ) → page_at c.names a b ≡ Some (salt, slot) → frame_of slot ≡ Some m → IsTaken c.frames m
+  pub taken : (a b salt : ℕ) (slot : SlotOf ℕ) (m : ℕ) → page_at c.names a b ≡ Some (salt, slot) → frame_of slot ≡ Some m →
+      IsTaken c.frames m
   pub owned : (m : ℕ) → IsTaken c.frames m → Owner c.names m
-  pub apart : (a b salt x y other m : ℕ) (mine theirs : SlotOf ℕ) → page_at c.names a b ≡ Some (salt, mine) → page_at c.names x y ≡ Some (other, theirs) → (x ≡ a → y ≡ b → ⊥) → frame_of mine ≡ Some m → frame_of theirs ≡ Some m → (mine ≡ Shared m) × (theirs ≡ Shared m) × (other ≡ salt)
-  pub joint : (a b x y salt m n : ℕ) → page_at c.names a b ≡ Some (salt, Shared m) → page_at c.names x y ≡ Some (salt, Shared n) → bytes_in c.frames m ≡ bytes_in c.frames n → m ≡ n
+  pub apart : (a b salt x y other m : ℕ) (mine theirs : SlotOf ℕ) → page_at c.names a b ≡ Some (salt, mine) →
+      page_at c.names x y ≡ Some (other, theirs) → (x ≡ a → y ≡ b → ⊥) → frame_of mine ≡ Some m → frame_of theirs ≡ Some m →
+      (mine ≡ Shared m) × (theirs ≡ Shared m) × (other ≡ salt)
+  pub joint : (a b x y salt m n : ℕ) → page_at c.names a b ≡ Some (salt, Shared m) → page_at c.names x y ≡ Some (salt, Shared n) →
+      bytes_in c.frames m ≡ bytes_in c.frames n → m ≡ n
   pub count : frames_used c.frames ≡ used (state_of c).guests
 
 -- a shared page of the frame that the table has under a hash
@@ -45,9 +49,12 @@ pub record Hinter (c : Shown) (key : ℕ) (h : HintFrame) : Type 0 where
 -- What the table holds: for each shared page, under its hash, its frame, counted once for each page with its content; for
 -- each hint, under its key, its page and that page's frame; and nothing else. So its entries are at most the frames in use.
 pub record TableOfPages (hash : ℕ → List ℕ → ℕ) (c : Shown) : Type 0 where
-  pub shared : (a b salt m : ℕ) → page_at c.names a b ≡ Some (salt, Shared m) → shared_at c.table (hash salt (bytes_in c.frames m)) ≡ Some (record { mpn = m; count = peers salt (bytes_in c.frames m) (state_of c).guests })
+  pub shared : (a b salt m : ℕ) → page_at c.names a b ≡ Some (salt, Shared m) →
+      shared_at c.table (hash salt (bytes_in c.frames m))
+      ≡ Some (record { mpn = m; count = peers salt (bytes_in c.frames m) (state_of c).guests })
   pub sharers : (code : ℕ) (f : SharedFrame) → shared_at c.table code ≡ Some f → Sharer hash c code f.mpn
-  pub hints : (a b salt m key : ℕ) → page_at c.names a b ≡ Some (salt, Private m (Some key)) → hint_at c.table key ≡ Some (record { guest = a; ppn = b; mpn = m })
+  pub hints : (a b salt m key : ℕ) → page_at c.names a b ≡ Some (salt, Private m (Some key)) →
+      hint_at c.table key ≡ Some (record { guest = a; ppn = b; mpn = m })
   pub hinters : (key : ℕ) (h : HintFrame) → hint_at c.table key ≡ Some h → Hinter c key h
   pub room : entry_count c.table ≤ used (state_of c).guests
   pub within : used (state_of c).guests ≤ length c.frames
@@ -74,7 +81,13 @@ abbrev pub slot_code : Coded (SlotOf ℕ)
 slot_code = code_by Packed (coded_option (coded× coded_ℕ (coded_option (coded_option coded_ℕ)))) packed unpacked packed_back
 
 abbrev pub guest_code : Coded (GuestOf ℕ)
-guest_code = code_by (ℕ × List (SlotOf ℕ)) (coded× coded_ℕ (coded_list slot_code)) (λ g. (g.salt, g.slots)) (λ p. record { salt = p.0; slots = p.1 }) (λ _. refl)
+guest_code =
+    code_by
+    (ℕ × List (SlotOf ℕ))
+    (coded× coded_ℕ (coded_list slot_code))
+    (λ g. (g.salt, g.slots))
+    (λ p. record { salt = p.0; slots = p.1 })
+    (λ _. refl)
 
 abbrev pub shown_code : Coded Shown
 shown_code =

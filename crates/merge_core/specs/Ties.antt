@@ -1,7 +1,8 @@
 -- How the pages, frames, table and notes of a core fit together.
 use Rattle.std.specs.Prelude.{◌≡◌, ℕ, ◌≤◌, List, length, Option, Some, sum_by}
 use Rattle.std.specs.FinMap as map
-use Rattle.page_model.specs.Pages.{SlotOf, Private, Shared, Guest, GuestOf, page_at, peers, used, distinct, count_pages, is_shared, is_hinted}
+use Rattle.page_model.specs.Pages.{SlotOf, Private, Shared, Guest, GuestOf, page_at}
+use Rattle.page_model.specs.Pages.{peers, used, distinct, count_pages, is_shared, is_hinted}
 use Rattle.machine_frames.specs.FrameMap.{FrameMap, IsTaken}
 use Rattle.machine_frames.specs.FrameMap as fm
 use Rattle.share_table.specs.TableMaps.{TableMaps, SharedMap, HintMap, SharedFrame, references}
@@ -11,16 +12,20 @@ use Rattle.merge_core.specs.Names.{Names, bytes_in, guests_in, frame_of, Known, 
 -- each page's frame is taken, and a private page's frame is that page's alone
 pub record Placed (names : Names) (frames : FrameMap) : Type 0 where
   pub taken : (a b salt : ℕ) (slot : SlotOf ℕ) (m : ℕ) → page_at names a b ≡ Some (salt, slot) → frame_of slot ≡ Some m → IsTaken frames m
-  pub alone : (a b salt m : ℕ) (hint : Option ℕ) (c d other : ℕ) (slot : SlotOf ℕ) → page_at names a b ≡ Some (salt, Private m hint) → page_at names c d ≡ Some (other, slot) → frame_of slot ≡ Some m → (c ≡ a) × (d ≡ b)
+  pub alone : (a b salt m : ℕ) (hint : Option ℕ) (c d other : ℕ) (slot : SlotOf ℕ) → page_at names a b ≡ Some (salt, Private m hint) →
+      page_at names c d ≡ Some (other, slot) → frame_of slot ≡ Some m → (c ≡ a) × (d ≡ b)
 
 -- each page's salt is noted at its frame, and each noted hash is correct
 pub record Noted (hash : ℕ → List ℕ → ℕ) (names : Names) (frames : FrameMap) (notes : List Known) : Type 0 where
   pub len : length notes ≡ length frames
-  pub salts : (a b salt : ℕ) (slot : SlotOf ℕ) (m : ℕ) → page_at names a b ≡ Some (salt, slot) → frame_of slot ≡ Some m → (known_at notes m).salt ≡ salt
-  pub hashes : (m code : ℕ) → IsTaken frames m → (known_at notes m).hash ≡ Some code → code ≡ hash (known_at notes m).salt (bytes_in frames m)
+  pub salts : (a b salt : ℕ) (slot : SlotOf ℕ) (m : ℕ) → page_at names a b ≡ Some (salt, slot) → frame_of slot ≡ Some m →
+      (known_at notes m).salt ≡ salt
+  pub hashes : (m code : ℕ) → IsTaken frames m → (known_at notes m).hash ≡ Some code →
+      code ≡ hash (known_at notes m).salt (bytes_in frames m)
 
 -- what the table holds about a shared frame
-pub record SharedWell (hash : ℕ → List ℕ → ℕ) (guests : List Guest) (frames : FrameMap) (notes : List Known) (code : ℕ) (f : SharedFrame) : Type 0 where
+pub record SharedWell (hash : ℕ → List ℕ → ℕ) (guests : List Guest) (frames : FrameMap) (notes : List Known) (code : ℕ)
+    (f : SharedFrame) : Type 0 where
   pub taken : IsTaken frames f.mpn
   pub code_is : hash (known_at notes f.mpn).salt (bytes_in frames f.mpn) ≡ code
   pub count : f.count ≡ peers (known_at notes f.mpn).salt (bytes_in frames f.mpn) guests
@@ -34,7 +39,8 @@ pub record Listed (shared : SharedMap) (code mpn : ℕ) : Type 0 where
 pub record Shares (hash : ℕ → List ℕ → ℕ) (names : Names) (frames : FrameMap) (notes : List Known) (shared : SharedMap) : Type 0 where
   pub listed : (a b salt m : ℕ) → page_at names a b ≡ Some (salt, Shared m) → Listed shared (hash salt (bytes_in frames m)) m
   pub well : (code : ℕ) (f : SharedFrame) → map.get shared code ≡ Some f → SharedWell hash (guests_in frames names) frames notes code f
-  pub apart : (a b salt m : ℕ) (hint : Option ℕ) (code : ℕ) (f : SharedFrame) → page_at names a b ≡ Some (salt, Private m hint) → map.get shared code ≡ Some f → f.mpn ≡ m → ⊥
+  pub apart : (a b salt m : ℕ) (hint : Option ℕ) (code : ℕ) (f : SharedFrame) → page_at names a b ≡ Some (salt, Private m hint) →
+      map.get shared code ≡ Some f → f.mpn ≡ m → ⊥
 
 -- the page of a hint
 pub record HintWell (names : Names) (key : ℕ) (h : HintFrame) : Type 0 where
@@ -43,7 +49,8 @@ pub record HintWell (names : Names) (key : ℕ) (h : HintFrame) : Type 0 where
 
 -- the table's hints are those of the private pages
 pub record Hinted (names : Names) (hints : HintMap) : Type 0 where
-  pub there : (a b salt m key : ℕ) → page_at names a b ≡ Some (salt, Private m (Some key)) → map.get hints key ≡ Some (record { guest = a; ppn = b; mpn = m })
+  pub there : (a b salt m key : ℕ) → page_at names a b ≡ Some (salt, Private m (Some key)) →
+      map.get hints key ≡ Some (record { guest = a; ppn = b; mpn = m })
   pub well : (key : ℕ) (h : HintFrame) → map.get hints key ≡ Some h → HintWell names key h
 
 -- how many frames, shared frames, references and hints there are

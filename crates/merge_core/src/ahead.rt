@@ -125,7 +125,11 @@ fn hash_four<H: PageHash, A: Allocator>(
     requires b { IsPrivate (names_of held.now) b }
     requires c { IsPrivate (names_of held.now) c }
     requires d { IsPrivate (names_of held.now) d }
-    ensures { result ≡ hash_in H.hash_of held.now.frames a ∷ hash_in H.hash_of held.now.frames b ∷ hash_in H.hash_of held.now.frames c ∷ hash_in H.hash_of held.now.frames d ∷ [] }
+    ensures { result ≡ hash_in H.hash_of held.now.frames a
+        ∷ hash_in H.hash_of held.now.frames b
+        ∷ hash_in H.hash_of held.now.frames c
+        ∷ hash_in H.hash_of held.now.frames d
+        ∷ [] }
 {
     held.hash.hash_four(
         [a.page.salt, b.page.salt, c.page.salt, d.page.salt],

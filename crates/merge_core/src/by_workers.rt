@@ -99,7 +99,8 @@ pub fn frame_of<H: PageHash, A: Allocator>(
 ) -> Option<(u32, u32)>
     requires whole { Whole H.hash_of held.now }
     ensures paged { IfSome result (λ pair. IsPaged (names_of held.now) pair.0 pair.1) }
-    ensures hash { option_map (λ pair. H.hash_of pair.0 (bytes_in held.now.frames pair.1)) result ≡ page_hash H.hash_of (guests_of held.now) guest ppn }
+    ensures hash { option_map (λ pair. H.hash_of pair.0 (bytes_in held.now.frames pair.1)) result
+        ≡ page_hash H.hash_of (guests_of held.now) guest ppn }
 {
     match find(held, guest, ppn) {
         None => None,

@@ -153,7 +153,8 @@ fn lend_new<H: PageHash, A: Allocator>(held: &mut Held<H, A>, page: Place, bytes
     ensures total { length held.new.frames ≡ length held.old.frames }
     ensures stay { LendKeeps held.old.frames page.guest page.ppn Mapped result.verdict (names_of held.old) (names_of held.new) }
     ensures step { record { guests = guests_of held.new; verdict = result.verdict }
-        ≡ proposed H.hash_of (with_slot (guests_of held.old) page.guest page.ppn (s.Private bytes.now None)) page.guest page.ppn page.salt (s.Private bytes.now None) }
+        ≡ proposed H.hash_of (with_slot (guests_of held.old) page.guest page.ppn (s.Private bytes.now None))
+        page.guest page.ppn page.salt (s.Private bytes.now None) }
     ensures freed { result.freed ≡ None }
 {
     let code = held.hash.hash(page.salt, bytes);
@@ -179,7 +180,8 @@ fn shared_as<H: PageHash, A: Allocator>(
     code: u64,
 ) -> Option<u32>
     requires whole { Whole H.hash_of held.now }
-    ensures found { IfSome result (λ mpn. shared_at held.now.table code ≡ Some (record { mpn = mpn; count = count_at held.now.table code })) }
+    ensures found { IfSome result
+        (λ mpn. shared_at held.now.table code ≡ Some (record { mpn = mpn; count = count_at held.now.table code })) }
     ensures salt { IfSome result (λ mpn. (known_at (notes_of held.now) mpn).salt ≡ salt) }
     ensures bytes { IfSome result (λ mpn. bytes_in held.now.frames mpn ≡ bytes.now) }
 {
@@ -205,7 +207,8 @@ fn lend_written<H: PageHash, A: Allocator>(
     ensures total { length held.new.frames ≡ length held.old.frames }
     ensures stay { LendKeeps held.old.frames page.guest page.ppn Mapped result (names_of held.old) (names_of held.new) }
     ensures step { record { guests = guests_of held.new; verdict = result }
-        ≡ proposed H.hash_of (with_slot (guests_of held.old) page.guest page.ppn (s.Private bytes.now None)) page.guest page.ppn page.salt (s.Private bytes.now None) }
+        ≡ proposed H.hash_of (with_slot (guests_of held.old) page.guest page.ppn (s.Private bytes.now None))
+        page.guest page.ppn page.salt (s.Private bytes.now None) }
 {
     let mpn = map_zeroed(held, page);
     write(held, page, mpn, None, 0, bytes);

@@ -78,7 +78,9 @@ impl<H: PageHash + Drop, A: Allocator + Clone> Core<H, A> {
         ensures guests { IfOk result (λ core. length (state_of core).guests ≡ length pages.now) }
         ensures frames { IfOk result (λ core. core.frames ≡ no_frames frames) }
         ensures table { IfOk result (λ core. core.table ≡ empty_table frames) }
-        ensures fault { MatchResult result (λ _. AreLimits frames pages.now salts.now) (λ fault. NoCoreFor frames pages.now salts.now fault) }
+        ensures fault { MatchResult result
+            (λ _. AreLimits frames pages.now salts.now)
+            (λ fault. NoCoreFor frames pages.now salts.now fault) }
     {
         let shape = MachineShape::new(frames, pages, salts)?;
         Ok(Core::with_shape(alloc, &shape, hash)?)

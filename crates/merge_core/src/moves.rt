@@ -112,7 +112,8 @@ pub fn write<H: PageHash, A: Allocator>(
     ensures total { length held.new.frames ≡ length held.old.frames }
     ensures name { names_of held.new ≡ names_of held.old }
     ensures bytes { bytes_in held.new.frames mpn ≡ written (bytes_in held.old.frames mpn) at bytes.now }
-    ensures guests { guests_of held.new ≡ with_slot (guests_of held.old) page.guest page.ppn (s.Private (written (bytes_in held.old.frames mpn) at bytes.now) hint) }
+    ensures guests { guests_of held.new
+        ≡ with_slot (guests_of held.old) page.guest page.ppn (s.Private (written (bytes_in held.old.frames mpn) at bytes.now) hint) }
 {
     held.frames.write(mpn, at, bytes);
     held.notes.forget(mpn, page.salt);
@@ -144,7 +145,8 @@ pub fn map_copy<H: PageHash, A: Allocator>(held: &mut Held<H, A>, page: Place, f
     ensures name { names_of held.new ≡ with_slot (names_of held.old) page.guest page.ppn (s.Private result None) }
     ensures bytes { bytes_in held.new.frames result ≡ bytes_in held.old.frames from }
     ensures page { page_at (names_of held.new) page.guest page.ppn ≡ Some (page.salt, s.Private result None) }
-    ensures guests { guests_of held.new ≡ with_slot (guests_of held.old) page.guest page.ppn (s.Private (bytes_in held.old.frames from) None) }
+    ensures guests { guests_of held.new
+        ≡ with_slot (guests_of held.old) page.guest page.ppn (s.Private (bytes_in held.old.frames from) None) }
 {
     let mpn = new_copy(&mut held.frames, from);
     held.notes.forget(mpn, page.salt);
@@ -179,7 +181,8 @@ pub fn drop_hint<H: PageHash, A: Allocator>(held: &mut Held<H, A>, page: Place, 
     ensures notes { held.new.notes ≡ held.old.notes }
     ensures name { names_of held.new ≡ with_slot (names_of held.old) page.guest page.ppn (s.Private mpn None) }
     ensures page { page_at (names_of held.new) page.guest page.ppn ≡ Some (page.salt, s.Private mpn None) }
-    ensures guests { guests_of held.new ≡ with_slot (guests_of held.old) page.guest page.ppn (s.Private (bytes_in held.old.frames mpn) None) }
+    ensures guests { guests_of held.new
+        ≡ with_slot (guests_of held.old) page.guest page.ppn (s.Private (bytes_in held.old.frames mpn) None) }
 {
     held.table.drop_hint(key);
     held.hints -= 1;
@@ -242,7 +245,8 @@ pub fn keep<H: PageHash, A: Allocator>(held: &mut Held<H, A>, page: Place, mpn: 
     ensures frames { held.new.frames ≡ held.old.frames }
     ensures name { names_of held.new ≡ with_slot (names_of held.old) page.guest page.ppn (s.Private mpn None) }
     ensures page { page_at (names_of held.new) page.guest page.ppn ≡ Some (page.salt, s.Private mpn None) }
-    ensures guests { guests_of held.new ≡ with_slot (guests_of held.old) page.guest page.ppn (s.Private (bytes_in held.old.frames mpn) None) }
+    ensures guests { guests_of held.new
+        ≡ with_slot (guests_of held.old) page.guest page.ppn (s.Private (bytes_in held.old.frames mpn) None) }
 {
     held.table.leave(code);
     set_page(&mut held.guests, page, PageEntry::Private(mpn, None));
@@ -279,7 +283,8 @@ pub fn put_hint<H: PageHash, A: Allocator>(held: &mut Held<H, A>, page: Place, m
     ensures frames { held.new.frames ≡ held.old.frames }
     ensures name { names_of held.new ≡ with_slot (names_of held.old) page.guest page.ppn (s.Private mpn (Some key)) }
     ensures page { page_at (names_of held.new) page.guest page.ppn ≡ Some (page.salt, s.Private mpn (Some key)) }
-    ensures guests { guests_of held.new ≡ with_slot (guests_of held.old) page.guest page.ppn (s.Private (bytes_in held.old.frames mpn) (Some key)) }
+    ensures guests { guests_of held.new
+        ≡ with_slot (guests_of held.old) page.guest page.ppn (s.Private (bytes_in held.old.frames mpn) (Some key)) }
 {
     held.table
         .put_hint(key, page.guest as u8, page.ppn as u32, mpn);
@@ -324,8 +329,11 @@ pub fn share<H: PageHash, A: Allocator>(
     requires code { H.hash_of first.salt (bytes_in held.old.frames mpn) ≡ code }
     ensures whole { Whole H.hash_of held.new }
     ensures frames { held.new.frames ≡ held.old.frames }
-    ensures names { names_of held.new ≡ with_slot (with_slot (names_of held.old) first.guest first.ppn (s.Shared mpn)) second.guest second.ppn (s.Shared mpn) }
-    ensures guests { guests_of held.new ≡ with_slot (with_slot (guests_of held.old) first.guest first.ppn (s.Shared (bytes_in held.old.frames mpn))) second.guest second.ppn (s.Shared (bytes_in held.old.frames mpn)) }
+    ensures names { names_of held.new
+        ≡ with_slot (with_slot (names_of held.old) first.guest first.ppn (s.Shared mpn)) second.guest second.ppn (s.Shared mpn) }
+    ensures guests { guests_of held.new
+        ≡ with_slot (with_slot (guests_of held.old) first.guest first.ppn (s.Shared (bytes_in held.old.frames mpn)))
+        second.guest second.ppn (s.Shared (bytes_in held.old.frames mpn)) }
 {
     held.table.add_shared(code, mpn);
     set_page(&mut held.guests, first, PageEntry::Shared(mpn));

@@ -105,7 +105,8 @@ fn note_at(notes: &[Note], mpn: u32) -> Note
 /// Sets the note on a frame, which may be past the list's end.
 fn set_note<A: Allocator>(notes: &mut Vec<Note, A>, mpn: u32, note: Note)
     requires room { mpn < vec_capacity notes.old }
-    ensures notes { notes_in notes.new.items ≡ slice_set (notes_in notes.old.items ++ replicate (mpn + 1 - length notes.old.items) unknown) mpn (known_of note) }
+    ensures notes { notes_in notes.new.items
+        ≡ slice_set (notes_in notes.old.items ++ replicate (mpn + 1 - length notes.old.items) unknown) mpn (known_of note) }
     ensures size { length notes.new.items ≡ length notes.old.items + (mpn + 1 - length notes.old.items) }
     ensures capacity { vec_capacity notes.new ≡ vec_capacity notes.old }
 {

@@ -83,7 +83,8 @@ fn settle_hint<H: PageHash, A: Allocator>(
     ensures stay { AllKeep (names_of held.old) (names_of held.new) }
     ensures kept { result ≡ kept_hint key hint }
     ensures page { page_at (names_of held.new) page.guest page.ppn ≡ Some (page.salt, s.Private mpn result) }
-    ensures guests { guests_of held.new ≡ with_slot (guests_of held.old) page.guest page.ppn (s.Private (bytes_in held.old.frames mpn) result) }
+    ensures guests { guests_of held.new
+        ≡ with_slot (guests_of held.old) page.guest page.ppn (s.Private (bytes_in held.old.frames mpn) result) }
 {
     match hint {
         None => None,
@@ -135,7 +136,9 @@ fn same_content<H: PageHash, A: Allocator>(
     requires whole { Whole H.hash_of held.now }
     requires mine { fm.IsTaken held.now.frames mpn }
     requires theirs { fm.IsTaken held.now.frames theirs }
-    ensures { result ≡ ((known_at (notes_of held.now) theirs).salt == salt && bytes_eq (bytes_in held.now.frames theirs) (bytes_in held.now.frames mpn)) }
+    ensures { result
+        ≡ ((known_at (notes_of held.now) theirs).salt == salt
+        && bytes_eq (bytes_in held.now.frames theirs) (bytes_in held.now.frames mpn)) }
 {
     has_content(held, theirs, salt, bytes_at(&held.frames, mpn))
 }
@@ -277,7 +280,9 @@ fn pair<H: PageHash, A: Allocator>(
     requires code { code ≡ H.hash_of page.salt (bytes_in held.old.frames mpn) }
     requires absent { shared_at held.old.table code ≡ None }
     ensures served { Served H.hash_of page.guest page.ppn Paired held.old held.new }
-    ensures guests { guests_of held.new ≡ with_slot (with_slot (guests_of held.old) first.guest first.ppn (s.Shared (bytes_in held.old.frames theirs))) page.guest page.ppn (s.Shared (bytes_in held.old.frames mpn)) }
+    ensures guests { guests_of held.new
+        ≡ with_slot (with_slot (guests_of held.old) first.guest first.ppn (s.Shared (bytes_in held.old.frames theirs)))
+        page.guest page.ppn (s.Shared (bytes_in held.old.frames mpn)) }
     ensures freed { fm.frame held.new.frames mpn ≡ None }
 {
     drop_hint(held, first, theirs, key_of(code));

@@ -29,7 +29,9 @@ pub fn store<H: PageHash, A: Allocator>(
     requires whole { Whole H.hash_of held.old }
     ensures served { Served H.hash_of guest request.now.ppn result held.old held.new }
     ensures step { record { guests = guests_of held.new; verdict = result }
-        ≡ at_page (guests_of held.old) guest request.now.ppn (λ salt slot. stored (length held.old.frames) (guests_of held.old) guest request.now.ppn request.now.at request.now.bytes salt slot) }
+        ≡ at_page (guests_of held.old) guest request.now.ppn
+        (λ salt slot. stored (length held.old.frames) (guests_of held.old) guest request.now.ppn request.now.at
+        request.now.bytes salt slot) }
 {
     let ppn = request.ppn() as usize;
     store_bytes(held, guest, ppn, request.at(), request.bytes())
@@ -48,7 +50,8 @@ pub fn store_bytes<H: PageHash, A: Allocator>(
     requires fits { at + length bytes.now ≤ 4096 }
     ensures served { Served H.hash_of guest ppn result held.old held.new }
     ensures step { record { guests = guests_of held.new; verdict = result }
-        ≡ at_page (guests_of held.old) guest ppn (λ salt slot. stored (length held.old.frames) (guests_of held.old) guest ppn at bytes.now salt slot) }
+        ≡ at_page (guests_of held.old) guest ppn
+        (λ salt slot. stored (length held.old.frames) (guests_of held.old) guest ppn at bytes.now salt slot) }
 {
     let Some((salt, entry)) = find(held, guest, ppn) else {
         return Verdict::NoPage;
@@ -85,7 +88,8 @@ fn store_shared<H: PageHash, A: Allocator>(
     requires fits { at + length bytes.now ≤ 4096 }
     ensures served { Served H.hash_of page.guest page.ppn result held.old held.new }
     ensures step { record { guests = guests_of held.new; verdict = result }
-        ≡ stored (length held.old.frames) (guests_of held.old) page.guest page.ppn at bytes.now page.salt (s.Shared (bytes_in held.old.frames mpn)) }
+        ≡ stored (length held.old.frames) (guests_of held.old) page.guest page.ppn at bytes.now page.salt
+        (s.Shared (bytes_in held.old.frames mpn)) }
 {
     let code = hash_frame(held, mpn, page.salt);
     let count = peers_of(held, page, mpn, code);
@@ -117,7 +121,8 @@ pub fn clear_hint<H: PageHash, A: Allocator>(
     ensures frames { held.new.frames ≡ held.old.frames }
     ensures stay { AllKeep (names_of held.old) (names_of held.new) }
     ensures page { page_at (names_of held.new) page.guest page.ppn ≡ Some (page.salt, s.Private mpn None) }
-    ensures guests { guests_of held.new ≡ with_slot (guests_of held.old) page.guest page.ppn (s.Private (bytes_in held.old.frames mpn) None) }
+    ensures guests { guests_of held.new
+        ≡ with_slot (guests_of held.old) page.guest page.ppn (s.Private (bytes_in held.old.frames mpn) None) }
     ensures shared { held.new.table.shared ≡ held.old.table.shared }
     ensures notes { held.new.notes ≡ held.old.notes }
 {

@@ -18,7 +18,9 @@ returns-in-Some-clause-step g c =
     let salt = rw c.in-Some.is at c.shared_as.ensures.salt in
     let bytes = rw c.in-Some.is at c.shared_as.ensures.bytes in
     let any = rw (salt, bytes) at (same_any g.H.HashFunction.hash_of (names_of held) held.frames (notes_of held) held.table.shared c.hash-code.result f c.requires.whole.ties.shares found) in
-    joins_fresh g.H.HashFunction.hash_of (guests_of held) a b c.args.page.salt c.args.bytes.now c.join-peers.result (guests_of c.join-peers.new.held) (page_in_is held.frames (names_of held) a b c.args.page.salt Unmapped c.requires.page) any (rw bytes at c.join-peers.ensures.guests) (rw bytes at c.join-peers.ensures.count)
+    joins_fresh g.H.HashFunction.hash_of (guests_of held) a b c.args.page.salt c.args.bytes.now c.join-peers.result
+    (guests_of c.join-peers.new.held) (page_in_is held.frames (names_of held) a b c.args.page.salt Unmapped c.requires.page) any
+    (rw bytes at c.join-peers.ensures.guests) (rw bytes at c.join-peers.ensures.count)
 
 pub returns-in-Some-clause-stay : goal.returns-in-Some-clause-stay
 returns-in-Some-clause-stay g c =

@@ -12,7 +12,21 @@ drop_hint-requires g c = record { present = rw (c.requires.whole.ties.hinted.the
 pub returns-clause-whole : goal.returns-clause-whole
 returns-clause-whole g c =
     let held = c.args.held.now in
-    record { ties = rw (c.drop_hint.ensures, c.set_page.ensures.names) (dropped_ties g.H.HashFunction.hash_of (names_of held) held.frames held.table (notes_of held) c.args.page.guest c.args.page.ppn c.args.page.salt c.args.mpn c.args.key c.requires.whole.ties c.requires.page); few = rw c.set_page.ensures.names (few_after _ c.args.page.guest c.args.page.ppn _ c.requires.whole.few); total = c.requires.whole.total; hints = rw c.drop_hint.ensures (omega (arith, c.requires.whole.hints, len_gone held.table.hints c.args.key _ (c.requires.whole.ties.hinted.there c.args.page.guest c.args.page.ppn c.args.page.salt c.args.mpn c.args.key c.requires.page))) }
+    record {
+      ties =
+          rw (c.drop_hint.ensures, c.set_page.ensures.names)
+          (dropped_ties g.H.HashFunction.hash_of (names_of held) held.frames held.table (notes_of held) c.args.page.guest c.args.page.ppn
+          c.args.page.salt c.args.mpn c.args.key c.requires.whole.ties c.requires.page);
+      few = rw c.set_page.ensures.names (few_after _ c.args.page.guest c.args.page.ppn _ c.requires.whole.few);
+      total = c.requires.whole.total;
+      hints =
+          rw c.drop_hint.ensures (omega (
+            arith,
+            c.requires.whole.hints,
+            len_gone held.table.hints c.args.key _
+                (c.requires.whole.ties.hinted.there c.args.page.guest c.args.page.ppn c.args.page.salt c.args.mpn c.args.key c.requires.page),
+          ));
+    }
 
 pub returns-clause-page : goal.returns-clause-page
 returns-clause-page g c = rw c.set_page.ensures.names (at_same (names_of c.args.held.now) c.args.page.guest c.args.page.ppn c.args.page.salt _ _ c.requires.page)

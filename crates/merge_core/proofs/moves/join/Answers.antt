@@ -14,14 +14,32 @@ pub returns-clause-whole : goal.returns-clause-whole
 returns-clause-whole g c =
     let held = c.args.held.now in
     let n : ℕ = count_at held.table c.args.code in
-    record { ties = rw (c.join-count.ensures.joined, with_count_is held.table c.args.code c.args.mpn n (n + 1) c.requires.found, c.set_page.ensures.names) (joined_ties g.H.HashFunction.hash_of (names_of held) held.frames held.table (notes_of held) c.args.page.guest c.args.page.ppn c.args.page.salt c.args.mpn c.args.code n c.requires.whole.ties c.requires.page c.requires.found c.requires.salt); few = rw c.set_page.ensures.names (few_after _ c.args.page.guest c.args.page.ppn _ c.requires.whole.few); total = c.requires.whole.total; hints = rw c.join-count.ensures.joined c.requires.whole.hints }
+    record {
+      ties =
+          rw (
+            c.join-count.ensures.joined,
+            with_count_is held.table c.args.code c.args.mpn n (n + 1) c.requires.found,
+            c.set_page.ensures.names,
+          ) (joined_ties g.H.HashFunction.hash_of (names_of held) held.frames held.table (notes_of held)
+          c.args.page.guest c.args.page.ppn c.args.page.salt c.args.mpn c.args.code n c.requires.whole.ties c.requires.page c.requires.found
+          c.requires.salt);
+      few = rw c.set_page.ensures.names (few_after _ c.args.page.guest c.args.page.ppn _ c.requires.whole.few);
+      total = c.requires.whole.total;
+      hints = rw c.join-count.ensures.joined c.requires.whole.hints;
+    }
 
 pub returns-clause-count : goal.returns-clause-count
 returns-clause-count g c =
     let held = c.args.held.now in
-    rw (c.join-count.ensures.count, c.set_page.ensures.names) (joined_peers g.H.HashFunction.hash_of (names_of held) held.frames held.table (notes_of held) c.args.page.guest c.args.page.ppn c.args.page.salt c.args.mpn c.args.code (count_at held.table c.args.code) c.requires.whole.ties c.requires.page c.requires.found c.requires.salt)
+    rw (c.join-count.ensures.count, c.set_page.ensures.names)
+    (joined_peers g.H.HashFunction.hash_of (names_of held) held.frames held.table (notes_of held) c.args.page.guest c.args.page.ppn
+    c.args.page.salt c.args.mpn c.args.code (count_at held.table c.args.code) c.requires.whole.ties c.requires.page c.requires.found
+    c.requires.salt)
 
 pub returns-clause-guests : goal.returns-clause-guests
 returns-clause-guests g c =
     let held = c.args.held.now in
-    rw c.set_page.ensures.names (joined_guests g.H.HashFunction.hash_of (names_of held) held.frames held.table (notes_of held) c.args.page.guest c.args.page.ppn c.args.page.salt c.args.mpn c.args.code (count_at held.table c.args.code) c.requires.whole.ties c.requires.page c.requires.found c.requires.salt)
+    rw c.set_page.ensures.names
+    (joined_guests g.H.HashFunction.hash_of (names_of held) held.frames held.table (notes_of held) c.args.page.guest c.args.page.ppn
+    c.args.page.salt c.args.mpn c.args.code (count_at held.table c.args.code) c.requires.whole.ties c.requires.page c.requires.found
+    c.requires.salt)

@@ -11,7 +11,15 @@ leave-requires g c = record { present = rw c.requires.found refl }
 pub returns-clause-whole : goal.returns-clause-whole
 returns-clause-whole g c =
     let held = c.args.held.now in
-    record { ties = rw (c.leave.ensures.left, last_less_is held.table c.args.code c.args.mpn c.requires.found, c.set_page.ensures.names) (kept_ties g.H.HashFunction.hash_of (names_of held) held.frames held.table (notes_of held) c.args.page.guest c.args.page.ppn c.args.page.salt c.args.mpn c.args.code c.requires.whole.ties c.requires.page c.requires.found); few = rw c.set_page.ensures.names (few_after _ c.args.page.guest c.args.page.ppn _ c.requires.whole.few); total = c.requires.whole.total; hints = rw (c.leave.ensures.left, last_less_is held.table c.args.code c.args.mpn c.requires.found) c.requires.whole.hints }
+    record {
+      ties =
+          rw (c.leave.ensures.left, last_less_is held.table c.args.code c.args.mpn c.requires.found, c.set_page.ensures.names)
+          (kept_ties g.H.HashFunction.hash_of (names_of held) held.frames held.table (notes_of held) c.args.page.guest c.args.page.ppn
+          c.args.page.salt c.args.mpn c.args.code c.requires.whole.ties c.requires.page c.requires.found);
+      few = rw c.set_page.ensures.names (few_after _ c.args.page.guest c.args.page.ppn _ c.requires.whole.few);
+      total = c.requires.whole.total;
+      hints = rw (c.leave.ensures.left, last_less_is held.table c.args.code c.args.mpn c.requires.found) c.requires.whole.hints;
+    }
 
 pub returns-clause-page : goal.returns-clause-page
 returns-clause-page g c = rw c.set_page.ensures.names (at_same (names_of c.args.held.now) c.args.page.guest c.args.page.ppn c.args.page.salt _ _ c.requires.page)

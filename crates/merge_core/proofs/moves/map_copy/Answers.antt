@@ -16,7 +16,16 @@ pub returns-clause-whole : goal.returns-clause-whole
 returns-clause-whole g c =
     let held = c.args.held.now in
     let e = c.new_copy-mpn.ensures in
-    record { ties = rw (e.taken, bytes_are held.frames c.args.from c.requires.from, c.forget.ensures.notes, c.set_page.ensures.names) (mapped_ties g.H.HashFunction.hash_of (names_of held) held.frames held.table (notes_of held) c.args.page.guest c.args.page.ppn c.args.page.salt c.new_copy-mpn.result (bytes_in held.frames c.args.from) c.requires.whole.ties c.requires.page e.within e.free); few = rw c.set_page.ensures.names (few_after _ c.args.page.guest c.args.page.ppn _ c.requires.whole.few); total = rw e.taken (omega (arith, c.requires.whole.total, length-set held.frames c.new_copy-mpn.result (frame held.frames c.args.from))); hints = c.requires.whole.hints }
+    record {
+      ties =
+          rw (e.taken, bytes_are held.frames c.args.from c.requires.from, c.forget.ensures.notes, c.set_page.ensures.names)
+          (mapped_ties g.H.HashFunction.hash_of (names_of held) held.frames held.table (notes_of held) c.args.page.guest c.args.page.ppn
+          c.args.page.salt c.new_copy-mpn.result (bytes_in held.frames c.args.from) c.requires.whole.ties c.requires.page e.within e.free);
+      few = rw c.set_page.ensures.names (few_after _ c.args.page.guest c.args.page.ppn _ c.requires.whole.few);
+      total =
+          rw e.taken (omega (arith, c.requires.whole.total, length-set held.frames c.new_copy-mpn.result (frame held.frames c.args.from)));
+      hints = c.requires.whole.hints;
+    }
 
 pub returns-clause-bytes : goal.returns-clause-bytes
 returns-clause-bytes g c =
@@ -30,4 +39,6 @@ pub returns-clause-guests : goal.returns-clause-guests
 returns-clause-guests g c =
     let held = c.args.held.now in
     let e = c.new_copy-mpn.ensures in
-    rw (e.taken, bytes_are held.frames c.args.from c.requires.from, c.set_page.ensures.names) (mapped_guests g.H.HashFunction.hash_of (names_of held) held.frames held.table (notes_of held) c.args.page.guest c.args.page.ppn c.args.page.salt c.new_copy-mpn.result (bytes_in held.frames c.args.from) c.requires.whole.ties c.requires.page e.within e.free)
+    rw (e.taken, bytes_are held.frames c.args.from c.requires.from, c.set_page.ensures.names)
+    (mapped_guests g.H.HashFunction.hash_of (names_of held) held.frames held.table (notes_of held) c.args.page.guest c.args.page.ppn
+    c.args.page.salt c.new_copy-mpn.result (bytes_in held.frames c.args.from) c.requires.whole.ties c.requires.page e.within e.free)

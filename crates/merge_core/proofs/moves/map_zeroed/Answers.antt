@@ -16,7 +16,15 @@ pub returns-clause-whole : goal.returns-clause-whole
 returns-clause-whole g c =
     let held = c.args.held.now in
     let e = c.new_frame-mpn.ensures in
-    record { ties = rw (e.taken, c.forget.ensures.notes, c.set_page.ensures.names) (mapped_ties g.H.HashFunction.hash_of (names_of held) held.frames held.table (notes_of held) c.args.page.guest c.args.page.ppn c.args.page.salt c.new_frame-mpn.result blank c.requires.whole.ties c.requires.page e.within e.free); few = rw c.set_page.ensures.names (few_after _ c.args.page.guest c.args.page.ppn _ c.requires.whole.few); total = rw e.taken (omega (arith, c.requires.whole.total, length-set held.frames c.new_frame-mpn.result (Some blank))); hints = c.requires.whole.hints }
+    record {
+      ties =
+          rw (e.taken, c.forget.ensures.notes, c.set_page.ensures.names)
+          (mapped_ties g.H.HashFunction.hash_of (names_of held) held.frames held.table (notes_of held) c.args.page.guest c.args.page.ppn
+          c.args.page.salt c.new_frame-mpn.result blank c.requires.whole.ties c.requires.page e.within e.free);
+      few = rw c.set_page.ensures.names (few_after _ c.args.page.guest c.args.page.ppn _ c.requires.whole.few);
+      total = rw e.taken (omega (arith, c.requires.whole.total, length-set held.frames c.new_frame-mpn.result (Some blank)));
+      hints = c.requires.whole.hints;
+    }
 
 pub returns-clause-bytes : goal.returns-clause-bytes
 returns-clause-bytes g c = rw c.new_frame-mpn.ensures.taken (bytes_same c.args.held.now.frames c.new_frame-mpn.result blank c.new_frame-mpn.ensures.within)

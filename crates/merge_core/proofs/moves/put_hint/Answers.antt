@@ -28,7 +28,21 @@ put_hint-requires-clause-mpn g c =
 pub returns-clause-whole : goal.returns-clause-whole
 returns-clause-whole g c =
     let held = c.args.held.now in
-    record { ties = rw (c.put_hint.ensures, c.set_page.ensures.names) (put_ties g.H.HashFunction.hash_of (names_of held) held.frames held.table (notes_of held) c.args.page.guest c.args.page.ppn c.args.page.salt c.args.mpn c.args.key c.requires.whole.ties c.requires.page c.requires.absent); few = rw c.set_page.ensures.names (few_after _ c.args.page.guest c.args.page.ppn _ c.requires.whole.few); total = c.requires.whole.total; hints = rw c.put_hint.ensures (omega (arith, c.requires.whole.hints, len_new held.table.hints c.args.key (record { guest = c.args.page.guest; ppn = c.args.page.ppn; mpn = c.args.mpn }) c.requires.absent)) }
+    record {
+      ties =
+          rw (c.put_hint.ensures, c.set_page.ensures.names)
+          (put_ties g.H.HashFunction.hash_of (names_of held) held.frames held.table (notes_of held) c.args.page.guest c.args.page.ppn
+          c.args.page.salt c.args.mpn c.args.key c.requires.whole.ties c.requires.page c.requires.absent);
+      few = rw c.set_page.ensures.names (few_after _ c.args.page.guest c.args.page.ppn _ c.requires.whole.few);
+      total = c.requires.whole.total;
+      hints =
+          rw c.put_hint.ensures (omega (
+            arith,
+            c.requires.whole.hints,
+            len_new held.table.hints c.args.key
+                (record { guest = c.args.page.guest; ppn = c.args.page.ppn; mpn = c.args.mpn }) c.requires.absent,
+          ));
+    }
 
 pub returns-clause-page : goal.returns-clause-page
 returns-clause-page g c = rw c.set_page.ensures.names (at_same (names_of c.args.held.now) c.args.page.guest c.args.page.ppn c.args.page.salt _ _ c.requires.page)

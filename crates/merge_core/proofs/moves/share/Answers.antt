@@ -29,14 +29,21 @@ set_page-requires g c = record { there = rw c.requires.first refl }
 pub set_page-requires-2 : goal.set_page-requires-2
 set_page-requires-2 g c =
     let held = c.args.held.now in
-    let still = still_there g.H.HashFunction.hash_of (names_of held) held.frames held.table (notes_of held) c.args.first.guest c.args.first.ppn c.args.first.salt c.args.mpn c.args.second.guest c.args.second.ppn c.args.code c.requires.whole.ties c.requires.first c.requires.second c.requires.absent c.requires.code in
+    let still =
+    still_there g.H.HashFunction.hash_of (names_of held) held.frames held.table (notes_of held) c.args.first.guest c.args.first.ppn
+    c.args.first.salt c.args.mpn c.args.second.guest c.args.second.ppn c.args.code c.requires.whole.ties c.requires.first
+    c.requires.second c.requires.absent c.requires.code in
     record { there = rw (c.set_page.ensures.names, still) refl }
 
 pub returns-clause-whole : goal.returns-clause-whole
 returns-clause-whole g c =
     let held = c.args.held.now in
     record {
-      ties = rw (c.add_shared.ensures, c.set_page-2.ensures.names, c.set_page.ensures.names) (paired_ties g.H.HashFunction.hash_of (names_of held) held.frames held.table (notes_of held) c.args.first.guest c.args.first.ppn c.args.first.salt c.args.mpn c.args.second.guest c.args.second.ppn c.args.code c.requires.whole.ties c.requires.first c.requires.second c.requires.absent c.requires.code);
+      ties =
+          rw (c.add_shared.ensures, c.set_page-2.ensures.names, c.set_page.ensures.names)
+          (paired_ties g.H.HashFunction.hash_of (names_of held) held.frames held.table (notes_of held) c.args.first.guest c.args.first.ppn
+          c.args.first.salt c.args.mpn c.args.second.guest c.args.second.ppn c.args.code c.requires.whole.ties c.requires.first
+          c.requires.second c.requires.absent c.requires.code);
       few = rw (c.set_page-2.ensures.names, c.set_page.ensures.names) (few_after _ c.args.second.guest c.args.second.ppn _ (few_after _ c.args.first.guest c.args.first.ppn _ c.requires.whole.few));
       total = c.requires.whole.total;
       hints = rw c.add_shared.ensures c.requires.whole.hints;
@@ -45,4 +52,7 @@ returns-clause-whole g c =
 pub returns-clause-guests : goal.returns-clause-guests
 returns-clause-guests g c =
     let held = c.args.held.now in
-    rw (c.set_page-2.ensures.names, c.set_page.ensures.names) (paired_guests g.H.HashFunction.hash_of (names_of held) held.frames held.table (notes_of held) c.args.first.guest c.args.first.ppn c.args.first.salt c.args.mpn c.args.second.guest c.args.second.ppn c.args.code c.requires.whole.ties c.requires.first c.requires.second c.requires.absent c.requires.code)
+    rw (c.set_page-2.ensures.names, c.set_page.ensures.names)
+    (paired_guests g.H.HashFunction.hash_of (names_of held) held.frames held.table (notes_of held) c.args.first.guest c.args.first.ppn
+    c.args.first.salt c.args.mpn c.args.second.guest c.args.second.ppn c.args.code c.requires.whole.ties c.requires.first
+    c.requires.second c.requires.absent c.requires.code)

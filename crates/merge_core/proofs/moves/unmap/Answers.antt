@@ -13,7 +13,15 @@ give_back-requires g c = let held = c.args.held.now in less_is_taken g.H.HashFun
 pub returns-clause-whole : goal.returns-clause-whole
 returns-clause-whole g c =
     let held = c.args.held.now in
-    record { ties = rw (c.give_back.ensures, c.set_page.ensures.names) (unmapped_ties g.H.HashFunction.hash_of (names_of held) held.frames held.table (notes_of held) c.args.page.guest c.args.page.ppn c.args.page.salt c.args.mpn c.requires.whole.ties c.requires.page); few = rw c.set_page.ensures.names (few_after _ c.args.page.guest c.args.page.ppn _ c.requires.whole.few); total = rw c.give_back.ensures (omega (arith, c.requires.whole.total, length-set held.frames c.args.mpn None)); hints = c.requires.whole.hints }
+    record {
+      ties =
+          rw (c.give_back.ensures, c.set_page.ensures.names)
+          (unmapped_ties g.H.HashFunction.hash_of (names_of held) held.frames held.table (notes_of held) c.args.page.guest c.args.page.ppn
+          c.args.page.salt c.args.mpn c.requires.whole.ties c.requires.page);
+      few = rw c.set_page.ensures.names (few_after _ c.args.page.guest c.args.page.ppn _ c.requires.whole.few);
+      total = rw c.give_back.ensures (omega (arith, c.requires.whole.total, length-set held.frames c.args.mpn None));
+      hints = c.requires.whole.hints;
+    }
 
 pub returns-clause-page : goal.returns-clause-page
 returns-clause-page g c = rw c.set_page.ensures.names (at_same (names_of c.args.held.now) c.args.page.guest c.args.page.ppn c.args.page.salt _ _ c.requires.page)

@@ -17,13 +17,30 @@ pub returns-clause-whole : goal.returns-clause-whole
 returns-clause-whole g c =
     let held = c.args.held.now in
     let now = bytes_are held.frames c.args.mpn (c.requires.whole.ties.placed.taken _ _ _ _ c.args.mpn c.requires.page refl) in
-    record { ties = rw (c.write.ensures, now, c.forget.ensures.notes) (written_ties g.H.HashFunction.hash_of (names_of held) held.frames held.table (notes_of held) c.args.page.guest c.args.page.ppn c.args.page.salt c.args.mpn c.args.hint (written (bytes_in held.frames c.args.mpn) c.args.at c.args.bytes.now) c.requires.whole.ties c.requires.page); few = c.requires.whole.few; total = rw (c.write.ensures, now) (omega (arith, c.requires.whole.total, length-set held.frames c.args.mpn (Some (written (bytes_in held.frames c.args.mpn) c.args.at c.args.bytes.now)))); hints = c.requires.whole.hints }
+    record {
+      ties =
+          rw (c.write.ensures, now, c.forget.ensures.notes)
+          (written_ties g.H.HashFunction.hash_of (names_of held) held.frames held.table (notes_of held) c.args.page.guest c.args.page.ppn
+          c.args.page.salt c.args.mpn c.args.hint (written (bytes_in held.frames c.args.mpn) c.args.at c.args.bytes.now)
+          c.requires.whole.ties c.requires.page);
+      few = c.requires.whole.few;
+      total =
+          rw (c.write.ensures, now) (omega (
+            arith,
+            c.requires.whole.total,
+            length-set held.frames c.args.mpn
+                (Some (written (bytes_in held.frames c.args.mpn) c.args.at c.args.bytes.now)),
+          ));
+      hints = c.requires.whole.hints;
+    }
 
 pub returns-clause-guests : goal.returns-clause-guests
 returns-clause-guests g c =
     let held = c.args.held.now in
     let now = bytes_are held.frames c.args.mpn (c.requires.whole.ties.placed.taken _ _ _ _ c.args.mpn c.requires.page refl) in
-    rw (c.write.ensures, now) (written_guests g.H.HashFunction.hash_of (names_of held) held.frames held.table (notes_of held) c.args.page.guest c.args.page.ppn c.args.page.salt c.args.mpn c.args.hint (written (bytes_in held.frames c.args.mpn) c.args.at c.args.bytes.now) c.requires.whole.ties c.requires.page)
+    rw (c.write.ensures, now) (written_guests g.H.HashFunction.hash_of (names_of held) held.frames held.table (notes_of held)
+    c.args.page.guest c.args.page.ppn c.args.page.salt c.args.mpn c.args.hint
+    (written (bytes_in held.frames c.args.mpn) c.args.at c.args.bytes.now) c.requires.whole.ties c.requires.page)
 
 pub returns-clause-bytes : goal.returns-clause-bytes
 returns-clause-bytes g c =

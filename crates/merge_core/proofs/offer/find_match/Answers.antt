@@ -14,7 +14,11 @@ returns-in-None-clause-step g c =
     let shares = c.requires.whole.ties.shares in
     let absent : shared_at held.table c.args.code ≡ None = no_entry (shared_at held.table c.args.code) (sym c.in-None.is ∙ c.find_shared.ensures) in
     c.offer.ensures.step
-    ∙ sym (matched_offered g.H.HashFunction.hash_of (guests_of held) c.args.page.guest c.args.page.ppn c.args.page.salt (bytes_in held.frames c.args.mpn) c.args.code (no_content g.H.HashFunction.hash_of (names_of held) held.frames (notes_of held) held.table.shared c.args.page.salt c.args.code (bytes_in held.frames c.args.mpn) shares absent (sym c.requires.code)) (no_under g.H.HashFunction.hash_of (names_of held) held.frames (notes_of held) held.table.shared c.args.code shares absent))
+    ∙ sym (matched_offered g.H.HashFunction.hash_of (guests_of held) c.args.page.guest c.args.page.ppn c.args.page.salt
+    (bytes_in held.frames c.args.mpn) c.args.code
+    (no_content g.H.HashFunction.hash_of (names_of held) held.frames (notes_of held) held.table.shared c.args.page.salt c.args.code
+    (bytes_in held.frames c.args.mpn) shares absent (sym c.requires.code))
+    (no_under g.H.HashFunction.hash_of (names_of held) held.frames (notes_of held) held.table.shared c.args.code shares absent))
 
 pub returns-else-same_content-clause-step : goal.returns-else-same_content-clause-step
 returns-else-same_content-clause-step g c =
@@ -23,4 +27,8 @@ returns-else-same_content-clause-step g c =
     let f : SharedFrame = record { mpn = c.in-Some.theirs; count = c.in-Some.field-0-1 } in
     let found : shared_at held.table c.args.code ≡ Some f = entry_of (shared_at held.table c.args.code) c.in-Some.theirs c.in-Some.field-0-1 (sym c.in-Some.is ∙ c.find_shared.ensures) in
     let differ = unlike (known_at (notes_of held) c.in-Some.theirs).salt c.args.page.salt (bytes_in held.frames c.in-Some.theirs) (bytes_in held.frames c.args.mpn) (sym c.same_content.ensures ∙ c.if-same_content.false) in
-    sym (matched_ineligible g.H.HashFunction.hash_of (guests_of held) c.args.page.guest c.args.page.ppn c.args.page.salt (bytes_in held.frames c.args.mpn) c.args.code (not_shared g.H.HashFunction.hash_of (names_of held) held.frames (notes_of held) held.table.shared c.args.page.salt c.args.code (bytes_in held.frames c.args.mpn) f t.noted t.shares found (sym c.requires.code) differ) (under_any g.H.HashFunction.hash_of (names_of held) held.frames (notes_of held) held.table.shared c.args.code f t.shares found))
+    sym (matched_ineligible g.H.HashFunction.hash_of (guests_of held) c.args.page.guest c.args.page.ppn c.args.page.salt
+    (bytes_in held.frames c.args.mpn) c.args.code
+    (not_shared g.H.HashFunction.hash_of (names_of held) held.frames (notes_of held) held.table.shared c.args.page.salt c.args.code
+    (bytes_in held.frames c.args.mpn) f t.noted t.shares found (sym c.requires.code) differ)
+    (under_any g.H.HashFunction.hash_of (names_of held) held.frames (notes_of held) held.table.shared c.args.code f t.shares found))

@@ -17,7 +17,11 @@ returns-in-Some-clause-step g c =
     let own = kept_own key c.in-Some.field-0 fits in
     let page = rw (c.in-Some.is, own) at c.requires.page in
     let t = c.requires.whole.ties.hinted in
-    sym (offered_kept g.H.HashFunction.hash_of (guests_of held) c.args.page.guest c.args.page.ppn c.args.page.salt (bytes_in held.frames c.args.mpn) key (found_is (names_of held) held.frames held.table.hints key t (record { guest = c.args.page.guest; ppn = c.args.page.ppn; mpn = c.args.mpn }) (t.there c.args.page.guest c.args.page.ppn c.args.page.salt c.args.mpn key page)))
+    sym (offered_kept g.H.HashFunction.hash_of (guests_of held) c.args.page.guest c.args.page.ppn c.args.page.salt
+    (bytes_in held.frames c.args.mpn) key
+    (found_is (names_of held) held.frames held.table.hints key t
+    (record { guest = c.args.page.guest; ppn = c.args.page.ppn; mpn = c.args.mpn })
+    (t.there c.args.page.guest c.args.page.ppn c.args.page.salt c.args.mpn key page)))
 
 pub returns-in-None-find_hint-clause-step : goal.returns-in-None-find_hint-clause-step
 returns-in-None-find_hint-clause-step g c =
@@ -34,5 +38,8 @@ returns-in-None-find_hint-clause-served g c =
     record {
       whole = c.put_hint.ensures.whole;
       total = ap length c.put_hint.ensures.frames;
-      stay = all_stay held.frames c.args.page.guest c.args.page.ppn v.Hinted (names_of held) _ refl (moves_nowhere c.args.page.guest c.args.page.ppn (Some c.args.mpn) (names_of held) _ one (frame_is (names_of held) c.args.page.guest c.args.page.ppn c.args.page.salt (Private c.args.mpn c.args.kept) c.requires.page));
+      stay =
+          all_stay held.frames c.args.page.guest c.args.page.ppn v.Hinted (names_of held) _ refl
+          (moves_nowhere c.args.page.guest c.args.page.ppn (Some c.args.mpn) (names_of held) _ one
+          (frame_is (names_of held) c.args.page.guest c.args.page.ppn c.args.page.salt (Private c.args.mpn c.args.kept) c.requires.page));
     }

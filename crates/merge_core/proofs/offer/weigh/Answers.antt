@@ -34,14 +34,20 @@ pub returns-then-same_content-clause-step : goal.returns-then-same_content-claus
 returns-then-same_content-clause-step g c =
     let held = c.args.held.now in
     let key : ℕ = key_of c.args.code in
-    let theirs : page_at (names_of held) c.args.hint.guest c.args.hint.ppn ≡ Some (c.salt-salt.result, Private c.args.hint.mpn (Some key)) = hint_page g.H.HashFunction.hash_of (names_of held) held.frames held.table (notes_of held) key c.args.hint.guest c.args.hint.ppn c.args.hint.mpn c.requires.whole.ties c.requires.hint c.salt-salt.result c.salt-salt.ensures.salt in
+    let theirs : page_at (names_of held) c.args.hint.guest c.args.hint.ppn ≡ Some (c.salt-salt.result, Private c.args.hint.mpn (Some key)) =
+    hint_page g.H.HashFunction.hash_of (names_of held) held.frames held.table (notes_of held) key c.args.hint.guest c.args.hint.ppn
+    c.args.hint.mpn c.requires.whole.ties c.requires.hint c.salt-salt.result c.salt-salt.ensures.salt in
     let apart : c.args.page.guest ≡ c.args.hint.guest → c.args.page.ppn ≡ c.args.hint.ppn → ⊥ = hint_apart (names_of held) c.args.page.guest c.args.page.ppn c.args.hint.guest c.args.hint.ppn c.args.page.salt c.salt-salt.result c.args.mpn c.args.hint.mpn key c.requires.page theirs in
     let found = found_is (names_of held) held.frames held.table.hints key c.requires.whole.ties.hinted c.args.hint c.requires.hint in
     let equal = rw (← c.salt-salt.ensures.salt, c.if-same_content.true) at c.same_content.ensures in
     let same = alike c.salt-salt.result c.args.page.salt (bytes_in held.frames c.args.hint.mpn) (bytes_in held.frames c.args.mpn) (sym equal) in
     let keys : key_of (g.H.HashFunction.hash_of c.salt-salt.result (bytes_in held.frames c.args.hint.mpn)) ≡ key = ap key_of (ap (λ (x : ℕ). g.H.HashFunction.hash_of x (bytes_in held.frames c.args.hint.mpn)) same.0 ∙ ap (g.H.HashFunction.hash_of c.args.page.salt) same.1 ∙ sym c.requires.code) in
     outcome v.Paired _ _ c.pair.ensures.guests
-    ∙ sym (offered_other g.H.HashFunction.hash_of (guests_of held) c.args.page.guest c.args.page.ppn c.args.page.salt (bytes_in held.frames c.args.mpn) key c.args.hint.guest c.args.hint.ppn c.salt-salt.result (slot_in held.frames (Private c.args.hint.mpn (Some key))) found (λ p q. apart (sym p) (sym q)) (page_in_is held.frames (names_of held) c.args.hint.guest c.args.hint.ppn c.salt-salt.result (Private c.args.hint.mpn (Some key)) theirs)
+    ∙ sym (offered_other g.H.HashFunction.hash_of (guests_of held) c.args.page.guest c.args.page.ppn c.args.page.salt
+    (bytes_in held.frames c.args.mpn) key c.args.hint.guest c.args.hint.ppn c.salt-salt.result
+    (slot_in held.frames (Private c.args.hint.mpn (Some key))) found (λ p q. apart (sym p) (sym q))
+    (page_in_is held.frames (names_of held) c.args.hint.guest c.args.hint.ppn c.salt-salt.result (Private c.args.hint.mpn (Some key))
+    theirs)
     ∙ weighed_paired g.H.HashFunction.hash_of (guests_of held) c.args.page.guest c.args.page.ppn c.args.page.salt (bytes_in held.frames c.args.mpn) key c.args.hint.guest c.args.hint.ppn c.salt-salt.result (bytes_in held.frames c.args.hint.mpn) keys (sym equal))
 
 pub has_key-requires-clause-taken : goal.has_key-requires-clause-taken
@@ -52,13 +58,17 @@ has_key-requires-clause-taken g c κs live =
 pub drop_hint-requires-clause-page : goal.drop_hint-requires-clause-page
 drop_hint-requires-clause-page g c κs live =
     let held = c.args.held.now in
-    rw (c.has_key.ensures.kept.names, c.key_of-key.ensures) (hint_page g.H.HashFunction.hash_of (names_of held) held.frames held.table (notes_of held) (key_of c.args.code) c.args.hint.guest c.args.hint.ppn c.args.hint.mpn c.requires.whole.ties c.requires.hint c.salt-salt.result c.salt-salt.ensures.salt)
+    rw (c.has_key.ensures.kept.names, c.key_of-key.ensures)
+    (hint_page g.H.HashFunction.hash_of (names_of held) held.frames held.table (notes_of held) (key_of c.args.code) c.args.hint.guest
+    c.args.hint.ppn c.args.hint.mpn c.requires.whole.ties c.requires.hint c.salt-salt.result c.salt-salt.ensures.salt)
 
 pub put_hint-requires-clause-page : goal.put_hint-requires-clause-page
 put_hint-requires-clause-page g c κs live =
     let held = c.args.held.now in
     let key : ℕ = key_of c.args.code in
-    let theirs : page_at (names_of held) c.args.hint.guest c.args.hint.ppn ≡ Some (c.salt-salt.result, Private c.args.hint.mpn (Some key)) = hint_page g.H.HashFunction.hash_of (names_of held) held.frames held.table (notes_of held) key c.args.hint.guest c.args.hint.ppn c.args.hint.mpn c.requires.whole.ties c.requires.hint c.salt-salt.result c.salt-salt.ensures.salt in
+    let theirs : page_at (names_of held) c.args.hint.guest c.args.hint.ppn ≡ Some (c.salt-salt.result, Private c.args.hint.mpn (Some key)) =
+    hint_page g.H.HashFunction.hash_of (names_of held) held.frames held.table (notes_of held) key c.args.hint.guest c.args.hint.ppn
+    c.args.hint.mpn c.requires.whole.ties c.requires.hint c.salt-salt.result c.salt-salt.ensures.salt in
     let apart : c.args.page.guest ≡ c.args.hint.guest → c.args.page.ppn ≡ c.args.hint.ppn → ⊥ = hint_apart (names_of held) c.args.page.guest c.args.page.ppn c.args.hint.guest c.args.hint.ppn c.args.page.salt c.salt-salt.result c.args.mpn c.args.hint.mpn key c.requires.page theirs in
     rw (c.drop_hint.ensures.name, c.has_key.ensures.kept.names) (at_other (names_of held) c.args.hint.guest c.args.hint.ppn (Private c.args.hint.mpn None) c.args.page.guest c.args.page.ppn apart ∙ c.requires.page)
 
@@ -69,25 +79,39 @@ pub returns-clause-step : goal.returns-clause-step
 returns-clause-step g c =
     let held = c.args.held.now in
     let key : ℕ = key_of c.args.code in
-    let theirs : page_at (names_of held) c.args.hint.guest c.args.hint.ppn ≡ Some (c.salt-salt.result, Private c.args.hint.mpn (Some key)) = hint_page g.H.HashFunction.hash_of (names_of held) held.frames held.table (notes_of held) key c.args.hint.guest c.args.hint.ppn c.args.hint.mpn c.requires.whole.ties c.requires.hint c.salt-salt.result c.salt-salt.ensures.salt in
+    let theirs : page_at (names_of held) c.args.hint.guest c.args.hint.ppn ≡ Some (c.salt-salt.result, Private c.args.hint.mpn (Some key)) =
+    hint_page g.H.HashFunction.hash_of (names_of held) held.frames held.table (notes_of held) key c.args.hint.guest c.args.hint.ppn
+    c.args.hint.mpn c.requires.whole.ties c.requires.hint c.salt-salt.result c.salt-salt.ensures.salt in
     let apart : c.args.page.guest ≡ c.args.hint.guest → c.args.page.ppn ≡ c.args.hint.ppn → ⊥ = hint_apart (names_of held) c.args.page.guest c.args.page.ppn c.args.hint.guest c.args.hint.ppn c.args.page.salt c.salt-salt.result c.args.mpn c.args.hint.mpn key c.requires.page theirs in
     let e = rw (c.drop_hint.ensures.guests, c.drop_hint.ensures.frames, c.has_key.ensures.shown, c.has_key.ensures.kept.frames, c.key_of-key.ensures) at c.put_hint.ensures.guests in
     let found = found_is (names_of held) held.frames held.table.hints key c.requires.whole.ties.hinted c.args.hint c.requires.hint in
     outcome v.Replaced _ _ e
-    ∙ sym (offered_other g.H.HashFunction.hash_of (guests_of held) c.args.page.guest c.args.page.ppn c.args.page.salt (bytes_in held.frames c.args.mpn) key c.args.hint.guest c.args.hint.ppn c.salt-salt.result (slot_in held.frames (Private c.args.hint.mpn (Some key))) found (λ p q. apart (sym p) (sym q)) (page_in_is held.frames (names_of held) c.args.hint.guest c.args.hint.ppn c.salt-salt.result (Private c.args.hint.mpn (Some key)) theirs)
-    ∙ weighed_replaced g.H.HashFunction.hash_of (guests_of held) c.args.page.guest c.args.page.ppn c.args.page.salt (bytes_in held.frames c.args.mpn) key c.args.hint.guest c.args.hint.ppn c.salt-salt.result (bytes_in held.frames c.args.hint.mpn) (λ q. eqb-false _ _ (sym c.has_key.ensures.key ∙ c.if-has_key.false) (q ∙ sym c.key_of-key.ensures)))
+    ∙ sym (offered_other g.H.HashFunction.hash_of (guests_of held) c.args.page.guest c.args.page.ppn c.args.page.salt
+    (bytes_in held.frames c.args.mpn) key c.args.hint.guest c.args.hint.ppn c.salt-salt.result
+    (slot_in held.frames (Private c.args.hint.mpn (Some key))) found (λ p q. apart (sym p) (sym q))
+    (page_in_is held.frames (names_of held) c.args.hint.guest c.args.hint.ppn c.salt-salt.result (Private c.args.hint.mpn (Some key))
+    theirs)
+    ∙ weighed_replaced g.H.HashFunction.hash_of (guests_of held) c.args.page.guest c.args.page.ppn c.args.page.salt
+    (bytes_in held.frames c.args.mpn) key c.args.hint.guest c.args.hint.ppn c.salt-salt.result (bytes_in held.frames c.args.hint.mpn)
+    (λ q. eqb-false _ _ (sym c.has_key.ensures.key ∙ c.if-has_key.false) (q ∙ sym c.key_of-key.ensures)))
 
 pub returns-then-has_key-clause-step : goal.returns-then-has_key-clause-step
 returns-then-has_key-clause-step g c =
     let held = c.args.held.now in
     let key : ℕ = key_of c.args.code in
-    let theirs : page_at (names_of held) c.args.hint.guest c.args.hint.ppn ≡ Some (c.salt-salt.result, Private c.args.hint.mpn (Some key)) = hint_page g.H.HashFunction.hash_of (names_of held) held.frames held.table (notes_of held) key c.args.hint.guest c.args.hint.ppn c.args.hint.mpn c.requires.whole.ties c.requires.hint c.salt-salt.result c.salt-salt.ensures.salt in
+    let theirs : page_at (names_of held) c.args.hint.guest c.args.hint.ppn ≡ Some (c.salt-salt.result, Private c.args.hint.mpn (Some key)) =
+    hint_page g.H.HashFunction.hash_of (names_of held) held.frames held.table (notes_of held) key c.args.hint.guest c.args.hint.ppn
+    c.args.hint.mpn c.requires.whole.ties c.requires.hint c.salt-salt.result c.salt-salt.ensures.salt in
     let apart : c.args.page.guest ≡ c.args.hint.guest → c.args.page.ppn ≡ c.args.hint.ppn → ⊥ = hint_apart (names_of held) c.args.page.guest c.args.page.ppn c.args.hint.guest c.args.hint.ppn c.args.page.salt c.salt-salt.result c.args.mpn c.args.hint.mpn key c.requires.page theirs in
     let found = found_is (names_of held) held.frames held.table.hints key c.requires.whole.ties.hinted c.args.hint c.requires.hint in
     let differ = rw (← c.salt-salt.ensures.salt, c.if-same_content.false) at c.same_content.ensures in
     let keys : key_of (g.H.HashFunction.hash_of c.salt-salt.result (bytes_in held.frames c.args.hint.mpn)) ≡ key = eqb-true _ _ (sym c.has_key.ensures.key ∙ c.if-has_key.true) ∙ c.key_of-key.ensures in
     outcome v.Ineligible _ _ c.has_key.ensures.shown
-    ∙ sym (offered_other g.H.HashFunction.hash_of (guests_of held) c.args.page.guest c.args.page.ppn c.args.page.salt (bytes_in held.frames c.args.mpn) key c.args.hint.guest c.args.hint.ppn c.salt-salt.result (slot_in held.frames (Private c.args.hint.mpn (Some key))) found (λ p q. apart (sym p) (sym q)) (page_in_is held.frames (names_of held) c.args.hint.guest c.args.hint.ppn c.salt-salt.result (Private c.args.hint.mpn (Some key)) theirs)
+    ∙ sym (offered_other g.H.HashFunction.hash_of (guests_of held) c.args.page.guest c.args.page.ppn c.args.page.salt
+    (bytes_in held.frames c.args.mpn) key c.args.hint.guest c.args.hint.ppn c.salt-salt.result
+    (slot_in held.frames (Private c.args.hint.mpn (Some key))) found (λ p q. apart (sym p) (sym q))
+    (page_in_is held.frames (names_of held) c.args.hint.guest c.args.hint.ppn c.salt-salt.result (Private c.args.hint.mpn (Some key))
+    theirs)
     ∙ weighed_ineligible g.H.HashFunction.hash_of (guests_of held) c.args.page.guest c.args.page.ppn c.args.page.salt (bytes_in held.frames c.args.mpn) key c.args.hint.guest c.args.hint.ppn c.salt-salt.result (bytes_in held.frames c.args.hint.mpn) keys (sym differ))
 
 pub returns-clause-served : goal.returns-clause-served
@@ -95,7 +119,10 @@ returns-clause-served g c =
     let held = c.args.held.now in
     let key : ℕ = c.key_of-key.result in
     let mine = c.args.page in
-    let theirs : page_at (names_of held) c.args.hint.guest c.args.hint.ppn ≡ Some (c.salt-salt.result, Private c.args.hint.mpn (Some (key_of c.args.code))) = hint_page g.H.HashFunction.hash_of (names_of held) held.frames held.table (notes_of held) (key_of c.args.code) c.args.hint.guest c.args.hint.ppn c.args.hint.mpn c.requires.whole.ties c.requires.hint c.salt-salt.result c.salt-salt.ensures.salt in
+    let theirs : page_at (names_of held) c.args.hint.guest c.args.hint.ppn
+    ≡ Some (c.salt-salt.result, Private c.args.hint.mpn (Some (key_of c.args.code))) =
+    hint_page g.H.HashFunction.hash_of (names_of held) held.frames held.table (notes_of held) (key_of c.args.code) c.args.hint.guest
+    c.args.hint.ppn c.args.hint.mpn c.requires.whole.ties c.requires.hint c.salt-salt.result c.salt-salt.ensures.salt in
     let dropped : Names = with_slot (names_of held) c.args.hint.guest c.args.hint.ppn (Private c.args.hint.mpn None) in
     let first : AllKeep (names_of held) dropped = one_keeps (names_of held) c.args.hint.guest c.args.hint.ppn c.salt-salt.result (Private c.args.hint.mpn (Some (key_of c.args.code))) (Private c.args.hint.mpn None) theirs refl in
     let name = rw (c.drop_hint.ensures.name, c.has_key.ensures.kept.names) at c.put_hint.ensures.name in

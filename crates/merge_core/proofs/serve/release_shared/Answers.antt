@@ -33,7 +33,13 @@ returns-then-count-eq1-clause-served g c =
     record {
       whole = c.unmap.ensures.whole;
       total = c.unmap.ensures.total ∙ ap length (c.keep.ensures.frames ∙ c.hash_frame-code.ensures.kept.frames);
-      stay = rw (c.unmap.ensures.name, c.keep.ensures.name, c.hash_frame-code.ensures.kept.names) (gives_up held.frames c.args.page.guest c.args.page.ppn (v.Released true) (names_of held) (with_slot (with_slot (names_of held) c.args.page.guest c.args.page.ppn (Private c.args.mpn None)) c.args.page.guest c.args.page.ppn Unmapped) refl (moved_twice (names_of held) c.args.page.guest c.args.page.ppn c.args.page.salt (Shared c.args.mpn) (Private c.args.mpn None) Unmapped c.requires.page));
+      stay =
+          rw (c.unmap.ensures.name, c.keep.ensures.name, c.hash_frame-code.ensures.kept.names)
+          (gives_up held.frames c.args.page.guest c.args.page.ppn (v.Released true) (names_of held)
+          (with_slot (with_slot (names_of held) c.args.page.guest c.args.page.ppn (Private c.args.mpn None)) c.args.page.guest
+          c.args.page.ppn Unmapped) refl
+          (moved_twice (names_of held) c.args.page.guest c.args.page.ppn c.args.page.salt (Shared c.args.mpn) (Private c.args.mpn None)
+          Unmapped c.requires.page));
     }
 
 pub returns-clause-served : goal.returns-clause-served
@@ -42,5 +48,9 @@ returns-clause-served g c =
     record {
       whole = c.leave.ensures.whole;
       total = ap length (c.leave.ensures.frames ∙ c.hash_frame-code.ensures.kept.frames);
-      stay = rw (c.leave.ensures.name, c.hash_frame-code.ensures.kept.names) (gives_up held.frames c.args.page.guest c.args.page.ppn (v.Released false) (names_of held) (with_slot (names_of held) c.args.page.guest c.args.page.ppn Unmapped) refl (one_moves (names_of held) c.args.page.guest c.args.page.ppn c.args.page.salt (Shared c.args.mpn) Unmapped c.requires.page));
+      stay =
+          rw (c.leave.ensures.name, c.hash_frame-code.ensures.kept.names)
+          (gives_up held.frames c.args.page.guest c.args.page.ppn (v.Released false) (names_of held)
+          (with_slot (names_of held) c.args.page.guest c.args.page.ppn Unmapped) refl
+          (one_moves (names_of held) c.args.page.guest c.args.page.ppn c.args.page.salt (Shared c.args.mpn) Unmapped c.requires.page));
     }

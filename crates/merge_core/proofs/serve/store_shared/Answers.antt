@@ -33,7 +33,11 @@ returns-clause-step g c =
     let p = rw (c.hash_frame-code.ensures.shown, c.hash_frame-code.ensures.kept.frames) at c.peers_of-count.ensures.peers in
     let full = rw (c.if-is_full.false, c.hash_frame-code.ensures.shown, c.hash_frame-code.ensures.kept.frames) at c.is_full.ensures.full in
     let e = rw (c.map_copy-copy.ensures.guests, c.map_copy-copy.ensures.bytes, c.leave.ensures.guests, c.leave.ensures.frames, c.hash_frame-code.ensures.shown, c.hash_frame-code.ensures.kept.frames) at c.write-2.ensures.guests in
-    outcome v.Copied _ _ (e ∙ again (with_slot (guests_of held) c.args.page.guest c.args.page.ppn Unmapped) c.args.page.guest c.args.page.ppn _ _ ∙ again (guests_of held) c.args.page.guest c.args.page.ppn _ _) ∙ sym (stored_copied (length held.frames) (guests_of held) c.args.page.guest c.args.page.ppn c.args.at c.args.bytes.now c.args.page.salt (bytes_in held.frames c.args.mpn) (λ e. c.if-count-eq1.false (p ∙ e)) (sym full))
+    outcome v.Copied _ _ (e
+    ∙ again (with_slot (guests_of held) c.args.page.guest c.args.page.ppn Unmapped) c.args.page.guest c.args.page.ppn _ _
+    ∙ again (guests_of held) c.args.page.guest c.args.page.ppn _ _)
+    ∙ sym (stored_copied (length held.frames) (guests_of held) c.args.page.guest c.args.page.ppn c.args.at c.args.bytes.now
+    c.args.page.salt (bytes_in held.frames c.args.mpn) (λ e. c.if-count-eq1.false (p ∙ e)) (sym full))
 
 pub returns-then-count-eq1-clause-served : goal.returns-then-count-eq1-clause-served
 returns-then-count-eq1-clause-served g c =
@@ -41,7 +45,12 @@ returns-then-count-eq1-clause-served g c =
     record {
       whole = c.write.ensures.whole;
       total = c.write.ensures.total ∙ ap length (c.keep.ensures.frames ∙ c.hash_frame-code.ensures.kept.frames);
-      stay = rw (c.write.ensures.name, c.keep.ensures.name, c.hash_frame-code.ensures.kept.names) (all_stay held.frames c.args.page.guest c.args.page.ppn v.Taken (names_of held) (with_slot (names_of held) c.args.page.guest c.args.page.ppn (Private c.args.mpn None)) refl (one_keeps (names_of held) c.args.page.guest c.args.page.ppn c.args.page.salt (Shared c.args.mpn) (Private c.args.mpn None) c.requires.page refl));
+      stay =
+          rw (c.write.ensures.name, c.keep.ensures.name, c.hash_frame-code.ensures.kept.names)
+          (all_stay held.frames c.args.page.guest c.args.page.ppn v.Taken (names_of held)
+          (with_slot (names_of held) c.args.page.guest c.args.page.ppn (Private c.args.mpn None)) refl
+          (one_keeps (names_of held) c.args.page.guest c.args.page.ppn c.args.page.salt (Shared c.args.mpn) (Private c.args.mpn None)
+          c.requires.page refl));
     }
 
 pub returns-then-is_full-clause-served : goal.returns-then-is_full-clause-served
@@ -60,5 +69,11 @@ returns-clause-served g c =
     record {
       whole = c.write-2.ensures.whole;
       total = c.write-2.ensures.total ∙ c.map_copy-copy.ensures.total ∙ ap length (c.leave.ensures.frames ∙ c.hash_frame-code.ensures.kept.frames);
-      stay = rw (c.write-2.ensures.name, c.map_copy-copy.ensures.name, c.leave.ensures.name, c.hash_frame-code.ensures.kept.names) (takes_free held.frames c.args.page.guest c.args.page.ppn c.map_copy-copy.result v.Copied (names_of held) (with_slot (with_slot (names_of held) c.args.page.guest c.args.page.ppn Unmapped) c.args.page.guest c.args.page.ppn (Private c.map_copy-copy.result None)) refl free (moved_twice (names_of held) c.args.page.guest c.args.page.ppn c.args.page.salt (Shared c.args.mpn) Unmapped (Private c.map_copy-copy.result None) c.requires.page));
+      stay =
+          rw (c.write-2.ensures.name, c.map_copy-copy.ensures.name, c.leave.ensures.name, c.hash_frame-code.ensures.kept.names)
+          (takes_free held.frames c.args.page.guest c.args.page.ppn c.map_copy-copy.result v.Copied (names_of held)
+          (with_slot (with_slot (names_of held) c.args.page.guest c.args.page.ppn Unmapped) c.args.page.guest c.args.page.ppn
+          (Private c.map_copy-copy.result None)) refl free
+          (moved_twice (names_of held) c.args.page.guest c.args.page.ppn c.args.page.salt (Shared c.args.mpn) Unmapped
+          (Private c.map_copy-copy.result None) c.requires.page));
     }

@@ -20,7 +20,19 @@ pub returns : goal.returns
 returns g c =
     let held = c.args.held.now in
     let t = c.requires.ties.counted in
-    let mapped : c.used-frames.result - (c.len.result - held.hints) + c.references-shared.result ≡ count_pages (λ _. is_mapped) (guests_of held) = omega (arith, t.used, t.shared, t.references, c.requires.hints, mapped_parts (guests_of held), c.used-frames.ensures.value, c.len.ensures.value, c.references-shared.ensures.value) in
+    let mapped : c.used-frames.result - (c.len.result - held.hints) + c.references-shared.result
+    ≡ count_pages (λ _. is_mapped) (guests_of held) =
+    omega (
+      arith,
+      t.used,
+      t.shared,
+      t.references,
+      c.requires.hints,
+      mapped_parts (guests_of held),
+      c.used-frames.ensures.value,
+      c.len.ensures.value,
+      c.references-shared.ensures.value,
+    ) in
     let shared : c.references-shared.result ≡ count_pages (λ _. is_shared) (guests_of held) = c.references-shared.ensures.value ∙ t.references in
     let frames : c.used-frames.result ≡ used (guests_of held) = c.used-frames.ensures.value ∙ t.used in
     let hints : held.hints ≡ count_pages (λ _. is_hinted) (guests_of held) = c.requires.hints ∙ t.hints in
