@@ -1,9 +1,14 @@
 -- The hashes of pages, and the frames that are hashed for them.
-use Rattle.std.specs.Prelude.{◌≡◌, ℕ, ⊤, List, map, Option, Some, None, IfSome, option_and_then}
+use Rattle.std.specs.Prelude.{◌≡◌, ◌≤◌, ℕ, ⊤, List, map, Option, Some, None, IfSome, option_and_then}
 use Rattle.page_model.specs.Pages.{SlotOf, Slot, Unmapped, Private, Shared, Guest, page_at}
 use Rattle.page_model.specs.declared.request.Request.{Request}
 use Rattle.page_model.specs.declared.request.Request.TheVariants.{Propose, Store, Load, Release, Count, Close}
+use Rattle.page_model.specs.declared.limits.TheConstants.{MAX_WORKERS}
 use Rattle.merge_core.specs.Names.{Names, frame_of}
+
+-- there are workers, and no more than hash pages at once
+abbrev pub AreWorkers : ℕ → Type 0
+AreWorkers workers = (1 ≤ workers) × (workers ≤ MAX_WORKERS)
 
 -- the hash of what a page holds, under its guest's salt; none if it is unmapped
 abbrev pub slot_hash : (ℕ → List ℕ → ℕ) → ℕ → Slot → Option ℕ

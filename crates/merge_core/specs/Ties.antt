@@ -3,6 +3,7 @@ use Rattle.std.specs.Prelude.{◌≡◌, ℕ, ◌≤◌, List, length, Option, S
 use Rattle.std.specs.FinMap as map
 use Rattle.page_model.specs.Pages.{SlotOf, Private, Shared, Guest, GuestOf, page_at}
 use Rattle.page_model.specs.Pages.{peers, used, distinct, count_pages, is_shared, is_hinted}
+use Rattle.page_model.specs.declared.limits.TheConstants.{MAX_GUESTS, MAX_PAGES}
 use Rattle.machine_frames.specs.FrameMap.{FrameMap, IsTaken}
 use Rattle.machine_frames.specs.FrameMap as fm
 use Rattle.share_table.specs.TableMaps.{TableMaps, SharedMap, HintMap, SharedFrame, references}
@@ -80,8 +81,8 @@ page_total {X} guests = sum_by (λ (g : GuestOf X). length g.slots) guests
 
 -- the guests and their pages are within a machine's limits
 pub record Few (names : Names) : Type 0 where
-  pub guests : length names ≤ 64
-  pub pages : page_total names ≤ 1048576
+  pub guests : length names ≤ MAX_GUESTS
+  pub pages : page_total names ≤ MAX_PAGES
 
 pub record Ties (hash : ℕ → List ℕ → ℕ) (names : Names) (frames : FrameMap) (table : TableMaps) (notes : List Known) : Type 0 where
   pub placed : Placed names frames

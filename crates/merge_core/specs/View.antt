@@ -3,6 +3,7 @@ use Rattle.std.specs.Prelude.{◌≡◌, ◌≤◌, ℕ, List, length, map as ma
 use Rattle.std.specs.FinMap as map
 use Rattle.page_model.specs.Pages.{SlotOf, GuestOf, Guest}
 use Rattle.page_model.specs.Pages as s
+use Rattle.page_model.specs.declared.limits.TheConstants.{MAX_FRAMES}
 use Rattle.merge_core.specs.Names.{Names, Known, guests_in}
 use Rattle.merge_core.specs.Ties.{Ties, Few}
 use Rattle.merge_core.specs.declared.held.PageEntry.{PageEntry}
@@ -38,5 +39,5 @@ guests_of held = guests_in held.frames (names_of held)
 pub record Whole {H A : Type 0} (hash : ℕ → List ℕ → ℕ) (held : Held H A) : Type 0 where
   pub ties : Ties hash (names_of held) held.frames held.table (notes_of held)
   pub few : Few (names_of held)
-  pub total : length held.frames ≤ 1048576
+  pub total : length held.frames ≤ MAX_FRAMES
   pub hints : held.hints ≡ map.len held.table.hints

@@ -2,7 +2,7 @@
 ghost use Rattle.std.specs.Prelude.{◌≡◌, ◌≤◌, [], All, IfOk, IfSome, length, vec_capacity};
 ghost use Rattle.std.specs.Option.{option_map};
 ghost use Rattle.page_digest.specs.Many.{frame_hashes};
-ghost use Rattle.merge_core.specs.Hashing.{IsPaged, page_hash, page_hashes};
+ghost use Rattle.merge_core.specs.Hashing.{AreWorkers, IsPaged, page_hash, page_hashes};
 ghost use Rattle.merge_core.specs.Kept.{OnlyNotes};
 ghost use Rattle.merge_core.specs.Names.{bytes_in};
 ghost use Rattle.merge_core.specs.View.{names_of, guests_of, Whole};
@@ -30,7 +30,7 @@ pub fn note_by_workers<
     least: usize,
     pages: &[(u8, u32)],
 ) -> Result<(), HashFault>
-    requires workers { (1 ≤ workers) × (workers ≤ 64) }
+    requires workers { AreWorkers workers }
     requires least { 1 ≤ least }
     requires whole { Whole H.hash_of held.old }
     ensures kept { OnlyNotes H.hash_of held.old held.new }
@@ -44,7 +44,7 @@ pub fn note_by_workers<
 
 /// Returns the lesser of two numbers of workers, but at least one.
 fn paying_workers(workers: u32, most: usize) -> u32
-    requires { (1 ≤ workers) × (workers ≤ 64) }
+    requires { AreWorkers workers }
     ensures { (1 ≤ result) × (result ≤ workers) }
 {
     if most == 0 {

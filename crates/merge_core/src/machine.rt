@@ -6,10 +6,11 @@ ghost use Rattle.page_model.specs.Limits.{shapes};
 ghost use Rattle.page_model.specs.Pages.{page_at, totals, is_mapped};
 ghost use Rattle.page_model.specs.Replay.{empty_state};
 ghost use Rattle.page_model.specs.Stored.{byte_at, text_at};
+ghost use Rattle.page_model.specs.declared.limits.TheConstants.{PAGE_BYTES};
 ghost use Rattle.machine_frames.specs.FrameMap.{frame, no_frames};
 ghost use Rattle.share_table.specs.TableMaps.{empty_table};
 ghost use Rattle.merge_core.specs.Applying.{Applies};
-ghost use Rattle.merge_core.specs.Hashing.{IsHashFor, page_hash, page_hashes};
+ghost use Rattle.merge_core.specs.Hashing.{AreWorkers, IsHashFor, page_hash, page_hashes};
 ghost use Rattle.merge_core.specs.Lending.{Lends, StoresPage, TakesBack};
 ghost use Rattle.merge_core.specs.Refusals.{AreLimits, NoCoreFor};
 ghost use Rattle.merge_core.specs.Shown.{state_of, FramesOfPages, TableOfPages};
@@ -265,7 +266,7 @@ impl<H: PageHash, A: Allocator> Core<H, A> {
     /// Returns the byte of a page at a place, 0 if the page is unmapped.
     pub fn read(&self, guest: u8, ppn: u32, at: u32) -> u8
         requires page { IsSome (page_at (state_of self.now).guests guest ppn) }
-        requires at { at < 4096 }
+        requires at { at < PAGE_BYTES }
         ensures { result ≡ byte_at (state_of self.now) guest ppn at }
     {
         match self.frame(guest, ppn) {
@@ -347,7 +348,7 @@ impl<H: PageHash, A: Allocator + Sync> Core<H, A> {
         workers: u32,
         pages: &[(u8, u32)],
     ) -> Result<Vec<Option<u64>, B>, HashFault>
-        requires { (1 ≤ workers) × (workers ≤ 64) }
+        requires { AreWorkers workers }
         ensures same { self.new ≡ self.old }
         ensures hashes { IfOk result (λ hashes. hashes.items ≡ page_hashes H.hash_of (state_of self.old).guests pages.now) }
     {
@@ -369,7 +370,7 @@ impl<H: PageHash, A: Allocator + Sync> Core<H, A> {
         workers: u32,
         pages: &[(u8, u32)],
     )
-        requires { (1 ≤ workers) × (workers ≤ 64) }
+        requires { AreWorkers workers }
         ensures { self.new ≡ self.old }
     {
         if pages.len() >= 2 * PAGES_A_WORKER {

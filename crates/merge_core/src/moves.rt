@@ -2,6 +2,7 @@
 ghost use Rattle.std.specs.Prelude.{◌≡◌, ◌+◌, ◌<◌, ◌≤◌, ◌==◌, length, false, None, Some, option_map, slice_set, IfSome, IsSome};
 ghost use Rattle.page_model.specs.Pages.{blank, written, with_slot, page_at, used, peers};
 ghost use Rattle.page_model.specs.Pages as s;
+ghost use Rattle.page_model.specs.declared.limits.TheConstants.{PAGE_BYTES};
 ghost use Rattle.merge_core.specs.Kept.{OnlyNotes};
 ghost use Rattle.merge_core.specs.Names.{bytes_in, slot_in, known_at};
 ghost use Rattle.merge_core.specs.View.{slot_of, names_in, names_of, guests_of, notes_of, Whole};
@@ -107,7 +108,7 @@ pub fn write<H: PageHash, A: Allocator>(
 )
     requires whole { Whole H.hash_of held.old }
     requires page { page_at (names_of held.old) page.guest page.ppn ≡ Some (page.salt, s.Private mpn hint) }
-    requires fits { at + length bytes.now ≤ 4096 }
+    requires fits { at + length bytes.now ≤ PAGE_BYTES }
     ensures whole { Whole H.hash_of held.new }
     ensures total { length held.new.frames ≡ length held.old.frames }
     ensures name { names_of held.new ≡ names_of held.old }

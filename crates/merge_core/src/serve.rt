@@ -3,6 +3,7 @@ ghost use Rattle.std.specs.Prelude.{◌≡◌, ◌+◌, ◌<◌, ◌≤◌, ◌-
 ghost use Rattle.page_model.specs.Steps.{stored, released, loaded, at_page};
 ghost use Rattle.page_model.specs.Pages.{page_at, with_slot, blank};
 ghost use Rattle.page_model.specs.Pages as s;
+ghost use Rattle.page_model.specs.declared.limits.TheConstants.{MAX_ACCESS_BYTES, PAGE_BYTES};
 ghost use Rattle.page_model.specs.declared.verdict.Verdict.TheVariants.{Released};
 ghost use Rattle.merge_core.specs.Kept.{Served};
 ghost use Rattle.merge_core.specs.Names.{bytes_in};
@@ -17,7 +18,7 @@ use crate::moves::{
 use arrayvec::ArrayVec;
 use machine_frames::Frames;
 use page_digest::PageHash;
-use page_model::{LoadReq, StoreReq, Verdict};
+use page_model::{LoadReq, MAX_ACCESS_BYTES, PAGE_BYTES, Page, StoreReq, Verdict};
 use std::alloc::Allocator;
 
 /// Serves a store.
@@ -47,7 +48,7 @@ pub fn store_bytes<H: PageHash, A: Allocator>(
     bytes: &[u8],
 ) -> Verdict
     requires whole { Whole H.hash_of held.old }
-    requires fits { at + length bytes.now ≤ 4096 }
+    requires fits { at + length bytes.now ≤ PAGE_BYTES }
     ensures served { Served H.hash_of guest ppn result held.old held.new }
     ensures step { record { guests = guests_of held.new; verdict = result }
         ≡ at_page (guests_of held.old) guest ppn
@@ -85,7 +86,7 @@ fn store_shared<H: PageHash, A: Allocator>(
 ) -> Verdict
     requires whole { Whole H.hash_of held.old }
     requires page { page_at (names_of held.old) page.guest page.ppn ≡ Some (page.salt, s.Shared mpn) }
-    requires fits { at + length bytes.now ≤ 4096 }
+    requires fits { at + length bytes.now ≤ PAGE_BYTES }
     ensures served { Served H.hash_of page.guest page.ppn result held.old held.new }
     ensures step { record { guests = guests_of held.new; verdict = result }
         ≡ stored (length held.old.frames) (guests_of held.old) page.guest page.ppn at bytes.now page.salt
@@ -220,17 +221,17 @@ pub fn load<H: PageHash, A: Allocator>(
 }
 
 /// Returns the bytes of a taken frame.
-pub fn bytes_at<A: Allocator>(frames: &Frames<A>, mpn: u32) -> &[u8; 4096]
+pub fn bytes_at<A: Allocator>(frames: &Frames<A>, mpn: u32) -> &Page
     requires taken { fm.IsTaken frames.now mpn }
     ensures bytes { result.now ≡ bytes_in frames.now mpn }
 {
     frames.bytes(mpn)
 }
 
-fn part(page: &[u8; 4096], start: usize, end: usize) -> ArrayVec<u8, 64>
+fn part(page: &Page, start: usize, end: usize) -> ArrayVec<u8, MAX_ACCESS_BYTES>
     requires order { start ≤ end }
-    requires within { end ≤ 4096 }
-    requires few { end ≤ start + 64 }
+    requires within { end ≤ PAGE_BYTES }
+    requires few { end ≤ start + MAX_ACCESS_BYTES }
     ensures { result.items ≡ take (end - start) (drop start page.now) }
 {
     match ArrayVec::try_from(&page[start..end]) {
@@ -240,13 +241,13 @@ fn part(page: &[u8; 4096], start: usize, end: usize) -> ArrayVec<u8, 64>
 }
 
 #[tactic(auto, unfolding(page_model::specs::Pages::blank))]
-fn zeros(start: usize, end: usize) -> ArrayVec<u8, 64>
+fn zeros(start: usize, end: usize) -> ArrayVec<u8, MAX_ACCESS_BYTES>
     requires order { start ≤ end }
-    requires within { end ≤ 4096 }
-    requires few { end ≤ start + 64 }
+    requires within { end ≤ PAGE_BYTES }
+    requires few { end ≤ start + MAX_ACCESS_BYTES }
     ensures { result.items ≡ take (end - start) (drop start blank) }
 {
-    let page = [0; 4096];
+    let page: Page = [0; PAGE_BYTES];
     match ArrayVec::try_from(&page[start..end]) {
         Ok(bytes) => bytes,
         Err(_) => unreachable!(),
