@@ -1,12 +1,12 @@
 //! Hashes that are computed and noted before a proposal asks for them, four pages at once.
 ghost use Rattle.std.specs.Prelude.{◌≡◌, ◌∷◌, [], All, IfSome};
-ghost use Rattle.machine_frames.specs.FrameMap.{IsTaken};
 ghost use Rattle.merge_core.specs.Ahead.{IsPrivate, hash_in};
 ghost use Rattle.merge_core.specs.Kept.{OnlyNotes};
 ghost use Rattle.merge_core.specs.View.{names_of, Whole};
 
+use crate::hashing::{hash_frame, is_noted, learn};
 use crate::held::{Held, PageEntry, Place};
-use crate::moves::{find, hash_frame, learn};
+use crate::look::find;
 use arrayvec::ArrayVec;
 use page_digest::PageHash;
 use std::alloc::Allocator;
@@ -88,14 +88,6 @@ fn is_known<H: PageHash, A: Allocator>(held: &Held<H, A>, private: PrivatePage) 
     requires private { IsPrivate (names_of held.now) private }
 {
     is_noted(held, private.mpn)
-}
-
-/// Whether the hash of a frame is noted.
-pub fn is_noted<H: PageHash, A: Allocator>(held: &Held<H, A>, mpn: u32) -> bool
-    requires whole { Whole H.hash_of held.now }
-    requires taken { IsTaken held.now.frames mpn }
-{
-    held.notes.known_hash(mpn).is_some()
 }
 
 /// Computes the hashes of four pages at once, and notes them.

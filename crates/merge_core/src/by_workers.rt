@@ -1,15 +1,14 @@
 //! Hashes that several workers compute and that are then noted.
 ghost use Rattle.std.specs.Prelude.{◌≡◌, ◌≤◌, [], All, IfOk, IfSome, length, vec_capacity};
-ghost use Rattle.std.specs.Option.{option_map};
 ghost use Rattle.page_digest.specs.Many.{frame_hashes};
 ghost use Rattle.merge_core.specs.Hashing.{AreWorkers, IsPaged, page_hash, page_hashes};
 ghost use Rattle.merge_core.specs.Kept.{OnlyNotes};
 ghost use Rattle.merge_core.specs.Names.{bytes_in};
 ghost use Rattle.merge_core.specs.View.{names_of, guests_of, Whole};
 
-use crate::ahead::is_noted;
-use crate::held::{Held, PageEntry};
-use crate::moves::{find, hash_frame, learn};
+use crate::hashing::{hash_frame, is_noted, learn};
+use crate::held::Held;
+use crate::look::frame_of;
 use page_digest::{HashFault, PageHash, hash_many};
 use std::alloc::{AllocError, Allocator};
 use std::sync::Wait;
@@ -89,25 +88,6 @@ fn unknown_frame<H: PageHash, A: Allocator>(
         return None;
     }
     Some((salt, mpn))
-}
-
-/// Returns the salt and frame of a page, if it is mapped.
-pub fn frame_of<H: PageHash, A: Allocator>(
-    held: &Held<H, A>,
-    guest: usize,
-    ppn: usize,
-) -> Option<(u32, u32)>
-    requires whole { Whole H.hash_of held.now }
-    ensures paged { IfSome result (λ pair. IsPaged (names_of held.now) pair.0 pair.1) }
-    ensures hash { option_map (λ pair. H.hash_of pair.0 (bytes_in held.now.frames pair.1)) result
-        ≡ page_hash H.hash_of (guests_of held.now) guest ppn }
-{
-    match find(held, guest, ppn) {
-        None => None,
-        Some((_, PageEntry::Unmapped)) => None,
-        Some((salt, PageEntry::Private(mpn, _))) => Some((salt, mpn)),
-        Some((salt, PageEntry::Shared(mpn))) => Some((salt, mpn)),
-    }
 }
 
 /// Whether the hash of a page's frame is known.

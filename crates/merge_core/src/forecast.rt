@@ -7,10 +7,8 @@ ghost use Rattle.merge_core.specs.View.{names_of, Whole};
 ghost use Rattle.page_forecasts.specs.declared.forecasts.TheConstants.{FORECASTS};
 
 use crate::ahead::{PrivatePage, note, note_four, unhashed};
-use crate::by_workers::frame_of;
 use crate::held::{Held, Place};
-use crate::moves::find;
-use crate::serve::bytes_at;
+use crate::look::{bytes_at, find, frame_of};
 use arrayvec::ArrayVec;
 use page_digest::PageHash;
 use page_forecasts::{FORECASTS, Forecasts, is_changed, is_proposed};

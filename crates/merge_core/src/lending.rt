@@ -13,13 +13,13 @@ ghost use Rattle.merge_core.specs.Names.{bytes_in, known_at};
 ghost use Rattle.merge_core.specs.Stays.{frame_at};
 ghost use Rattle.merge_core.specs.View.{names_of, guests_of, notes_of, Whole};
 
+use crate::hashing::{hash_frame, learn};
 use crate::held::{Held, PageEntry, Place};
 use crate::lent::{Lent, Returned};
-use crate::moves::{
-    find, hash_frame, is_full, join, keep, learn, leave, map_copy, map_zeroed, peers_of, write,
-};
+use crate::look::{bytes_at, find};
+use crate::moves::{is_full, join, keep, leave, map_copy, map_zeroed, peers_of, write};
 use crate::offer::{has_content, propose_private};
-use crate::serve::{bytes_at, release_private, release_shared};
+use crate::serve::{release_private, release_shared};
 use page_digest::PageHash;
 use page_model::{Page, Verdict};
 use std::alloc::Allocator;

@@ -1,10 +1,9 @@
 //! The single changes to a page.
-ghost use Rattle.std.specs.Prelude.{◌≡◌, ◌+◌, ◌<◌, ◌≤◌, ◌==◌, length, false, None, Some, option_map, slice_set, IfSome, IsSome};
+ghost use Rattle.std.specs.Prelude.{◌≡◌, ◌+◌, ◌<◌, ◌≤◌, ◌==◌, length, false, None, Some, slice_set, IsSome};
 ghost use Rattle.page_model.specs.Pages.{blank, written, with_slot, page_at, used, peers};
 ghost use Rattle.page_model.specs.Pages as s;
 ghost use Rattle.page_model.specs.declared.limits.TheConstants.{PAGE_BYTES};
-ghost use Rattle.merge_core.specs.Kept.{OnlyNotes};
-ghost use Rattle.merge_core.specs.Names.{bytes_in, slot_in, known_at};
+ghost use Rattle.merge_core.specs.Names.{bytes_in, known_at};
 ghost use Rattle.merge_core.specs.View.{slot_of, names_in, names_of, guests_of, notes_of, Whole};
 ghost use Rattle.machine_frames.specs.FrameMap as fm;
 ghost use Rattle.share_table.specs.TableMaps.{shared_at, hint_at, count_at, without_hint};
@@ -13,38 +12,6 @@ use crate::held::{GuestPages, Held, PageEntry, Place};
 use machine_frames::Frames;
 use page_digest::PageHash;
 use std::alloc::Allocator;
-
-/// Returns the salt of a page's guest, and the page's entry.
-fn find_entry<A: Allocator>(
-    guests: &[GuestPages<A>],
-    guest: usize,
-    ppn: usize,
-) -> Option<(u32, PageEntry)>
-    ensures within { IfSome result (λ _. guest < length guests.now) }
-    ensures name { option_map (λ x. (x.0, slot_of x.1)) result ≡ page_at (names_in guests.now) guest ppn }
-{
-    if guest >= guests.len() {
-        return None;
-    }
-    let g = &guests[guest];
-    if ppn >= g.pages.len() {
-        return None;
-    }
-    Some((g.salt, g.pages[ppn]))
-}
-
-/// Returns the salt of a page's guest, and the page.
-pub fn find<H, A: Allocator>(
-    held: &Held<H, A>,
-    guest: usize,
-    ppn: usize,
-) -> Option<(u32, PageEntry)>
-    ensures within { IfSome result (λ _. guest < length (names_of held.now)) }
-    ensures name { option_map (λ x. (x.0, slot_of x.1)) result ≡ page_at (names_of held.now) guest ppn }
-    ensures page { option_map (λ x. (x.0, slot_in held.now.frames (slot_of x.1))) result ≡ page_at (guests_of held.now) guest ppn }
-{
-    find_entry(held.guests.as_slice(), guest, ppn)
-}
 
 /// Whether no frame is free.
 pub fn is_full<H: PageHash, A: Allocator>(held: &Held<H, A>) -> bool
@@ -188,36 +155,6 @@ pub fn drop_hint<H: PageHash, A: Allocator>(held: &mut Held<H, A>, page: Place, 
     held.table.drop_hint(key);
     held.hints -= 1;
     set_page(&mut held.guests, page, PageEntry::Private(mpn, None));
-}
-
-/// Returns the hash of a page's frame, computed only if it isn't known.
-pub fn hash_frame<H: PageHash, A: Allocator>(held: &mut Held<H, A>, mpn: u32, salt: u32) -> u64
-    requires whole { Whole H.hash_of held.old }
-    requires taken { fm.IsTaken held.old.frames mpn }
-    requires salt { (known_at (notes_of held.old) mpn).salt ≡ salt }
-    ensures hash { result ≡ H.hash_of salt (bytes_in held.old.frames mpn) }
-    ensures kept { OnlyNotes H.hash_of held.old held.new }
-    ensures shown { guests_of held.new ≡ guests_of held.old }
-{
-    if let Some(code) = held.notes.known_hash(mpn) {
-        return code;
-    }
-    let code = held.hash.hash(salt, held.frames.bytes(mpn));
-    learn(held, mpn, salt, code);
-    code
-}
-
-/// Notes a frame's hash.
-pub fn learn<H: PageHash, A: Allocator>(held: &mut Held<H, A>, mpn: u32, salt: u32, code: u64)
-    requires whole { Whole H.hash_of held.old }
-    requires taken { fm.IsTaken held.old.frames mpn }
-    requires salt { (known_at (notes_of held.old) mpn).salt ≡ salt }
-    requires code { code ≡ H.hash_of salt (bytes_in held.old.frames mpn) }
-    ensures kept { OnlyNotes H.hash_of held.old held.new }
-    ensures shown { guests_of held.new ≡ guests_of held.old }
-    ensures known { known_at (notes_of held.new) mpn ≡ record { salt = salt; hash = Some code } }
-{
-    held.notes.learn(mpn, salt, code);
 }
 
 /// Returns how many pages share a page's frame.

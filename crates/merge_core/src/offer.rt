@@ -5,7 +5,7 @@ ghost use Rattle.page_model.specs.Pages.{page_at, with_slot};
 ghost use Rattle.page_model.specs.Pages as s;
 ghost use Rattle.page_model.specs.declared.verdict.Verdict.TheVariants.{Paired};
 ghost use Rattle.merge_core.specs.Lending.{has_joined};
-ghost use Rattle.merge_core.specs.Kept.{OnlyNotes, Served};
+ghost use Rattle.merge_core.specs.Kept.{Served};
 ghost use Rattle.merge_core.specs.Names.{bytes_in, known_at};
 ghost use Rattle.merge_core.specs.Stays.{AllKeep};
 ghost use Rattle.share_table.specs.TableMaps.{hint_at, shared_at, count_at};
@@ -13,20 +13,15 @@ ghost use Rattle.merge_core.specs.View.{names_of, guests_of, notes_of, Whole};
 ghost use Rattle.machine_frames.specs.FrameMap as fm;
 ghost use Rattle.std.specs.Str.{bytes_eq};
 
+use crate::hashing::{has_key, hash_frame, key_of, learn};
 use crate::held::{Held, PageEntry, Place};
-use crate::moves::{drop_hint, find, hash_frame, join, learn, put_hint, share, unmap};
-use crate::serve::{bytes_at, clear_hint};
+use crate::look::{bytes_at, find};
+use crate::moves::{drop_hint, join, put_hint, share, unmap};
+use crate::serve::clear_hint;
 use page_digest::PageHash;
 use page_model::{Page, Verdict};
 use share_table::HintFrame;
 use std::alloc::Allocator;
-
-/// Returns the low 32 bits of a hash.
-fn key_of(code: u64) -> u32
-    ensures { result ≡ key_of code }
-{
-    (code % 4_294_967_296) as u32
-}
 
 /// Serves a proposal.
 #[tactic(auto, unfolding(page_model::specs::Steps::proposed))]
@@ -248,19 +243,6 @@ fn weigh<H: PageHash, A: Allocator>(
     drop_hint(held, other, theirs, key);
     put_hint(held, page, mpn, key);
     Verdict::Replaced
-}
-
-/// Whether a frame's present content has this key.
-fn has_key<H: PageHash, A: Allocator>(held: &mut Held<H, A>, mpn: u32, salt: u32, key: u32) -> bool
-    requires whole { Whole H.hash_of held.old }
-    requires taken { fm.IsTaken held.old.frames mpn }
-    requires salt { (known_at (notes_of held.old) mpn).salt ≡ salt }
-    ensures key { result ≡ (key_of (H.hash_of salt (bytes_in held.old.frames mpn)) == key) }
-    ensures kept { OnlyNotes H.hash_of held.old held.new }
-    ensures shown { guests_of held.new ≡ guests_of held.old }
-{
-    let code = hash_frame(held, mpn, salt);
-    key_of(code) == key
 }
 
 /// Moves a private page from its frame to that of the hint page under its key, which has the same content.

@@ -1,9 +1,9 @@
 //! How each request is served on the pages of all guests.
-ghost use Rattle.std.specs.Prelude.{◌≡◌, ◌+◌, ◌<◌, ◌≤◌, ◌-◌, ⊤, true, length, take, drop, Some, None, MatchBool};
+ghost use Rattle.std.specs.Prelude.{◌≡◌, ◌+◌, ◌<◌, ◌≤◌, ◌-◌, ⊤, true, length, Some, None, MatchBool};
 ghost use Rattle.page_model.specs.Steps.{stored, released, loaded, at_page};
-ghost use Rattle.page_model.specs.Pages.{page_at, with_slot, blank};
+ghost use Rattle.page_model.specs.Pages.{page_at, with_slot};
 ghost use Rattle.page_model.specs.Pages as s;
-ghost use Rattle.page_model.specs.declared.limits.TheConstants.{MAX_ACCESS_BYTES, PAGE_BYTES};
+ghost use Rattle.page_model.specs.declared.limits.TheConstants.{PAGE_BYTES};
 ghost use Rattle.page_model.specs.declared.verdict.Verdict.TheVariants.{Released};
 ghost use Rattle.merge_core.specs.Kept.{Served};
 ghost use Rattle.merge_core.specs.Names.{bytes_in};
@@ -11,14 +11,12 @@ ghost use Rattle.merge_core.specs.Stays.{AllKeep};
 ghost use Rattle.machine_frames.specs.FrameMap as fm;
 ghost use Rattle.merge_core.specs.View.{names_of, guests_of, Whole};
 
+use crate::hashing::hash_frame;
 use crate::held::{Held, PageEntry, Place};
-use crate::moves::{
-    drop_hint, find, hash_frame, is_full, keep, leave, map_copy, map_zeroed, peers_of, unmap, write,
-};
-use arrayvec::ArrayVec;
-use machine_frames::Frames;
+use crate::look::{bytes_at, find, part, zeros};
+use crate::moves::{drop_hint, is_full, keep, leave, map_copy, map_zeroed, peers_of, unmap, write};
 use page_digest::PageHash;
-use page_model::{LoadReq, MAX_ACCESS_BYTES, PAGE_BYTES, Page, StoreReq, Verdict};
+use page_model::{LoadReq, StoreReq, Verdict};
 use std::alloc::Allocator;
 
 /// Serves a store.
@@ -217,39 +215,5 @@ pub fn load<H: PageHash, A: Allocator>(
         PageEntry::Unmapped => Verdict::Bytes(zeros(start, end)),
         PageEntry::Private(mpn, _) => Verdict::Bytes(part(bytes_at(&held.frames, mpn), start, end)),
         PageEntry::Shared(mpn) => Verdict::Bytes(part(bytes_at(&held.frames, mpn), start, end)),
-    }
-}
-
-/// Returns the bytes of a taken frame.
-pub fn bytes_at<A: Allocator>(frames: &Frames<A>, mpn: u32) -> &Page
-    requires taken { fm.IsTaken frames.now mpn }
-    ensures bytes { result.now ≡ bytes_in frames.now mpn }
-{
-    frames.bytes(mpn)
-}
-
-fn part(page: &Page, start: usize, end: usize) -> ArrayVec<u8, MAX_ACCESS_BYTES>
-    requires order { start ≤ end }
-    requires within { end ≤ PAGE_BYTES }
-    requires few { end ≤ start + MAX_ACCESS_BYTES }
-    ensures { result.items ≡ take (end - start) (drop start page.now) }
-{
-    match ArrayVec::try_from(&page[start..end]) {
-        Ok(bytes) => bytes,
-        Err(_) => unreachable!(),
-    }
-}
-
-#[tactic(auto, unfolding(page_model::specs::Pages::blank))]
-fn zeros(start: usize, end: usize) -> ArrayVec<u8, MAX_ACCESS_BYTES>
-    requires order { start ≤ end }
-    requires within { end ≤ PAGE_BYTES }
-    requires few { end ≤ start + MAX_ACCESS_BYTES }
-    ensures { result.items ≡ take (end - start) (drop start blank) }
-{
-    let page: Page = [0; PAGE_BYTES];
-    match ArrayVec::try_from(&page[start..end]) {
-        Ok(bytes) => bytes,
-        Err(_) => unreachable!(),
     }
 }

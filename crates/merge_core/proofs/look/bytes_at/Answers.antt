@@ -1,7 +1,7 @@
 use Rattle.std.proofs.Common.{◌≡◌, Some, List, ℕ, sym, ◌∙◌}
 use Rattle.merge_core.specs.Names.{bytes_in}
 use Rattle.merge_core.proofs.FrameLemmas.{bytes_are}
-use Rattle.merge_core.proofs.serve.bytes_at.Goals as goal
+use Rattle.merge_core.proofs.look.bytes_at.Goals as goal
 
 same_bytes : (x y : List ℕ) → Some x ≡ Some y → x ≡ y
 same_bytes x y e = cc

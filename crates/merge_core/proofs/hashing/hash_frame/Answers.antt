@@ -1,7 +1,7 @@
 use Rattle.std.proofs.Common.{ap, sym, ◌∙◌, ◌≡◌, Some, List, ℕ}
 use Rattle.merge_core.specs.Names.{bytes_in}
 use Rattle.merge_core.proofs.FrameLemmas.{bytes_are}
-use Rattle.merge_core.proofs.moves.hash_frame.Goals as goal
+use Rattle.merge_core.proofs.hashing.hash_frame.Goals as goal
 
 same_bytes : (x y : List ℕ) → Some x ≡ Some y → x ≡ y
 same_bytes x y e = cc

@@ -2,7 +2,7 @@ use Rattle.merge_core.proofs.FrameLemmas.{known_same, taken_within}
 use Rattle.std.proofs.Common.{◌<◌, length, Some, refl, arith}
 use Rattle.merge_core.specs.View.{names_of, notes_of}
 use Rattle.merge_core.proofs.Changes.{learnt_ties}
-use Rattle.merge_core.proofs.moves.learn.Goals as goal
+use Rattle.merge_core.proofs.hashing.learn.Goals as goal
 
 pub returns-clause-kept : goal.returns-clause-kept
 returns-clause-kept g c =
