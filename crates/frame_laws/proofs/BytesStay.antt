@@ -14,7 +14,7 @@ use Rattle.page_model.proofs.Texts.{SameTexts, other, at_page_keeps, proposed_ke
 use Rattle.page_lending.specs.Lending.{stores_from, entries_of, page_stored, page_lent}
 use Rattle.page_lending.proofs.Stores.{store_at, Ends, store_ends}
 use Rattle.machine_frames.specs.FrameMap.{FrameMap, frame, IsTaken}
-use Rattle.merge_core.specs.Names.{Names, bytes_in, slot_in, guests_in, frame_of}
+use Rattle.merge_core.specs.Pmap.{Pmap, bytes_in, slot_in, guests_in, frame_of}
 use Rattle.merge_core.specs.Shown.{Shown, state_of, FramesOfPages}
 use Rattle.merge_core.specs.Stays.{frame_at, Change, Keeps, TakesFree, JoinsAnother, GivesUp, change_at, NamedFrame, AllKeep, OthersKeep}
 use Rattle.merge_core.specs.Lending.{Lends, keeps_own, has_joined, both_changes, release_verdict}
@@ -34,8 +34,8 @@ text_by frames m (Some (salt, Unmapped)) e = absurd (none_some m e)
 text_by frames m (Some (salt, Private n hint)) e = ap (option_map (bytes_in frames)) e
 text_by frames m (Some (salt, Shared n)) e = ap (option_map (bytes_in frames)) e
 
-text_is : (frames : FrameMap) (names : Names) (a b m : ℕ) → frame_at names a b ≡ Some m → text_at (guests_in frames names) a b ≡ Some (bytes_in frames m)
-text_is frames names a b m e = ap (option_map (λ (x : ℕ × Slot). bytes_of x.1)) (page_in frames names a b) ∙ text_by frames m (page_at names a b) e
+text_is : (frames : FrameMap) (pmap : Pmap) (a b m : ℕ) → frame_at pmap a b ≡ Some m → text_at (guests_in frames pmap) a b ≡ Some (bytes_in frames m)
+text_is frames pmap a b m e = ap (option_map (λ (x : ℕ × Slot). bytes_of x.1)) (page_in frames pmap a b) ∙ text_by frames m (page_at pmap a b) e
 
 some_bytes : (x y : List ℕ) → Some x ≡ Some y → x ≡ y
 some_bytes x y e = cc
@@ -44,9 +44,9 @@ some_mpn : (x y : ℕ) → Some x ≡ Some y → x ≡ y
 some_mpn x y e = cc
 
 -- a page with a frame before and after, and with the same text
-same_frame : (old new : Shown) (x y m : ℕ) → frame_at old.names x y ≡ Some m → frame_at new.names x y ≡ Some m → IsTaken old.frames m → IsTaken new.frames m → text_at (state_of new).guests x y ≡ text_at (state_of old).guests x y → frame new.frames m ≡ frame old.frames m
+same_frame : (old new : Shown) (x y m : ℕ) → frame_at old.pmap x y ≡ Some m → frame_at new.pmap x y ≡ Some m → IsTaken old.frames m → IsTaken new.frames m → text_at (state_of new).guests x y ≡ text_at (state_of old).guests x y → frame new.frames m ≡ frame old.frames m
 same_frame old new x y m was is taken still text =
-    let bytes : bytes_in new.frames m ≡ bytes_in old.frames m = some_bytes _ _ (sym (text_is new.frames new.names x y m is) ∙ text ∙ text_is old.frames old.names x y m was) in
+    let bytes : bytes_in new.frames m ≡ bytes_in old.frames m = some_bytes _ _ (sym (text_is new.frames new.pmap x y m is) ∙ text ∙ text_is old.frames old.pmap x y m was) in
     bytes_are new.frames m still ∙ ap (λ (l : List ℕ). Some l) bytes ∙ sym (bytes_are old.frames m taken)
 
 -- what becomes of the texts of pages: those of all pages but one stay
@@ -64,38 +64,38 @@ still_same gs new e g p = ap (λ (l : List Guest). text_at l g p) e
 
 -- A change of one page's frame, while the texts of the other pages stay, and its own does if it keeps its frame and the frame
 -- wasn't written.
-module _ (written : Option ℕ) (old new : Shown) (a b : ℕ) (whole : FramesOfPages new) (others : (x y : ℕ) → (x ≡ a → y ≡ b → ⊥) → frame_at new.names x y ≡ frame_at old.names x y) (texts : TextsBut a b (state_of old).guests (state_of new).guests) where
+module _ (written : Option ℕ) (old new : Shown) (a b : ℕ) (whole : FramesOfPages new) (others : (x y : ℕ) → (x ≡ a → y ≡ b → ⊥) → frame_at new.pmap x y ≡ frame_at old.pmap x y) (texts : TextsBut a b (state_of old).guests (state_of new).guests) where
   abbrev OwnText : Type 0
-  OwnText = (m : ℕ) → frame_at new.names a b ≡ Some m → written ≢ Some m → text_at (state_of new).guests a b ≡ text_at (state_of old).guests a b
+  OwnText = (m : ℕ) → frame_at new.pmap a b ≡ Some m → written ≢ Some m → text_at (state_of new).guests a b ≡ text_at (state_of old).guests a b
 
-  elsewhere : (m x y : ℕ) → (x ≡ a → y ≡ b → ⊥) → frame_at new.names x y ≡ Some m → IsTaken old.frames m → IsTaken new.frames m → frame new.frames m ≡ frame old.frames m
+  elsewhere : (m x y : ℕ) → (x ≡ a → y ≡ b → ⊥) → frame_at new.pmap x y ≡ Some m → IsTaken old.frames m → IsTaken new.frames m → frame new.frames m ≡ frame old.frames m
   elsewhere m x y apart is taken still = same_frame old new x y m (sym (others x y apart) ∙ is) is taken still (texts x y apart)
 
-  named_same : (change : Change) → NamedFrame change old.frames a b old.names new.names → (change ≡ Keeps → OwnText) → (m : ℕ) → frame_at new.names a b ≡ Some m → IsTaken old.frames m → IsTaken new.frames m → written ≢ Some m → frame new.frames m ≡ frame old.frames m
+  named_same : (change : Change) → NamedFrame change old.frames a b old.pmap new.pmap → (change ≡ Keeps → OwnText) → (m : ℕ) → frame_at new.pmap a b ≡ Some m → IsTaken old.frames m → IsTaken new.frames m → written ≢ Some m → frame new.frames m ≡ frame old.frames m
   named_same Keeps named own m is taken still apart = same_frame old new a b m (sym named ∙ is) is taken still (own refl m is apart)
   named_same TakesFree named own m is taken still apart =
       let free : frame old.frames m ≡ None = ap (frame old.frames) (some_mpn _ _ (sym is ∙ named.has)) ∙ named.was_free in
       absurd (false≢true (let P : Option (List ℕ) → Type 0 = λ o. IsSome o in subst P free taken))
   named_same JoinsAnother named own m is taken still apart =
-      let theirs : frame_at new.names named.other named.place ≡ Some m = others named.other named.place named.apart ∙ named.theirs ∙ sym named.has ∙ is in
+      let theirs : frame_at new.pmap named.other named.place ≡ Some m = others named.other named.place named.apart ∙ named.theirs ∙ sym named.has ∙ is in
       elsewhere m named.other named.place named.apart theirs taken still
   named_same GivesUp named own m is taken still apart = absurd (none_some m (sym named ∙ is))
 
-  bytes_stay : (change : Change) → NamedFrame change old.frames a b old.names new.names → (change ≡ Keeps → OwnText) → BytesStay written old new
-  bytes_stay change named own = record { same = λ m taken still apart. let o = whole.owned m still in pick m taken still apart o.guest o.ppn (frame_is new.names o.guest o.ppn o.salt o.slot o.at ∙ o.frame) (cases_eq o.guest a) (cases_eq o.ppn b) } where
-    pick : (m : ℕ) → IsTaken old.frames m → IsTaken new.frames m → written ≢ Some m → (x y : ℕ) → frame_at new.names x y ≡ Some m → ((x ≡ a) ⊎ (x ≡ a → ⊥)) → ((y ≡ b) ⊎ (y ≡ b → ⊥)) → frame new.frames m ≡ frame old.frames m
+  bytes_stay : (change : Change) → NamedFrame change old.frames a b old.pmap new.pmap → (change ≡ Keeps → OwnText) → BytesStay written old new
+  bytes_stay change named own = record { same = λ m taken still apart. let o = whole.owned m still in pick m taken still apart o.guest o.ppn (frame_is new.pmap o.guest o.ppn o.salt o.slot o.at ∙ o.frame) (cases_eq o.guest a) (cases_eq o.ppn b) } where
+    pick : (m : ℕ) → IsTaken old.frames m → IsTaken new.frames m → written ≢ Some m → (x y : ℕ) → frame_at new.pmap x y ≡ Some m → ((x ≡ a) ⊎ (x ≡ a → ⊥)) → ((y ≡ b) ⊎ (y ≡ b → ⊥)) → frame new.frames m ≡ frame old.frames m
     pick m taken still apart x y is (inl e) (inl f) =
-        let here : frame_at new.names a b ≡ Some m = ap (λ (i : ℕ). frame_at new.names i b) (sym e) ∙ ap (λ (i : ℕ). frame_at new.names x i) (sym f) ∙ is in
+        let here : frame_at new.pmap a b ≡ Some m = ap (λ (i : ℕ). frame_at new.pmap i b) (sym e) ∙ ap (λ (i : ℕ). frame_at new.pmap x i) (sym f) ∙ is in
         named_same change named own m here taken still apart
     pick m taken still apart x y is (inl e) (inr n) = elsewhere m x y (λ _ q. n q) is taken still
     pick m taken still apart x y is (inr n) z = elsewhere m x y (λ q _. n q) is taken still
 
 -- where no page changes its text
-texts_stay : (written : Option ℕ) (old new : Shown) (a b : ℕ) (change : Change) → FramesOfPages new → NamedFrame change old.frames a b old.names new.names → ((x y : ℕ) → (x ≡ a → y ≡ b → ⊥) → frame_at new.names x y ≡ frame_at old.names x y) → SameTexts (state_of old).guests (state_of new).guests → BytesStay written old new
+texts_stay : (written : Option ℕ) (old new : Shown) (a b : ℕ) (change : Change) → FramesOfPages new → NamedFrame change old.frames a b old.pmap new.pmap → ((x y : ℕ) → (x ≡ a → y ≡ b → ⊥) → frame_at new.pmap x y ≡ frame_at old.pmap x y) → SameTexts (state_of old).guests (state_of new).guests → BytesStay written old new
 texts_stay written old new a b change whole named others same =
     bytes_stay written old new a b whole others (all_but a b _ _ same) change named (λ _ m _ _. same a b)
 
-keeps_texts : (written : Option ℕ) (old new : Shown) → FramesOfPages new → AllKeep old.names new.names → (state_of new).guests ≡ (state_of old).guests → BytesStay written old new
+keeps_texts : (written : Option ℕ) (old new : Shown) → FramesOfPages new → AllKeep old.pmap new.pmap → (state_of new).guests ≡ (state_of old).guests → BytesStay written old new
 keeps_texts written old new whole keep same = texts_stay written old new 0 0 Keeps whole (keep.keeps 0 0) (λ x y _. keep.keeps x y) (still_same _ _ same)
 
 -- a store that was done and moved no frame was in place
@@ -127,7 +127,7 @@ data StoresEnd (gs : List Guest) (guest ppn : ℕ) (verdict : Verdict) (new : Li
   refused : is_done verdict ≡ false → new ≡ gs → StoresEnd gs guest ppn verdict new
   done : is_done verdict ≡ true → TextsBut guest ppn gs new → StoresEnd gs guest ppn verdict new
 
-stores_stay : (old new : Shown) (guest ppn : ℕ) (verdict : Verdict) → FramesOfPages new → OthersKeep old.frames guest ppn verdict old.names new.names → StoresEnd (state_of old).guests guest ppn verdict (state_of new).guests → BytesStay (written_by_store verdict (frame_at new.names guest ppn)) old new
+stores_stay : (old new : Shown) (guest ppn : ℕ) (verdict : Verdict) → FramesOfPages new → OthersKeep old.frames guest ppn verdict old.pmap new.pmap → StoresEnd (state_of old).guests guest ppn verdict (state_of new).guests → BytesStay (written_by_store verdict (frame_at new.pmap guest ppn)) old new
 stores_stay old new guest ppn verdict whole stay (refused undone same) =
     texts_stay _ old new guest ppn (change_at verdict) whole stay.named stay.others (still_same _ _ same)
 stores_stay old new guest ppn verdict whole stay (done did texts) =
@@ -161,7 +161,7 @@ on_page_released : (gs : List Guest) (guest ppn : ℕ) (o : Option (ℕ × Slot)
 on_page_released gs guest ppn None = bare refl
 on_page_released gs guest ppn (Some (salt, slot)) = released_ends gs guest ppn salt slot
 
-release_stays : (old new : Shown) (guest ppn : ℕ) (verdict : Verdict) (o : Outcome) → FramesOfPages new → OthersKeep old.frames guest ppn verdict old.names new.names → o.guests ≡ (state_of new).guests → o.verdict ≡ verdict → ReleaseEnds (state_of old).guests guest ppn o → BytesStay None old new
+release_stays : (old new : Shown) (guest ppn : ℕ) (verdict : Verdict) (o : Outcome) → FramesOfPages new → OthersKeep old.frames guest ppn verdict old.pmap new.pmap → o.guests ≡ (state_of new).guests → o.verdict ≡ verdict → ReleaseEnds (state_of old).guests guest ppn o → BytesStay None old new
 release_stays old new guest ppn verdict o whole stay guests told (bare same) =
     texts_stay None old new guest ppn (change_at verdict) whole stay.named stay.others (still_same _ _ (sym guests ∙ same))
 release_stays old new guest ppn verdict o whole stay guests told (gave_up gives set) =
@@ -292,7 +292,7 @@ module _ (hash : ℕ → List ℕ → ℕ) (guest ppn : ℕ) (page : List ℕ) (
   now : (state_of new).guests ≡ (page_lent hash (state_of old) guest ppn page).state.guests
   now = ap (λ (s : Step). s.state.guests) h.step
 
-  lend_stays : StoresEnd (state_of old).guests guest ppn stored.verdict stored.state.guests → BytesStay (written_by_lend stored.verdict lent.verdict (frame_at new.names guest ppn)) old new
+  lend_stays : StoresEnd (state_of old).guests guest ppn stored.verdict stored.state.guests → BytesStay (written_by_lend stored.verdict lent.verdict (frame_at new.pmap guest ppn)) old new
   lend_stays (refused undone same) =
       texts_stay _ old new guest ppn (both_changes (change_at stored.verdict) (change_at lent.verdict)) whole h.stay.named h.stay.others
       (still_same _ _ (now ∙ ap (λ (s : Step). s.state.guests) (lent_refused hash (state_of old) guest ppn page undone) ∙ same))

@@ -5,7 +5,7 @@ use Rattle.page_model.specs.declared.request.Request.TheVariants.{Propose, Store
 use Rattle.page_model.specs.declared.verdict.Verdict.{Verdict}
 use Rattle.page_lending.specs.Lending.{page_stored}
 use Rattle.machine_frames.specs.FrameMap.{frame, IsTaken}
-use Rattle.merge_core.specs.Names.{Names}
+use Rattle.merge_core.specs.Pmap.{Pmap}
 use Rattle.merge_core.specs.Shown.{Shown, FramesOfPages, state_of}
 use Rattle.merge_core.specs.Stays.{frame_at}
 use Rattle.merge_core.specs.Applying.{Applies}
@@ -23,13 +23,13 @@ abbrev pub written_by_store : Verdict → Option ℕ → Option ℕ
 written_by_store verdict own = if keeps_own verdict then own else None
 
 -- the frame that a guest's request writes in place, if pages then have these frames: only a store does
-abbrev pub written_by : ℕ → Request → Verdict → Names → Option ℕ
-written_by guest (Propose ppn) verdict names = None
-written_by guest (Store r) verdict names = written_by_store verdict (frame_at names guest r.ppn)
-written_by guest (Load r) verdict names = None
-written_by guest (Release ppn) verdict names = None
-written_by guest Count verdict names = None
-written_by guest Close verdict names = None
+abbrev pub written_by : ℕ → Request → Verdict → Pmap → Option ℕ
+written_by guest (Propose ppn) verdict pmap = None
+written_by guest (Store r) verdict pmap = written_by_store verdict (frame_at pmap guest r.ppn)
+written_by guest (Load r) verdict pmap = None
+written_by guest (Release ppn) verdict pmap = None
+written_by guest Count verdict pmap = None
+written_by guest Close verdict pmap = None
 
 -- the frame that a lend writes in place: the one that its stores write, unless the page then joined others
 abbrev pub written_by_lend : Verdict → Verdict → Option ℕ → Option ℕ
@@ -39,20 +39,20 @@ written_by_lend stored verdict own = if has_joined verdict then None else writte
 abbrev pub RequestKeepsBytes : Type 0
 RequestKeepsBytes =
     (hash : ℕ → List ℕ → ℕ) (guest : ℕ) (request : Request) (verdict : Verdict) (old new : Shown) → FramesOfPages new →
-    Applies hash guest request verdict old new → BytesStay (written_by guest request verdict new.names) old new
+    Applies hash guest request verdict old new → BytesStay (written_by guest request verdict new.pmap) old new
 
 -- over the stores of a whole page
 abbrev pub StoresKeepBytes : Type 0
 StoresKeepBytes =
     (hash : ℕ → List ℕ → ℕ) (guest ppn : ℕ) (page : List ℕ) (verdict : Verdict) (old new : Shown) → FramesOfPages new →
-    StoresPage hash guest ppn page verdict old new → BytesStay (written_by_store verdict (frame_at new.names guest ppn)) old new
+    StoresPage hash guest ppn page verdict old new → BytesStay (written_by_store verdict (frame_at new.pmap guest ppn)) old new
 
 -- over a lend
 abbrev pub LendKeepsBytes : Type 0
 LendKeepsBytes =
     (hash : ℕ → List ℕ → ℕ) (guest ppn : ℕ) (page : List ℕ) (lent : Lent) (old new : Shown) → FramesOfPages new →
     Lends hash guest ppn page lent old new →
-    BytesStay (written_by_lend (page_stored hash (state_of old) guest ppn page).verdict lent.verdict (frame_at new.names guest ppn)) old new
+    BytesStay (written_by_lend (page_stored hash (state_of old) guest ppn page).verdict lent.verdict (frame_at new.pmap guest ppn)) old new
 
 -- over a page taken back
 abbrev pub TakingBackKeepsBytes : Type 0

@@ -7,13 +7,13 @@ use Rattle.page_model.specs.declared.verdict.Verdict.{Verdict}
 use Rattle.merge_core.specs.Applying.{Applies}
 use Rattle.merge_core.specs.Shown.{Shown, state_of}
 use Rattle.merge_core.specs.Stays.{FramesStay}
-use Rattle.merge_core.specs.View.{names_of, guests_of}
+use Rattle.merge_core.specs.View.{pmap_of, guests_of}
 use Rattle.merge_core.specs.declared.held.Held.{Held}
 use Rattle.merge_core.proofs.Lengths.{at_page_len, proposed_len, stored_len, released_len}
 
 -- what a contract sees of a core
 abbrev pub shown : {H A : Type 0} → ℕ → Held H A → Shown
-shown entries held = record { entries = entries; names = names_of held; frames = held.frames; table = held.table }
+shown entries held = record { entries = entries; pmap = pmap_of held; frames = held.frames; table = held.table }
 
 answered_len : (hash : ℕ → List ℕ → ℕ) (c : Shown) (guest : ℕ) (r : Request) → length (answered hash (counted (state_of c)) guest r).guests ≡ length (state_of c).guests
 unfolding answered

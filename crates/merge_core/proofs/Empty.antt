@@ -16,7 +16,7 @@ use Rattle.machine_frames.specs.FrameMap.{FrameMap, frame, IsTaken, no_frames}
 use Rattle.machine_frames.specs.FrameMap as fm
 use Rattle.share_table.specs.TableMaps.{SharedFrame, empty_table, references}
 use Rattle.share_table.specs.declared.entries.HintFrame.{HintFrame}
-use Rattle.merge_core.specs.Names.{slot_in, guests_in, frame_of, Known, unknown, empty_name, empty_names}
+use Rattle.merge_core.specs.Pmap.{slot_in, guests_in, frame_of, Known, unknown, unmapped_guest, empty_pmap}
 use Rattle.merge_core.specs.Ties.{Ties, Few, Counted, page_total}
 
 -- each page is unmapped
@@ -27,7 +27,7 @@ empty_slots salt (suc n) zero s slot h =
     sym ((same_page o salt s Unmapped slot refl h).1)
 empty_slots salt (suc n) (suc b) s slot h = empty_slots salt n b s slot h
 
-pub empty_page : (gs : List Shape) (a b s : ℕ) (slot : SlotOf ℕ) → page_at (empty_names gs) a b ≡ Some (s, slot) → slot ≡ Unmapped
+pub empty_page : (gs : List Shape) (a b s : ℕ) (slot : SlotOf ℕ) → page_at (empty_pmap gs) a b ≡ Some (s, slot) → slot ≡ Unmapped
 empty_page [] a b s slot h = cc
 empty_page (g ∷ gs) zero b s slot h = empty_slots g.salt g.pages b s slot h
 empty_page (g ∷ gs) (suc a) b s slot h = empty_page gs a b s slot h
@@ -37,10 +37,10 @@ slots_stay frames zero = refl
 slots_stay frames (suc n) = ap (λ (xs : List Slot). Unmapped ∷ xs) (slots_stay frames n)
 
 -- the model's guests are those of a new machine
-pub empty_guests : (frames : FrameMap) (gs : List Shape) → guests_in frames (empty_names gs) ≡ map empty_guest gs
+pub empty_guests : (frames : FrameMap) (gs : List Shape) → guests_in frames (empty_pmap gs) ≡ map empty_guest gs
 empty_guests frames [] = refl
 empty_guests frames (g ∷ gs) =
-    ap (λ (slots : List Slot). let g' : Guest = record { salt = g.salt; slots = slots } in g' ∷ guests_in frames (empty_names gs)) (slots_stay frames g.pages)
+    ap (λ (slots : List Slot). let g' : Guest = record { salt = g.salt; slots = slots } in g' ∷ guests_in frames (empty_pmap gs)) (slots_stay frames g.pages)
     ∙ ap (λ (xs : List Guest). empty_guest g ∷ xs) (empty_guests frames gs)
 
 none_passing : (p : Slot → Bool) (n : ℕ) → p Unmapped ≡ false → count_by p (replicate n Unmapped) ≡ 0
@@ -67,21 +67,21 @@ none_used : (n : ℕ) → fm.used (no_frames n) ≡ 0
 none_used n = sum_by-replicate (λ (o : Option (List ℕ)). cond (is_some o) 1 0) n None ∙ omega arith
 
 -- the numbers of guests and pages
-pub empty_len : (salts pages : List ℕ) → length salts ≡ length pages → length (empty_names (shapes salts pages)) ≡ length pages
+pub empty_len : (salts pages : List ℕ) → length salts ≡ length pages → length (empty_pmap (shapes salts pages)) ≡ length pages
 empty_len [] [] e = refl
 empty_len [] (n ∷ pages) e = absurd (omega arith)
 empty_len (s ∷ salts) [] e = absurd (omega arith)
 empty_len (s ∷ salts) (n ∷ pages) e = omega (arith, empty_len salts pages (omega arith))
 
-empty_total : (salts pages : List ℕ) → length salts ≡ length pages → page_total (empty_names (shapes salts pages)) ≡ sum pages
+empty_total : (salts pages : List ℕ) → length salts ≡ length pages → page_total (empty_pmap (shapes salts pages)) ≡ sum pages
 empty_total [] [] e = refl
 empty_total [] (n ∷ pages) e = absurd (omega arith)
 empty_total (s ∷ salts) [] e = absurd (omega arith)
 empty_total (s ∷ salts) (n ∷ pages) e =
     let shape : Shape = record { salt = s; pages = n } in
-    omega (arith, sum_by-cons (λ (y : GuestOf ℕ). length y.slots) (empty_name shape) (empty_names (shapes salts pages)), sum_by-cons (λ (x : ℕ). x) n pages, empty_total salts pages (omega arith), length-replicate {A = SlotOf ℕ} n Unmapped)
+    omega (arith, sum_by-cons (λ (y : GuestOf ℕ). length y.slots) (unmapped_guest shape) (empty_pmap (shapes salts pages)), sum_by-cons (λ (x : ℕ). x) n pages, empty_total salts pages (omega arith), length-replicate {A = SlotOf ℕ} n Unmapped)
 
-pub empty_few : (salts pages : List ℕ) → length salts ≡ length pages → length pages ≤ 64 → sum pages ≤ 1048576 → Few (empty_names (shapes salts pages))
+pub empty_few : (salts pages : List ℕ) → length salts ≡ length pages → length pages ≤ 64 → sum pages ≤ 1048576 → Few (empty_pmap (shapes salts pages))
 empty_few salts pages same guests few = record { guests = omega (arith, empty_len salts pages same, guests); pages = omega (arith, empty_total salts pages same, few) }
 
 module _ (hash : ℕ → List ℕ → ℕ) (total : ℕ) (gs : List Shape) where
@@ -91,7 +91,7 @@ module _ (hash : ℕ → List ℕ → ℕ) (total : ℕ) (gs : List Shape) where
   none_some : (k : ℕ) → None ≡ Some k → ⊥
   none_some k e = cc
 
-  no_frame : (a b s : ℕ) (slot : SlotOf ℕ) (m : ℕ) → page_at (empty_names gs) a b ≡ Some (s, slot) → frame_of slot ≡ Some m → ⊥
+  no_frame : (a b s : ℕ) (slot : SlotOf ℕ) (m : ℕ) → page_at (empty_pmap gs) a b ≡ Some (s, slot) → frame_of slot ≡ Some m → ⊥
   no_frame a b s slot m at f = none_some m (sym (ap frame_of (empty_page gs a b s slot at)) ∙ f)
 
   no_shared : (code : ℕ) (f : SharedFrame) → maps.get (maps.empty {K = ℕ} {X = SharedFrame} {R = nat_cmp}) code ≡ Some f → ⊥
@@ -107,7 +107,7 @@ module _ (hash : ℕ → List ℕ → ℕ) (total : ℕ) (gs : List Shape) where
   none_referred : references (empty_table total) ≡ 0
   none_referred = ap (sum_by (λ (e : ℕ × SharedFrame). e.1.count)) (nil_from_length (maps.entries (maps.empty {K = ℕ} {X = SharedFrame} {R = nat_cmp})) (sym (maps.len-entries (maps.empty {K = ℕ} {X = SharedFrame} {R = nat_cmp})) ∙ maps.len-empty nat_cmp SharedFrame))
 
-  empty_counted : Counted (guests_in (no_frames total) (empty_names gs)) (no_frames total) (empty_table total)
+  empty_counted : Counted (guests_in (no_frames total) (empty_pmap gs)) (no_frames total) (empty_table total)
   empty_counted = rw (empty_guests (no_frames total) gs) (record {
     capacity = sym (length-replicate total None);
     used = omega (arith, none_used total, none_counted (λ _. is_private) gs (λ s. refl), none_distinct gs);
@@ -116,7 +116,7 @@ module _ (hash : ℕ → List ℕ → ℕ) (total : ℕ) (gs : List Shape) where
     references = omega (arith, none_referred, none_counted (λ _. is_shared) gs (λ s. refl));
   })
 
-  pub empty_ties : Ties hash (empty_names gs) (no_frames total) (empty_table total) (replicate total unknown)
+  pub empty_ties : Ties hash (empty_pmap gs) (no_frames total) (empty_table total) (replicate total unknown)
   empty_ties = record {
     placed = record {
       taken = λ a b s slot m at f. absurd (no_frame a b s slot m at f);

@@ -3,7 +3,7 @@ use Rattle.std.proofs.Common.{◌≡◌, ℕ, zero, suc, ◌<◌, List, [], ◌�
 use Rattle.std.specs.Prelude.{unwrap_or}
 use Rattle.machine_frames.specs.FrameMap.{FrameMap, frame}
 use Rattle.page_digest.specs.Many.{bytes_of, frame_hash, frame_hashes}
-use Rattle.merge_core.specs.Names.{bytes_in}
+use Rattle.merge_core.specs.Pmap.{bytes_in}
 
 told : (o : Option (List ℕ)) → bytes_of o ≡ unwrap_or o []
 told None = refl

@@ -9,15 +9,15 @@ use Rattle.page_model.proofs.Places.{again, swap, same_page}
 use Rattle.machine_frames.specs.FrameMap.{FrameMap, IsTaken}
 use Rattle.share_table.specs.TableMaps.{TableMaps, SharedFrame, hint_at}
 use Rattle.share_table.specs.declared.entries.HintFrame.{HintFrame}
-use Rattle.merge_core.specs.Names.{Names, Known, known_at}
+use Rattle.merge_core.specs.Pmap.{Pmap, Known, known_at}
 use Rattle.merge_core.specs.Ties.{HintWell, Placed, Ties}
 use Rattle.merge_core.proofs.FrameLemmas.{taken_within}
 
-module _ (hash : ℕ → List ℕ → ℕ) (names : Names) (frames : FrameMap) (table : TableMaps) (notes : List Known) (key x y m : ℕ) (t : Ties hash names frames table notes) (found : hint_at table key ≡ Some (record { guest = x; ppn = y; mpn = m })) where
+module _ (hash : ℕ → List ℕ → ℕ) (pmap : Pmap) (frames : FrameMap) (table : TableMaps) (notes : List Known) (key x y m : ℕ) (t : Ties hash pmap frames table notes) (found : hint_at table key ≡ Some (record { guest = x; ppn = y; mpn = m })) where
   abbrev the_hint : HintFrame
   the_hint = record { guest = x; ppn = y; mpn = m }
 
-  hint_well : HintWell names key the_hint
+  hint_well : HintWell pmap key the_hint
   hint_well = t.hinted.well key the_hint found
 
   pub hint_taken : IsTaken frames m
@@ -27,24 +27,24 @@ module _ (hash : ℕ → List ℕ → ℕ) (names : Names) (frames : FrameMap) (
   hint_within = omega (arith, t.noted.len, taken_within frames m hint_taken)
 
   -- the hint's page, with the salt that is noted at its frame
-  pub hint_page : (salt : ℕ) → salt ≡ (known_at notes m).salt → page_at names x y ≡ Some (salt, Private m (Some key))
+  pub hint_page : (salt : ℕ) → salt ≡ (known_at notes m).salt → page_at pmap x y ≡ Some (salt, Private m (Some key))
   hint_page salt e =
       let noted : (known_at notes m).salt ≡ hint_well.salt = t.noted.salts x y hint_well.salt (Private m (Some key)) m hint_well.here refl in
       hint_well.here ∙ ap (λ (z : ℕ). let p : ℕ × SlotOf ℕ = (z, Private m (Some key)) in Some p) (sym (e ∙ noted))
 
 -- a page with a hint is another page than one without
-pub hint_apart : (names : Names) (a b c d s t m k key : ℕ) → page_at names a b ≡ Some (s, Private m None) → page_at names c d ≡ Some (t, Private k (Some key)) → a ≡ c → b ≡ d → ⊥
-hint_apart names a b c d s t m k key e f p q =
-    let moved : page_at names a b ≡ Some (t, Private k (Some key)) = ap (λ (i : ℕ). page_at names i b) p ∙ ap (λ (i : ℕ). page_at names c i) q ∙ f in
-    no (same_page (page_at names a b) s t (Private m None) (Private k (Some key)) e moved).1 where
+pub hint_apart : (pmap : Pmap) (a b c d s t m k key : ℕ) → page_at pmap a b ≡ Some (s, Private m None) → page_at pmap c d ≡ Some (t, Private k (Some key)) → a ≡ c → b ≡ d → ⊥
+hint_apart pmap a b c d s t m k key e f p q =
+    let moved : page_at pmap a b ≡ Some (t, Private k (Some key)) = ap (λ (i : ℕ). page_at pmap i b) p ∙ ap (λ (i : ℕ). page_at pmap c i) q ∙ f in
+    no (same_page (page_at pmap a b) s t (Private m None) (Private k (Some key)) e moved).1 where
       no : Private m None ≡ Private k (Some key) → ⊥
       no e = cc
 
 -- and has another frame
-pub hint_frame_apart : (names : Names) (frames : FrameMap) (a b c d s t m k key : ℕ) → Placed names frames → page_at names a b ≡ Some (s, Private m None) → page_at names c d ≡ Some (t, Private k (Some key)) → k ≢ m
-hint_frame_apart names frames a b c d s t m k key placed e f q =
+pub hint_frame_apart : (pmap : Pmap) (frames : FrameMap) (a b c d s t m k key : ℕ) → Placed pmap frames → page_at pmap a b ≡ Some (s, Private m None) → page_at pmap c d ≡ Some (t, Private k (Some key)) → k ≢ m
+hint_frame_apart pmap frames a b c d s t m k key placed e f q =
     let same = placed.alone a b s m None c d t (Private k (Some key)) e f (ap Some q) in
-    hint_apart names a b c d s t m k key e f (sym same.0) (sym same.1)
+    hint_apart pmap a b c d s t m k key e f (sym same.0) (sym same.1)
 
 -- two pages that changed twice each, in turn
 pub changed_twice : (gs : List Guest) (a b c d : ℕ) (w x y z : Slot) → (c ≡ a → d ≡ b → ⊥) → with_slot (with_slot (with_slot (with_slot gs a b w) c d x) a b y) c d z ≡ with_slot (with_slot gs a b y) c d z

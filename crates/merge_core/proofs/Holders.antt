@@ -13,18 +13,18 @@ use Rattle.page_model.proofs.Counts.{hinted-le-private}
 use Rattle.machine_frames.specs.FrameMap.{FrameMap}
 use Rattle.share_table.specs.TableMaps.{TableMaps, HintMap, entry_count}
 use Rattle.share_table.specs.declared.entries.HintFrame.{HintFrame}
-use Rattle.merge_core.specs.Names.{Names, bytes_in, slot_in, guests_in, Known}
+use Rattle.merge_core.specs.Pmap.{Pmap, bytes_in, slot_in, guests_in, Known}
 use Rattle.merge_core.specs.Ties.{Hinted, Ties}
 use Rattle.merge_core.proofs.Views.{page_in, page_in_is}
 
 abbrev place_of : HintFrame → ℕ × ℕ
 place_of h = (h.guest, h.ppn)
 
-module _ (names : Names) (frames : FrameMap) (hints : HintMap) (key : ℕ) (hinted : Hinted names hints) where
+module _ (pmap : Pmap) (frames : FrameMap) (hints : HintMap) (key : ℕ) (hinted : Hinted pmap hints) where
   abbrev gs : List Guest
-  gs = guests_in frames names
+  gs = guests_in frames pmap
 
-  by_slot : (x y s : ℕ) (slot : SlotOf ℕ) → page_at names x y ≡ Some (s, slot) → has_hint key (slot_in frames slot) ≡ true → option_map place_of (map.get hints key) ≡ Some (x, y)
+  by_slot : (x y s : ℕ) (slot : SlotOf ℕ) → page_at pmap x y ≡ Some (s, slot) → has_hint key (slot_in frames slot) ≡ true → option_map place_of (map.get hints key) ≡ Some (x, y)
   by_slot x y s Unmapped at h = absurd (false≢true h)
   by_slot x y s (Private m None) at h = absurd (false≢true h)
   by_slot x y s (Private m (Some own)) at h =
@@ -32,7 +32,7 @@ module _ (names : Names) (frames : FrameMap) (hints : HintMap) (key : ℕ) (hint
       ap (λ (o : Option HintFrame). option_map place_of o) (ap (map.get hints) (sym e) ∙ hinted.there x y s m own at)
   by_slot x y s (Shared m) at h = absurd (false≢true h)
 
-  by_name : (x y salt : ℕ) (slot : Slot) (o : Option (ℕ × SlotOf ℕ)) → page_at names x y ≡ o → option_map (λ (p : ℕ × SlotOf ℕ). let q : ℕ × Slot = (p.0, slot_in frames p.1) in q) o ≡ Some (salt, slot) → has_hint key slot ≡ true → option_map place_of (map.get hints key) ≡ Some (x, y)
+  by_name : (x y salt : ℕ) (slot : Slot) (o : Option (ℕ × SlotOf ℕ)) → page_at pmap x y ≡ o → option_map (λ (p : ℕ × SlotOf ℕ). let q : ℕ × Slot = (p.0, slot_in frames p.1) in q) o ≡ Some (salt, slot) → has_hint key slot ≡ true → option_map place_of (map.get hints key) ≡ Some (x, y)
   by_name x y salt slot None at e h = absurd (no e) where
     no : {p : ℕ × Slot} → None ≡ Some p → ⊥
     no e = cc
@@ -42,11 +42,11 @@ module _ (names : Names) (frames : FrameMap) (hints : HintMap) (key : ℕ) (hint
   by_find None None e f = ap (λ (o : Option HintFrame). option_map place_of o) e
   by_find (Some h) None e f =
       let w = hinted.well key h e in
-      let n = find_page_none (has_hint key) gs h.guest h.ppn w.salt (Private (bytes_in frames h.mpn) (Some key)) f (page_in_is frames names h.guest h.ppn w.salt (Private h.mpn (Some key)) w.here) in
+      let n = find_page_none (has_hint key) gs h.guest h.ppn w.salt (Private (bytes_in frames h.mpn) (Some key)) f (page_in_is frames pmap h.guest h.ppn w.salt (Private h.mpn (Some key)) w.here) in
       absurd (false≢true (sym n ∙ eq-eqb key key refl))
   by_find o (Some (x, y)) e f =
       let p = find_page_passes (has_hint key) gs x y f in
-      by_name x y p.0 p.1 (page_at names x y) refl (sym (page_in frames names x y) ∙ p.2) p.3
+      by_name x y p.0 p.1 (page_at pmap x y) refl (sym (page_in frames pmap x y) ∙ p.2) p.3
 
   pub holder_is : option_map place_of (map.get hints key) ≡ find_page (has_hint key) gs
   holder_is = by_find (map.get hints key) (find_page (has_hint key) gs) refl refl
@@ -67,10 +67,10 @@ kept_own key own h = pick (cases_eq own key) where
     no e = cc
 
 -- there is room for the hint of a page that has none
-pub room_for : (hash : ℕ → List ℕ → ℕ) (names : Names) (frames : FrameMap) (table : TableMaps) (notes : List Known) (a b salt m : ℕ) → Ties hash names frames table notes → page_at names a b ≡ Some (salt, Private m None) → entry_count table < table.capacity
-room_for hash names frames table notes a b salt m t at =
-    let gs : List Guest = guests_in frames names in
-    let page = page_in_is frames names a b salt (Private m None) at in
+pub room_for : (hash : ℕ → List ℕ → ℕ) (pmap : Pmap) (frames : FrameMap) (table : TableMaps) (notes : List Known) (a b salt m : ℕ) → Ties hash pmap frames table notes → page_at pmap a b ≡ Some (salt, Private m None) → entry_count table < table.capacity
+room_for hash pmap frames table notes a b salt m t at =
+    let gs : List Guest = guests_in frames pmap in
+    let page = page_in_is frames pmap a b salt (Private m None) at in
     let h = pages_counted (λ _. is_hinted) gs a b salt (Private (bytes_in frames m) None) Unmapped page in
     let p = pages_counted (λ _. is_private) gs a b salt (Private (bytes_in frames m) None) Unmapped page in
     let l = hinted-le-private (with_slot gs a b Unmapped) in

@@ -12,10 +12,10 @@ use Rattle.page_model.proofs.Anys.{AnyIsCount, any_is_count}
 use Rattle.page_model.proofs.Places.{at_same, again}
 use Rattle.page_model.proofs.Used.{pages_counted}
 use Rattle.machine_frames.specs.FrameMap.{FrameMap, frame}
-use Rattle.merge_core.specs.Names.{Names}
+use Rattle.merge_core.specs.Pmap.{Pmap}
 use Rattle.merge_core.specs.Lending.{keeps_own, LendKeeps, page_outcome, own_freed, LendsPage}
 use Rattle.merge_core.specs.Stays.{frame_at, Change, Keeps, TakesFree, JoinsAnother, GivesUp, change_at, HasTheirs, NamedFrame, OthersKeep}
-use Rattle.merge_core.specs.View.{names_of, guests_of}
+use Rattle.merge_core.specs.View.{pmap_of, guests_of}
 use Rattle.merge_core.specs.declared.held.Held.{Held}
 use Rattle.merge_core.specs.declared.lent.Lent.{Lent}
 use Rattle.merge_core.proofs.Arms.{matched_joined, proposed_matched, joined_outcome}
@@ -86,14 +86,14 @@ is_offer hash gs new guest ppn salt slot verdict e = moved (proposed_offers hash
   moved (stays_put h) = stays_put (ap (λ (o : Outcome). change_at o.verdict) e ∙ h)
   moved (joins h) = joins (ap (λ (o : Outcome). change_at o.verdict) e ∙ h)
 
-named_kept : (c : Change) (free : FrameMap) (a b : ℕ) (one two three : Names) → frame_at three a b ≡ frame_at two a b → NamedFrame c free a b one two → NamedFrame c free a b one three
+named_kept : (c : Change) (free : FrameMap) (a b : ℕ) (one two three : Pmap) → frame_at three a b ≡ frame_at two a b → NamedFrame c free a b one two → NamedFrame c free a b one three
 named_kept Keeps free a b one two three e n = e ∙ n
 named_kept TakesFree free a b one two three e n = record { mpn = n.mpn; has = e ∙ n.has; was_free = n.was_free }
 named_kept JoinsAnother free a b one two three e n = record { other = n.other; place = n.place; mpn = n.mpn; apart = n.apart; theirs = n.theirs; has = e ∙ n.has }
 named_kept GivesUp free a b one two three e n = e ∙ n
 
 -- a page's frame after its stores, and then its proposal
-pub then_offered : (free later : FrameMap) (a b : ℕ) (first_verdict verdict : Verdict) (one two three : Names) → IsOffer verdict → OthersKeep free a b first_verdict one two → OthersKeep later a b verdict two three → LendKeeps free a b first_verdict verdict one three
+pub then_offered : (free later : FrameMap) (a b : ℕ) (first_verdict verdict : Verdict) (one two three : Pmap) → IsOffer verdict → OthersKeep free a b first_verdict one two → OthersKeep later a b verdict two three → LendKeeps free a b first_verdict verdict one three
 then_offered free later a b first_verdict verdict one two three (stays_put e) first second =
     let same : frame_at three a b ≡ frame_at two a b = rw e at second.named in
     record { named = rw e (named_kept (change_at first_verdict) free a b one two three same first.named); others = λ x y apart. second.others x y apart ∙ first.others x y apart }
@@ -141,8 +141,8 @@ module _ {H A : Type 0} (hash : ℕ → List ℕ → ℕ) (guest ppn salt : ℕ)
       store salt slot ≡ sets gs guest ppn (Private bytes hint) verdict → is_done verdict ≡ true → length new.frames ≡ length old.frames →
       record { guests = guests_of new; verdict = lent.verdict }
       ≡ proposed hash (with_slot gs guest ppn (Private bytes hint)) guest ppn salt (Private bytes hint) →
-      LendKeeps old.frames guest ppn verdict lent.verdict (names_of old) (names_of new) →
-      lent.freed ≡ own_freed verdict lent.verdict (frame_at (names_of old) guest ppn) →
+      LendKeeps old.frames guest ppn verdict lent.verdict (pmap_of old) (pmap_of new) →
+      lent.freed ≡ own_freed verdict lent.verdict (frame_at (pmap_of old) guest ppn) →
       IfSome lent.freed (λ mpn. frame new.frames mpn ≡ None) → LendsPage hash guest ppn page (Ok lent) old new
   lends_done bytes hint verdict lent is did total step stay freed free =
       let own : Slot = Private bytes hint in
@@ -162,16 +162,16 @@ module _ {H A : Type 0} (hash : ℕ → List ℕ → ℕ) (guest ppn salt : ℕ)
 
   -- the stores were refused
   pub lends_nothing : (verdict : Verdict) → store salt slot ≡ stays gs verdict → is_done verdict ≡ false → change_at verdict ≡ Keeps →
-      keeps_own verdict ≡ false → length new.frames ≡ length old.frames → guests_of new ≡ gs → names_of new ≡ names_of old →
+      keeps_own verdict ≡ false → length new.frames ≡ length old.frames → guests_of new ≡ gs → pmap_of new ≡ pmap_of old →
       LendsPage hash guest ppn page (Err verdict) old new
-  lends_nothing verdict is undone calm other total same names =
+  lends_nothing verdict is undone calm other total same pmap =
       let outcome : page_outcome (length old.frames) gs guest ppn page ≡ stays gs verdict = ap (on_page gs store) at ∙ is in
       let told : (page_outcome (length old.frames) gs guest ppn page).verdict ≡ verdict = ap (λ (o : Outcome). o.verdict) outcome in
       record {
         total = total;
         step = ap (λ (x : List Guest). stays x verdict) same ∙ sym (ap (proposed_after hash guest ppn) outcome ∙ rw undone refl);
         done = sym (ap is_done told ∙ undone);
-        stay = record { named = rw (told, calm) (ap (λ (x : Names). frame_at x guest ppn) names); others = λ x y _. ap (λ (n : Names). frame_at n x y) names };
+        stay = record { named = rw (told, calm) (ap (λ (x : Pmap). frame_at x guest ppn) pmap); others = λ x y _. ap (λ (n : Pmap). frame_at n x y) pmap };
         freed = rw (told, other) refl;
         free = record {};
       }
@@ -190,8 +190,8 @@ unfolding stored
 stored_in_place total _ a b at new salt old hint = refl
 
 -- a page without a frame has none of another's
-pub apart_from : (names : Names) (a b salt m : ℕ) (x y : ℕ) → page_at names a b ≡ Some (salt, Unmapped) → frame_at names x y ≡ Some m → x ≡ a → y ≡ b → ⊥
-apart_from names a b salt m x y here theirs p q = none (sym (frame_is names a b salt Unmapped here) ∙ sym (ap (λ (i : ℕ). frame_at names i y) p ∙ ap (λ (i : ℕ). frame_at names a i) q) ∙ theirs) where
+pub apart_from : (pmap : Pmap) (a b salt m : ℕ) (x y : ℕ) → page_at pmap a b ≡ Some (salt, Unmapped) → frame_at pmap x y ≡ Some m → x ≡ a → y ≡ b → ⊥
+apart_from pmap a b salt m x y here theirs p q = none (sym (frame_is pmap a b salt Unmapped here) ∙ sym (ap (λ (i : ℕ). frame_at pmap i y) p ∙ ap (λ (i : ℕ). frame_at pmap a i) q) ∙ theirs) where
   none : None ≡ Some m → ⊥
   none e = cc
 

@@ -11,7 +11,7 @@ use Rattle.page_model.proofs.Places.{at_other, same_page}
 use Rattle.share_table.specs.TableMaps.{TableMaps, references}
 use Rattle.merge_core.proofs.Views.{page_in_is}
 use Rattle.machine_frames.specs.FrameMap.{FrameMap}
-use Rattle.merge_core.specs.Names.{Names, bytes_in, slot_in, guests_in, Known}
+use Rattle.merge_core.specs.Pmap.{Pmap, bytes_in, slot_in, guests_in, Known}
 use Rattle.merge_core.specs.Ties.{page_total, Few, Ties}
 
 pub length_after : {X : Type 0} (gs : List (GuestOf X)) (a b : ℕ) (x : SlotOf X) → length (with_slot gs a b x) ≡ length gs
@@ -28,13 +28,13 @@ pages_after {X} (g ∷ gs) (suc a) b x =
     omega (arith, sum_by-cons (λ (y : GuestOf X). length y.slots) g gs, sum_by-cons (λ (y : GuestOf X). length y.slots) g (with_slot gs a b x), pages_after gs a b x)
 
 -- a change of one page keeps within the limits
-pub few_after : (names : Names) (a b : ℕ) (x : SlotOf ℕ) → Few names → Few (with_slot names a b x)
-few_after names a b x f = record {
-  guests = omega (arith, f.guests, length_after names a b x);
-  pages = omega (arith, f.pages, pages_after names a b x);
+pub few_after : (pmap : Pmap) (a b : ℕ) (x : SlotOf ℕ) → Few pmap → Few (with_slot pmap a b x)
+few_after pmap a b x f = record {
+  guests = omega (arith, f.guests, length_after pmap a b x);
+  pages = omega (arith, f.pages, pages_after pmap a b x);
 }
 
-pub pages_in_frames : (frames : FrameMap) (names : Names) → page_total (guests_in frames names) ≡ page_total names
+pub pages_in_frames : (frames : FrameMap) (pmap : Pmap) → page_total (guests_in frames pmap) ≡ page_total pmap
 pages_in_frames frames [] = refl
 pages_in_frames frames (g ∷ gs) =
     let h : Guest = record { salt = g.salt; slots = map (slot_in frames) g.slots } in
@@ -62,27 +62,27 @@ place_few {X} (g ∷ gs) (suc a) b salt x at =
     let rest = place_few gs a b salt x at in
     (omega (arith, rest.0), omega (arith, sum_by-cons (λ (y : GuestOf X). length y.slots) g gs, rest.1))
 
-module _ (hash : ℕ → List ℕ → ℕ) (names : Names) (frames : FrameMap) (table : TableMaps) (notes : List Known) (t : Ties hash names frames table notes) (few : Few names) where
+module _ (hash : ℕ → List ℕ → ℕ) (pmap : Pmap) (frames : FrameMap) (table : TableMaps) (notes : List Known) (t : Ties hash pmap frames table notes) (few : Few pmap) where
   -- there are no more hints than pages
   pub hints_few : maps.len table.hints ≤ 1048576
-  hints_few = omega (arith, t.counted.hints, count_most (λ _. is_hinted) (guests_in frames names), pages_in_frames frames names, few.pages)
+  hints_few = omega (arith, t.counted.hints, count_most (λ _. is_hinted) (guests_in frames pmap), pages_in_frames frames pmap, few.pages)
 
   -- a page without a frame leaves room for its reference
-  pub references_few : (a b salt : ℕ) → page_at names a b ≡ Some (salt, Unmapped) → references table < 1048576
+  pub references_few : (a b salt : ℕ) → page_at pmap a b ≡ Some (salt, Unmapped) → references table < 1048576
   references_few a b salt at =
-      let one = room_for_one (guests_in frames names) a b salt Unmapped (page_in_is frames names a b salt Unmapped at) refl in
-      omega (arith, one, t.counted.references, pages_in_frames frames names, few.pages)
+      let one = room_for_one (guests_in frames pmap) a b salt Unmapped (page_in_is frames pmap a b salt Unmapped at) refl in
+      omega (arith, one, t.counted.references, pages_in_frames frames pmap, few.pages)
 
   -- two pages that aren't shared leave room for two references
-  pub references_two : (a b c d salt other m : ℕ) → page_at names a b ≡ Some (salt, Private m None) → page_at names c d ≡ Some (other, Unmapped) → references table + 2 ≤ 1048576
+  pub references_two : (a b c d salt other m : ℕ) → page_at pmap a b ≡ Some (salt, Private m None) → page_at pmap c d ≡ Some (other, Unmapped) → references table + 2 ≤ 1048576
   references_two a b c d salt other m at there =
-      let gs : List Guest = guests_in frames names in
+      let gs : List Guest = guests_in frames pmap in
       let apart : c ≡ a → d ≡ b → ⊥ = λ e f.
-      let moved : page_at names a b ≡ Some (other, Unmapped) = ap (λ (i : ℕ). page_at names i b) (sym e) ∙ ap (λ (i : ℕ). page_at names c i) (sym f) ∙ there in
-      no ((same_page (page_at names a b) salt other (Private m None) Unmapped at moved).1) in
-      let one = pages_counted (λ _. is_shared) gs a b salt (Private (bytes_in frames m) None) (Shared []) (page_in_is frames names a b salt (Private m None) at) in
-      let still = at_other gs a b (Shared []) c d apart ∙ page_in_is frames names c d other Unmapped there in
+      let moved : page_at pmap a b ≡ Some (other, Unmapped) = ap (λ (i : ℕ). page_at pmap i b) (sym e) ∙ ap (λ (i : ℕ). page_at pmap c i) (sym f) ∙ there in
+      no ((same_page (page_at pmap a b) salt other (Private m None) Unmapped at moved).1) in
+      let one = pages_counted (λ _. is_shared) gs a b salt (Private (bytes_in frames m) None) (Shared []) (page_in_is frames pmap a b salt (Private m None) at) in
+      let still = at_other gs a b (Shared []) c d apart ∙ page_in_is frames pmap c d other Unmapped there in
       let two = room_for_one (with_slot gs a b (Shared [])) c d other Unmapped still refl in
-      omega (arith, one, two, t.counted.references, pages_after gs a b (Shared []), pages_in_frames frames names, few.pages) where
+      omega (arith, one, two, t.counted.references, pages_after gs a b (Shared []), pages_in_frames frames pmap, few.pages) where
         no : Private m None ≡ Unmapped → ⊥
         no e = cc

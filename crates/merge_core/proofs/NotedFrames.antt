@@ -1,7 +1,7 @@
 -- Notes on more frames than were noted.
 use Rattle.std.proofs.Common.{◌≡◌, ◌+◌, ◌-◌, ◌++◌, ◌<◌, ◌≤◌, ◌∙◌, ℕ, List, length, replicate, set, ap, sym, arith, append_assoc}
 use Rattle.std.proofs.lemmas.List.{replicate-append-replicate, set-append_left, length-replicate, length-append, length-map}
-use Rattle.merge_core.specs.Names.{Known, unknown}
+use Rattle.merge_core.specs.Pmap.{Known, unknown}
 use Rattle.merge_core.specs.Noted.{known_of, notes_in, notes_on}
 use Rattle.merge_core.specs.declared.notes.Note.{Note}
 

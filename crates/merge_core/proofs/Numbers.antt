@@ -7,7 +7,7 @@ use Rattle.page_model.proofs.Places.{at_changed, here, elsewhere, Changed, at_ot
 use Rattle.page_model.proofs.Used.{used_before, used_after, pages_counted, frames_for, cleared, one}
 use Rattle.share_table.specs.TableMaps.{HintMap}
 use Rattle.share_table.specs.declared.entries.HintFrame.{HintFrame}
-use Rattle.merge_core.specs.Names.{Names}
+use Rattle.merge_core.specs.Pmap.{Pmap}
 use Rattle.merge_core.specs.Ties.{HintWell, Hinted}
 
 -- how each number changes with one page
@@ -38,24 +38,24 @@ hint_on (Private m hint) = hint
 hint_on (Shared m) = None
 
 -- a change of a page without a hint to one without
-module _ (names : Names) (hints : HintMap) (a b salt : ℕ) (old new : SlotOf ℕ) (at : page_at names a b ≡ Some (salt, old)) (none_before : hint_on old ≡ None) (none_after : hint_on new ≡ None) (hinted : Hinted names hints) where
+module _ (pmap : Pmap) (hints : HintMap) (a b salt : ℕ) (old new : SlotOf ℕ) (at : page_at pmap a b ≡ Some (salt, old)) (none_before : hint_on old ≡ None) (none_after : hint_on new ≡ None) (hinted : Hinted pmap hints) where
   some_none : (x : ℕ) → Some x ≡ None → ⊥
   some_none x e = cc
 
-  calm_there : (c d s m key : ℕ) → Changed names a b salt new c d s (Private m (Some key)) → map.get hints key ≡ Some (record { guest = c; ppn = d; mpn = m })
+  calm_there : (c d s m key : ℕ) → Changed pmap a b salt new c d s (Private m (Some key)) → map.get hints key ≡ Some (record { guest = c; ppn = d; mpn = m })
   calm_there c d s m key (here ca db ss is) = absurd (some_none key (ap hint_on is ∙ none_after))
   calm_there c d s m key (elsewhere apart there) = hinted.there c d s m key there
 
-  calm_well : (key : ℕ) (h : HintFrame) → HintWell names key h → HintWell (with_slot names a b new) key h
+  calm_well : (key : ℕ) (h : HintFrame) → HintWell pmap key h → HintWell (with_slot pmap a b new) key h
   calm_well key h w =
       let apart : h.guest ≡ a → h.ppn ≡ b → ⊥ = λ e f.
-      let moved : page_at names a b ≡ Some (w.salt, Private h.mpn (Some key)) = ap (λ (i : ℕ). page_at names i b) (sym e) ∙ ap (λ (i : ℕ). page_at names h.guest i) (sym f) ∙ w.here in
-      let same = same_page (page_at names a b) w.salt salt (Private h.mpn (Some key)) old moved at in
+      let moved : page_at pmap a b ≡ Some (w.salt, Private h.mpn (Some key)) = ap (λ (i : ℕ). page_at pmap i b) (sym e) ∙ ap (λ (i : ℕ). page_at pmap h.guest i) (sym f) ∙ w.here in
+      let same = same_page (page_at pmap a b) w.salt salt (Private h.mpn (Some key)) old moved at in
       some_none key (ap hint_on same.1 ∙ none_before) in
-      record { salt = w.salt; here = at_other names a b new h.guest h.ppn apart ∙ w.here }
+      record { salt = w.salt; here = at_other pmap a b new h.guest h.ppn apart ∙ w.here }
 
-  pub hinted_calm : Hinted (with_slot names a b new) hints
+  pub hinted_calm : Hinted (with_slot pmap a b new) hints
   hinted_calm = record {
-    there = λ c d s m key there. calm_there c d s m key (at_changed names a b salt old new at c d s (Private m (Some key)) there);
+    there = λ c d s m key there. calm_there c d s m key (at_changed pmap a b salt old new at c d s (Private m (Some key)) there);
     well = λ key h there. calm_well key h (hinted.well key h there);
   }

@@ -10,7 +10,7 @@ use Rattle.page_lending.proofs.Stores.{store_at, stored_at_once}
 use Rattle.merge_core.specs.Lending.{StoresPage, Lends, LendsPage, page_outcome}
 use Rattle.merge_core.specs.Shown.{Shown, state_of}
 use Rattle.merge_core.specs.Stays.{OthersKeep}
-use Rattle.merge_core.specs.View.{names_of, guests_of}
+use Rattle.merge_core.specs.View.{pmap_of, guests_of}
 use Rattle.merge_core.specs.declared.held.Held.{Held}
 use Rattle.merge_core.specs.declared.lent.Lent.{Lent}
 use Rattle.merge_core.proofs.Applied.{shown}
@@ -22,7 +22,7 @@ module _ {H A : Type 0} (hash : ℕ → List ℕ → ℕ) (guest ppn : ℕ) (pag
   made total outcome = record { state = record { total = total; guests = outcome.guests; entries = entries + 64 }; verdict = outcome.verdict }
 
   pub page_applied : record { guests = guests_of new; verdict = verdict } ≡ store_at (length old.frames) (guests_of old) guest ppn 0 page →
-      length new.frames ≡ length old.frames → OthersKeep old.frames guest ppn verdict (names_of old) (names_of new) →
+      length new.frames ≡ length old.frames → OthersKeep old.frames guest ppn verdict (pmap_of old) (pmap_of new) →
       StoresPage hash guest ppn page verdict (shown entries old) (shown (entries + 64) new)
   page_applied outcome total stay =
       record {

@@ -10,11 +10,11 @@ use Rattle.page_model.proofs.Anys.{any_is_count, AnyIsCount}
 use Rattle.machine_frames.specs.FrameMap.{FrameMap}
 use Rattle.share_table.specs.TableMaps.{TableMaps, SharedMap, SharedFrame, shared_at, with_shared, with_count, with_one_less}
 use Rattle.merge_core.proofs.Maps.{len_new, len_old, len_gone, sum_new, sum_old, sum_gone, got_same, twice_inserted}
-use Rattle.merge_core.specs.Names.{Names, bytes_in, guests_in, frame_of, Known, known_at}
+use Rattle.merge_core.specs.Pmap.{Pmap, bytes_in, guests_in, frame_of, Known, known_at}
 use Rattle.merge_core.specs.Ties.{Counted, Ties, Owner}
 use Rattle.merge_core.proofs.Views.{page_in_is}
 use Rattle.merge_core.proofs.Numbers.{shift, hinted_calm}
-use Rattle.merge_core.proofs.Renames.{re_guests}
+use Rattle.merge_core.proofs.Remaps.{re_guests}
 use Rattle.merge_core.proofs.Owners.{same_owned, more_owned, re_owned, sharer}
 use Rattle.merge_core.proofs.Pairing.{no_peers, first_placed, first_noted, first_shares}
 use Rattle.merge_core.proofs.Sharing.{own_content, joined_placed, joined_noted, joined_shares, joined_count, left_placed, left_noted, left_shares, left_count, kept_placed, kept_noted, kept_shares}
@@ -54,26 +54,26 @@ pub last_less_is : (t : TableMaps) (code m : ℕ) → shared_at t code ≡ Some 
 last_less_is t code m h = rw h refl
 
 -- an unmapped page joins
-module _ (hash : ℕ → List ℕ → ℕ) (names : Names) (frames : FrameMap) (table : TableMaps) (notes : List Known) (a b salt m code n : ℕ)
-    (t : Ties hash names frames table notes) (at : page_at names a b ≡ Some (salt, Unmapped))
+module _ (hash : ℕ → List ℕ → ℕ) (pmap : Pmap) (frames : FrameMap) (table : TableMaps) (notes : List Known) (a b salt m code n : ℕ)
+    (t : Ties hash pmap frames table notes) (at : page_at pmap a b ≡ Some (salt, Unmapped))
     (found : shared_at table code ≡ Some (record { mpn = m; count = n })) (salt_is : (known_at notes m).salt ≡ salt) where
-  pub joined_guests : guests_in frames (with_slot names a b (Shared m)) ≡ with_slot (guests_in frames names) a b (Shared (bytes_in frames m))
-  joined_guests = re_guests names frames a b salt Unmapped (Shared m) at
+  pub joined_guests : guests_in frames (with_slot pmap a b (Shared m)) ≡ with_slot (guests_in frames pmap) a b (Shared (bytes_in frames m))
+  joined_guests = re_guests pmap frames a b salt Unmapped (Shared m) at
 
-  joined_before : n ≡ peers salt (bytes_in frames m) (guests_in frames names)
+  joined_before : n ≡ peers salt (bytes_in frames m) (guests_in frames pmap)
   joined_before = rw salt_is at (t.shares.well code _ found).count
 
-  pub joined_peers : n + 1 ≡ peers salt (bytes_in frames m) (guests_in frames (with_slot names a b (Shared m)))
-  joined_peers = joined_count hash names frames notes table.shared a b salt m code n at t.placed t.noted t.shares found salt_is
+  pub joined_peers : n + 1 ≡ peers salt (bytes_in frames m) (guests_in frames (with_slot pmap a b (Shared m)))
+  joined_peers = joined_count hash pmap frames notes table.shared a b salt m code n at t.placed t.noted t.shares found salt_is
 
-  joined_rest : once (any_page (is_shared_as salt (bytes_in frames m)) (cleared (guests_in frames names) a b)) ≡ 0
+  joined_rest : once (any_page (is_shared_as salt (bytes_in frames m)) (cleared (guests_in frames pmap) a b)) ≡ 0
   joined_rest =
       let some = (t.shares.well code _ found).some in
-      rw (unchanged (guests_in frames names) a b salt Unmapped (page_in_is frames names a b salt Unmapped at)) (rest_some salt (bytes_in frames m) (guests_in frames names) (omega (arith, joined_before, some)))
+      rw (unchanged (guests_in frames pmap) a b salt Unmapped (page_in_is frames pmap a b salt Unmapped at)) (rest_some salt (bytes_in frames m) (guests_in frames pmap) (omega (arith, joined_before, some)))
 
-  joined_counted : Counted (guests_in frames (with_slot names a b (Shared m))) frames (with_shared table code m (n + 1))
+  joined_counted : Counted (guests_in frames (with_slot pmap a b (Shared m))) frames (with_shared table code m (n + 1))
   joined_counted =
-      let s = shift (guests_in frames names) a b salt Unmapped (Shared (bytes_in frames m)) (page_in_is frames names a b salt Unmapped at) in
+      let s = shift (guests_in frames pmap) a b salt Unmapped (Shared (bytes_in frames m)) (page_in_is frames pmap a b salt Unmapped at) in
       let c = t.counted in
       let l = len_old table.shared code (record { mpn = m; count = n + 1 }) (record { mpn = m; count = n }) found in
       let r = sum_old (λ (e : ℕ × SharedFrame). e.1.count) table.shared code (record { mpn = m; count = n + 1 }) (record { mpn = m; count = n }) found in
@@ -85,31 +85,31 @@ module _ (hash : ℕ → List ℕ → ℕ) (names : Names) (frames : FrameMap) (
         references = omega (arith, c.references, s.shared, r);
       })
 
-  pub joined_ties : Ties hash (with_slot names a b (Shared m)) frames (with_shared table code m (n + 1)) notes
+  pub joined_ties : Ties hash (with_slot pmap a b (Shared m)) frames (with_shared table code m (n + 1)) notes
   joined_ties = record {
-    placed = joined_placed hash names frames notes table.shared a b salt m code n at t.placed t.noted t.shares found salt_is;
-    noted = joined_noted hash names frames notes table.shared a b salt m code n at t.placed t.noted t.shares found salt_is;
-    shares = joined_shares hash names frames notes table.shared a b salt m code n at t.placed t.noted t.shares found salt_is;
-    hinted = hinted_calm names table.hints a b salt Unmapped (Shared m) at refl refl t.hinted;
+    placed = joined_placed hash pmap frames notes table.shared a b salt m code n at t.placed t.noted t.shares found salt_is;
+    noted = joined_noted hash pmap frames notes table.shared a b salt m code n at t.placed t.noted t.shares found salt_is;
+    shares = joined_shares hash pmap frames notes table.shared a b salt m code n at t.placed t.noted t.shares found salt_is;
+    hinted = hinted_calm pmap table.hints a b salt Unmapped (Shared m) at refl refl t.hinted;
     counted = joined_counted;
-    owned = more_owned names frames a b salt Unmapped (Shared m) at refl t.owned;
+    owned = more_owned pmap frames a b salt Unmapped (Shared m) at refl t.owned;
   }
 
 -- a shared page, not the last of its content, is unmapped
-module _ (hash : ℕ → List ℕ → ℕ) (names : Names) (frames : FrameMap) (table : TableMaps) (notes : List Known) (a b salt m code n : ℕ)
-    (t : Ties hash names frames table notes) (at : page_at names a b ≡ Some (salt, Shared m))
+module _ (hash : ℕ → List ℕ → ℕ) (pmap : Pmap) (frames : FrameMap) (table : TableMaps) (notes : List Known) (a b salt m code n : ℕ)
+    (t : Ties hash pmap frames table notes) (at : page_at pmap a b ≡ Some (salt, Shared m))
     (found : shared_at table code ≡ Some (record { mpn = m; count = n + 1 })) (some : 1 ≤ n) where
-  pub left_guests : guests_in frames (with_slot names a b Unmapped) ≡ with_slot (guests_in frames names) a b Unmapped
-  left_guests = re_guests names frames a b salt (Shared m) Unmapped at
+  pub left_guests : guests_in frames (with_slot pmap a b Unmapped) ≡ with_slot (guests_in frames pmap) a b Unmapped
+  left_guests = re_guests pmap frames a b salt (Shared m) Unmapped at
 
-  left_rest : once (any_page (is_shared_as salt (bytes_in frames m)) (cleared (guests_in frames names) a b)) ≡ 0
+  left_rest : once (any_page (is_shared_as salt (bytes_in frames m)) (cleared (guests_in frames pmap) a b)) ≡ 0
   left_rest =
-      let e : n ≡ peers salt (bytes_in frames m) (cleared (guests_in frames names) a b) = left_count hash names frames notes table.shared a b salt m code n at t.placed t.noted t.shares found some ∙ ap (peers salt (bytes_in frames m)) left_guests in
-      rest_some salt (bytes_in frames m) (cleared (guests_in frames names) a b) (omega (arith, e, some))
+      let e : n ≡ peers salt (bytes_in frames m) (cleared (guests_in frames pmap) a b) = left_count hash pmap frames notes table.shared a b salt m code n at t.placed t.noted t.shares found some ∙ ap (peers salt (bytes_in frames m)) left_guests in
+      rest_some salt (bytes_in frames m) (cleared (guests_in frames pmap) a b) (omega (arith, e, some))
 
-  left_counted : Counted (guests_in frames (with_slot names a b Unmapped)) frames (with_shared table code m n)
+  left_counted : Counted (guests_in frames (with_slot pmap a b Unmapped)) frames (with_shared table code m n)
   left_counted =
-      let s = shift (guests_in frames names) a b salt (Shared (bytes_in frames m)) Unmapped (page_in_is frames names a b salt (Shared m) at) in
+      let s = shift (guests_in frames pmap) a b salt (Shared (bytes_in frames m)) Unmapped (page_in_is frames pmap a b salt (Shared m) at) in
       let c = t.counted in
       let l = len_old table.shared code (record { mpn = m; count = n }) (record { mpn = m; count = n + 1 }) found in
       let r = sum_old (λ (e : ℕ × SharedFrame). e.1.count) table.shared code (record { mpn = m; count = n }) (record { mpn = m; count = n + 1 }) found in
@@ -127,44 +127,44 @@ module _ (hash : ℕ → List ℕ → ℕ) (names : Names) (frames : FrameMap) (
       ap (λ (x : ℕ). hash x (bytes_in frames m)) (sym (t.noted.salts a b salt (Shared m) m at refl)) ∙ w.code_is
 
   -- the pages that stay have the frame
-  left_owned : (k : ℕ) → frame_of (Shared m) ≡ Some k → Owner (with_slot names a b Unmapped) k
+  left_owned : (k : ℕ) → frame_of (Shared m) ≡ Some k → Owner (with_slot pmap a b Unmapped) k
   left_owned k f =
       let same : m ≡ k = is f in
-      let e = left_count hash names frames notes table.shared a b salt m code n at t.placed t.noted t.shares found some in
-      subst (Owner (with_slot names a b Unmapped)) same
-      (sharer hash (with_slot names a b Unmapped) frames notes (map.insert table.shared code (record { mpn = m; count = n })) salt m
+      let e = left_count hash pmap frames notes table.shared a b salt m code n at t.placed t.noted t.shares found some in
+      subst (Owner (with_slot pmap a b Unmapped)) same
+      (sharer hash (with_slot pmap a b Unmapped) frames notes (map.insert table.shared code (record { mpn = m; count = n })) salt m
       code n (bytes_in frames m)
-      (left_shares hash names frames notes table.shared a b salt m code n at t.placed t.noted t.shares found some)
+      (left_shares hash pmap frames notes table.shared a b salt m code n at t.placed t.noted t.shares found some)
       (got_same table.shared code (record { mpn = m; count = n })) left_code (omega (arith, e, some))) where
         is : Some m ≡ Some k → m ≡ k
         is e = cc
 
-  pub left_ties : Ties hash (with_slot names a b Unmapped) frames (with_shared table code m n) notes
+  pub left_ties : Ties hash (with_slot pmap a b Unmapped) frames (with_shared table code m n) notes
   left_ties = record {
-    placed = left_placed hash names frames notes table.shared a b salt m code n at t.placed t.noted t.shares found some;
-    noted = left_noted hash names frames notes table.shared a b salt m code n at t.placed t.noted t.shares found some;
-    shares = left_shares hash names frames notes table.shared a b salt m code n at t.placed t.noted t.shares found some;
-    hinted = hinted_calm names table.hints a b salt (Shared m) Unmapped at refl refl t.hinted;
+    placed = left_placed hash pmap frames notes table.shared a b salt m code n at t.placed t.noted t.shares found some;
+    noted = left_noted hash pmap frames notes table.shared a b salt m code n at t.placed t.noted t.shares found some;
+    shares = left_shares hash pmap frames notes table.shared a b salt m code n at t.placed t.noted t.shares found some;
+    hinted = hinted_calm pmap table.hints a b salt (Shared m) Unmapped at refl refl t.hinted;
     counted = left_counted;
-    owned = re_owned names frames a b salt (Shared m) Unmapped at left_owned t.owned;
+    owned = re_owned pmap frames a b salt (Shared m) Unmapped at left_owned t.owned;
   }
 
 -- the last shared page of its content becomes private
-module _ (hash : ℕ → List ℕ → ℕ) (names : Names) (frames : FrameMap) (table : TableMaps) (notes : List Known) (a b salt m code : ℕ) (t : Ties hash names frames table notes) (at : page_at names a b ≡ Some (salt, Shared m)) (found : shared_at table code ≡ Some (record { mpn = m; count = 1 })) where
-  pub kept_guests : guests_in frames (with_slot names a b (Private m None)) ≡ with_slot (guests_in frames names) a b (Private (bytes_in frames m) None)
-  kept_guests = re_guests names frames a b salt (Shared m) (Private m None) at
+module _ (hash : ℕ → List ℕ → ℕ) (pmap : Pmap) (frames : FrameMap) (table : TableMaps) (notes : List Known) (a b salt m code : ℕ) (t : Ties hash pmap frames table notes) (at : page_at pmap a b ≡ Some (salt, Shared m)) (found : shared_at table code ≡ Some (record { mpn = m; count = 1 })) where
+  pub kept_guests : guests_in frames (with_slot pmap a b (Private m None)) ≡ with_slot (guests_in frames pmap) a b (Private (bytes_in frames m) None)
+  kept_guests = re_guests pmap frames a b salt (Shared m) (Private m None) at
 
-  kept_before : 1 ≡ peers salt (bytes_in frames m) (guests_in frames names)
+  kept_before : 1 ≡ peers salt (bytes_in frames m) (guests_in frames pmap)
   kept_before = rw (t.noted.salts a b salt (Shared m) m at refl) at (t.shares.well code _ found).count
 
-  kept_rest : once (any_page (is_shared_as salt (bytes_in frames m)) (cleared (guests_in frames names) a b)) ≡ 1
+  kept_rest : once (any_page (is_shared_as salt (bytes_in frames m)) (cleared (guests_in frames pmap) a b)) ≡ 1
   kept_rest =
-      let e = rw (own_content salt (bytes_in frames m)) at (pages_counted (is_shared_as salt (bytes_in frames m)) (guests_in frames names) a b salt (Shared (bytes_in frames m)) Unmapped (page_in_is frames names a b salt (Shared m) at)) in
-      rest_none salt (bytes_in frames m) (cleared (guests_in frames names) a b) (omega (arith, e, kept_before))
+      let e = rw (own_content salt (bytes_in frames m)) at (pages_counted (is_shared_as salt (bytes_in frames m)) (guests_in frames pmap) a b salt (Shared (bytes_in frames m)) Unmapped (page_in_is frames pmap a b salt (Shared m) at)) in
+      rest_none salt (bytes_in frames m) (cleared (guests_in frames pmap) a b) (omega (arith, e, kept_before))
 
-  kept_counted : Counted (guests_in frames (with_slot names a b (Private m None))) frames (without_shared table code)
+  kept_counted : Counted (guests_in frames (with_slot pmap a b (Private m None))) frames (without_shared table code)
   kept_counted =
-      let s = shift (guests_in frames names) a b salt (Shared (bytes_in frames m)) (Private (bytes_in frames m) None) (page_in_is frames names a b salt (Shared m) at) in
+      let s = shift (guests_in frames pmap) a b salt (Shared (bytes_in frames m)) (Private (bytes_in frames m) None) (page_in_is frames pmap a b salt (Shared m) at) in
       let c = t.counted in
       let l = len_gone table.shared code (record { mpn = m; count = 1 }) found in
       let r = sum_gone (λ (e : ℕ × SharedFrame). e.1.count) table.shared code (record { mpn = m; count = 1 }) found in
@@ -176,31 +176,31 @@ module _ (hash : ℕ → List ℕ → ℕ) (names : Names) (frames : FrameMap) (
         references = omega (arith, c.references, s.shared, r);
       })
 
-  pub kept_ties : Ties hash (with_slot names a b (Private m None)) frames (without_shared table code) notes
+  pub kept_ties : Ties hash (with_slot pmap a b (Private m None)) frames (without_shared table code) notes
   kept_ties = record {
-    placed = kept_placed hash names frames notes table.shared a b salt m code at t.placed t.noted t.shares found;
-    noted = kept_noted hash names frames notes table.shared a b salt m code at t.placed t.noted t.shares found;
-    shares = kept_shares hash names frames notes table.shared a b salt m code at t.placed t.noted t.shares found;
-    hinted = hinted_calm names table.hints a b salt (Shared m) (Private m None) at refl refl t.hinted;
+    placed = kept_placed hash pmap frames notes table.shared a b salt m code at t.placed t.noted t.shares found;
+    noted = kept_noted hash pmap frames notes table.shared a b salt m code at t.placed t.noted t.shares found;
+    shares = kept_shares hash pmap frames notes table.shared a b salt m code at t.placed t.noted t.shares found;
+    hinted = hinted_calm pmap table.hints a b salt (Shared m) (Private m None) at refl refl t.hinted;
     counted = kept_counted;
-    owned = same_owned names frames a b salt (Shared m) (Private m None) at refl t.owned;
+    owned = same_owned pmap frames a b salt (Shared m) (Private m None) at refl t.owned;
   }
 
 -- a private page becomes the first shared page of its content
-module _ (hash : ℕ → List ℕ → ℕ) (names : Names) (frames : FrameMap) (table : TableMaps) (notes : List Known) (a b salt m code : ℕ)
-    (t : Ties hash names frames table notes) (at : page_at names a b ≡ Some (salt, Private m None)) (absent : shared_at table code ≡ None)
+module _ (hash : ℕ → List ℕ → ℕ) (pmap : Pmap) (frames : FrameMap) (table : TableMaps) (notes : List Known) (a b salt m code : ℕ)
+    (t : Ties hash pmap frames table notes) (at : page_at pmap a b ≡ Some (salt, Private m None)) (absent : shared_at table code ≡ None)
     (code_is : hash salt (bytes_in frames m) ≡ code) where
-  pub first_guests : guests_in frames (with_slot names a b (Shared m)) ≡ with_slot (guests_in frames names) a b (Shared (bytes_in frames m))
-  first_guests = re_guests names frames a b salt (Private m None) (Shared m) at
+  pub first_guests : guests_in frames (with_slot pmap a b (Shared m)) ≡ with_slot (guests_in frames pmap) a b (Shared (bytes_in frames m))
+  first_guests = re_guests pmap frames a b salt (Private m None) (Shared m) at
 
-  first_rest : once (any_page (is_shared_as salt (bytes_in frames m)) (cleared (guests_in frames names) a b)) ≡ 1
+  first_rest : once (any_page (is_shared_as salt (bytes_in frames m)) (cleared (guests_in frames pmap) a b)) ≡ 1
   first_rest =
-      let e = pages_counted (is_shared_as salt (bytes_in frames m)) (guests_in frames names) a b salt (Private (bytes_in frames m) None) Unmapped (page_in_is frames names a b salt (Private m None) at) in
-      rest_none salt (bytes_in frames m) (cleared (guests_in frames names) a b) (omega (arith, e, no_peers hash names frames notes table.shared salt code (bytes_in frames m) t.shares absent code_is))
+      let e = pages_counted (is_shared_as salt (bytes_in frames m)) (guests_in frames pmap) a b salt (Private (bytes_in frames m) None) Unmapped (page_in_is frames pmap a b salt (Private m None) at) in
+      rest_none salt (bytes_in frames m) (cleared (guests_in frames pmap) a b) (omega (arith, e, no_peers hash pmap frames notes table.shared salt code (bytes_in frames m) t.shares absent code_is))
 
-  first_counted : Counted (guests_in frames (with_slot names a b (Shared m))) frames (with_shared table code m 1)
+  first_counted : Counted (guests_in frames (with_slot pmap a b (Shared m))) frames (with_shared table code m 1)
   first_counted =
-      let s = shift (guests_in frames names) a b salt (Private (bytes_in frames m) None) (Shared (bytes_in frames m)) (page_in_is frames names a b salt (Private m None) at) in
+      let s = shift (guests_in frames pmap) a b salt (Private (bytes_in frames m) None) (Shared (bytes_in frames m)) (page_in_is frames pmap a b salt (Private m None) at) in
       let c = t.counted in
       let l = len_new table.shared code (record { mpn = m; count = 1 }) absent in
       let r = sum_new (λ (e : ℕ × SharedFrame). e.1.count) table.shared code (record { mpn = m; count = 1 }) absent in
@@ -212,34 +212,34 @@ module _ (hash : ℕ → List ℕ → ℕ) (names : Names) (frames : FrameMap) (
         references = omega (arith, c.references, s.shared, r);
       })
 
-  pub first_ties : Ties hash (with_slot names a b (Shared m)) frames (with_shared table code m 1) notes
+  pub first_ties : Ties hash (with_slot pmap a b (Shared m)) frames (with_shared table code m 1) notes
   first_ties = record {
-    placed = first_placed hash names frames notes table.shared a b salt m code at t.placed t.noted t.shares absent code_is;
-    noted = first_noted hash names frames notes table.shared a b salt m code at t.placed t.noted t.shares absent code_is;
-    shares = first_shares hash names frames notes table.shared a b salt m code at t.placed t.noted t.shares absent code_is;
-    hinted = hinted_calm names table.hints a b salt (Private m None) (Shared m) at refl refl t.hinted;
+    placed = first_placed hash pmap frames notes table.shared a b salt m code at t.placed t.noted t.shares absent code_is;
+    noted = first_noted hash pmap frames notes table.shared a b salt m code at t.placed t.noted t.shares absent code_is;
+    shares = first_shares hash pmap frames notes table.shared a b salt m code at t.placed t.noted t.shares absent code_is;
+    hinted = hinted_calm pmap table.hints a b salt (Private m None) (Shared m) at refl refl t.hinted;
     counted = first_counted;
-    owned = same_owned names frames a b salt (Private m None) (Shared m) at refl t.owned;
+    owned = same_owned pmap frames a b salt (Private m None) (Shared m) at refl t.owned;
   }
 
 -- a private page and a page without a frame become the first two shared pages of a content
-module _ (hash : ℕ → List ℕ → ℕ) (names : Names) (frames : FrameMap) (table : TableMaps) (notes : List Known) (a b salt m c d code : ℕ)
-    (t : Ties hash names frames table notes) (at : page_at names a b ≡ Some (salt, Private m None))
-    (there : page_at names c d ≡ Some (salt, Unmapped)) (absent : shared_at table code ≡ None)
+module _ (hash : ℕ → List ℕ → ℕ) (pmap : Pmap) (frames : FrameMap) (table : TableMaps) (notes : List Known) (a b salt m c d code : ℕ)
+    (t : Ties hash pmap frames table notes) (at : page_at pmap a b ≡ Some (salt, Private m None))
+    (there : page_at pmap c d ≡ Some (salt, Unmapped)) (absent : shared_at table code ≡ None)
     (code_is : hash salt (bytes_in frames m) ≡ code) where
   no_frame : Private m None ≡ Unmapped → ⊥
   no_frame e = cc
 
   pair_apart : c ≡ a → d ≡ b → ⊥
   pair_apart e f =
-      let moved : page_at names a b ≡ Some (salt, Unmapped) = ap (λ (i : ℕ). page_at names i b) (sym e) ∙ ap (λ (i : ℕ). page_at names c i) (sym f) ∙ there in
-      no_frame ((same_page (page_at names a b) salt salt (Private m None) Unmapped at moved).1)
+      let moved : page_at pmap a b ≡ Some (salt, Unmapped) = ap (λ (i : ℕ). page_at pmap i b) (sym e) ∙ ap (λ (i : ℕ). page_at pmap c i) (sym f) ∙ there in
+      no_frame ((same_page (page_at pmap a b) salt salt (Private m None) Unmapped at moved).1)
 
-  pub still_there : page_at (with_slot names a b (Shared m)) c d ≡ Some (salt, Unmapped)
-  still_there = at_other names a b (Shared m) c d pair_apart ∙ there
+  pub still_there : page_at (with_slot pmap a b (Shared m)) c d ≡ Some (salt, Unmapped)
+  still_there = at_other pmap a b (Shared m) c d pair_apart ∙ there
 
-  one_ties : Ties hash (with_slot names a b (Shared m)) frames (with_shared table code m 1) notes
-  one_ties = first_ties hash names frames table notes a b salt m code t at absent code_is
+  one_ties : Ties hash (with_slot pmap a b (Shared m)) frames (with_shared table code m 1) notes
+  one_ties = first_ties hash pmap frames table notes a b salt m code t at absent code_is
 
   one_found : shared_at (with_shared table code m 1) code ≡ Some (record { mpn = m; count = 1 })
   one_found = got_same table.shared code (record { mpn = m; count = 1 })
@@ -247,16 +247,16 @@ module _ (hash : ℕ → List ℕ → ℕ) (names : Names) (frames : FrameMap) (
   one_salt : (known_at notes m).salt ≡ salt
   one_salt = t.noted.salts a b salt (Private m None) m at refl
 
-  two_ties : Ties hash (with_slot (with_slot names a b (Shared m)) c d (Shared m)) frames (with_shared (with_shared table code m 1) code m 2) notes
-  two_ties = joined_ties hash (with_slot names a b (Shared m)) frames (with_shared table code m 1) notes c d salt m code 1 one_ties still_there one_found one_salt
+  two_ties : Ties hash (with_slot (with_slot pmap a b (Shared m)) c d (Shared m)) frames (with_shared (with_shared table code m 1) code m 2) notes
+  two_ties = joined_ties hash (with_slot pmap a b (Shared m)) frames (with_shared table code m 1) notes c d salt m code 1 one_ties still_there one_found one_salt
 
   two_at_once : with_shared (with_shared table code m 1) code m 2 ≡ with_shared table code m 2
   two_at_once = ap (λ (s : SharedMap). let r : TableMaps = record table { shared = s } in r) (twice_inserted table.shared code (record { mpn = m; count = 1 }) (record { mpn = m; count = 2 }))
 
-  pub paired_ties : Ties hash (with_slot (with_slot names a b (Shared m)) c d (Shared m)) frames (with_shared table code m 2) notes
-  paired_ties = subst (λ (x : TableMaps). Ties hash (with_slot (with_slot names a b (Shared m)) c d (Shared m)) frames x notes) two_at_once two_ties
+  pub paired_ties : Ties hash (with_slot (with_slot pmap a b (Shared m)) c d (Shared m)) frames (with_shared table code m 2) notes
+  paired_ties = subst (λ (x : TableMaps). Ties hash (with_slot (with_slot pmap a b (Shared m)) c d (Shared m)) frames x notes) two_at_once two_ties
 
-  pub paired_guests : guests_in frames (with_slot (with_slot names a b (Shared m)) c d (Shared m)) ≡ with_slot (with_slot (guests_in frames names) a b (Shared (bytes_in frames m))) c d (Shared (bytes_in frames m))
+  pub paired_guests : guests_in frames (with_slot (with_slot pmap a b (Shared m)) c d (Shared m)) ≡ with_slot (with_slot (guests_in frames pmap) a b (Shared (bytes_in frames m))) c d (Shared (bytes_in frames m))
   paired_guests =
-      joined_guests hash (with_slot names a b (Shared m)) frames (with_shared table code m 1) notes c d salt m code 1 one_ties still_there one_found one_salt
-      ∙ ap (λ (gs : List Guest). with_slot gs c d (Shared (bytes_in frames m))) (first_guests hash names frames table notes a b salt m code t at absent code_is)
+      joined_guests hash (with_slot pmap a b (Shared m)) frames (with_shared table code m 1) notes c d salt m code 1 one_ties still_there one_found one_salt
+      ∙ ap (λ (gs : List Guest). with_slot gs c d (Shared (bytes_in frames m))) (first_guests hash pmap frames table notes a b salt m code t at absent code_is)

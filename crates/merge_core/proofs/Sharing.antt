@@ -11,10 +11,10 @@ use Rattle.page_model.proofs.Used.{pages_counted}
 use Rattle.machine_frames.specs.FrameMap.{FrameMap, IsTaken}
 use Rattle.share_table.specs.TableMaps.{SharedMap, SharedFrame}
 use Rattle.merge_core.proofs.Maps.{got_same, got_other, gone_same, gone_other}
-use Rattle.merge_core.specs.Names.{Names, bytes_in, slot_in, guests_in, frame_of, Known, known_at}
+use Rattle.merge_core.specs.Pmap.{Pmap, bytes_in, slot_in, guests_in, frame_of, Known, known_at}
 use Rattle.merge_core.specs.Ties.{Placed, Noted, SharedWell, Listed, Shares}
 use Rattle.merge_core.proofs.Views.{page_in_is}
-use Rattle.merge_core.proofs.Renames.{re_peers, re_placed, re_noted}
+use Rattle.merge_core.proofs.Remaps.{re_peers, re_placed, re_noted}
 
 pub same_frame : {x y : SharedFrame} → Some x ≡ Some y → x ≡ y
 same_frame e = cc
@@ -38,18 +38,18 @@ other_content hash s salt bs bytes n = pick (cases_Bool (is_shared_as s bs salt 
   pick (inr f) = f
 
 -- the entries of the table at a change of one page that has, or had, the frame m
-module _ (hash : ℕ → List ℕ → ℕ) (names : Names) (frames : FrameMap) (notes : List Known) (shared : SharedMap) (a b salt m code : ℕ)
-    (old new : SlotOf ℕ) (at : page_at names a b ≡ Some (salt, old)) (code_is : hash salt (bytes_in frames m) ≡ code)
+module _ (hash : ℕ → List ℕ → ℕ) (pmap : Pmap) (frames : FrameMap) (notes : List Known) (shared : SharedMap) (a b salt m code : ℕ)
+    (old new : SlotOf ℕ) (at : page_at pmap a b ≡ Some (salt, old)) (code_is : hash salt (bytes_in frames m) ≡ code)
     (salt_is : (known_at notes m).salt ≡ salt)
     (calm_old : (s : ℕ) (bs : List ℕ) → (hash s bs ≡ code → ⊥) → is_shared_as s bs salt (slot_in frames old) ≡ false)
     (calm_new : (s : ℕ) (bs : List ℕ) → (hash s bs ≡ code → ⊥) → is_shared_as s bs salt (slot_in frames new) ≡ false)
-    (well : (c : ℕ) (f : SharedFrame) → map.get shared c ≡ Some f → SharedWell hash (guests_in frames names) frames notes c f) where
+    (well : (c : ℕ) (f : SharedFrame) → map.get shared c ≡ Some f → SharedWell hash (guests_in frames pmap) frames notes c f) where
   abbrev gs' : List Guest
-  gs' = guests_in frames (with_slot names a b new)
+  gs' = guests_in frames (with_slot pmap a b new)
 
-  others_stay : (s : ℕ) (bs : List ℕ) → (hash s bs ≡ code → ⊥) → peers s bs gs' ≡ peers s bs (guests_in frames names)
+  others_stay : (s : ℕ) (bs : List ℕ) → (hash s bs ≡ code → ⊥) → peers s bs gs' ≡ peers s bs (guests_in frames pmap)
   others_stay s bs n =
-      let e = rw (calm_old s bs n, calm_new s bs n) at (re_peers names frames a b salt old new at s bs) in
+      let e = rw (calm_old s bs n, calm_new s bs n) at (re_peers pmap frames a b salt old new at s bs) in
       omega (arith, e)
 
   pub other_well : (c : ℕ) (f : SharedFrame) → (c ≡ code → ⊥) → map.get shared c ≡ Some f → SharedWell hash gs' frames notes c f
@@ -97,14 +97,14 @@ apart_insert shared code m n k old differ c f (inl e) there is =
 apart_insert shared code m n k old differ c f (inr d) there is = old c f (sym (got_other shared code (record { mpn = m; count = n }) c d) ∙ there) is
 
 -- an unmapped page joins the frame under its hash
-module _ (hash : ℕ → List ℕ → ℕ) (names : Names) (frames : FrameMap) (notes : List Known) (shared : SharedMap) (a b salt m code n : ℕ)
-    (at : page_at names a b ≡ Some (salt, Unmapped)) (placed : Placed names frames) (noted : Noted hash names frames notes)
-    (shares : Shares hash names frames notes shared) (found : map.get shared code ≡ Some (record { mpn = m; count = n }))
+module _ (hash : ℕ → List ℕ → ℕ) (pmap : Pmap) (frames : FrameMap) (notes : List Known) (shared : SharedMap) (a b salt m code n : ℕ)
+    (at : page_at pmap a b ≡ Some (salt, Unmapped)) (placed : Placed pmap frames) (noted : Noted hash pmap frames notes)
+    (shares : Shares hash pmap frames notes shared) (found : map.get shared code ≡ Some (record { mpn = m; count = n }))
     (salt_is : (known_at notes m).salt ≡ salt) where
   abbrev was : SharedFrame
   was = record { mpn = m; count = n }
 
-  join_well : SharedWell hash (guests_in frames names) frames notes code was
+  join_well : SharedWell hash (guests_in frames pmap) frames notes code was
   join_well = shares.well code was found
 
   pub join_code : hash salt (bytes_in frames m) ≡ code
@@ -116,8 +116,8 @@ module _ (hash : ℕ → List ℕ → ℕ) (names : Names) (frames : FrameMap) (
   no_private : (k l : ℕ) (h : Option ℕ) → Private k h ≡ Shared l → ⊥
   no_private k l h e = cc
 
-  pub joined_placed : Placed (with_slot names a b (Shared m)) frames
-  joined_placed = re_placed names frames a b salt Unmapped (Shared m) at
+  pub joined_placed : Placed (with_slot pmap a b (Shared m)) frames
+  joined_placed = re_placed pmap frames a b salt Unmapped (Shared m) at
       (λ k f. subst (IsTaken frames) (same f) join_well.taken)
       (λ k h is. absurd (no_private k m h (sym is)))
       (λ k f c d s h apart there. shares.apart c d s k h code was there found (same f))
@@ -125,43 +125,43 @@ module _ (hash : ℕ → List ℕ → ℕ) (names : Names) (frames : FrameMap) (
         same : {k : ℕ} → Some m ≡ Some k → m ≡ k
         same e = cc
 
-  pub joined_noted : Noted hash (with_slot names a b (Shared m)) frames notes
-  joined_noted = re_noted names frames a b salt Unmapped (Shared m) at hash notes noted (λ k f. ap (λ (x : ℕ). (known_at notes x).salt) (sym (same f)) ∙ salt_is) where
+  pub joined_noted : Noted hash (with_slot pmap a b (Shared m)) frames notes
+  joined_noted = re_noted pmap frames a b salt Unmapped (Shared m) at hash notes noted (λ k f. ap (λ (x : ℕ). (known_at notes x).salt) (sym (same f)) ∙ salt_is) where
     same : {k : ℕ} → Some m ≡ Some k → m ≡ k
     same e = cc
 
-  pub joined_count : n + 1 ≡ peers salt (bytes_in frames m) (guests_in frames (with_slot names a b (Shared m)))
+  pub joined_count : n + 1 ≡ peers salt (bytes_in frames m) (guests_in frames (with_slot pmap a b (Shared m)))
   joined_count =
-      let e = rw (own_content salt (bytes_in frames m)) at (re_peers names frames a b salt Unmapped (Shared m) at salt (bytes_in frames m)) in
+      let e = rw (own_content salt (bytes_in frames m)) at (re_peers pmap frames a b salt Unmapped (Shared m) at salt (bytes_in frames m)) in
       let w = rw salt_is at join_well.count in
       omega (arith, e, w)
 
   abbrev now : SharedMap
   now = map.insert shared code (record { mpn = m; count = n + 1 })
 
-  joined_listed : (c d s k : ℕ) → Changed names a b salt (Shared m) c d s (Shared k) → Listed now (hash s (bytes_in frames k)) k
+  joined_listed : (c d s k : ℕ) → Changed pmap a b salt (Shared m) c d s (Shared k) → Listed now (hash s (bytes_in frames k)) k
   joined_listed c d s k (here ca db ss is) =
       let e : k ≡ m = same_shared k m is in
       record { count = n + 1; here = rw (e, ss, join_code) (got_same shared code (record { mpn = m; count = n + 1 })) }
   joined_listed c d s k (elsewhere apart there) =
       listed_insert shared code m (n + 1) (λ f at. ap (λ (x : SharedFrame). x.mpn) (same_frame (sym at ∙ found))) (hash s (bytes_in frames k)) k (cases_eq (hash s (bytes_in frames k)) code) (shares.listed c d s k there)
 
-  joined_apart : (c d s k : ℕ) (h : Option ℕ) (o : ℕ) (f : SharedFrame) → Changed names a b salt (Shared m) c d s (Private k h) → map.get now o ≡ Some f → f.mpn ≡ k → ⊥
+  joined_apart : (c d s k : ℕ) (h : Option ℕ) (o : ℕ) (f : SharedFrame) → Changed pmap a b salt (Shared m) c d s (Private k h) → map.get now o ≡ Some f → f.mpn ≡ k → ⊥
   joined_apart c d s k h o f (here ca db ss is) there e = no_private k m h is
   joined_apart c d s k h o f (elsewhere apart there') there e =
       apart_insert shared code m (n + 1) k (λ o f. shares.apart c d s k h o f there') (λ q. shares.apart c d s k h code was there' found q) o f (cases_eq o code) there e
 
-  pub joined_shares : Shares hash (with_slot names a b (Shared m)) frames notes now
+  pub joined_shares : Shares hash (with_slot pmap a b (Shared m)) frames notes now
   joined_shares = record {
-    listed = λ c d s k there. joined_listed c d s k (at_changed names a b salt Unmapped (Shared m) at c d s (Shared k) there);
-    well = inserted_well hash names frames notes shared a b salt m code Unmapped (Shared m) at join_code salt_is (λ s bs n. refl) (calm_shared hash frames salt m code join_code) shares.well (n + 1) join_well.taken joined_count (omega arith);
-    apart = λ c d s k h o f there there' e. joined_apart c d s k h o f (at_changed names a b salt Unmapped (Shared m) at c d s (Private k h) there) there' e;
+    listed = λ c d s k there. joined_listed c d s k (at_changed pmap a b salt Unmapped (Shared m) at c d s (Shared k) there);
+    well = inserted_well hash pmap frames notes shared a b salt m code Unmapped (Shared m) at join_code salt_is (λ s bs n. refl) (calm_shared hash frames salt m code join_code) shares.well (n + 1) join_well.taken joined_count (omega arith);
+    apart = λ c d s k h o f there there' e. joined_apart c d s k h o f (at_changed pmap a b salt Unmapped (Shared m) at c d s (Private k h) there) there' e;
   }
 
 -- a shared page, not the last of its content, is unmapped
-module _ (hash : ℕ → List ℕ → ℕ) (names : Names) (frames : FrameMap) (notes : List Known) (shared : SharedMap) (a b salt m code n : ℕ)
-    (at : page_at names a b ≡ Some (salt, Shared m)) (placed : Placed names frames) (noted : Noted hash names frames notes)
-    (shares : Shares hash names frames notes shared) (found : map.get shared code ≡ Some (record { mpn = m; count = n + 1 }))
+module _ (hash : ℕ → List ℕ → ℕ) (pmap : Pmap) (frames : FrameMap) (notes : List Known) (shared : SharedMap) (a b salt m code n : ℕ)
+    (at : page_at pmap a b ≡ Some (salt, Shared m)) (placed : Placed pmap frames) (noted : Noted hash pmap frames notes)
+    (shares : Shares hash pmap frames notes shared) (found : map.get shared code ≡ Some (record { mpn = m; count = n + 1 }))
     (some : 1 ≤ n) where
   abbrev left : SharedFrame
   left = record { mpn = m; count = n + 1 }
@@ -169,7 +169,7 @@ module _ (hash : ℕ → List ℕ → ℕ) (names : Names) (frames : FrameMap) (
   left_salt : (known_at notes m).salt ≡ salt
   left_salt = noted.salts a b salt (Shared m) m at refl
 
-  left_well : SharedWell hash (guests_in frames names) frames notes code left
+  left_well : SharedWell hash (guests_in frames pmap) frames notes code left
   left_well = shares.well code left found
 
   left_code : hash salt (bytes_in frames m) ≡ code
@@ -184,36 +184,36 @@ module _ (hash : ℕ → List ℕ → ℕ) (names : Names) (frames : FrameMap) (
   shared_no : (k : ℕ) → Shared k ≡ Unmapped → ⊥
   shared_no k e = cc
 
-  pub left_placed : Placed (with_slot names a b Unmapped) frames
-  left_placed = re_placed names frames a b salt (Shared m) Unmapped at (λ k f. absurd (no_frame k f)) (λ k h is. absurd (private_no k h is)) (λ k f. absurd (no_frame k f)) placed
+  pub left_placed : Placed (with_slot pmap a b Unmapped) frames
+  left_placed = re_placed pmap frames a b salt (Shared m) Unmapped at (λ k f. absurd (no_frame k f)) (λ k h is. absurd (private_no k h is)) (λ k f. absurd (no_frame k f)) placed
 
-  pub left_noted : Noted hash (with_slot names a b Unmapped) frames notes
-  left_noted = re_noted names frames a b salt (Shared m) Unmapped at hash notes noted (λ k f. absurd (no_frame k f))
+  pub left_noted : Noted hash (with_slot pmap a b Unmapped) frames notes
+  left_noted = re_noted pmap frames a b salt (Shared m) Unmapped at hash notes noted (λ k f. absurd (no_frame k f))
 
-  pub left_count : n ≡ peers salt (bytes_in frames m) (guests_in frames (with_slot names a b Unmapped))
+  pub left_count : n ≡ peers salt (bytes_in frames m) (guests_in frames (with_slot pmap a b Unmapped))
   left_count =
-      let e = rw (own_content salt (bytes_in frames m)) at (re_peers names frames a b salt (Shared m) Unmapped at salt (bytes_in frames m)) in
+      let e = rw (own_content salt (bytes_in frames m)) at (re_peers pmap frames a b salt (Shared m) Unmapped at salt (bytes_in frames m)) in
       let w = rw left_salt at left_well.count in
       omega (arith, e, w)
 
   abbrev less : SharedMap
   less = map.insert shared code (record { mpn = m; count = n })
 
-  left_listed : (c d s k : ℕ) → Changed names a b salt Unmapped c d s (Shared k) → Listed less (hash s (bytes_in frames k)) k
+  left_listed : (c d s k : ℕ) → Changed pmap a b salt Unmapped c d s (Shared k) → Listed less (hash s (bytes_in frames k)) k
   left_listed c d s k (here ca db ss is) = absurd (shared_no k is)
   left_listed c d s k (elsewhere apart there) =
       listed_insert shared code m n (λ f it. ap (λ (x : SharedFrame). x.mpn) (same_frame (sym it ∙ found))) (hash s (bytes_in frames k)) k (cases_eq (hash s (bytes_in frames k)) code) (shares.listed c d s k there)
 
-  left_apart : (c d s k : ℕ) (h : Option ℕ) (o : ℕ) (f : SharedFrame) → Changed names a b salt Unmapped c d s (Private k h) → map.get less o ≡ Some f → f.mpn ≡ k → ⊥
+  left_apart : (c d s k : ℕ) (h : Option ℕ) (o : ℕ) (f : SharedFrame) → Changed pmap a b salt Unmapped c d s (Private k h) → map.get less o ≡ Some f → f.mpn ≡ k → ⊥
   left_apart c d s k h o f (here ca db ss is) there e = private_no k h (sym is)
   left_apart c d s k h o f (elsewhere apart there') there e =
       apart_insert shared code m n k (λ o f. shares.apart c d s k h o f there') (λ q. shares.apart c d s k h code left there' found q) o f (cases_eq o code) there e
 
-  pub left_shares : Shares hash (with_slot names a b Unmapped) frames notes less
+  pub left_shares : Shares hash (with_slot pmap a b Unmapped) frames notes less
   left_shares = record {
-    listed = λ c d s k there. left_listed c d s k (at_changed names a b salt (Shared m) Unmapped at c d s (Shared k) there);
-    well = inserted_well hash names frames notes shared a b salt m code (Shared m) Unmapped at left_code left_salt (calm_shared hash frames salt m code left_code) (λ s bs n. refl) shares.well n left_well.taken left_count some;
-    apart = λ c d s k h o f there there' e. left_apart c d s k h o f (at_changed names a b salt (Shared m) Unmapped at c d s (Private k h) there) there' e;
+    listed = λ c d s k there. left_listed c d s k (at_changed pmap a b salt (Shared m) Unmapped at c d s (Shared k) there);
+    well = inserted_well hash pmap frames notes shared a b salt m code (Shared m) Unmapped at left_code left_salt (calm_shared hash frames salt m code left_code) (λ s bs n. refl) shares.well n left_well.taken left_count some;
+    apart = λ c d s k h o f there there' e. left_apart c d s k h o f (at_changed pmap a b salt (Shared m) Unmapped at c d s (Private k h) there) there' e;
   }
 
 -- a shared page has peers
@@ -224,19 +224,19 @@ has_peer gs c d s salt bytes at e =
     omega (arith, counted)
 
 -- the last shared page of its content becomes private
-module _ (hash : ℕ → List ℕ → ℕ) (names : Names) (frames : FrameMap) (notes : List Known) (shared : SharedMap) (a b salt m code : ℕ)
-    (at : page_at names a b ≡ Some (salt, Shared m)) (placed : Placed names frames) (noted : Noted hash names frames notes)
-    (shares : Shares hash names frames notes shared) (found : map.get shared code ≡ Some (record { mpn = m; count = 1 })) where
+module _ (hash : ℕ → List ℕ → ℕ) (pmap : Pmap) (frames : FrameMap) (notes : List Known) (shared : SharedMap) (a b salt m code : ℕ)
+    (at : page_at pmap a b ≡ Some (salt, Shared m)) (placed : Placed pmap frames) (noted : Noted hash pmap frames notes)
+    (shares : Shares hash pmap frames notes shared) (found : map.get shared code ≡ Some (record { mpn = m; count = 1 })) where
   abbrev last : SharedFrame
   last = record { mpn = m; count = 1 }
 
-  abbrev kept : Names
-  kept = with_slot names a b (Private m None)
+  abbrev kept : Pmap
+  kept = with_slot pmap a b (Private m None)
 
   kept_salt : (known_at notes m).salt ≡ salt
   kept_salt = noted.salts a b salt (Shared m) m at refl
 
-  kept_well : SharedWell hash (guests_in frames names) frames notes code last
+  kept_well : SharedWell hash (guests_in frames pmap) frames notes code last
   kept_well = shares.well code last found
 
   kept_code : hash salt (bytes_in frames m) ≡ code
@@ -244,11 +244,11 @@ module _ (hash : ℕ → List ℕ → ℕ) (names : Names) (frames : FrameMap) (
 
   pub kept_count : 0 ≡ peers salt (bytes_in frames m) (guests_in frames kept)
   kept_count =
-      let e = rw (own_content salt (bytes_in frames m)) at (re_peers names frames a b salt (Shared m) (Private m None) at salt (bytes_in frames m)) in
+      let e = rw (own_content salt (bytes_in frames m)) at (re_peers pmap frames a b salt (Shared m) (Private m None) at salt (bytes_in frames m)) in
       let w = rw kept_salt at kept_well.count in
       omega (arith, e, w)
 
-  sole : (c d s : ℕ) (slot : SlotOf ℕ) → (c ≡ a → d ≡ b → ⊥) → page_at names c d ≡ Some (s, slot) → frame_of slot ≡ Some m → ⊥
+  sole : (c d s : ℕ) (slot : SlotOf ℕ) → (c ≡ a → d ≡ b → ⊥) → page_at pmap c d ≡ Some (s, slot) → frame_of slot ≡ Some m → ⊥
   sole c d s Unmapped apart there f = no_one m f where
     no_one : (k : ℕ) → None ≡ Some k → ⊥
     no_one k e = cc
@@ -257,8 +257,8 @@ module _ (hash : ℕ → List ℕ → ℕ) (names : Names) (frames : FrameMap) (
     same e = cc
   sole c d s (Shared k) apart there f =
       let e : k ≡ m = same f in
-      let it : page_at names c d ≡ Some (s, Shared m) = there ∙ ap (λ (x : ℕ). let p : ℕ × SlotOf ℕ = (s, Shared x) in Some p) e in
-      let still : page_at kept c d ≡ Some (s, Shared m) = at_other names a b (Private m None) c d apart ∙ it in
+      let it : page_at pmap c d ≡ Some (s, Shared m) = there ∙ ap (λ (x : ℕ). let p : ℕ × SlotOf ℕ = (s, Shared x) in Some p) e in
+      let still : page_at kept c d ≡ Some (s, Shared m) = at_other pmap a b (Private m None) c d apart ∙ it in
       let salts : s ≡ salt = sym (noted.salts c d s (Shared m) m it refl) ∙ kept_salt in
       let two = has_peer (guests_in frames kept) c d s salt (bytes_in frames m) (page_in_is frames kept c d s (Shared m) still) salts in
       none (omega (arith, two, kept_count)) where
@@ -275,14 +275,14 @@ module _ (hash : ℕ → List ℕ → ℕ) (names : Names) (frames : FrameMap) (
   same_own k h e = cc
 
   pub kept_placed : Placed kept frames
-  kept_placed = re_placed names frames a b salt (Shared m) (Private m None) at
+  kept_placed = re_placed pmap frames a b salt (Shared m) (Private m None) at
       (λ k f. subst (IsTaken frames) (same_frame_of k f) kept_well.taken)
       (λ k h is c d s slot apart there f. sole c d s slot apart there (f ∙ ap Some (sym (same_own k h is))))
       (λ k f c d s h apart there. sole c d s (Private k h) apart there (sym f))
       placed
 
   pub kept_noted : Noted hash kept frames notes
-  kept_noted = re_noted names frames a b salt (Shared m) (Private m None) at hash notes noted (λ k f. ap (λ (x : ℕ). (known_at notes x).salt) (sym (same_frame_of k f)) ∙ kept_salt)
+  kept_noted = re_noted pmap frames a b salt (Shared m) (Private m None) at hash notes noted (λ k f. ap (λ (x : ℕ). (known_at notes x).salt) (sym (same_frame_of k f)) ∙ kept_salt)
 
   abbrev gone : SharedMap
   gone = map.remove shared code
@@ -290,7 +290,7 @@ module _ (hash : ℕ → List ℕ → ℕ) (names : Names) (frames : FrameMap) (
   not_code : (c : ℕ) (f : SharedFrame) → map.get gone c ≡ Some f → c ≢ code
   not_code c f there e = none_frame (sym there ∙ ap (map.get gone) e ∙ gone_same shared code)
 
-  kept_listed : (c d s k : ℕ) → Changed names a b salt (Private m None) c d s (Shared k) → Listed gone (hash s (bytes_in frames k)) k
+  kept_listed : (c d s k : ℕ) → Changed pmap a b salt (Private m None) c d s (Shared k) → Listed gone (hash s (bytes_in frames k)) k
   kept_listed c d s k (here ca db ss is) = absurd (no is) where
     no : Shared k ≡ Private m None → ⊥
     no e = cc
@@ -304,9 +304,9 @@ module _ (hash : ℕ → List ℕ → ℕ) (names : Names) (frames : FrameMap) (
   kept_wells : (c : ℕ) (f : SharedFrame) → map.get gone c ≡ Some f → SharedWell hash (guests_in frames kept) frames notes c f
   kept_wells c f there =
       let n = not_code c f there in
-      other_well hash names frames notes shared a b salt m code (Shared m) (Private m None) at kept_code kept_salt (calm_shared hash frames salt m code kept_code) (λ s bs n. refl) shares.well c f n (sym (gone_other shared code c n) ∙ there)
+      other_well hash pmap frames notes shared a b salt m code (Shared m) (Private m None) at kept_code kept_salt (calm_shared hash frames salt m code kept_code) (λ s bs n. refl) shares.well c f n (sym (gone_other shared code c n) ∙ there)
 
-  kept_apart : (c d s k : ℕ) (h : Option ℕ) (o : ℕ) (f : SharedFrame) → Changed names a b salt (Private m None) c d s (Private k h) → map.get gone o ≡ Some f → f.mpn ≡ k → ⊥
+  kept_apart : (c d s k : ℕ) (h : Option ℕ) (o : ℕ) (f : SharedFrame) → Changed pmap a b salt (Private m None) c d s (Private k h) → map.get gone o ≡ Some f → f.mpn ≡ k → ⊥
   kept_apart c d s k h o f (here ca db ss is) there e =
       let n = not_code o f there in
       let w = shares.well o f (sym (gone_other shared code o n) ∙ there) in
@@ -316,7 +316,7 @@ module _ (hash : ℕ → List ℕ → ℕ) (names : Names) (frames : FrameMap) (
 
   pub kept_shares : Shares hash kept frames notes gone
   kept_shares = record {
-    listed = λ c d s k there. kept_listed c d s k (at_changed names a b salt (Shared m) (Private m None) at c d s (Shared k) there);
+    listed = λ c d s k there. kept_listed c d s k (at_changed pmap a b salt (Shared m) (Private m None) at c d s (Shared k) there);
     well = kept_wells;
-    apart = λ c d s k h o f there there' e. kept_apart c d s k h o f (at_changed names a b salt (Shared m) (Private m None) at c d s (Private k h) there) there' e;
+    apart = λ c d s k h o f there there' e. kept_apart c d s k h o f (at_changed pmap a b salt (Shared m) (Private m None) at c d s (Private k h) there) there' e;
   }

@@ -9,25 +9,25 @@ use Rattle.page_model.specs.Pages.{SlotOf, Slot, Unmapped, Private, Shared, Gues
 use Rattle.page_model.specs.Stored.{text_at, byte_in}
 use Rattle.machine_frames.specs.FrameMap.{FrameMap, frame}
 use Rattle.merge_core.specs.declared.held.GuestPages.{GuestPages}
-use Rattle.merge_core.specs.Names.{Names, bytes_in, slot_in, guests_in, frame_of}
+use Rattle.merge_core.specs.Pmap.{Pmap, bytes_in, slot_in, guests_in, frame_of}
 use Rattle.merge_core.specs.Ties.{Placed, page_total}
-use Rattle.merge_core.specs.View.{slot_of, guest_of, names_in}
+use Rattle.merge_core.specs.View.{slot_of, guest_of, pmap_in}
 use Rattle.merge_core.proofs.FrameLemmas.{bytes_are}
 use Rattle.merge_core.proofs.Views.{page_in_is}
 
 -- a page's frame holds what the page reads as
-pub frame_text : (names : Names) (frames : FrameMap) (a b salt m : ℕ) (slot : SlotOf ℕ) → Placed names frames → page_at names a b ≡ Some (salt, slot) → frame_of slot ≡ Some m → frame frames m ≡ text_at (guests_in frames names) a b
-frame_text names frames a b salt m Unmapped placed at f = cc
-frame_text names frames a b salt m (Private k h) placed at f =
+pub frame_text : (pmap : Pmap) (frames : FrameMap) (a b salt m : ℕ) (slot : SlotOf ℕ) → Placed pmap frames → page_at pmap a b ≡ Some (salt, slot) → frame_of slot ≡ Some m → frame frames m ≡ text_at (guests_in frames pmap) a b
+frame_text pmap frames a b salt m Unmapped placed at f = cc
+frame_text pmap frames a b salt m (Private k h) placed at f =
     bytes_are frames m (placed.taken a b salt (Private k h) m at f)
     ∙ ap (λ (x : ℕ). Some (bytes_in frames x)) (sym (same f))
-    ∙ sym (ap (λ (o : Option (ℕ × Slot)). option_map (λ (x : ℕ × Slot). bytes_of x.1) o) (page_in_is frames names a b salt (Private k h) at)) where
+    ∙ sym (ap (λ (o : Option (ℕ × Slot)). option_map (λ (x : ℕ × Slot). bytes_of x.1) o) (page_in_is frames pmap a b salt (Private k h) at)) where
       same : Some k ≡ Some m → k ≡ m
       same e = cc
-frame_text names frames a b salt m (Shared k) placed at f =
+frame_text pmap frames a b salt m (Shared k) placed at f =
     bytes_are frames m (placed.taken a b salt (Shared k) m at f)
     ∙ ap (λ (x : ℕ). Some (bytes_in frames x)) (sym (same f))
-    ∙ sym (ap (λ (o : Option (ℕ × Slot)). option_map (λ (x : ℕ × Slot). bytes_of x.1) o) (page_in_is frames names a b salt (Shared k) at)) where
+    ∙ sym (ap (λ (o : Option (ℕ × Slot)). option_map (λ (x : ℕ × Slot). bytes_of x.1) o) (page_in_is frames pmap a b salt (Shared k) at)) where
       same : Some k ≡ Some m → k ≡ m
       same e = cc
 
@@ -44,14 +44,14 @@ text_there None h = absurd (false≢true h)
 text_there (Some x) h = refl
 
 -- how many pages a guest has
-pub pages_read : {A : Type 0} (frames : FrameMap) (gs : List (GuestPages A)) (i : ℕ) (d : GuestPages A) → i < length gs → Some (vec_len (get_or gs i d).pages) ≡ option_map (λ (g : Guest). length g.slots) (slice_get (guests_in frames (names_in gs)) i)
+pub pages_read : {A : Type 0} (frames : FrameMap) (gs : List (GuestPages A)) (i : ℕ) (d : GuestPages A) → i < length gs → Some (vec_len (get_or gs i d).pages) ≡ option_map (λ (g : Guest). length g.slots) (slice_get (guests_in frames (pmap_in gs)) i)
 pages_read frames [] i d h = absurd (omega arith)
 pages_read frames (g ∷ gs) zero d h =
     let n : vec_len g.pages ≡ length (map (slot_in frames) (map slot_of g.pages.items)) = omega (arith, g.pages.ok.0, length-map g.pages.items slot_of, length-map (map slot_of g.pages.items) (slot_in frames)) in
     ap Some n
 pages_read frames (g ∷ gs) (suc i) d h = pages_read frames gs i d (omega arith)
 
-pub pages_few : {A : Type 0} (gs : List (GuestPages A)) (i : ℕ) (d : GuestPages A) → i < length gs → vec_len (get_or gs i d).pages ≤ page_total (names_in gs)
+pub pages_few : {A : Type 0} (gs : List (GuestPages A)) (i : ℕ) (d : GuestPages A) → i < length gs → vec_len (get_or gs i d).pages ≤ page_total (pmap_in gs)
 pages_few [] i d h = absurd (omega arith)
-pages_few (g ∷ gs) zero d h = omega (arith, g.pages.ok.0, length-map g.pages.items slot_of, sum_by-cons (λ (y : GuestOf ℕ). length y.slots) (guest_of g) (names_in gs))
-pages_few (g ∷ gs) (suc i) d h = omega (arith, pages_few gs i d (omega arith), sum_by-cons (λ (y : GuestOf ℕ). length y.slots) (guest_of g) (names_in gs))
+pages_few (g ∷ gs) zero d h = omega (arith, g.pages.ok.0, length-map g.pages.items slot_of, sum_by-cons (λ (y : GuestOf ℕ). length y.slots) (guest_of g) (pmap_in gs))
+pages_few (g ∷ gs) (suc i) d h = omega (arith, pages_few gs i d (omega arith), sum_by-cons (λ (y : GuestOf ℕ). length y.slots) (guest_of g) (pmap_in gs))

@@ -4,7 +4,7 @@ use Rattle.page_model.specs.Pages.{SlotOf, Slot, Unmapped, Private, Shared, Gues
 use Rattle.page_model.specs.declared.request.Request.{Request}
 use Rattle.page_model.specs.declared.request.Request.TheVariants.{Propose, Store, Load, Release, Count, Close}
 use Rattle.page_model.specs.declared.limits.TheConstants.{MAX_WORKERS}
-use Rattle.merge_core.specs.Names.{Names, frame_of}
+use Rattle.merge_core.specs.Pmap.{Pmap, frame_of}
 
 -- there are workers, and no more than hash pages at once
 abbrev pub AreWorkers : ℕ → Type 0
@@ -34,9 +34,9 @@ IsHashFor hash guests guest Count code = ⊤
 IsHashFor hash guests guest Close code = ⊤
 
 -- some page has this frame, under this salt
-pub record IsPaged (names : Names) (salt mpn : ℕ) : Type 0 where
+pub record IsPaged (pmap : Pmap) (salt mpn : ℕ) : Type 0 where
   pub guest : ℕ
   pub ppn : ℕ
   pub slot : SlotOf ℕ
-  pub at : page_at names guest ppn ≡ Some (salt, slot)
+  pub at : page_at pmap guest ppn ≡ Some (salt, slot)
   pub frame : frame_of slot ≡ Some mpn

@@ -10,11 +10,11 @@ use Rattle.page_model.specs.declared.verdict.Verdict.TheVariants as v
 use Rattle.page_lending.specs.Lending.{page_stored, page_lent}
 use Rattle.page_lending.specs.declared.pieces.TheConstants.{STORES_A_PAGE}
 use Rattle.machine_frames.specs.FrameMap.{FrameMap, frame}
-use Rattle.merge_core.specs.Names.{Names}
+use Rattle.merge_core.specs.Pmap.{Pmap}
 use Rattle.merge_core.specs.Shown.{Shown, state_of}
 use Rattle.merge_core.specs.Stays.{frame_at, Change, Keeps, TakesFree, JoinsAnother, GivesUp, change_at, NamedFrame, OthersKeep}
 use Rattle.merge_core.specs.Applying.{Applies}
-use Rattle.merge_core.specs.View.{names_of, guests_of}
+use Rattle.merge_core.specs.View.{pmap_of, guests_of}
 use Rattle.merge_core.specs.declared.held.Held.{Held}
 use Rattle.merge_core.specs.declared.lent.Lent.{Lent}
 use Rattle.merge_core.specs.declared.lent.Returned.{Returned}
@@ -23,7 +23,7 @@ use Rattle.merge_core.specs.declared.lent.Returned.{Returned}
 -- the frames of all pages are as that verdict says.
 pub record StoresPage (hash : ℕ → List ℕ → ℕ) (guest ppn : ℕ) (page : List ℕ) (verdict : Verdict) (old new : Shown) : Type 0 where
   pub step : record { state = state_of new; verdict = verdict } ≡ page_stored hash (state_of old) guest ppn page
-  pub stay : OthersKeep old.frames guest ppn verdict old.names new.names
+  pub stay : OthersKeep old.frames guest ppn verdict old.pmap new.pmap
   pub entries : new.entries ≡ old.entries + STORES_A_PAGE
   pub guests : length (state_of new).guests ≡ length (state_of old).guests
 
@@ -67,7 +67,7 @@ both_changes first GivesUp = GivesUp
 
 -- Each page but the lent one has the frame that it had. The lent one has that of another page if its proposal says so, and
 -- otherwise the one that its stores gave it.
-pub record LendKeeps (free : FrameMap) (guest ppn : ℕ) (stored verdict : Verdict) (old new : Names) : Type 0 where
+pub record LendKeeps (free : FrameMap) (guest ppn : ℕ) (stored verdict : Verdict) (old new : Pmap) : Type 0 where
   pub named : NamedFrame (both_changes (change_at stored) (change_at verdict)) free guest ppn old new
   pub others : (other place : ℕ) → (other ≡ guest → place ≡ ppn → ⊥) → frame_at new other place ≡ frame_at old other place
 
@@ -100,18 +100,18 @@ pub record LendsPage {H A : Type 0} (hash : ℕ → List ℕ → ℕ) (guest ppn
   pub done : is_ok result ≡ is_done (page_outcome (length old.frames) (guests_of old) guest ppn page).verdict
   pub stay :
       LendKeeps old.frames guest ppn (page_outcome (length old.frames) (guests_of old) guest ppn page).verdict (lend_verdict result)
-      (names_of old) (names_of new)
+      (pmap_of old) (pmap_of new)
   pub freed : lend_freed result
       ≡ own_freed (page_outcome (length old.frames) (guests_of old) guest ppn page).verdict (lend_verdict result)
-      (frame_at (names_of old) guest ppn)
+      (frame_at (pmap_of old) guest ppn)
   pub free : IfSome (lend_freed result) (λ mpn. frame new.frames mpn ≡ None)
 
 -- A guest's page was lent. The model takes the steps of its stores and of its proposal, or of the stores alone if they were
 -- refused. The freed frame is the one that the page had for itself, if it now shares another, and is free.
 pub record Lends (hash : ℕ → List ℕ → ℕ) (guest ppn : ℕ) (page : List ℕ) (lent : Lent) (old new : Shown) : Type 0 where
   pub step : record { state = state_of new; verdict = lent.verdict } ≡ page_lent hash (state_of old) guest ppn page
-  pub stay : LendKeeps old.frames guest ppn (page_stored hash (state_of old) guest ppn page).verdict lent.verdict old.names new.names
-  pub freed : lent.freed ≡ own_freed (page_stored hash (state_of old) guest ppn page).verdict lent.verdict (frame_at old.names guest ppn)
+  pub stay : LendKeeps old.frames guest ppn (page_stored hash (state_of old) guest ppn page).verdict lent.verdict old.pmap new.pmap
+  pub freed : lent.freed ≡ own_freed (page_stored hash (state_of old) guest ppn page).verdict lent.verdict (frame_at old.pmap guest ppn)
   pub free : IfSome lent.freed (λ mpn. frame new.frames mpn ≡ None)
   pub entries : new.entries ≤ old.entries + STORES_A_PAGE + 1
   pub guests : length (state_of new).guests ≡ length (state_of old).guests
@@ -138,4 +138,4 @@ FreesOwn (Returned.Released freed) own frames = IfSome freed (λ mpn. (own ≡ S
 pub record TakesBack (hash : ℕ → List ℕ → ℕ) (guest ppn : ℕ) (returned : Returned) (before after : List ℕ) (old new : Shown) : Type 0 where
   pub applies : Applies hash guest (Release ppn) (release_verdict returned) old new
   pub room : Some after ≡ room_after returned before (text_at (state_of old).guests guest ppn)
-  pub freed : FreesOwn returned (frame_at old.names guest ppn) new.frames
+  pub freed : FreesOwn returned (frame_at old.pmap guest ppn) new.frames

@@ -3,7 +3,7 @@ pub mod Applying
 pub mod Hashing
 pub mod Kept
 pub mod Lending
-pub mod Names
+pub mod Pmap
 pub mod Noted
 pub mod Ties
 pub mod View

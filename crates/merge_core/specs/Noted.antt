@@ -1,7 +1,7 @@
 -- The notes on frames as a contract sees them.
 use Rattle.std.specs.Prelude.{ℕ, ◌-◌, List, ◌++◌, Option, length, map, replicate, option_map}
 use Rattle.std.specs.Int.{w64, from_le_bytes}
-use Rattle.merge_core.specs.Names.{Known, unknown}
+use Rattle.merge_core.specs.Pmap.{Known, unknown}
 use Rattle.merge_core.specs.declared.notes.Note.{Note}
 
 -- the hash of these little-endian bytes

@@ -2,7 +2,7 @@
 ghost use Rattle.std.specs.Prelude.{◌≡◌, ◌∷◌, [], All, IfSome};
 ghost use Rattle.merge_core.specs.Ahead.{IsPrivate, hash_in};
 ghost use Rattle.merge_core.specs.Kept.{OnlyNotes};
-ghost use Rattle.merge_core.specs.View.{names_of, Whole};
+ghost use Rattle.merge_core.specs.View.{pmap_of, Whole};
 
 use crate::hashing::{hash_frame, is_noted, learn};
 use crate::held::{Held, PageEntry, Place};
@@ -43,10 +43,10 @@ fn with_page<H: PageHash, A: Allocator>(
     private: PrivatePage,
 ) -> ArrayVec<PrivatePage, 4>
     requires whole { Whole H.hash_of held.old }
-    requires waiting { All (IsPrivate (names_of held.old)) waiting.items }
-    requires private { IsPrivate (names_of held.old) private }
+    requires waiting { All (IsPrivate (pmap_of held.old)) waiting.items }
+    requires private { IsPrivate (pmap_of held.old) private }
     ensures kept { OnlyNotes H.hash_of held.old held.new }
-    ensures private { All (IsPrivate (names_of held.old)) result.items }
+    ensures private { All (IsPrivate (pmap_of held.old)) result.items }
 {
     let mut waiting = match waiting.into_inner() {
         Ok(four) => {
@@ -66,7 +66,7 @@ pub fn unhashed<H: PageHash, A: Allocator>(
     ppn: usize,
 ) -> Option<PrivatePage>
     requires whole { Whole H.hash_of held.now }
-    ensures { IfSome result (IsPrivate (names_of held.now)) }
+    ensures { IfSome result (IsPrivate (pmap_of held.now)) }
 {
     let (salt, entry) = find(held, guest, ppn)?;
     let page = Place { guest, ppn, salt };
@@ -85,7 +85,7 @@ pub fn unhashed<H: PageHash, A: Allocator>(
 /// Whether the hash of a page is known.
 fn is_known<H: PageHash, A: Allocator>(held: &Held<H, A>, private: PrivatePage) -> bool
     requires whole { Whole H.hash_of held.now }
-    requires private { IsPrivate (names_of held.now) private }
+    requires private { IsPrivate (pmap_of held.now) private }
 {
     is_noted(held, private.mpn)
 }
@@ -93,7 +93,7 @@ fn is_known<H: PageHash, A: Allocator>(held: &Held<H, A>, private: PrivatePage) 
 /// Computes the hashes of four pages at once, and notes them.
 pub fn note_four<H: PageHash, A: Allocator>(held: &mut Held<H, A>, pages: [PrivatePage; 4])
     requires whole { Whole H.hash_of held.old }
-    requires private { All (IsPrivate (names_of held.old)) pages }
+    requires private { All (IsPrivate (pmap_of held.old)) pages }
     ensures kept { OnlyNotes H.hash_of held.old held.new }
 {
     let [a, b, c, d] = pages;
@@ -113,10 +113,10 @@ fn hash_four<H: PageHash, A: Allocator>(
     d: PrivatePage,
 ) -> [u64; 4]
     requires whole { Whole H.hash_of held.now }
-    requires a { IsPrivate (names_of held.now) a }
-    requires b { IsPrivate (names_of held.now) b }
-    requires c { IsPrivate (names_of held.now) c }
-    requires d { IsPrivate (names_of held.now) d }
+    requires a { IsPrivate (pmap_of held.now) a }
+    requires b { IsPrivate (pmap_of held.now) b }
+    requires c { IsPrivate (pmap_of held.now) c }
+    requires d { IsPrivate (pmap_of held.now) d }
     ensures { result ≡ hash_in H.hash_of held.now.frames a
         ∷ hash_in H.hash_of held.now.frames b
         ∷ hash_in H.hash_of held.now.frames c
@@ -135,7 +135,7 @@ fn hash_four<H: PageHash, A: Allocator>(
 /// Notes the hash of a page.
 pub fn note<H: PageHash, A: Allocator>(held: &mut Held<H, A>, private: PrivatePage, code: u64)
     requires whole { Whole H.hash_of held.old }
-    requires private { IsPrivate (names_of held.old) private }
+    requires private { IsPrivate (pmap_of held.old) private }
     requires code { code ≡ hash_in H.hash_of held.old.frames private }
     ensures kept { OnlyNotes H.hash_of held.old held.new }
 {
@@ -145,7 +145,7 @@ pub fn note<H: PageHash, A: Allocator>(held: &mut Held<H, A>, private: PrivatePa
 /// Computes the hash of a page and notes it.
 fn note_one<H: PageHash, A: Allocator>(held: &mut Held<H, A>, private: PrivatePage)
     requires whole { Whole H.hash_of held.old }
-    requires private { IsPrivate (names_of held.old) private }
+    requires private { IsPrivate (pmap_of held.old) private }
     ensures kept { OnlyNotes H.hash_of held.old held.new }
 {
     hash_frame(held, private.mpn, private.page.salt);
@@ -154,7 +154,7 @@ fn note_one<H: PageHash, A: Allocator>(held: &mut Held<H, A>, private: PrivatePa
 /// Computes the hashes of these pages one by one and notes them.
 fn note_each<H: PageHash, A: Allocator>(held: &mut Held<H, A>, pages: &[PrivatePage])
     requires whole { Whole H.hash_of held.old }
-    requires private { All (IsPrivate (names_of held.old)) pages.now }
+    requires private { All (IsPrivate (pmap_of held.old)) pages.now }
     ensures kept { OnlyNotes H.hash_of held.old held.new }
 {
     for private in pages {

@@ -3,8 +3,8 @@ ghost use Rattle.std.specs.Prelude.{◌≡◌, ◌≤◌, [], All, IfOk, IfSome,
 ghost use Rattle.page_digest.specs.Many.{frame_hashes};
 ghost use Rattle.merge_core.specs.Hashing.{AreWorkers, IsPaged, page_hash, page_hashes};
 ghost use Rattle.merge_core.specs.Kept.{OnlyNotes};
-ghost use Rattle.merge_core.specs.Names.{bytes_in};
-ghost use Rattle.merge_core.specs.View.{names_of, guests_of, Whole};
+ghost use Rattle.merge_core.specs.Pmap.{bytes_in};
+ghost use Rattle.merge_core.specs.View.{pmap_of, guests_of, Whole};
 
 use crate::hashing::{hash_frame, is_noted, learn};
 use crate::held::Held;
@@ -63,7 +63,7 @@ fn unknown_frames<H: PageHash, A: Allocator, B: Allocator>(
     pages: &[(u8, u32)],
 ) -> Result<Vec<(u32, u32), B>, AllocError>
     requires whole { Whole H.hash_of held.now }
-    ensures { IfOk result (λ pairs. All (λ pair. IsPaged (names_of held.now) pair.0 pair.1) pairs.items) }
+    ensures { IfOk result (λ pairs. All (λ pair. IsPaged (pmap_of held.now) pair.0 pair.1) pairs.items) }
 {
     let mut pairs = Vec::with_capacity(alloc, pages.len())?;
     for (guest, ppn) in pages {
@@ -81,7 +81,7 @@ fn unknown_frame<H: PageHash, A: Allocator>(
     ppn: usize,
 ) -> Option<(u32, u32)>
     requires whole { Whole H.hash_of held.now }
-    ensures { IfSome result (λ pair. IsPaged (names_of held.now) pair.0 pair.1) }
+    ensures { IfSome result (λ pair. IsPaged (pmap_of held.now) pair.0 pair.1) }
 {
     let (salt, mpn) = frame_of(held, guest, ppn)?;
     if is_known(held, salt, mpn) {
@@ -93,7 +93,7 @@ fn unknown_frame<H: PageHash, A: Allocator>(
 /// Whether the hash of a page's frame is known.
 fn is_known<H: PageHash, A: Allocator>(held: &Held<H, A>, _salt: u32, mpn: u32) -> bool
     requires whole { Whole H.hash_of held.now }
-    requires paged { IsPaged (names_of held.now) _salt mpn }
+    requires paged { IsPaged (pmap_of held.now) _salt mpn }
 {
     is_noted(held, mpn)
 }
@@ -105,7 +105,7 @@ fn note_frames<H: PageHash, A: Allocator>(
     hashes: &[u64],
 )
     requires whole { Whole H.hash_of held.old }
-    requires paged { All (λ pair. IsPaged (names_of held.old) pair.0 pair.1) pairs.now }
+    requires paged { All (λ pair. IsPaged (pmap_of held.old) pair.0 pair.1) pairs.now }
     requires hashes { hashes.now ≡ frame_hashes H.hash_of held.old.frames pairs.now }
     ensures kept { OnlyNotes H.hash_of held.old held.new }
 {
@@ -118,7 +118,7 @@ fn note_frames<H: PageHash, A: Allocator>(
 /// Notes the hash of a page's frame.
 fn note_frame<H: PageHash, A: Allocator>(held: &mut Held<H, A>, salt: u32, mpn: u32, code: u64)
     requires whole { Whole H.hash_of held.old }
-    requires paged { IsPaged (names_of held.old) salt mpn }
+    requires paged { IsPaged (pmap_of held.old) salt mpn }
     requires code { code ≡ H.hash_of salt (bytes_in held.old.frames mpn) }
     ensures kept { OnlyNotes H.hash_of held.old held.new }
 {
@@ -178,7 +178,7 @@ fn hash_page<H: PageHash, A: Allocator>(
 /// Returns the hash of a page's frame.
 fn hash_paged<H: PageHash, A: Allocator>(held: &mut Held<H, A>, salt: u32, mpn: u32) -> u64
     requires whole { Whole H.hash_of held.old }
-    requires paged { IsPaged (names_of held.old) salt mpn }
+    requires paged { IsPaged (pmap_of held.old) salt mpn }
     ensures kept { OnlyNotes H.hash_of held.old held.new }
     ensures hash { result ≡ H.hash_of salt (bytes_in held.old.frames mpn) }
 {

@@ -3,7 +3,7 @@ ghost use Rattle.std.specs.Prelude.{◌≡◌, ◌<◌, All, IfSome};
 ghost use Rattle.merge_core.specs.Ahead.{IsPrivate, hash_in};
 ghost use Rattle.merge_core.specs.Hashing.{IsPaged};
 ghost use Rattle.merge_core.specs.Kept.{OnlyNotes};
-ghost use Rattle.merge_core.specs.View.{names_of, Whole};
+ghost use Rattle.merge_core.specs.View.{pmap_of, Whole};
 ghost use Rattle.page_forecasts.specs.declared.forecasts.TheConstants.{FORECASTS};
 
 use crate::ahead::{PrivatePage, note, note_four, unhashed};
@@ -49,7 +49,7 @@ fn hash_together<H: PageHash, A: Allocator>(
     next: &[Entry],
 )
     requires whole { Whole H.hash_of held.old }
-    requires private { IsPrivate (names_of held.old) private }
+    requires private { IsPrivate (pmap_of held.old) private }
     ensures kept { OnlyNotes H.hash_of held.old held.new }
 {
     if let Ok(four) = at_rest(held, private, next).into_inner() {
@@ -69,7 +69,7 @@ fn hash_foreseen<H: PageHash, A: Allocator>(
     private: PrivatePage,
 ) -> Option<u64>
     requires whole { Whole H.hash_of held.now }
-    requires private { IsPrivate (names_of held.now) private }
+    requires private { IsPrivate (pmap_of held.now) private }
     ensures { IfSome result (λ code. code ≡ hash_in H.hash_of held.now.frames private) }
 {
     forecasts.hash_of(private.page.salt, bytes_at(&held.frames, private.mpn))
@@ -82,7 +82,7 @@ fn hash_beside<H: PageHash, A: Allocator>(
     private: PrivatePage,
 ) -> u64
     requires whole { Whole H.hash_of held.now }
-    requires private { IsPrivate (names_of held.now) private }
+    requires private { IsPrivate (pmap_of held.now) private }
     ensures { result ≡ hash_in H.hash_of held.now.frames private }
 {
     let bytes = bytes_at(&held.frames, private.mpn);
@@ -97,8 +97,8 @@ fn at_rest<H: PageHash, A: Allocator>(
     next: &[Entry],
 ) -> ArrayVec<PrivatePage, 4>
     requires whole { Whole H.hash_of held.now }
-    requires private { IsPrivate (names_of held.now) private }
-    ensures { All (IsPrivate (names_of held.now)) result.items }
+    requires private { IsPrivate (pmap_of held.now) private }
+    ensures { All (IsPrivate (pmap_of held.now)) result.items }
 {
     let mut pages = ArrayVec::new();
     pages.push(private);
@@ -122,7 +122,7 @@ fn resting<H: PageHash, A: Allocator>(
     entry: &Entry,
 ) -> Option<PrivatePage>
     requires whole { Whole H.hash_of held.now }
-    ensures { IfSome result (IsPrivate (names_of held.now)) }
+    ensures { IfSome result (IsPrivate (pmap_of held.now)) }
 {
     let ppn = proposed_anew(first, before, entry)?;
     if is_changed(before, entry.guest, ppn) {
@@ -185,7 +185,7 @@ fn foresee_page<H: PageHash, A: Allocator>(
 /// Returns the bytes of a page's frame.
 fn paged_bytes<H: PageHash, A: Allocator>(held: &Held<H, A>, _salt: u32, mpn: u32) -> &Page
     requires whole { Whole H.hash_of held.now }
-    requires paged { IsPaged (names_of held.now) _salt mpn }
+    requires paged { IsPaged (pmap_of held.now) _salt mpn }
 {
     bytes_at(&held.frames, mpn)
 }

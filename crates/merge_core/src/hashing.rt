@@ -3,7 +3,7 @@ ghost use Rattle.std.specs.Prelude.{◌≡◌, ◌==◌, Some};
 ghost use Rattle.page_model.specs.Steps.{key_of};
 ghost use Rattle.machine_frames.specs.FrameMap as fm;
 ghost use Rattle.merge_core.specs.Kept.{OnlyNotes};
-ghost use Rattle.merge_core.specs.Names.{bytes_in, known_at};
+ghost use Rattle.merge_core.specs.Pmap.{bytes_in, known_at};
 ghost use Rattle.merge_core.specs.View.{guests_of, notes_of, Whole};
 
 use crate::held::Held;

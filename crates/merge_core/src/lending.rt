@@ -9,9 +9,9 @@ ghost use Rattle.machine_frames.specs.FrameMap as fm;
 ghost use Rattle.share_table.specs.TableMaps.{shared_at, count_at};
 ghost use Rattle.merge_core.specs.Lending.{has_joined, LendKeeps, LendsPage, release_verdict, room_after, FreesOwn};
 ghost use Rattle.merge_core.specs.Kept.{Served};
-ghost use Rattle.merge_core.specs.Names.{bytes_in, known_at};
+ghost use Rattle.merge_core.specs.Pmap.{bytes_in, known_at};
 ghost use Rattle.merge_core.specs.Stays.{frame_at};
-ghost use Rattle.merge_core.specs.View.{names_of, guests_of, notes_of, Whole};
+ghost use Rattle.merge_core.specs.View.{pmap_of, guests_of, notes_of, Whole};
 
 use crate::hashing::{hash_frame, learn};
 use crate::held::{Held, PageEntry, Place};
@@ -54,7 +54,7 @@ fn lend_unmapped<H: PageHash, A: Allocator>(
     bytes: &Page,
 ) -> Result<Lent, Verdict>
     requires whole { Whole H.hash_of held.old }
-    requires page { page_at (names_of held.old) page.guest page.ppn ≡ Some (page.salt, s.Unmapped) }
+    requires page { page_at (pmap_of held.old) page.guest page.ppn ≡ Some (page.salt, s.Unmapped) }
     ensures whole { Whole H.hash_of held.new }
     ensures lends { LendsPage H.hash_of page.guest page.ppn bytes.now result held.old held.new }
 {
@@ -73,7 +73,7 @@ fn lend_private<H: PageHash, A: Allocator>(
     bytes: &Page,
 ) -> Lent
     requires whole { Whole H.hash_of held.old }
-    requires page { page_at (names_of held.old) page.guest page.ppn ≡ Some (page.salt, s.Private mpn hint) }
+    requires page { page_at (pmap_of held.old) page.guest page.ppn ≡ Some (page.salt, s.Private mpn hint) }
     ensures whole { Whole H.hash_of held.new }
     ensures lends { LendsPage H.hash_of page.guest page.ppn bytes.now (Ok result) held.old held.new }
 {
@@ -89,7 +89,7 @@ fn lend_shared<H: PageHash, A: Allocator>(
     bytes: &Page,
 ) -> Result<Lent, Verdict>
     requires whole { Whole H.hash_of held.old }
-    requires page { page_at (names_of held.old) page.guest page.ppn ≡ Some (page.salt, s.Shared mpn) }
+    requires page { page_at (pmap_of held.old) page.guest page.ppn ≡ Some (page.salt, s.Shared mpn) }
     ensures whole { Whole H.hash_of held.new }
     ensures lends { LendsPage H.hash_of page.guest page.ppn bytes.now result held.old held.new }
 {
@@ -121,7 +121,7 @@ fn propose_own<H: PageHash, A: Allocator>(
     hint: Option<u32>,
 ) -> Lent
     requires whole { Whole H.hash_of held.old }
-    requires page { page_at (names_of held.old) page.guest page.ppn ≡ Some (page.salt, s.Private mpn hint) }
+    requires page { page_at (pmap_of held.old) page.guest page.ppn ≡ Some (page.salt, s.Private mpn hint) }
     ensures served { Served H.hash_of page.guest page.ppn result.verdict held.old held.new }
     ensures step { record { guests = guests_of held.new; verdict = result.verdict }
         ≡ proposed H.hash_of (guests_of held.old) page.guest page.ppn page.salt (s.Private (bytes_in held.old.frames mpn) hint) }
@@ -147,11 +147,11 @@ fn has_joined(verdict: &Verdict) -> bool
 /// Lends a page that has no frame. If it joins others, no frame is written for it.
 fn lend_new<H: PageHash, A: Allocator>(held: &mut Held<H, A>, page: Place, bytes: &Page) -> Lent
     requires whole { Whole H.hash_of held.old }
-    requires page { page_at (names_of held.old) page.guest page.ppn ≡ Some (page.salt, s.Unmapped) }
+    requires page { page_at (pmap_of held.old) page.guest page.ppn ≡ Some (page.salt, s.Unmapped) }
     requires room { (fm.used held.old.frames == length held.old.frames) ≡ false }
     ensures whole { Whole H.hash_of held.new }
     ensures total { length held.new.frames ≡ length held.old.frames }
-    ensures stay { LendKeeps held.old.frames page.guest page.ppn Mapped result.verdict (names_of held.old) (names_of held.new) }
+    ensures stay { LendKeeps held.old.frames page.guest page.ppn Mapped result.verdict (pmap_of held.old) (pmap_of held.new) }
     ensures step { record { guests = guests_of held.new; verdict = result.verdict }
         ≡ proposed H.hash_of (with_slot (guests_of held.old) page.guest page.ppn (s.Private bytes.now None))
         page.guest page.ppn page.salt (s.Private bytes.now None) }
@@ -200,12 +200,12 @@ fn lend_written<H: PageHash, A: Allocator>(
     code: u64,
 ) -> Verdict
     requires whole { Whole H.hash_of held.old }
-    requires page { page_at (names_of held.old) page.guest page.ppn ≡ Some (page.salt, s.Unmapped) }
+    requires page { page_at (pmap_of held.old) page.guest page.ppn ≡ Some (page.salt, s.Unmapped) }
     requires room { (fm.used held.old.frames == length held.old.frames) ≡ false }
     requires code { code ≡ H.hash_of page.salt bytes.now }
     ensures whole { Whole H.hash_of held.new }
     ensures total { length held.new.frames ≡ length held.old.frames }
-    ensures stay { LendKeeps held.old.frames page.guest page.ppn Mapped result (names_of held.old) (names_of held.new) }
+    ensures stay { LendKeeps held.old.frames page.guest page.ppn Mapped result (pmap_of held.old) (pmap_of held.new) }
     ensures step { record { guests = guests_of held.new; verdict = result }
         ≡ proposed H.hash_of (with_slot (guests_of held.old) page.guest page.ppn (s.Private bytes.now None))
         page.guest page.ppn page.salt (s.Private bytes.now None) }
@@ -229,7 +229,7 @@ pub fn take_back<H: PageHash, A: Allocator>(
     ensures step { record { guests = guests_of held.new; verdict = release_verdict result }
         ≡ at_page (guests_of held.old) guest ppn (λ salt slot. released (guests_of held.old) guest ppn salt slot) }
     ensures room { Some room.new ≡ room_after result room.old (text_at (guests_of held.old) guest ppn) }
-    ensures freed { FreesOwn result (frame_at (names_of held.old) guest ppn) held.new.frames }
+    ensures freed { FreesOwn result (frame_at (pmap_of held.old) guest ppn) held.new.frames }
 {
     let ppn = ppn as usize;
     let Some((salt, entry)) = find(held, guest, ppn) else {

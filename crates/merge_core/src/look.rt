@@ -4,8 +4,8 @@ ghost use Rattle.page_model.specs.Pages.{page_at, blank};
 ghost use Rattle.page_model.specs.declared.limits.TheConstants.{MAX_ACCESS_BYTES, PAGE_BYTES};
 ghost use Rattle.machine_frames.specs.FrameMap as fm;
 ghost use Rattle.merge_core.specs.Hashing.{IsPaged, page_hash};
-ghost use Rattle.merge_core.specs.Names.{bytes_in, slot_in};
-ghost use Rattle.merge_core.specs.View.{slot_of, names_in, names_of, guests_of, Whole};
+ghost use Rattle.merge_core.specs.Pmap.{bytes_in, slot_in};
+ghost use Rattle.merge_core.specs.View.{slot_of, pmap_in, pmap_of, guests_of, Whole};
 
 use crate::held::{GuestPages, Held, PageEntry};
 use arrayvec::ArrayVec;
@@ -21,7 +21,7 @@ fn find_entry<A: Allocator>(
     ppn: usize,
 ) -> Option<(u32, PageEntry)>
     ensures within { IfSome result (λ _. guest < length guests.now) }
-    ensures name { option_map (λ x. (x.0, slot_of x.1)) result ≡ page_at (names_in guests.now) guest ppn }
+    ensures entry { option_map (λ x. (x.0, slot_of x.1)) result ≡ page_at (pmap_in guests.now) guest ppn }
 {
     if guest >= guests.len() {
         return None;
@@ -39,8 +39,8 @@ pub fn find<H, A: Allocator>(
     guest: usize,
     ppn: usize,
 ) -> Option<(u32, PageEntry)>
-    ensures within { IfSome result (λ _. guest < length (names_of held.now)) }
-    ensures name { option_map (λ x. (x.0, slot_of x.1)) result ≡ page_at (names_of held.now) guest ppn }
+    ensures within { IfSome result (λ _. guest < length (pmap_of held.now)) }
+    ensures entry { option_map (λ x. (x.0, slot_of x.1)) result ≡ page_at (pmap_of held.now) guest ppn }
     ensures page { option_map (λ x. (x.0, slot_in held.now.frames (slot_of x.1))) result ≡ page_at (guests_of held.now) guest ppn }
 {
     find_entry(held.guests.as_slice(), guest, ppn)
@@ -53,7 +53,7 @@ pub fn frame_of<H: PageHash, A: Allocator>(
     ppn: usize,
 ) -> Option<(u32, u32)>
     requires whole { Whole H.hash_of held.now }
-    ensures paged { IfSome result (λ pair. IsPaged (names_of held.now) pair.0 pair.1) }
+    ensures paged { IfSome result (λ pair. IsPaged (pmap_of held.now) pair.0 pair.1) }
     ensures hash { option_map (λ pair. H.hash_of pair.0 (bytes_in held.now.frames pair.1)) result
         ≡ page_hash H.hash_of (guests_of held.now) guest ppn }
 {

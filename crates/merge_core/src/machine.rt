@@ -57,9 +57,9 @@ impl<H: PageHash, A: Allocator> Model for Core<H, A> {
 
     ghost coded = { shown_code };
 
-    ghost use Rattle.merge_core.specs.View.{names_of, Whole};
+    ghost use Rattle.merge_core.specs.View.{pmap_of, Whole};
 
-    ghost view = { λ c. record { entries = c.entries; names = names_of c.held; frames = c.held.frames; table = c.held.table } };
+    ghost view = { λ c. record { entries = c.entries; pmap = pmap_of c.held; frames = c.held.frames; table = c.held.table } };
 
     ghost invariant = { λ c. Whole H.hash_of c.held };
 }
@@ -251,7 +251,7 @@ impl<H: PageHash, A: Allocator> Core<H, A> {
     ///
     /// Its pages, frames and table stay as they are.
     pub fn restart_count(&mut self)
-        ensures { self.new ≡ record { entries = 0; names = self.old.names; frames = self.old.frames; table = self.old.table } }
+        ensures { self.new ≡ record { entries = 0; pmap = self.old.pmap; frames = self.old.frames; table = self.old.table } }
     {
         self.entries = 0;
     }
@@ -301,7 +301,7 @@ impl<H: PageHash, A: Allocator> Core<H, A> {
     /// Returns the machine page number (MPN) of a page's frame, `None` if the page is unmapped.
     pub fn frame(&self, guest: u8, ppn: u32) -> Option<u32>
         requires { IsSome (page_at (state_of self.now).guests guest ppn) }
-        ensures name { result ≡ frame_at self.now.names guest ppn }
+        ensures pmap { result ≡ frame_at self.now.pmap guest ppn }
         ensures mapped { Some (is_some result) ≡ option_map (λ x. is_mapped x.1) (page_at (state_of self.now).guests guest ppn) }
         ensures bytes { IfSome result (λ mpn. frame self.now.frames mpn ≡ text_at (state_of self.now).guests guest ppn) }
     {

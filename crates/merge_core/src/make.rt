@@ -3,8 +3,8 @@ ghost use Rattle.std.specs.Prelude.{◌≡◌, length, IfOk};
 ghost use Rattle.page_model.specs.Limits.{shapes};
 ghost use Rattle.machine_frames.specs.FrameMap.{no_frames};
 ghost use Rattle.share_table.specs.TableMaps.{empty_table};
-ghost use Rattle.merge_core.specs.Names.{empty_names, empty_name};
-ghost use Rattle.merge_core.specs.View.{guest_of, names_in, names_of, Whole};
+ghost use Rattle.merge_core.specs.Pmap.{empty_pmap, unmapped_guest};
+ghost use Rattle.merge_core.specs.View.{guest_of, pmap_in, pmap_of, Whole};
 
 use crate::held::{GuestPages, Held, PageEntry};
 use crate::notes::Notes;
@@ -16,7 +16,7 @@ use std::alloc::{AllocError, Allocator};
 
 /// Makes a guest with no page mapped.
 fn new_guest<A: Allocator>(alloc: A, salt: u32, pages: u32) -> Result<GuestPages<A>, AllocError>
-    ensures { IfOk result (λ g. guest_of g ≡ empty_name (record { salt = salt; pages = pages })) }
+    ensures { IfOk result (λ g. guest_of g ≡ unmapped_guest (record { salt = salt; pages = pages })) }
 {
     let mut entries = Vec::with_capacity(alloc, pages as usize)?;
     for _ in 0..pages {
@@ -35,7 +35,7 @@ fn new_guests<A: Allocator + Clone>(
     pages: &[u32],
 ) -> Result<Vec<GuestPages<A>, A>, AllocError>
     requires { length salts.now ≡ length pages.now }
-    ensures { IfOk result (λ v. names_in v.items ≡ empty_names (shapes salts.now pages.now)) }
+    ensures { IfOk result (λ v. pmap_in v.items ≡ empty_pmap (shapes salts.now pages.now)) }
 {
     let mut guests = Vec::with_capacity(alloc.clone()?, pages.len())?;
     for i in 0..pages.len() {
@@ -51,8 +51,8 @@ pub fn new_held<H: PageHash + Drop, A: Allocator + Clone>(
     hash: H,
 ) -> Result<Held<H, A>, AllocError>
     ensures whole { IfOk result (λ held. Whole H.hash_of held) }
-    ensures names { IfOk result (λ held. names_of held ≡ empty_names (shapes shape.now.salts shape.now.pages)) }
-    ensures guests { IfOk result (λ held. length (names_of held) ≡ length shape.now.pages) }
+    ensures pmap { IfOk result (λ held. pmap_of held ≡ empty_pmap (shapes shape.now.salts shape.now.pages)) }
+    ensures guests { IfOk result (λ held. length (pmap_of held) ≡ length shape.now.pages) }
     ensures frames { IfOk result (λ held. held.frames ≡ no_frames shape.now.frames) }
     ensures table { IfOk result (λ held. held.table ≡ empty_table shape.now.frames) }
 {

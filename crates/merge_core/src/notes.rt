@@ -1,6 +1,6 @@
 //! What is known of frames besides their bytes.
 ghost use Rattle.std.specs.Prelude.{◌≡◌, ◌+◌, ◌-◌, ◌<◌, ◌≤◌, ◌++◌, length, replicate, slice_set, vec_capacity, Some, None, IfOk};
-ghost use Rattle.merge_core.specs.Names.{known_at, unknown};
+ghost use Rattle.merge_core.specs.Pmap.{known_at, unknown};
 ghost use Rattle.merge_core.specs.Noted.{known_of, notes_in};
 
 use std::alloc::{AllocError, Allocator, Global};
@@ -31,7 +31,7 @@ pub struct Notes<A: Allocator = Global> {
 
 impl<A: Allocator> Model for Notes<A> {
     ghost use Rattle.std.specs.Prelude.{List};
-    ghost use Rattle.merge_core.specs.Names.{Known};
+    ghost use Rattle.merge_core.specs.Pmap.{Known};
 
     ghost Value = { List Known };
 

@@ -6,10 +6,10 @@ ghost use Rattle.page_model.specs.Pages as s;
 ghost use Rattle.page_model.specs.declared.verdict.Verdict.TheVariants.{Paired};
 ghost use Rattle.merge_core.specs.Lending.{has_joined};
 ghost use Rattle.merge_core.specs.Kept.{Served};
-ghost use Rattle.merge_core.specs.Names.{bytes_in, known_at};
+ghost use Rattle.merge_core.specs.Pmap.{bytes_in, known_at};
 ghost use Rattle.merge_core.specs.Stays.{AllKeep};
 ghost use Rattle.share_table.specs.TableMaps.{hint_at, shared_at, count_at};
-ghost use Rattle.merge_core.specs.View.{names_of, guests_of, notes_of, Whole};
+ghost use Rattle.merge_core.specs.View.{pmap_of, guests_of, notes_of, Whole};
 ghost use Rattle.machine_frames.specs.FrameMap as fm;
 ghost use Rattle.std.specs.Str.{bytes_eq};
 
@@ -51,7 +51,7 @@ pub fn propose_private<H: PageHash, A: Allocator>(
     hint: Option<u32>,
 ) -> Verdict
     requires whole { Whole H.hash_of held.old }
-    requires page { page_at (names_of held.old) page.guest page.ppn ≡ Some (page.salt, s.Private mpn hint) }
+    requires page { page_at (pmap_of held.old) page.guest page.ppn ≡ Some (page.salt, s.Private mpn hint) }
     ensures served { Served H.hash_of page.guest page.ppn result held.old held.new }
     ensures step { record { guests = guests_of held.new; verdict = result }
         ≡ proposed H.hash_of (guests_of held.old) page.guest page.ppn page.salt (s.Private (bytes_in held.old.frames mpn) hint) }
@@ -72,12 +72,12 @@ fn settle_hint<H: PageHash, A: Allocator>(
     key: u32,
 ) -> Option<u32>
     requires whole { Whole H.hash_of held.old }
-    requires page { page_at (names_of held.old) page.guest page.ppn ≡ Some (page.salt, s.Private mpn hint) }
+    requires page { page_at (pmap_of held.old) page.guest page.ppn ≡ Some (page.salt, s.Private mpn hint) }
     ensures whole { Whole H.hash_of held.new }
     ensures frames { held.new.frames ≡ held.old.frames }
-    ensures stay { AllKeep (names_of held.old) (names_of held.new) }
+    ensures stay { AllKeep (pmap_of held.old) (pmap_of held.new) }
     ensures kept { result ≡ kept_hint key hint }
-    ensures page { page_at (names_of held.new) page.guest page.ppn ≡ Some (page.salt, s.Private mpn result) }
+    ensures page { page_at (pmap_of held.new) page.guest page.ppn ≡ Some (page.salt, s.Private mpn result) }
     ensures guests { guests_of held.new
         ≡ with_slot (guests_of held.old) page.guest page.ppn (s.Private (bytes_in held.old.frames mpn) result) }
 {
@@ -102,7 +102,7 @@ fn find_match<H: PageHash, A: Allocator>(
     code: u64,
 ) -> Verdict
     requires whole { Whole H.hash_of held.old }
-    requires page { page_at (names_of held.old) page.guest page.ppn ≡ Some (page.salt, s.Private mpn kept) }
+    requires page { page_at (pmap_of held.old) page.guest page.ppn ≡ Some (page.salt, s.Private mpn kept) }
     requires fits { kept_hint (key_of code) kept ≡ kept }
     requires code { code ≡ H.hash_of page.salt (bytes_in held.old.frames mpn) }
     ensures served { Served H.hash_of page.guest page.ppn result held.old held.new }
@@ -162,7 +162,7 @@ fn join_match<H: PageHash, A: Allocator>(
     code: u64,
 ) -> Verdict
     requires whole { Whole H.hash_of held.old }
-    requires page { page_at (names_of held.old) page.guest page.ppn ≡ Some (page.salt, s.Private mpn kept) }
+    requires page { page_at (pmap_of held.old) page.guest page.ppn ≡ Some (page.salt, s.Private mpn kept) }
     requires found { shared_at held.old.table code ≡ Some (record { mpn = theirs; count = count_at held.old.table code }) }
     requires salt { (known_at (notes_of held.old) theirs).salt ≡ page.salt }
     requires bytes { bytes_in held.old.frames theirs ≡ bytes_in held.old.frames mpn }
@@ -185,7 +185,7 @@ fn offer<H: PageHash, A: Allocator>(
     code: u64,
 ) -> Verdict
     requires whole { Whole H.hash_of held.old }
-    requires page { page_at (names_of held.old) page.guest page.ppn ≡ Some (page.salt, s.Private mpn kept) }
+    requires page { page_at (pmap_of held.old) page.guest page.ppn ≡ Some (page.salt, s.Private mpn kept) }
     requires fits { kept_hint (key_of code) kept ≡ kept }
     requires code { code ≡ H.hash_of page.salt (bytes_in held.old.frames mpn) }
     requires absent { shared_at held.old.table code ≡ None }
@@ -216,7 +216,7 @@ fn weigh<H: PageHash, A: Allocator>(
     hint: HintFrame,
 ) -> Verdict
     requires whole { Whole H.hash_of held.old }
-    requires page { page_at (names_of held.old) page.guest page.ppn ≡ Some (page.salt, s.Private mpn None) }
+    requires page { page_at (pmap_of held.old) page.guest page.ppn ≡ Some (page.salt, s.Private mpn None) }
     requires hint { hint_at held.old.table (key_of code) ≡ Some hint }
     requires code { code ≡ H.hash_of page.salt (bytes_in held.old.frames mpn) }
     requires absent { shared_at held.old.table code ≡ None }
@@ -255,8 +255,8 @@ fn pair<H: PageHash, A: Allocator>(
     code: u64,
 )
     requires whole { Whole H.hash_of held.old }
-    requires page { page_at (names_of held.old) page.guest page.ppn ≡ Some (page.salt, s.Private mpn None) }
-    requires first { page_at (names_of held.old) first.guest first.ppn ≡ Some (first.salt, s.Private theirs (Some (key_of code))) }
+    requires page { page_at (pmap_of held.old) page.guest page.ppn ≡ Some (page.salt, s.Private mpn None) }
+    requires first { page_at (pmap_of held.old) first.guest first.ppn ≡ Some (first.salt, s.Private theirs (Some (key_of code))) }
     requires salt { first.salt ≡ page.salt }
     requires bytes { bytes_in held.old.frames theirs ≡ bytes_in held.old.frames mpn }
     requires code { code ≡ H.hash_of page.salt (bytes_in held.old.frames mpn) }

@@ -6,10 +6,10 @@ ghost use Rattle.page_model.specs.Pages as s;
 ghost use Rattle.page_model.specs.declared.limits.TheConstants.{PAGE_BYTES};
 ghost use Rattle.page_model.specs.declared.verdict.Verdict.TheVariants.{Released};
 ghost use Rattle.merge_core.specs.Kept.{Served};
-ghost use Rattle.merge_core.specs.Names.{bytes_in};
+ghost use Rattle.merge_core.specs.Pmap.{bytes_in};
 ghost use Rattle.merge_core.specs.Stays.{AllKeep};
 ghost use Rattle.machine_frames.specs.FrameMap as fm;
-ghost use Rattle.merge_core.specs.View.{names_of, guests_of, Whole};
+ghost use Rattle.merge_core.specs.View.{pmap_of, guests_of, Whole};
 
 use crate::hashing::hash_frame;
 use crate::held::{Held, PageEntry, Place};
@@ -83,7 +83,7 @@ fn store_shared<H: PageHash, A: Allocator>(
     bytes: &[u8],
 ) -> Verdict
     requires whole { Whole H.hash_of held.old }
-    requires page { page_at (names_of held.old) page.guest page.ppn ≡ Some (page.salt, s.Shared mpn) }
+    requires page { page_at (pmap_of held.old) page.guest page.ppn ≡ Some (page.salt, s.Shared mpn) }
     requires fits { at + length bytes.now ≤ PAGE_BYTES }
     ensures served { Served H.hash_of page.guest page.ppn result held.old held.new }
     ensures step { record { guests = guests_of held.new; verdict = result }
@@ -115,11 +115,11 @@ pub fn clear_hint<H: PageHash, A: Allocator>(
     hint: Option<u32>,
 )
     requires whole { Whole H.hash_of held.old }
-    requires page { page_at (names_of held.old) page.guest page.ppn ≡ Some (page.salt, s.Private mpn hint) }
+    requires page { page_at (pmap_of held.old) page.guest page.ppn ≡ Some (page.salt, s.Private mpn hint) }
     ensures whole { Whole H.hash_of held.new }
     ensures frames { held.new.frames ≡ held.old.frames }
-    ensures stay { AllKeep (names_of held.old) (names_of held.new) }
-    ensures page { page_at (names_of held.new) page.guest page.ppn ≡ Some (page.salt, s.Private mpn None) }
+    ensures stay { AllKeep (pmap_of held.old) (pmap_of held.new) }
+    ensures page { page_at (pmap_of held.new) page.guest page.ppn ≡ Some (page.salt, s.Private mpn None) }
     ensures guests { guests_of held.new
         ≡ with_slot (guests_of held.old) page.guest page.ppn (s.Private (bytes_in held.old.frames mpn) None) }
     ensures shared { held.new.table.shared ≡ held.old.table.shared }
@@ -139,7 +139,7 @@ pub fn release_private<H: PageHash, A: Allocator>(
     hint: Option<u32>,
 )
     requires whole { Whole H.hash_of held.old }
-    requires page { page_at (names_of held.old) page.guest page.ppn ≡ Some (page.salt, s.Private mpn hint) }
+    requires page { page_at (pmap_of held.old) page.guest page.ppn ≡ Some (page.salt, s.Private mpn hint) }
     ensures served { Served H.hash_of page.guest page.ppn (Released true) held.old held.new }
     ensures guests { guests_of held.new ≡ with_slot (guests_of held.old) page.guest page.ppn s.Unmapped }
     ensures freed { fm.frame held.new.frames mpn ≡ None }
@@ -156,7 +156,7 @@ pub fn release_shared<H: PageHash, A: Allocator>(
     mpn: u32,
 ) -> bool
     requires whole { Whole H.hash_of held.old }
-    requires page { page_at (names_of held.old) page.guest page.ppn ≡ Some (page.salt, s.Shared mpn) }
+    requires page { page_at (pmap_of held.old) page.guest page.ppn ≡ Some (page.salt, s.Shared mpn) }
     ensures served { Served H.hash_of page.guest page.ppn (Released result) held.old held.new }
     ensures step { record { guests = guests_of held.new; verdict = Released result }
         ≡ released (guests_of held.old) page.guest page.ppn page.salt (s.Shared (bytes_in held.old.frames mpn)) }

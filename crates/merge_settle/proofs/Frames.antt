@@ -10,7 +10,7 @@ use Rattle.std.proofs.lemmas.List.Folds.{list_any-append}
 use Rattle.page_model.specs.Pages.{SlotOf, Unmapped, Private, Shared, GuestOf, page_at}
 use Rattle.page_model.proofs.Places.{same_page}
 use Rattle.machine_frames.specs.FrameMap.{FrameMap, frame, used}
-use Rattle.merge_core.specs.Names.{Names, frame_of}
+use Rattle.merge_core.specs.Pmap.{Pmap, frame_of}
 use Rattle.merge_core.specs.Ties.{Owner}
 use Rattle.merge_core.specs.Shown.{Shown, FramesOfPages}
 use Rattle.merge_core.proofs.FrameLemmas.{taken_within}
@@ -92,19 +92,19 @@ slot_owner (Private n hint ∷ slots) m h = slot_first (Private n hint) slots n 
 slot_owner (Shared n ∷ slots) m h = slot_first (Shared n) slots n m refl (or_cases (nat_eq n m) (among (frames_in slots) m) h) (slot_owner slots m)
 
 -- The first guest has a page with the frame, or a later one has.
-guest_first : (g : GuestOf ℕ) (names : Names) (m : ℕ) → ((among (frames_in g.slots) m ≡ true) ⊎ (among (frames_of names) m ≡ true)) → (among (frames_of names) m ≡ true → Owner names m) → Owner (g ∷ names) m
-guest_first g names m (inl e) rest =
+guest_first : (g : GuestOf ℕ) (pmap : Pmap) (m : ℕ) → ((among (frames_in g.slots) m ≡ true) ⊎ (among (frames_of pmap) m ≡ true)) → (among (frames_of pmap) m ≡ true → Owner pmap m) → Owner (g ∷ pmap) m
+guest_first g pmap m (inl e) rest =
     let o = slot_owner g.slots m e in
     record { guest = 0; ppn = o.index; salt = g.salt; slot = o.slot; at = ap (λ (x : Option (SlotOf ℕ)). option_map {U = ℕ × SlotOf ℕ} (λ s. (g.salt, s)) x) o.at; frame = o.frame }
-guest_first g names m (inr e) rest =
+guest_first g pmap m (inr e) rest =
     let o = rest e in
     record { guest = suc o.guest; ppn = o.ppn; salt = o.salt; slot = o.slot; at = o.at; frame = o.frame }
 
 -- A frame that pages name is that of one of them.
-owner_of : (names : Names) (m : ℕ) → among (frames_of names) m ≡ true → Owner names m
+owner_of : (pmap : Pmap) (m : ℕ) → among (frames_of pmap) m ≡ true → Owner pmap m
 owner_of [] m h = absurd (false≢true h)
-owner_of (g ∷ names) m h =
-    guest_first g names m (or_cases (among (frames_in g.slots) m) (among (frames_of names) m) (sym (list_any-append (λ n. nat_eq n m) (frames_in g.slots) (frames_of names)) ∙ h)) (owner_of names m)
+owner_of (g ∷ pmap) m h =
+    guest_first g pmap m (or_cases (among (frames_in g.slots) m) (among (frames_of pmap) m) (sym (list_any-append (λ n. nat_eq n m) (frames_in g.slots) (frames_of pmap)) ∙ h)) (owner_of pmap m)
 
 -- The frame of the first of a guest's pages is named.
 own_named : (s : SlotOf ℕ) (slots : List (SlotOf ℕ)) (m : ℕ) → frame_of s ≡ Some m → among (frames_in (s ∷ slots)) m ≡ true
@@ -132,25 +132,25 @@ own_slot own salt (Some x) s h =
     ap (λ (y : SlotOf ℕ). Some y) same.1
 
 -- The frame of each page is named.
-page_named : (names : Names) (a b salt : ℕ) (s : SlotOf ℕ) (m : ℕ) → page_at names a b ≡ Some (salt, s) → frame_of s ≡ Some m → among (frames_of names) m ≡ true
+page_named : (pmap : Pmap) (a b salt : ℕ) (s : SlotOf ℕ) (m : ℕ) → page_at pmap a b ≡ Some (salt, s) → frame_of s ≡ Some m → among (frames_of pmap) m ≡ true
 page_named [] a b salt s m at f = cc
-page_named (g ∷ names) zero b salt s m at f =
-    list_any-append (λ n. nat_eq n m) (frames_in g.slots) (frames_of names)
-    ∙ or_left (among (frames_in g.slots) m) (among (frames_of names) m) (slot_named g.slots b s m (own_slot g.salt salt (slice_get g.slots b) s at) f)
-page_named (g ∷ names) (suc a) b salt s m at f =
-    list_any-append (λ n. nat_eq n m) (frames_in g.slots) (frames_of names)
-    ∙ or_right (among (frames_in g.slots) m) (among (frames_of names) m) (page_named names a b salt s m at f)
+page_named (g ∷ pmap) zero b salt s m at f =
+    list_any-append (λ n. nat_eq n m) (frames_in g.slots) (frames_of pmap)
+    ∙ or_left (among (frames_in g.slots) m) (among (frames_of pmap) m) (slot_named g.slots b s m (own_slot g.salt salt (slice_get g.slots b) s at) f)
+page_named (g ∷ pmap) (suc a) b salt s m at f =
+    list_any-append (λ n. nat_eq n m) (frames_in g.slots) (frames_of pmap)
+    ∙ or_right (among (frames_in g.slots) m) (among (frames_of pmap) m) (page_named pmap a b salt s m at f)
 
 -- A frame is named exactly where it is taken.
-named_taken : (c : Shown) → FramesOfPages c → (m : ℕ) → among (frames_of c.names) m ≡ is_some (frame c.frames m)
-named_taken c h m = pick (cases_Bool (among (frames_of c.names) m)) (cases_Bool (is_some (frame c.frames m))) where
-  pick : ((among (frames_of c.names) m ≡ true) ⊎ (among (frames_of c.names) m ≡ false)) → ((is_some (frame c.frames m) ≡ true) ⊎ (is_some (frame c.frames m) ≡ false)) → among (frames_of c.names) m ≡ is_some (frame c.frames m)
-  pick (inl e) k = let o = owner_of c.names m e in e ∙ sym (h.taken o.guest o.ppn o.salt o.slot m o.at o.frame)
-  pick (inr e) (inl k) = let o = h.owned m k in page_named c.names o.guest o.ppn o.salt o.slot m o.at o.frame ∙ sym k
+named_taken : (c : Shown) → FramesOfPages c → (m : ℕ) → among (frames_of c.pmap) m ≡ is_some (frame c.frames m)
+named_taken c h m = pick (cases_Bool (among (frames_of c.pmap) m)) (cases_Bool (is_some (frame c.frames m))) where
+  pick : ((among (frames_of c.pmap) m ≡ true) ⊎ (among (frames_of c.pmap) m ≡ false)) → ((is_some (frame c.frames m) ≡ true) ⊎ (is_some (frame c.frames m) ≡ false)) → among (frames_of c.pmap) m ≡ is_some (frame c.frames m)
+  pick (inl e) k = let o = owner_of c.pmap m e in e ∙ sym (h.taken o.guest o.ppn o.salt o.slot m o.at o.frame)
+  pick (inr e) (inl k) = let o = h.owned m k in page_named c.pmap o.guest o.ppn o.salt o.slot m o.at o.frame ∙ sym k
   pick (inr e) (inr k) = e ∙ sym k
 
 -- The distinct frames that the pages name are as many as the frames in use.
-pub distinct_named : (c : Shown) → FramesOfPages c → distinct_numbers (frames_of c.names) ≡ used c.frames
+pub distinct_named : (c : Shown) → FramesOfPages c → distinct_numbers (frames_of c.pmap) ≡ used c.frames
 distinct_named c h =
-    let within : (m : ℕ) → among (frames_of c.names) m ≡ true → m < length c.frames = λ m e. taken_within c.frames m (sym (named_taken c h m) ∙ e) in
-    distinct_tally (frames_of c.names) (length c.frames) within ∙ tally_same _ _ (length c.frames) (λ m l. named_taken c h m) ∙ sym (used_tally c.frames)
+    let within : (m : ℕ) → among (frames_of c.pmap) m ≡ true → m < length c.frames = λ m e. taken_within c.frames m (sym (named_taken c h m) ∙ e) in
+    distinct_tally (frames_of c.pmap) (length c.frames) within ∙ tally_same _ _ (length c.frames) (λ m l. named_taken c h m) ∙ sym (used_tally c.frames)

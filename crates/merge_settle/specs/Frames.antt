@@ -2,7 +2,7 @@
 use Rattle.std.specs.Prelude.{ℕ, ◌+◌, ◌==◌, if◌then◌else◌, List, [], ◌∷◌, ◌++◌}
 use Rattle.std.specs.List.{list_any}
 use Rattle.page_model.specs.Pages.{SlotOf, Unmapped, Private, Shared}
-use Rattle.merge_core.specs.Names.{Names}
+use Rattle.merge_core.specs.Pmap.{Pmap}
 
 -- the frames that a guest's pages name, in the order of the pages; an unmapped page names none
 abbrev pub frames_in : List (SlotOf ℕ) → List ℕ
@@ -12,9 +12,9 @@ frames_in (Private mpn hint ∷ slots) = mpn ∷ frames_in slots
 frames_in (Shared mpn ∷ slots) = mpn ∷ frames_in slots
 
 -- the frames that all pages name, page by page, guest 0 first
-abbrev pub frames_of : Names → List ℕ
+abbrev pub frames_of : Pmap → List ℕ
 frames_of [] = []
-frames_of (g ∷ names) = frames_in g.slots ++ frames_of names
+frames_of (g ∷ pmap) = frames_in g.slots ++ frames_of pmap
 
 -- how many distinct numbers are in a list: of equal ones only the last counts
 abbrev pub distinct_numbers : List ℕ → ℕ

@@ -51,7 +51,7 @@ module _ {A : Type 0} where
     pub stored : (guest ppn at : ℕ) → at < 4096 → byte_at (state_of core) guest ppn at ≡ last_stored journal (verdicts_of hash (opening (state_of core)) journal) guest ppn at
     -- the frames reclaimed are the pages mapped less the distinct frames that the pages name
     pub adds_up : AddUp (totals (state_of core).entries (state_of core).guests)
-    pub frames : (totals (state_of core).entries (state_of core).guests).frames ≡ distinct_numbers (frames_of core.names)
+    pub frames : (totals (state_of core).entries (state_of core).guests).frames ≡ distinct_numbers (frames_of core.pmap)
 
 -- the fault of the lowest guest that has not received its `Closed`, if there is one
 abbrev pub undrained_fault : Option ℕ → Option SettleFault

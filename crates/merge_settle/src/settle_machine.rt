@@ -58,7 +58,7 @@ pub fn settle<H: PageHash, A: Allocator>(
 
 /// Does nothing: its contract is what a core's frames say about the number of frames in use.
 fn count_frames<H: PageHash, A: Allocator>(core: &Core<H, A>)
-    ensures { used (state_of core.now).guests ≡ distinct_numbers (frames_of core.now.names) }
+    ensures { used (state_of core.now).guests ≡ distinct_numbers (frames_of core.now.pmap) }
 {
     let _frames = core.frames();
 }

@@ -4,7 +4,7 @@ use Rattle.std.specs.Prelude.{Ok, Err}
 use Rattle.std.specs.Option.{option_map, option_and_then}
 use Rattle.page_model.specs.Pages.{SlotOf, Slot, Unmapped, Private, Shared, State, page_at, bytes_of, is_mapped, blank}
 use Rattle.merge_core.proofs.Views.{page_in}
-use Rattle.merge_core.specs.Names.{slot_in, frame_of}
+use Rattle.merge_core.specs.Pmap.{slot_in, frame_of}
 use Rattle.merge_core.specs.Shown.{Shown, state_of}
 use Rattle.pageshare_c.specs.declared.answer.Refusal.TheVariants as r
 use Rattle.pageshare_c.specs.Found.{of_page, text_in, frame_in, found_in}
@@ -26,7 +26,7 @@ present c (Some page) p e some = refl
 
 -- no page of the model is no page of the core
 pub found_absent : (c : Shown) (guest ppn : ℕ) → (IsSome (page_at (state_of c).guests guest ppn) → ⊥) → found_in c guest ppn ≡ Err r.NoPage
-found_absent c guest ppn none = absent c (page_at c.names guest ppn) (page_at (state_of c).guests guest ppn) (page_in c.frames c.names guest ppn) none
+found_absent c guest ppn none = absent c (page_at c.pmap guest ppn) (page_at (state_of c).guests guest ppn) (page_in c.frames c.pmap guest ppn) none
 
 unmapped : (o : Option Page) → IsSome o → None ≡ option_and_then (λ x. frame_of x.1) o → frame_in o ≡ Err r.Unmapped
 unmapped None some e = cc
@@ -34,9 +34,9 @@ unmapped (Some (salt, Unmapped)) some e = refl
 unmapped (Some (salt, Private mpn hint)) some e = cc
 unmapped (Some (salt, Shared mpn)) some e = cc
 
-pub found_unmapped : (c : Shown) (guest ppn : ℕ) → IsSome (page_at (state_of c).guests guest ppn) → None ≡ option_and_then (λ x. frame_of x.1) (page_at c.names guest ppn) → found_in c guest ppn ≡ Err r.Unmapped
+pub found_unmapped : (c : Shown) (guest ppn : ℕ) → IsSome (page_at (state_of c).guests guest ppn) → None ≡ option_and_then (λ x. frame_of x.1) (page_at c.pmap guest ppn) → found_in c guest ppn ≡ Err r.Unmapped
 found_unmapped c guest ppn some e =
-    unmapped (page_at c.names guest ppn) (present c (page_at c.names guest ppn) (page_at (state_of c).guests guest ppn) (page_in c.frames c.names guest ppn) some) e
+    unmapped (page_at c.pmap guest ppn) (present c (page_at c.pmap guest ppn) (page_at (state_of c).guests guest ppn) (page_in c.frames c.pmap guest ppn) some) e
 
 mapped : (o : Option Page) (mpn : ℕ) → Some mpn ≡ option_and_then (λ x. frame_of x.1) o → frame_in o ≡ Ok mpn
 mapped None mpn e = cc
@@ -44,16 +44,16 @@ mapped (Some (salt, Unmapped)) mpn e = cc
 mapped (Some (salt, Private m hint)) mpn e = cc
 mapped (Some (salt, Shared m)) mpn e = cc
 
-pub found_mapped : (c : Shown) (guest ppn mpn : ℕ) → Some mpn ≡ option_and_then (λ x. frame_of x.1) (page_at c.names guest ppn) → found_in c guest ppn ≡ Ok mpn
-found_mapped c guest ppn mpn e = mapped (page_at c.names guest ppn) mpn e
+pub found_mapped : (c : Shown) (guest ppn mpn : ℕ) → Some mpn ≡ option_and_then (λ x. frame_of x.1) (page_at c.pmap guest ppn) → found_in c guest ppn ≡ Ok mpn
+found_mapped c guest ppn mpn e = mapped (page_at c.pmap guest ppn) mpn e
 
 no_page : (c : Shown) (o : Option Page) (p : Option (ℕ × Slot)) → p ≡ option_map (shown_page c) o → (IsSome p → ⊥) → None ≡ option_and_then (λ x. frame_of x.1) o
 no_page c None p e none = refl
 no_page c (Some page) p e none = absurd (none (ap is_some e))
 
 -- a page that doesn't exist has no frame
-pub no_frame : (c : Shown) (guest ppn : ℕ) → (IsSome (page_at (state_of c).guests guest ppn) → ⊥) → None ≡ option_and_then (λ x. frame_of x.1) (page_at c.names guest ppn)
-no_frame c guest ppn none = no_page c (page_at c.names guest ppn) (page_at (state_of c).guests guest ppn) (page_in c.frames c.names guest ppn) none
+pub no_frame : (c : Shown) (guest ppn : ℕ) → (IsSome (page_at (state_of c).guests guest ppn) → ⊥) → None ≡ option_and_then (λ x. frame_of x.1) (page_at c.pmap guest ppn)
+no_frame c guest ppn none = no_page c (page_at c.pmap guest ppn) (page_at (state_of c).guests guest ppn) (page_in c.frames c.pmap guest ppn) none
 
 no_text : (p : Option (ℕ × Slot)) → (IsSome p → ⊥) → of_page (option_map (λ x. bytes_of x.1) p) ≡ Err r.NoPage
 no_text None none = refl

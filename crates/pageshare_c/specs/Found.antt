@@ -32,7 +32,7 @@ frame_in (Some (salt, Shared mpn)) = Ok mpn
 
 -- the same for a page of a core
 abbrev pub found_in : Shown → ℕ → ℕ → Result ℕ Refusal
-found_in c guest ppn = frame_in (page_at c.names guest ppn)
+found_in c guest ppn = frame_in (page_at c.pmap guest ppn)
 
 -- the same for the machine behind a handle
 abbrev pub frame_found : Option HashedCore → ℕ → ℕ → Result ℕ Refusal

@@ -9,7 +9,7 @@ use Rattle.page_model.specs.declared.verdict.Verdict.{Verdict}
 use Rattle.page_model.specs.declared.verdict.Verdict.TheVariants as v
 use Rattle.machine_frames.specs.FrameMap.{frame}
 use Rattle.merge_core.specs.Lending.{own_freed}
-use Rattle.merge_core.specs.Names.{Names}
+use Rattle.merge_core.specs.Pmap.{Pmap}
 use Rattle.merge_core.specs.Shown.{Shown, state_of}
 use Rattle.merge_core.specs.Stays.{frame_at}
 use Rattle.merge_core.specs.declared.lent.Returned.{Returned}
@@ -19,22 +19,22 @@ use Rattle.pageshare_c.specs.declared.answer.Refusal.{Refusal}
 use Rattle.pageshare_c.specs.Outcomes.{answered, lend_steps}
 
 -- the frame of the page that a request names, if there is one
-abbrev pub named_frame : Names → ℕ → Request → Option ℕ
-named_frame names guest (Propose ppn) = frame_at names guest ppn
-named_frame names guest (Store r) = frame_at names guest r.ppn
-named_frame names guest (Load r) = frame_at names guest r.ppn
-named_frame names guest (Release ppn) = frame_at names guest ppn
-named_frame names guest Count = None
-named_frame names guest Close = None
+abbrev pub named_frame : Pmap → ℕ → Request → Option ℕ
+named_frame pmap guest (Propose ppn) = frame_at pmap guest ppn
+named_frame pmap guest (Store r) = frame_at pmap guest r.ppn
+named_frame pmap guest (Load r) = frame_at pmap guest r.ppn
+named_frame pmap guest (Release ppn) = frame_at pmap guest ppn
+named_frame pmap guest Count = None
+named_frame pmap guest Close = None
 
 -- the frame that a request may free, if there is one: that of the page which it proposes or releases
-abbrev pub own_frame : Names → ℕ → Request → Option ℕ
-own_frame names guest (Propose ppn) = frame_at names guest ppn
-own_frame names guest (Store r) = None
-own_frame names guest (Load r) = None
-own_frame names guest (Release ppn) = frame_at names guest ppn
-own_frame names guest Count = None
-own_frame names guest Close = None
+abbrev pub own_frame : Pmap → ℕ → Request → Option ℕ
+own_frame pmap guest (Propose ppn) = frame_at pmap guest ppn
+own_frame pmap guest (Store r) = None
+own_frame pmap guest (Load r) = None
+own_frame pmap guest (Release ppn) = frame_at pmap guest ppn
+own_frame pmap guest Count = None
+own_frame pmap guest Close = None
 
 -- the verdict of a page that no longer has the frame which it had alone
 abbrev pub frees : Verdict → Bool
@@ -48,10 +48,10 @@ abbrev pub freed_at : Verdict → Option ℕ → Option ℕ
 freed_at verdict own = if frees verdict then own else None
 
 -- the frame that is free since this outcome, if there is one
-abbrev pub freed_by : Result Verdict Refusal → Names → ℕ → Result Request RequestFault → Option ℕ
-freed_by (Ok verdict) names guest (Ok request) = freed_at verdict (own_frame names guest request)
-freed_by (Ok verdict) names guest (Err fault) = None
-freed_by (Err refusal) names guest asked = None
+abbrev pub freed_by : Result Verdict Refusal → Pmap → ℕ → Result Request RequestFault → Option ℕ
+freed_by (Ok verdict) pmap guest (Ok request) = freed_at verdict (own_frame pmap guest request)
+freed_by (Ok verdict) pmap guest (Err fault) = None
+freed_by (Err refusal) pmap guest asked = None
 
 -- the frame that is free since a page was taken back
 abbrev pub freed_in : Returned → Option ℕ
@@ -60,24 +60,24 @@ freed_in Returned.Unmapped = None
 freed_in (Returned.Released freed) = freed
 
 -- the frame of the page that C's arguments name
-abbrev pub asked_frame : Names → ℕ → Result Request RequestFault → Option ℕ
-asked_frame names guest (Ok request) = named_frame names guest request
-asked_frame names guest (Err fault) = None
+abbrev pub asked_frame : Pmap → ℕ → Result Request RequestFault → Option ℕ
+asked_frame pmap guest (Ok request) = named_frame pmap guest request
+asked_frame pmap guest (Err fault) = None
 
 -- the same for the machine behind a handle
 abbrev pub frame_after : Option HashedCore → ℕ → Result Request RequestFault → Option ℕ
 frame_after None guest asked = None
-frame_after (Some c) guest asked = asked_frame (shown_in c).names guest asked
+frame_after (Some c) guest asked = asked_frame (shown_in c).pmap guest asked
 
 -- the frame that is free since a request of the machine behind a handle
 abbrev pub frame_freed : Option HashedCore → ℕ → Result Request RequestFault → Option ℕ
 frame_freed None guest asked = None
-frame_freed (Some c) guest asked = freed_by (answered (hash_in c) (state_of (shown_in c)) guest asked) (shown_in c).names guest asked
+frame_freed (Some c) guest asked = freed_by (answered (hash_in c) (state_of (shown_in c)) guest asked) (shown_in c).pmap guest asked
 
 -- the frame of a page of the machine behind a handle
 abbrev pub page_frame : Option HashedCore → ℕ → ℕ → Option ℕ
 page_frame None guest ppn = None
-page_frame (Some c) guest ppn = frame_at (shown_in c).names guest ppn
+page_frame (Some c) guest ppn = frame_at (shown_in c).pmap guest ppn
 
 -- the frame that is free since these steps of a lend, by the verdict of its stores and the page's frame before
 abbrev pub left_by : Result Step Refusal → Verdict → Option ℕ → Option ℕ
@@ -86,7 +86,7 @@ left_by (Err refusal) first own = None
 
 -- the frame that is free since a page of this core was lent
 abbrev pub left_in : (ℕ → List ℕ → ℕ) → Shown → ℕ → ℕ → List ℕ → Option ℕ
-left_in hash c guest ppn page = left_by (lend_steps hash (state_of c) guest ppn page) (page_stored hash (state_of c) guest ppn page).verdict (frame_at c.names guest ppn)
+left_in hash c guest ppn page = left_by (lend_steps hash (state_of c) guest ppn page) (page_stored hash (state_of c) guest ppn page).verdict (frame_at c.pmap guest ppn)
 
 -- the same for the machine behind a handle
 abbrev pub frame_left : Option HashedCore → ℕ → ℕ → List ℕ → Option ℕ

@@ -26,7 +26,7 @@ FramesKept guest asked outcome (Some old) (Some new) = CoreKeeps guest asked out
 
 -- A stored page leaves each other page its frame, and has the frame that the verdict says. A refused call changes nothing.
 abbrev pub CoreStores : ℕ → ℕ → Result Verdict Refusal → Shown → Shown → Type 0
-CoreStores guest ppn (Ok verdict) old new = OthersKeep old.frames guest ppn verdict old.names new.names
+CoreStores guest ppn (Ok verdict) old new = OthersKeep old.frames guest ppn verdict old.pmap new.pmap
 CoreStores guest ppn (Err refusal) old new = new ≡ old
 
 -- the same for the machine behind a handle
@@ -38,7 +38,7 @@ StoreKept guest ppn outcome (Some old) (Some new) = CoreStores guest ppn outcome
 -- A lent page leaves each other page its frame, and has the frame that the verdicts of its first store and of its proposal say.
 -- A refused call changes nothing.
 abbrev pub CoreLends : (ℕ → List ℕ → ℕ) → ℕ → ℕ → List ℕ → Result Verdict Refusal → Shown → Shown → Type 0
-CoreLends hash guest ppn page (Ok verdict) old new = LendKeeps old.frames guest ppn (page_stored hash (state_of old) guest ppn page).verdict verdict old.names new.names
+CoreLends hash guest ppn page (Ok verdict) old new = LendKeeps old.frames guest ppn (page_stored hash (state_of old) guest ppn page).verdict verdict old.pmap new.pmap
 CoreLends hash guest ppn page (Err refusal) old new = new ≡ old
 
 -- the same for the machine behind a handle
@@ -49,7 +49,7 @@ LendKept guest ppn page outcome (Some old) (Some new) = CoreLends (hash_in old) 
 
 -- the count of requests begins anew, and all else stays
 abbrev pub restarted : Shown → Shown
-restarted c = record { entries = 0; names = c.names; frames = c.frames; table = c.table }
+restarted c = record { entries = 0; pmap = c.pmap; frames = c.frames; table = c.table }
 
 -- the same of the core behind a handle
 abbrev pub restarted_core : HashedCore → HashedCore

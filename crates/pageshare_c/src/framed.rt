@@ -11,7 +11,7 @@ use page_model::{Request, Verdict};
 /// Returns a page's frame, if there is such a page and it is mapped.
 #[tactic(auto, using(crate::proofs::Finds::no_frame))]
 pub(crate) fn frame_of<H: PageHash>(core: &Core<H>, guest: u32, ppn: u32) -> Option<u32>
-    ensures { result ≡ frame_at core.now.names guest ppn }
+    ensures { result ≡ frame_at core.now.pmap guest ppn }
 {
     if !has_page(core, guest, ppn) {
         return None;
@@ -21,7 +21,7 @@ pub(crate) fn frame_of<H: PageHash>(core: &Core<H>, guest: u32, ppn: u32) -> Opt
 
 /// Returns the frame of the page that a request names.
 pub(crate) fn find_named<H: PageHash>(core: &Core<H>, guest: u32, request: &Request) -> Option<u32>
-    ensures { result ≡ named_frame core.now.names guest request.now }
+    ensures { result ≡ named_frame core.now.pmap guest request.now }
 {
     match request {
         Request::Propose(ppn) => frame_of(core, guest, *ppn),
@@ -35,7 +35,7 @@ pub(crate) fn find_named<H: PageHash>(core: &Core<H>, guest: u32, request: &Requ
 
 /// Returns the frame that a request may free.
 pub(crate) fn find_own<H: PageHash>(core: &Core<H>, guest: u32, request: &Request) -> Option<u32>
-    ensures { result ≡ own_frame core.now.names guest request.now }
+    ensures { result ≡ own_frame core.now.pmap guest request.now }
 {
     match request {
         Request::Propose(ppn) => frame_of(core, guest, *ppn),

@@ -82,7 +82,7 @@ fn apply<H: PageHash>(core: &mut Core<H>, guest: u32, request: &Request) -> (Ver
     requires few { guest < 256 }
     requires room { core.old.entries < 4294967295 }
     ensures applies { Applies H.hash_of guest request.now result.0 core.old core.new }
-    ensures answer { result.1 ≡ told (Ok result.0) (named_frame core.new.names guest request.now) (freed_at result.0 (own_frame core.old.names guest request.now)) }
+    ensures answer { result.1 ≡ told (Ok result.0) (named_frame core.new.pmap guest request.now) (freed_at result.0 (own_frame core.old.pmap guest request.now)) }
 {
     let own = find_own(core, guest, request);
     let verdict = core.apply(guest as u8, request);
@@ -98,7 +98,7 @@ pub(crate) fn answer<H: PageHash>(
     guest: u32,
     asked: &Result<Request, RequestFault>,
 ) -> Answer
-    ensures answer { result ≡ told (answered H.hash_of (state_of core.old) guest asked.now) (asked_frame core.new.names guest asked.now) (freed_by (answered H.hash_of (state_of core.old) guest asked.now) core.old.names guest asked.now) }
+    ensures answer { result ≡ told (answered H.hash_of (state_of core.old) guest asked.now) (asked_frame core.new.pmap guest asked.now) (freed_by (answered H.hash_of (state_of core.old) guest asked.now) core.old.pmap guest asked.now) }
     ensures state { state_of core.new ≡ answered_state H.hash_of (state_of core.old) guest asked.now }
     ensures frames { CoreKeeps guest asked.now (answered H.hash_of (state_of core.old) guest asked.now) core.old core.new }
 {
@@ -116,7 +116,7 @@ pub(crate) fn answer_load<H: PageHash>(
     asked: &Result<Request, RequestFault>,
     room: &mut [u8],
 ) -> Answer
-    ensures answer { result ≡ told (answered H.hash_of (state_of core.old) guest asked.now) (asked_frame core.new.names guest asked.now) (freed_by (answered H.hash_of (state_of core.old) guest asked.now) core.old.names guest asked.now) }
+    ensures answer { result ≡ told (answered H.hash_of (state_of core.old) guest asked.now) (asked_frame core.new.pmap guest asked.now) (freed_by (answered H.hash_of (state_of core.old) guest asked.now) core.old.pmap guest asked.now) }
     ensures state { state_of core.new ≡ answered_state H.hash_of (state_of core.old) guest asked.now }
     ensures frames { CoreKeeps guest asked.now (answered H.hash_of (state_of core.old) guest asked.now) core.old core.new }
     ensures bytes { room.new ≡ loaded room.old (answered H.hash_of (state_of core.old) guest asked.now) }
@@ -139,7 +139,7 @@ pub(crate) fn answer_count<H: PageHash>(
     asked: &Result<Request, RequestFault>,
     totals: &mut Totals,
 ) -> Answer
-    ensures answer { result ≡ told (answered H.hash_of (state_of core.old) guest asked.now) (asked_frame core.new.names guest asked.now) (freed_by (answered H.hash_of (state_of core.old) guest asked.now) core.old.names guest asked.now) }
+    ensures answer { result ≡ told (answered H.hash_of (state_of core.old) guest asked.now) (asked_frame core.new.pmap guest asked.now) (freed_by (answered H.hash_of (state_of core.old) guest asked.now) core.old.pmap guest asked.now) }
     ensures state { state_of core.new ≡ answered_state H.hash_of (state_of core.old) guest asked.now }
     ensures frames { CoreKeeps guest asked.now (answered H.hash_of (state_of core.old) guest asked.now) core.old core.new }
     ensures totals { totals.new ≡ counted totals.old (answered H.hash_of (state_of core.old) guest asked.now) }

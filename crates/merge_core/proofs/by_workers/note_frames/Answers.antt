@@ -1,6 +1,6 @@
 use Rattle.std.proofs.Common.{sym, ap, ◌∙◌, List, ℕ, get_or}
 use Rattle.machine_frames.specs.FrameMap.{FrameMap}
-use Rattle.merge_core.specs.Names.{bytes_in}
+use Rattle.merge_core.specs.Pmap.{bytes_in}
 use Rattle.merge_core.proofs.Hashings.{hash_at}
 use Rattle.merge_core.proofs.by_workers.note_frames.Goals as goal
 

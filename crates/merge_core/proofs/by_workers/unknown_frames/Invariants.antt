@@ -1,7 +1,7 @@
 use Rattle.std.proofs.Common.{All}
 use Rattle.merge_core.specs.Hashing.{IsPaged}
-use Rattle.merge_core.specs.View.{names_of}
+use Rattle.merge_core.specs.View.{pmap_of}
 use Rattle.merge_core.proofs.by_workers.unknown_frames.Given as goal
 
 abbrev pub invariant-loop-guest : goal.invariant-loop-guest
-invariant-loop-guest g l = All (λ pair. IsPaged (names_of l.fn.held) pair.0 pair.1) l.pairs.items
+invariant-loop-guest g l = All (λ pair. IsPaged (pmap_of l.fn.held) pair.0 pair.1) l.pairs.items

@@ -1,6 +1,6 @@
 use Rattle.merge_core.proofs.FrameLemmas.{known_same, taken_within}
 use Rattle.std.proofs.Common.{◌<◌, length, Some, refl, arith}
-use Rattle.merge_core.specs.View.{names_of, notes_of}
+use Rattle.merge_core.specs.View.{pmap_of, notes_of}
 use Rattle.merge_core.proofs.Changes.{learnt_ties}
 use Rattle.merge_core.proofs.hashing.learn.Goals as goal
 
@@ -11,7 +11,7 @@ returns-clause-kept g c =
     let ties =
     learnt_ties
     hash
-    (names_of held)
+    (pmap_of held)
     held.frames
     held.table
     (notes_of held)
@@ -31,7 +31,7 @@ returns-clause-kept g c =
       };
       frames = refl;
       table = refl;
-      names = refl;
+      pmap = refl;
     }
 
 pub returns-clause-known : goal.returns-clause-known

@@ -2,8 +2,8 @@ use Rattle.std.proofs.Common.{◌≡◌, ℕ, List, None, refl, ap, sym, ◌∙�
 use Rattle.page_model.specs.Pages.{Private, blank, written, with_slot}
 use Rattle.page_model.specs.declared.verdict.Verdict.TheVariants as v
 use Rattle.page_model.proofs.Places.{again}
-use Rattle.merge_core.specs.Names.{bytes_in}
-use Rattle.merge_core.specs.View.{names_of, guests_of}
+use Rattle.merge_core.specs.Pmap.{bytes_in}
+use Rattle.merge_core.specs.View.{pmap_of, guests_of}
 use Rattle.merge_core.proofs.Lends.{is_offer, then_offered, over_zeros}
 use Rattle.merge_core.proofs.Staying.{moved_to, takes_free}
 use Rattle.merge_core.proofs.lending.lend_written.Goals as goal
@@ -30,6 +30,6 @@ returns-clause-stay g c =
     let b : ℕ = c.args.page.ppn in
     let mpn = c.map_zeroed-mpn.result in
     let offer = is_offer g.H.HashFunction.hash_of _ _ a b c.args.page.salt _ c.propose_private.result c.propose_private.ensures.step in
-    let first = takes_free held.frames a b mpn v.Mapped (names_of held) _ refl c.map_zeroed-mpn.ensures.free (moved_to (names_of held) _ a b c.args.page.salt (Private mpn None) c.map_zeroed-mpn.ensures.name c.map_zeroed-mpn.ensures.page) in
-    let second = rw (c.learn.ensures.kept.names, c.write.ensures.name) at c.propose_private.ensures.served.stay in
-    then_offered held.frames _ a b v.Mapped c.propose_private.result (names_of held) _ _ offer first second
+    let first = takes_free held.frames a b mpn v.Mapped (pmap_of held) _ refl c.map_zeroed-mpn.ensures.free (moved_to (pmap_of held) _ a b c.args.page.salt (Private mpn None) c.map_zeroed-mpn.ensures.pmap c.map_zeroed-mpn.ensures.page) in
+    let second = rw (c.learn.ensures.kept.pmap, c.write.ensures.pmap) at c.propose_private.ensures.served.stay in
+    then_offered held.frames _ a b v.Mapped c.propose_private.result (pmap_of held) _ _ offer first second

@@ -1,5 +1,5 @@
 use Rattle.std.proofs.Common.{◌≡◌, Some, List, ℕ, sym, ◌∙◌}
-use Rattle.merge_core.specs.Names.{bytes_in}
+use Rattle.merge_core.specs.Pmap.{bytes_in}
 use Rattle.merge_core.proofs.FrameLemmas.{bytes_are}
 use Rattle.merge_core.proofs.look.bytes_at.Goals as goal
 

@@ -1,6 +1,6 @@
 use Rattle.std.proofs.Common.{refl, arith}
 use Rattle.page_model.proofs.Places.{at_same}
-use Rattle.merge_core.specs.View.{names_of, notes_of}
+use Rattle.merge_core.specs.View.{pmap_of, notes_of}
 use Rattle.merge_core.proofs.Changes.{dropped_ties, dropped_guests}
 use Rattle.merge_core.proofs.Limits.{few_after}
 use Rattle.merge_core.proofs.Maps.{len_gone}
@@ -14,10 +14,10 @@ returns-clause-whole g c =
     let held = c.args.held.now in
     record {
       ties =
-          rw (c.drop_hint.ensures, c.set_page.ensures.names)
-          (dropped_ties g.H.HashFunction.hash_of (names_of held) held.frames held.table (notes_of held) c.args.page.guest c.args.page.ppn
+          rw (c.drop_hint.ensures, c.set_page.ensures.pmap)
+          (dropped_ties g.H.HashFunction.hash_of (pmap_of held) held.frames held.table (notes_of held) c.args.page.guest c.args.page.ppn
           c.args.page.salt c.args.mpn c.args.key c.requires.whole.ties c.requires.page);
-      few = rw c.set_page.ensures.names (few_after _ c.args.page.guest c.args.page.ppn _ c.requires.whole.few);
+      few = rw c.set_page.ensures.pmap (few_after _ c.args.page.guest c.args.page.ppn _ c.requires.whole.few);
       total = c.requires.whole.total;
       hints =
           rw c.drop_hint.ensures (omega (
@@ -29,12 +29,12 @@ returns-clause-whole g c =
     }
 
 pub returns-clause-page : goal.returns-clause-page
-returns-clause-page g c = rw c.set_page.ensures.names (at_same (names_of c.args.held.now) c.args.page.guest c.args.page.ppn c.args.page.salt _ _ c.requires.page)
+returns-clause-page g c = rw c.set_page.ensures.pmap (at_same (pmap_of c.args.held.now) c.args.page.guest c.args.page.ppn c.args.page.salt _ _ c.requires.page)
 
 pub returns-clause-guests : goal.returns-clause-guests
 returns-clause-guests g c =
     let held = c.args.held.now in
-    rw c.set_page.ensures.names (dropped_guests g.H.HashFunction.hash_of (names_of held) held.frames held.table (notes_of held) c.args.page.guest c.args.page.ppn c.args.page.salt c.args.mpn c.args.key c.requires.whole.ties c.requires.page)
+    rw c.set_page.ensures.pmap (dropped_guests g.H.HashFunction.hash_of (pmap_of held) held.frames held.table (notes_of held) c.args.page.guest c.args.page.ppn c.args.page.salt c.args.mpn c.args.key c.requires.whole.ties c.requires.page)
 
 pub overflow_sub-held : goal.overflow_sub-held
 overflow_sub-held g c =

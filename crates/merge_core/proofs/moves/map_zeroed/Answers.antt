@@ -1,7 +1,7 @@
 use Rattle.std.proofs.Common.{arith}
 use Rattle.page_model.specs.Pages.{blank}
 use Rattle.page_model.proofs.Places.{at_same}
-use Rattle.merge_core.specs.View.{names_of, notes_of}
+use Rattle.merge_core.specs.View.{pmap_of, notes_of}
 use Rattle.merge_core.proofs.FrameLemmas.{bytes_same}
 use Rattle.merge_core.proofs.Changes.{mapped_ties, mapped_guests}
 use Rattle.merge_core.proofs.Limits.{few_after}
@@ -18,10 +18,10 @@ returns-clause-whole g c =
     let e = c.new_frame-mpn.ensures in
     record {
       ties =
-          rw (e.taken, c.forget.ensures.notes, c.set_page.ensures.names)
-          (mapped_ties g.H.HashFunction.hash_of (names_of held) held.frames held.table (notes_of held) c.args.page.guest c.args.page.ppn
+          rw (e.taken, c.forget.ensures.notes, c.set_page.ensures.pmap)
+          (mapped_ties g.H.HashFunction.hash_of (pmap_of held) held.frames held.table (notes_of held) c.args.page.guest c.args.page.ppn
           c.args.page.salt c.new_frame-mpn.result blank c.requires.whole.ties c.requires.page e.within e.free);
-      few = rw c.set_page.ensures.names (few_after _ c.args.page.guest c.args.page.ppn _ c.requires.whole.few);
+      few = rw c.set_page.ensures.pmap (few_after _ c.args.page.guest c.args.page.ppn _ c.requires.whole.few);
       total = rw e.taken (omega (arith, c.requires.whole.total, length-set held.frames c.new_frame-mpn.result (Some blank)));
       hints = c.requires.whole.hints;
     }
@@ -30,10 +30,10 @@ pub returns-clause-bytes : goal.returns-clause-bytes
 returns-clause-bytes g c = rw c.new_frame-mpn.ensures.taken (bytes_same c.args.held.now.frames c.new_frame-mpn.result blank c.new_frame-mpn.ensures.within)
 
 pub returns-clause-page : goal.returns-clause-page
-returns-clause-page g c = rw c.set_page.ensures.names (at_same (names_of c.args.held.now) c.args.page.guest c.args.page.ppn c.args.page.salt _ _ c.requires.page)
+returns-clause-page g c = rw c.set_page.ensures.pmap (at_same (pmap_of c.args.held.now) c.args.page.guest c.args.page.ppn c.args.page.salt _ _ c.requires.page)
 
 pub returns-clause-guests : goal.returns-clause-guests
 returns-clause-guests g c =
     let held = c.args.held.now in
     let e = c.new_frame-mpn.ensures in
-    rw (e.taken, c.set_page.ensures.names) (mapped_guests g.H.HashFunction.hash_of (names_of held) held.frames held.table (notes_of held) c.args.page.guest c.args.page.ppn c.args.page.salt c.new_frame-mpn.result blank c.requires.whole.ties c.requires.page e.within e.free)
+    rw (e.taken, c.set_page.ensures.pmap) (mapped_guests g.H.HashFunction.hash_of (pmap_of held) held.frames held.table (notes_of held) c.args.page.guest c.args.page.ppn c.args.page.salt c.new_frame-mpn.result blank c.requires.whole.ties c.requires.page e.within e.free)

@@ -1,7 +1,7 @@
 use Rattle.std.proofs.Common.{refl, ap, sym, ◌∙◌, arith, ◌≡◌, Some, ℕ}
 use Rattle.share_table.specs.TableMaps.{SharedFrame}
 use Rattle.page_model.specs.Pages.{peers}
-use Rattle.merge_core.specs.Names.{bytes_in}
+use Rattle.merge_core.specs.Pmap.{bytes_in}
 use Rattle.merge_core.specs.View.{guests_of}
 use Rattle.merge_core.proofs.moves.peers_of.Goals as goal
 

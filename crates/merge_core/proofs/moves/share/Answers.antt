@@ -1,5 +1,5 @@
 use Rattle.std.proofs.Common.{refl, arith}
-use Rattle.merge_core.specs.View.{names_of, notes_of}
+use Rattle.merge_core.specs.View.{pmap_of, notes_of}
 use Rattle.merge_core.proofs.Holders.{room_for}
 use Rattle.std.proofs.Common.{None}
 use Rattle.page_model.specs.Pages.{Private}
@@ -11,12 +11,12 @@ use Rattle.merge_core.proofs.moves.share.Goals as goal
 pub add_shared-requires-clause-room : goal.add_shared-requires-clause-room
 add_shared-requires-clause-room g c =
     let held = c.args.held.now in
-    room_for g.H.HashFunction.hash_of (names_of held) held.frames held.table (notes_of held) c.args.first.guest c.args.first.ppn c.args.first.salt c.args.mpn c.requires.whole.ties c.requires.first
+    room_for g.H.HashFunction.hash_of (pmap_of held) held.frames held.table (notes_of held) c.args.first.guest c.args.first.ppn c.args.first.salt c.args.mpn c.requires.whole.ties c.requires.first
 
 pub add_shared-requires-clause-references : goal.add_shared-requires-clause-references
 add_shared-requires-clause-references g c =
     let held = c.args.held.now in
-    references_two g.H.HashFunction.hash_of (names_of held) held.frames held.table (notes_of held) c.requires.whole.ties c.requires.whole.few c.args.first.guest c.args.first.ppn c.args.second.guest c.args.second.ppn c.args.first.salt c.args.first.salt c.args.mpn c.requires.first c.requires.second
+    references_two g.H.HashFunction.hash_of (pmap_of held) held.frames held.table (notes_of held) c.requires.whole.ties c.requires.whole.few c.args.first.guest c.args.first.ppn c.args.second.guest c.args.second.ppn c.args.first.salt c.args.first.salt c.args.mpn c.requires.first c.requires.second
 
 pub add_shared-requires-clause-mpn : goal.add_shared-requires-clause-mpn
 add_shared-requires-clause-mpn g c =
@@ -30,21 +30,21 @@ pub set_page-requires-2 : goal.set_page-requires-2
 set_page-requires-2 g c =
     let held = c.args.held.now in
     let still =
-    still_there g.H.HashFunction.hash_of (names_of held) held.frames held.table (notes_of held) c.args.first.guest c.args.first.ppn
+    still_there g.H.HashFunction.hash_of (pmap_of held) held.frames held.table (notes_of held) c.args.first.guest c.args.first.ppn
     c.args.first.salt c.args.mpn c.args.second.guest c.args.second.ppn c.args.code c.requires.whole.ties c.requires.first
     c.requires.second c.requires.absent c.requires.code in
-    record { there = rw (c.set_page.ensures.names, still) refl }
+    record { there = rw (c.set_page.ensures.pmap, still) refl }
 
 pub returns-clause-whole : goal.returns-clause-whole
 returns-clause-whole g c =
     let held = c.args.held.now in
     record {
       ties =
-          rw (c.add_shared.ensures, c.set_page-2.ensures.names, c.set_page.ensures.names)
-          (paired_ties g.H.HashFunction.hash_of (names_of held) held.frames held.table (notes_of held) c.args.first.guest c.args.first.ppn
+          rw (c.add_shared.ensures, c.set_page-2.ensures.pmap, c.set_page.ensures.pmap)
+          (paired_ties g.H.HashFunction.hash_of (pmap_of held) held.frames held.table (notes_of held) c.args.first.guest c.args.first.ppn
           c.args.first.salt c.args.mpn c.args.second.guest c.args.second.ppn c.args.code c.requires.whole.ties c.requires.first
           c.requires.second c.requires.absent c.requires.code);
-      few = rw (c.set_page-2.ensures.names, c.set_page.ensures.names) (few_after _ c.args.second.guest c.args.second.ppn _ (few_after _ c.args.first.guest c.args.first.ppn _ c.requires.whole.few));
+      few = rw (c.set_page-2.ensures.pmap, c.set_page.ensures.pmap) (few_after _ c.args.second.guest c.args.second.ppn _ (few_after _ c.args.first.guest c.args.first.ppn _ c.requires.whole.few));
       total = c.requires.whole.total;
       hints = rw c.add_shared.ensures c.requires.whole.hints;
     }
@@ -52,7 +52,7 @@ returns-clause-whole g c =
 pub returns-clause-guests : goal.returns-clause-guests
 returns-clause-guests g c =
     let held = c.args.held.now in
-    rw (c.set_page-2.ensures.names, c.set_page.ensures.names)
-    (paired_guests g.H.HashFunction.hash_of (names_of held) held.frames held.table (notes_of held) c.args.first.guest c.args.first.ppn
+    rw (c.set_page-2.ensures.pmap, c.set_page.ensures.pmap)
+    (paired_guests g.H.HashFunction.hash_of (pmap_of held) held.frames held.table (notes_of held) c.args.first.guest c.args.first.ppn
     c.args.first.salt c.args.mpn c.args.second.guest c.args.second.ppn c.args.code c.requires.whole.ties c.requires.first
     c.requires.second c.requires.absent c.requires.code)

@@ -1,7 +1,7 @@
 use Rattle.std.proofs.Common.{refl, arith, Some}
 use Rattle.page_model.specs.Pages.{written}
-use Rattle.merge_core.specs.Names.{bytes_in}
-use Rattle.merge_core.specs.View.{names_of, notes_of}
+use Rattle.merge_core.specs.Pmap.{bytes_in}
+use Rattle.merge_core.specs.View.{pmap_of, notes_of}
 use Rattle.merge_core.proofs.FrameLemmas.{bytes_are, bytes_same, taken_within}
 use Rattle.merge_core.proofs.Changes.{written_ties, written_guests, write_within}
 use Rattle.std.proofs.lemmas.List.{length-set}
@@ -10,7 +10,7 @@ use Rattle.merge_core.proofs.moves.write.Goals as goal
 pub forget-requires : goal.forget-requires
 forget-requires g c =
     let held = c.args.held.now in
-    let within = write_within g.H.HashFunction.hash_of (names_of held) held.frames held.table (notes_of held) c.args.page.guest c.args.page.ppn c.args.page.salt c.args.mpn c.args.hint (bytes_in held.frames c.args.mpn) c.requires.whole.ties c.requires.page in
+    let within = write_within g.H.HashFunction.hash_of (pmap_of held) held.frames held.table (notes_of held) c.args.page.guest c.args.page.ppn c.args.page.salt c.args.mpn c.args.hint (bytes_in held.frames c.args.mpn) c.requires.whole.ties c.requires.page in
     record { mpn = omega (arith, c.requires.whole.ties.noted.len, within) }
 
 pub returns-clause-whole : goal.returns-clause-whole
@@ -20,7 +20,7 @@ returns-clause-whole g c =
     record {
       ties =
           rw (c.write.ensures, now, c.forget.ensures.notes)
-          (written_ties g.H.HashFunction.hash_of (names_of held) held.frames held.table (notes_of held) c.args.page.guest c.args.page.ppn
+          (written_ties g.H.HashFunction.hash_of (pmap_of held) held.frames held.table (notes_of held) c.args.page.guest c.args.page.ppn
           c.args.page.salt c.args.mpn c.args.hint (written (bytes_in held.frames c.args.mpn) c.args.at c.args.bytes.now)
           c.requires.whole.ties c.requires.page);
       few = c.requires.whole.few;
@@ -38,7 +38,7 @@ pub returns-clause-guests : goal.returns-clause-guests
 returns-clause-guests g c =
     let held = c.args.held.now in
     let now = bytes_are held.frames c.args.mpn (c.requires.whole.ties.placed.taken _ _ _ _ c.args.mpn c.requires.page refl) in
-    rw (c.write.ensures, now) (written_guests g.H.HashFunction.hash_of (names_of held) held.frames held.table (notes_of held)
+    rw (c.write.ensures, now) (written_guests g.H.HashFunction.hash_of (pmap_of held) held.frames held.table (notes_of held)
     c.args.page.guest c.args.page.ppn c.args.page.salt c.args.mpn c.args.hint
     (written (bytes_in held.frames c.args.mpn) c.args.at c.args.bytes.now) c.requires.whole.ties c.requires.page)
 

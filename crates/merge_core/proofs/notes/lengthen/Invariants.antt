@@ -1,5 +1,5 @@
 use Rattle.std.proofs.Common.{◌≡◌, ◌+◌, ◌++◌, length, replicate, vec_capacity}
-use Rattle.merge_core.specs.Names.{unknown}
+use Rattle.merge_core.specs.Pmap.{unknown}
 use Rattle.merge_core.specs.Noted.{notes_in}
 use Rattle.merge_core.proofs.notes.lengthen.Given as goal
 

@@ -1,6 +1,6 @@
 use Rattle.std.proofs.Common.{◌∙◌, List, set, ap}
 use Rattle.std.proofs.lemmas.List.{map-set}
-use Rattle.merge_core.specs.Names.{Known}
+use Rattle.merge_core.specs.Pmap.{Known}
 use Rattle.merge_core.specs.Noted.{known_of}
 use Rattle.merge_core.proofs.notes.set_note.Goals as goal
 

@@ -5,8 +5,8 @@ use Rattle.page_model.specs.Steps.{stays}
 use Rattle.page_model.specs.declared.verdict.Verdict.{Verdict}
 use Rattle.page_model.specs.declared.verdict.Verdict.TheVariants as v
 use Rattle.page_model.proofs.Places.{again}
-use Rattle.merge_core.specs.Names.{bytes_in}
-use Rattle.merge_core.specs.View.{guests_of, names_of}
+use Rattle.merge_core.specs.Pmap.{bytes_in}
+use Rattle.merge_core.specs.View.{guests_of, pmap_of}
 use Rattle.merge_core.proofs.Arms.{released_last, released_more}
 use Rattle.merge_core.proofs.serve.release_shared.Goals as goal
 
@@ -34,11 +34,11 @@ returns-then-count-eq1-clause-served g c =
       whole = c.unmap.ensures.whole;
       total = c.unmap.ensures.total ∙ ap length (c.keep.ensures.frames ∙ c.hash_frame-code.ensures.kept.frames);
       stay =
-          rw (c.unmap.ensures.name, c.keep.ensures.name, c.hash_frame-code.ensures.kept.names)
-          (gives_up held.frames c.args.page.guest c.args.page.ppn (v.Released true) (names_of held)
-          (with_slot (with_slot (names_of held) c.args.page.guest c.args.page.ppn (Private c.args.mpn None)) c.args.page.guest
+          rw (c.unmap.ensures.pmap, c.keep.ensures.pmap, c.hash_frame-code.ensures.kept.pmap)
+          (gives_up held.frames c.args.page.guest c.args.page.ppn (v.Released true) (pmap_of held)
+          (with_slot (with_slot (pmap_of held) c.args.page.guest c.args.page.ppn (Private c.args.mpn None)) c.args.page.guest
           c.args.page.ppn Unmapped) refl
-          (moved_twice (names_of held) c.args.page.guest c.args.page.ppn c.args.page.salt (Shared c.args.mpn) (Private c.args.mpn None)
+          (moved_twice (pmap_of held) c.args.page.guest c.args.page.ppn c.args.page.salt (Shared c.args.mpn) (Private c.args.mpn None)
           Unmapped c.requires.page));
     }
 
@@ -49,8 +49,8 @@ returns-clause-served g c =
       whole = c.leave.ensures.whole;
       total = ap length (c.leave.ensures.frames ∙ c.hash_frame-code.ensures.kept.frames);
       stay =
-          rw (c.leave.ensures.name, c.hash_frame-code.ensures.kept.names)
-          (gives_up held.frames c.args.page.guest c.args.page.ppn (v.Released false) (names_of held)
-          (with_slot (names_of held) c.args.page.guest c.args.page.ppn Unmapped) refl
-          (one_moves (names_of held) c.args.page.guest c.args.page.ppn c.args.page.salt (Shared c.args.mpn) Unmapped c.requires.page));
+          rw (c.leave.ensures.pmap, c.hash_frame-code.ensures.kept.pmap)
+          (gives_up held.frames c.args.page.guest c.args.page.ppn (v.Released false) (pmap_of held)
+          (with_slot (pmap_of held) c.args.page.guest c.args.page.ppn Unmapped) refl
+          (one_moves (pmap_of held) c.args.page.guest c.args.page.ppn c.args.page.salt (Shared c.args.mpn) Unmapped c.requires.page));
     }

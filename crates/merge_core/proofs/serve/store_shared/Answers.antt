@@ -5,8 +5,8 @@ use Rattle.page_model.specs.Steps.{stays}
 use Rattle.page_model.specs.declared.verdict.Verdict.{Verdict}
 use Rattle.page_model.specs.declared.verdict.Verdict.TheVariants as v
 use Rattle.page_model.proofs.Places.{again}
-use Rattle.merge_core.specs.Names.{bytes_in}
-use Rattle.merge_core.specs.View.{guests_of, names_of}
+use Rattle.merge_core.specs.Pmap.{bytes_in}
+use Rattle.merge_core.specs.View.{guests_of, pmap_of}
 use Rattle.merge_core.proofs.Arms.{stored_taken, stored_full, stored_copied}
 use Rattle.merge_core.proofs.serve.store_shared.Goals as goal
 
@@ -46,10 +46,10 @@ returns-then-count-eq1-clause-served g c =
       whole = c.write.ensures.whole;
       total = c.write.ensures.total ∙ ap length (c.keep.ensures.frames ∙ c.hash_frame-code.ensures.kept.frames);
       stay =
-          rw (c.write.ensures.name, c.keep.ensures.name, c.hash_frame-code.ensures.kept.names)
-          (all_stay held.frames c.args.page.guest c.args.page.ppn v.Taken (names_of held)
-          (with_slot (names_of held) c.args.page.guest c.args.page.ppn (Private c.args.mpn None)) refl
-          (one_keeps (names_of held) c.args.page.guest c.args.page.ppn c.args.page.salt (Shared c.args.mpn) (Private c.args.mpn None)
+          rw (c.write.ensures.pmap, c.keep.ensures.pmap, c.hash_frame-code.ensures.kept.pmap)
+          (all_stay held.frames c.args.page.guest c.args.page.ppn v.Taken (pmap_of held)
+          (with_slot (pmap_of held) c.args.page.guest c.args.page.ppn (Private c.args.mpn None)) refl
+          (one_keeps (pmap_of held) c.args.page.guest c.args.page.ppn c.args.page.salt (Shared c.args.mpn) (Private c.args.mpn None)
           c.requires.page refl));
     }
 
@@ -59,7 +59,7 @@ returns-then-is_full-clause-served g c =
     record {
       whole = c.hash_frame-code.ensures.kept.whole;
       total = ap length c.hash_frame-code.ensures.kept.frames;
-      stay = rw c.hash_frame-code.ensures.kept.names (none_moves held.frames c.args.page.guest c.args.page.ppn v.NoFrame (names_of held) refl);
+      stay = rw c.hash_frame-code.ensures.kept.pmap (none_moves held.frames c.args.page.guest c.args.page.ppn v.NoFrame (pmap_of held) refl);
     }
 
 pub returns-clause-served : goal.returns-clause-served
@@ -70,10 +70,10 @@ returns-clause-served g c =
       whole = c.write-2.ensures.whole;
       total = c.write-2.ensures.total ∙ c.map_copy-copy.ensures.total ∙ ap length (c.leave.ensures.frames ∙ c.hash_frame-code.ensures.kept.frames);
       stay =
-          rw (c.write-2.ensures.name, c.map_copy-copy.ensures.name, c.leave.ensures.name, c.hash_frame-code.ensures.kept.names)
-          (takes_free held.frames c.args.page.guest c.args.page.ppn c.map_copy-copy.result v.Copied (names_of held)
-          (with_slot (with_slot (names_of held) c.args.page.guest c.args.page.ppn Unmapped) c.args.page.guest c.args.page.ppn
+          rw (c.write-2.ensures.pmap, c.map_copy-copy.ensures.pmap, c.leave.ensures.pmap, c.hash_frame-code.ensures.kept.pmap)
+          (takes_free held.frames c.args.page.guest c.args.page.ppn c.map_copy-copy.result v.Copied (pmap_of held)
+          (with_slot (with_slot (pmap_of held) c.args.page.guest c.args.page.ppn Unmapped) c.args.page.guest c.args.page.ppn
           (Private c.map_copy-copy.result None)) refl free
-          (moved_twice (names_of held) c.args.page.guest c.args.page.ppn c.args.page.salt (Shared c.args.mpn) Unmapped
+          (moved_twice (pmap_of held) c.args.page.guest c.args.page.ppn c.args.page.salt (Shared c.args.mpn) Unmapped
           (Private c.map_copy-copy.result None) c.requires.page));
     }

@@ -75,5 +75,5 @@ returns-in-None-clause-settled g c =
       memory = now.replayed;
       stored = λ guest ppn at below. reads_last hash (state_of (core_of now)) (journal_of now) guest ppn at below now.replayed;
       adds_up = reports_add_up hash (state_of (core_of now)) (journal_of now) now.replayed;
-      frames = subst (λ (x : Shown). used (state_of x).guests ≡ distinct_numbers (frames_of x.names)) c.core.ensures c.count_frames.ensures;
+      frames = subst (λ (x : Shown). used (state_of x).guests ≡ distinct_numbers (frames_of x.pmap)) c.core.ensures c.count_frames.ensures;
     }

@@ -3,7 +3,7 @@ use Rattle.std.specs.Prelude.{slice_index}
 use Rattle.page_model.specs.Pages.{page_at}
 use Rattle.page_model.specs.Stored.{byte_in, text_at}
 use Rattle.machine_frames.specs.FrameMap.{FrameMap, IsTaken}
-use Rattle.merge_core.specs.Names.{bytes_in}
+use Rattle.merge_core.specs.Pmap.{bytes_in}
 use Rattle.merge_core.specs.Shown.{Shown, state_of}
 use Rattle.merge_core.proofs.FrameLemmas.{bytes_are}
 use Rattle.merge_core.proofs.Texts.{unmapped_reads, text_there}

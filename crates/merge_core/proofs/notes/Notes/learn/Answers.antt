@@ -1,7 +1,7 @@
 use Rattle.std.proofs.Common.{◌∙◌, ℕ, Some, ap, set}
 use Rattle.std.specs.Int.{w64, from_le_bytes}
 use Rattle.std.proofs.lemmas.Nat.{from_le_bytes-to_le_bytes_8}
-use Rattle.merge_core.specs.Names.{Known}
+use Rattle.merge_core.specs.Pmap.{Known}
 use Rattle.merge_core.specs.Noted.{notes_on}
 use Rattle.merge_core.proofs.NotedFrames.{noted}
 use Rattle.merge_core.proofs.notes.Notes.learn.Goals as goal

@@ -1,11 +1,12 @@
--- The guests with an MPN instead of each page's bytes, and the bytes that the MPNs stand for.
+-- The guests' physical to machine page maps (pmaps): each page's MPN in place of its bytes, and the bytes that the MPNs stand for.
 use Rattle.std.specs.Prelude.{ℕ, List, [], map, replicate, Option, Some, None, unwrap_or, slice_index_or}
 use Rattle.page_model.specs.Pages.{SlotOf, Slot, Unmapped, Private, Shared, GuestOf, Guest}
 use Rattle.page_model.specs.Replay.{Shape}
 use Rattle.machine_frames.specs.FrameMap.{FrameMap, frame}
 
-abbrev pub Names : Type 0
-Names = List (GuestOf ℕ)
+-- the pmap of each guest
+abbrev pub Pmap : Type 0
+Pmap = List (GuestOf ℕ)
 
 -- the bytes of a frame
 unfoldable pub bytes_in : FrameMap → ℕ → List ℕ
@@ -20,15 +21,15 @@ slot_in frames (Shared mpn) = Shared (bytes_in frames mpn)
 abbrev pub guest_in : FrameMap → GuestOf ℕ → Guest
 guest_in frames g = record { salt = g.salt; slots = map (slot_in frames) g.slots }
 
-abbrev pub guests_in : FrameMap → Names → List Guest
-guests_in frames names = map (guest_in frames) names
+abbrev pub guests_in : FrameMap → Pmap → List Guest
+guests_in frames pmap = map (guest_in frames) pmap
 
 -- a guest with no page mapped
-abbrev pub empty_name : Shape → GuestOf ℕ
-empty_name g = record { salt = g.salt; slots = replicate g.pages Unmapped }
+abbrev pub unmapped_guest : Shape → GuestOf ℕ
+unmapped_guest g = record { salt = g.salt; slots = replicate g.pages Unmapped }
 
-abbrev pub empty_names : List Shape → Names
-empty_names shapes = map empty_name shapes
+abbrev pub empty_pmap : List Shape → Pmap
+empty_pmap shapes = map unmapped_guest shapes
 
 -- the page's MPN
 abbrev pub frame_of : SlotOf ℕ → Option ℕ
