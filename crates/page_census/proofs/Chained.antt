@@ -8,12 +8,12 @@ use Rattle.std.specs.Str.{bytes_eq}
 use Rattle.page_census.specs.Contents.{Content, content_at, is_same}
 use Rattle.page_census.specs.Classes.{Classed, class_of, last_in}
 
--- what is known once the first pages down to a code were compared with the page of this number
-pub record Walks (steady : Type 0) (all : List Content) (marks classes : List ℕ) (buckets number code : ℕ) : Type 0 where
+-- what is known once the first pages down to a link were compared with the page of this number
+pub record Walks (steady : Type 0) (all : List Content) (marks classes : List ℕ) (buckets number link : ℕ) : Type 0 where
   pub bound : ℕ
   pub within : bound ≤ number
-  pub is : code ≡ last_in marks classes buckets (get_or marks number 0 % buckets) bound
-  pub passed : steady → (j : ℕ) → code ≤ j → j < number → get_or classes j 0 ≡ j → content_at all j ≡ content_at all number → ⊥
+  pub is : link ≡ last_in marks classes buckets (get_or marks number 0 % buckets) bound
+  pub passed : steady → (j : ℕ) → link ≤ j → j < number → get_or classes j 0 ≡ j → content_at all j ≡ content_at all number → ⊥
 
 module _ (marks classes : List ℕ) (buckets bucket : ℕ) where
   abbrev is_first : ℕ → Bool
@@ -81,9 +81,9 @@ module _ (steady : Type 0) (all : List Content) (marks classes links heads : Lis
       let taken : content_at (take (length classes) all) j ≡ content_at all j = get_or-take (length classes) all j (0, []) (omega arith) in
       ap (λ (cs : List ℕ). get_or cs j 0) (known.told steady) ∙ get_or-map (class_of all) (take (length classes) all) j (0, []) 0 within ∙ ap (class_of all) taken
 
-  pub starts : (code : ℕ) → code ≡ last_in marks classes (length heads) (get_or marks number 0 % length heads) (length classes) → Walks steady all marks classes (length heads) number code
-  starts code e =
-      let is : code ≡ last_in marks classes (length heads) bucket number = e ∙ ap (last_in marks classes (length heads) bucket) (sym next) in
+  pub starts : (link : ℕ) → link ≡ last_in marks classes (length heads) (get_or marks number 0 % length heads) (length classes) → Walks steady all marks classes (length heads) number link
+  starts link e =
+      let is : link ≡ last_in marks classes (length heads) bucket number = e ∙ ap (last_in marks classes (length heads) bucket) (sym next) in
       record {
         bound = number;
         within = omega arith;
@@ -93,14 +93,14 @@ module _ (steady : Type 0) (all : List Content) (marks classes links heads : Lis
             (ap (λ (m : ℕ). m % length heads) (known.alike s j number (omega arith) more same));
       }
 
-  module _ (code : ℕ) (walk : Walks steady all marks classes (length heads) number code) where
-    -- the first page at a code
-    pub at_code : (first : ℕ) → code ≡ suc first → Found marks classes (length heads) bucket walk.bound first
-    at_code first e = found marks classes (length heads) bucket walk.bound first (sym walk.is ∙ e)
+  module _ (link : ℕ) (walk : Walks steady all marks classes (length heads) number link) where
+    -- the first page that a link leads to
+    pub at_link : (first : ℕ) → link ≡ suc first → Found marks classes (length heads) bucket walk.bound first
+    at_link first e = found marks classes (length heads) bucket walk.bound first (sym walk.is ∙ e)
 
-    pub goes_on : (first after : ℕ) → code ≡ suc first → after ≡ get_or links first 0 → (steady → is_same (content_at all number) (content_at all first) ≡ false) → Walks steady all marks classes (length heads) number after
+    pub goes_on : (first after : ℕ) → link ≡ suc first → after ≡ get_or links first 0 → (steady → is_same (content_at all number) (content_at all first) ≡ false) → Walks steady all marks classes (length heads) number after
     goes_on first after e ea other =
-        let f = at_code first e in
+        let f = at_link first e in
         let w = walk.within in
         let lower = f.within in
         let is : after ≡ last_in marks classes (length heads) bucket first = ea ∙ known.links_are first (omega arith) ∙ ap (λ (b : ℕ). last_in marks classes (length heads) b first) f.bucket_is in
@@ -116,14 +116,14 @@ module _ (steady : Type 0) (all : List Content) (marks classes links heads : Lis
               (cases_order j first);
         }
 
-    pub ends_same : steady → (first : ℕ) → code ≡ suc first → is_same (content_at all number) (content_at all first) ≡ true → first ≡ class_of all (content_at all number)
+    pub ends_same : steady → (first : ℕ) → link ≡ suc first → is_same (content_at all number) (content_at all first) ≡ true → first ≡ class_of all (content_at all number)
     ends_same s first e t =
-        let f = at_code first e in
+        let f = at_link first e in
         let w = walk.within in
         let lower = f.within in
         sym f.own ∙ first_class s first (omega arith) ∙ ap (class_of all) (sym (is_one (content_at all number) (content_at all first) t))
 
-    pub ends_none : steady → code ≡ 0 → number ≡ class_of all (content_at all number)
+    pub ends_none : steady → link ≡ 0 → number ≡ class_of all (content_at all number)
     ends_none s e = sym (position_or_len_is (is_same (content_at all number)) all number (0, []) (omega arith)
         (λ k lt. false_from_ne_true _ (λ t.
         let same : content_at all number ≡ content_at all k = is_one (content_at all number) (content_at all k) t in

@@ -27,9 +27,9 @@ stays marks classes class buckets bucket zero le = refl
 stays marks classes class buckets bucket (suc n) le =
     rw (get_or_append_left classes (class ∷ []) 0 n (omega arith), stays marks classes class buckets bucket n (omega arith)) refl
 
-length_of : (t : Bool) (heads : List ℕ) (bucket code : ℕ) → length (cond t (set heads bucket code) heads) ≡ length heads
-length_of true heads bucket code = length-set heads bucket code
-length_of false heads bucket code = refl
+length_of : (t : Bool) (heads : List ℕ) (bucket link : ℕ) → length (cond t (set heads bucket link) heads) ≡ length heads
+length_of true heads bucket link = length-set heads bucket link
+length_of false heads bucket link = refl
 
 head_of : (heads : List ℕ) (at bucket number before : ℕ) (t u : Bool) → eqb at bucket ≡ u → at < length heads → get_or heads bucket 0 ≡ before
     → get_or (cond t (set heads at (number + 1)) heads) bucket 0 ≡ cond (t && u) (suc number) before

@@ -50,13 +50,13 @@ fn class_of_next<S: PageSource, A: Allocator>(
         number,
         is_read: false,
     };
-    let mut code = known.heads[bucket as usize];
-    while code != 0 {
-        let first = code - 1;
+    let mut link = known.heads[bucket as usize];
+    while link != 0 {
+        let first = link - 1;
         if is_same(guests, marks, by, &mut subject, own, other, first)? {
             return Ok(first);
         }
-        code = known.links[first as usize];
+        link = known.links[first as usize];
     }
     Ok(number)
 }

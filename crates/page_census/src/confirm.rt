@@ -52,7 +52,7 @@ fn are_confirmed<R: Threads + Sync, S: PageSource, A: Allocator + Clone + Send +
     requires classed { AreClassed (AreSteady S.is_steady guests.now) (contents S.pages guests.now) marks.now classes.now }
     ensures { IfOk result (λ yes. yes ≡ true
         → AreConfirmed (AreSteady S.is_steady guests.now) (contents S.pages guests.now) classes.now
-            0 (length (contents S.pages guests.now))) }
+        0 (length (contents S.pages guests.now))) }
 {
     let count = classes.len() as u32;
     let size = count.div_ceil(workers.count).max(RUN);
@@ -61,7 +61,7 @@ fn are_confirmed<R: Threads + Sync, S: PageSource, A: Allocator + Clone + Send +
         requires { AreClassed (AreSteady S.is_steady guests.now) (contents S.pages guests.now) marks.now classes.now }
         ensures { IfOk result (λ yes. yes ≡ true
             → AreConfirmed (AreSteady S.is_steady guests.entry.now) (contents S.pages guests.entry.now) classes.entry.now
-                (size * n) (size * n + size)) }
+            (size * n) (size * n + size)) }
     { is_part_confirmed(alloc, guests, marks, classes, size, n) };
     let parts = count.div_ceil(size) as usize;
     let answers = thread::map_indices(workers.rt, alloc.clone()?, parts, &part)?;

@@ -5,12 +5,12 @@ use Rattle.page_census.specs.Places.{Holds}
 use Rattle.page_census.proofs.Chained.{Walks}
 use Rattle.page_census.proofs.classes.class_of_next.Given as goal
 
-abbrev pub invariant-loop-code : goal.invariant-loop-code
-invariant-loop-code g l = record {
-  walk : Walks (Sure l.by (AreSteady g.S.PageSource.is_steady l.guests)) (seen l.by (contents g.S.PageSource.pages l.guests) l.marks) l.marks l.known.classes.items (length l.known.heads.items) l.number l.code;
+abbrev pub invariant-loop-link : goal.invariant-loop-link
+invariant-loop-link g l = record {
+  walk : Walks (Sure l.by (AreSteady g.S.PageSource.is_steady l.guests)) (seen l.by (contents g.S.PageSource.pages l.guests) l.marks) l.marks l.known.classes.items (length l.known.heads.items) l.number l.link;
   own : Holds (AreSteady g.S.PageSource.is_steady l.guests) (contents g.S.PageSource.pages l.guests) l.subject l.own;
   number : l.subject.number ≡ l.number;
 }
 
-abbrev pub decreases-loop-code : goal.decreases-loop-code
-decreases-loop-code g l = l.code
+abbrev pub decreases-loop-link : goal.decreases-loop-link
+decreases-loop-link g l = l.link

@@ -47,9 +47,9 @@ returns-clause-len g c =
     let all : c.loop-list.yielded ≡ c.in_ok-lists.lists.items = grind (arith, common_steps, c.loop-list.invariant.whole, c.in-None.ensures, c.into_iter-list-iterator.ensures.into_iter_gives) in
     let covered : length pages ≤ size * length c.loop-list.yielded =
     parts_cover (length pages) size (length c.loop-list.yielded) (omega (arith, c.max-size.ensures))
-        (let same = ap length all in
-        let parts : length c.loop-list.yielded ≡ c.div_ceil-parts.result = omega (arith, same, c.in_ok-lists.ensures.len, c.in_ok-lists.lists.ok.0) in
-        parts ∙ c.div_ceil-parts.ensures ∙ ap (λ (n : ℕ). n / size + min 1 (n % size)) c.count-count.ensures) in
+    (let same = ap length all in
+    let parts : length c.loop-list.yielded ≡ c.div_ceil-parts.result = omega (arith, same, c.in_ok-lists.ensures.len, c.in_ok-lists.lists.ok.0) in
+    parts ∙ c.div_ceil-parts.ensures ∙ ap (λ (n : ℕ). n / size + min 1 (n % size)) c.count-count.ensures) in
     rw (take_all (size * length c.loop-list.yielded) pages covered) at c.loop-list.invariant.len
 
 pub returns-clause-told : goal.returns-clause-told
@@ -59,9 +59,9 @@ returns-clause-told g c =
     let all : c.loop-list.yielded ≡ c.in_ok-lists.lists.items = grind (arith, common_steps, c.loop-list.invariant.whole, c.in-None.ensures, c.into_iter-list-iterator.ensures.into_iter_gives) in
     let covered : length pages ≤ size * length c.loop-list.yielded =
     parts_cover (length pages) size (length c.loop-list.yielded) (omega (arith, c.max-size.ensures))
-        (let same = ap length all in
-        let parts : length c.loop-list.yielded ≡ c.div_ceil-parts.result = omega (arith, same, c.in_ok-lists.ensures.len, c.in_ok-lists.lists.ok.0) in
-        parts ∙ c.div_ceil-parts.ensures ∙ ap (λ (n : ℕ). n / size + min 1 (n % size)) c.count-count.ensures) in
+    (let same = ap length all in
+    let parts : length c.loop-list.yielded ≡ c.div_ceil-parts.result = omega (arith, same, c.in_ok-lists.ensures.len, c.in_ok-lists.lists.ok.0) in
+    parts ∙ c.div_ceil-parts.ensures ∙ ap (λ (n : ℕ). n / size + min 1 (n % size)) c.count-count.ensures) in
     λ steady. rw (take_all (size * length c.loop-list.yielded) pages covered) at (c.loop-list.invariant.told steady)
 
 pub returns-clause-capacity : goal.returns-clause-capacity
