@@ -35,25 +35,10 @@ pub fn note_by_workers<
     ensures kept { OnlyNotes H.hash_of held.old held.new }
 {
     let pairs = unknown_frames(held, alloc.clone()?, pages)?;
-    let paying = paying_workers(workers, pairs.len() / least);
+    let paying = (pairs.len() / least).clamp(1, workers as usize) as u32;
     let hashes = hash_many(rt, alloc, paying, &held.hash, &held.frames, &pairs)?;
     note_frames(held, &pairs, &hashes);
     Ok(())
-}
-
-/// Returns the lesser of two numbers of workers, but at least one.
-fn paying_workers(workers: u32, most: usize) -> u32
-    requires { AreWorkers workers }
-    ensures { (1 ≤ result) × (result ≤ workers) }
-{
-    if most == 0 {
-        return 1;
-    }
-    if most < workers as usize {
-        most as u32
-    } else {
-        workers
-    }
 }
 
 /// Returns the frames of those of these pages whose hashes aren't known, as pairs of a salt and an MPN.

@@ -1,5 +1,5 @@
 //! A round of the merger.
-ghost use Rattle.std.specs.Prelude.{◌≡◌, ◌+◌, ◌≤◌, ◌⊎◌, length, vec_capacity};
+ghost use Rattle.std.specs.Prelude.{◌≡◌, ◌+◌, ◌≤◌, length, vec_capacity};
 ghost use Rattle.merge_core.specs.Shown.{state_of};
 ghost use Rattle.merge_machine.specs.Rounds.{has_open};
 ghost use Rattle.merge_machine.specs.Taking.{AllAnswered, Done};
@@ -62,7 +62,7 @@ impl<H: PageHash, A: Allocator + Sync> Merger<H, A> {
             alloc,
             count: workers,
         };
-        Ok(take_and_serve(&workers, ends, journal, core, lesser(limit, room)))
+        Ok(take_and_serve(&workers, ends, journal, core, limit.min(room)))
     }
 
     /// Returns how many more entries the journal has room for.
@@ -108,12 +108,4 @@ pub(crate) fn is_any_open<A: Allocator>(ends: &[MergerEnd<A>]) -> bool
     ensures { result ≡ has_open ends.now }
 {
     ends.iter().any(|end| !end.ended())
-}
-
-/// Returns the lesser of two numbers.
-fn lesser(a: u32, b: u32) -> u32
-    ensures least { (result ≤ a) × (result ≤ b) }
-    ensures one { (result ≡ a) ⊎ (result ≡ b) }
-{
-    if a < b { a } else { b }
 }

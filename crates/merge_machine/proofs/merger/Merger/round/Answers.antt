@@ -27,7 +27,7 @@ invariant_of-self-2 g c =
       guests = done.guests ∙ (m.guests ∙ sym done.size);
       few = omega (arith, done.size, m.few);
       counted = omega (arith, done.counted, m.counted, grew);
-      within = omega (arith, grew, done.count, done.few, c.lesser.ensures.least.1, c.room-room.ensures);
+      within = omega (arith, grew, done.count, done.few, c.min.ensures, c.room-room.ensures);
       room = (omega (arith, c.take_and_serve.ensures.capacity, m.room.0), m.room.1);
     }
 
