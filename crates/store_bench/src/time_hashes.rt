@@ -36,9 +36,9 @@ pub fn time_hashes<R: Clock + Print + Threads + Wait + Sync>(
         let start = Instant::now(rt)?;
         let four = four_at_once(&page, count);
         alone[1] = alone[1].min(start.elapsed(rt)?.as_nanos());
-        by[0] = lesser(by[0], nanos_by(rt, alloc, 1, count)?);
-        by[1] = lesser(by[1], nanos_by(rt, alloc, 2, count)?);
-        by[2] = lesser(by[2], nanos_by(rt, alloc, 4, count)?);
+        by[0] = min(by[0], nanos_by(rt, alloc, 1, count)?);
+        by[1] = min(by[1], nanos_by(rt, alloc, 2, count)?);
+        by[2] = min(by[2], nanos_by(rt, alloc, 4, count)?);
         has_passed = has_passed && one == four;
     }
     if let Some(count) = asked {
@@ -50,13 +50,9 @@ pub fn time_hashes<R: Clock + Print + Threads + Wait + Sync>(
     )
 }
 
-// Returns the lesser of two times, or why one is missing.
-fn lesser(one: Result<u128, HashFault>, other: Result<u128, HashFault>) -> Result<u128, HashFault> {
-    match (one, other) {
-        (Ok(one), Ok(other)) => Ok(one.min(other)),
-        (Err(fault), _) => Err(fault),
-        (Ok(_), Err(fault)) => Err(fault),
-    }
+// Returns the least of two times, or why one is missing.
+fn min(one: Result<u128, HashFault>, other: Result<u128, HashFault>) -> Result<u128, HashFault> {
+    Ok(one?.min(other?))
 }
 
 // Returns the time of one call, or why it was refused.
