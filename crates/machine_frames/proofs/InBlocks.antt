@@ -1,13 +1,12 @@
 -- What each change of a block makes of the pages.
-use Rattle.std.proofs.Common.{◌≡◌, ◌≢◌, ℕ, ◌+◌, ◌*◌, ◌/◌, ◌%◌, ◌<◌, ◌≤◌, List, [], ◌∷◌, ◌++◌, length, map, Option, None, Some, is_some, IsSome, get_or, set, refl, sym, ap, ◌∙◌, subst, ◌⊎◌, inl, inr, zero-add, arith, length-append}
+use Rattle.std.proofs.Common.{◌≡◌, ℕ, ◌+◌, ◌*◌, ◌/◌, ◌%◌, ◌<◌, ◌≤◌, List, [], ◌∷◌, ◌++◌, length, Option, None, Some, is_some, IsSome, get_or, set, refl, sym, ap, ◌∙◌, subst, ◌⊎◌, inl, inr, zero-add, arith, length-append}
 use Rattle.std.specs.Prelude.{slice_index, slice_index_or, option_map, IsSomeAnd}
-use Rattle.std.specs.List.{range_with_len}
 use Rattle.std.proofs.Math.Nat.{div-add-mod, mod-lt}
 use Rattle.std.proofs.lemmas.Bool.{cases_lt, cases_eq, false≢true}
 use Rattle.std.proofs.lemmas.List.{get_or-set_same, get_or-set_other, length-set, get_or_append_left, get_or_default}
 use Rattle.std.proofs.lemmas.List.FromFn.{length-map-range_with_len, get_or-map-range_with_len}
 use Rattle.std.proofs.Math.Seq.{get_or-append_seam}
-use Rattle.slab.specs.Slab.{Slab, get, ContainsKey, with_value, Updates, slab_len}
+use Rattle.slab.specs.Slab.{Slab, get, ContainsKey, with_value, Updates}
 use Rattle.slab.proofs.SlabLemmas.{Updates-with_value}
 use Rattle.page_model.specs.declared.limits.TheConstants.{MAX_FRAMES}
 use Rattle.machine_frames.specs.PageLists.{PageList, page_in, with_page, with_more}

@@ -1,6 +1,6 @@
 -- How `Frames` keeps its frames: a list has the page of each frame that was ever taken, by MPN, and `free` lists the
 -- frames that were given back, whose pages stay.
-use Rattle.std.specs.Prelude.{◌≡◌, ℕ, ◌+◌, ◌<◌, ◌≤◌, ◌==◌, if◌then◌else◌, List, length, map, Option, None, count_by, slice_get}
+use Rattle.std.specs.Prelude.{◌≡◌, ℕ, ◌+◌, ◌≤◌, ◌==◌, if◌then◌else◌, List, length, map, Option, None, count_by, slice_get}
 use Rattle.std.specs.List.{range_with_len}
 use Rattle.page_model.specs.declared.limits.TheConstants.{MAX_FRAMES}
 use Rattle.machine_frames.specs.FrameMap.{FrameMap, used}

@@ -1,17 +1,17 @@
 -- A page that was lent, and what comes later.
-use Rattle.std.proofs.Common.{◌≡◌, ℕ, ◌+◌, ◌≤◌, Bool, true, false, cond, ◌&&◌, List, [], ◌∷◌, ◌++◌, length, take, drop, Option, Some, None, refl, ap, sym, ◌∙◌, ◌⊎◌, inl, inr, arith}
+use Rattle.std.proofs.Common.{◌≡◌, ℕ, Bool, true, false, cond, ◌&&◌, List, [], ◌∷◌, length, Option, Some, None, refl, ap, sym, ◌∙◌, arith}
 use Rattle.std.specs.Prelude.{nat_eq, All}
 use Rattle.std.specs.Option.{option_map}
-use Rattle.std.proofs.lemmas.Bool.{cases_eq, eq-eqb, false≢true}
+use Rattle.std.proofs.lemmas.Bool.{eq-eqb, false≢true}
 use Rattle.std.proofs.lemmas.List.Elements.{All-head, All-tail}
 use Rattle.page_model.specs.Pages.{Slot, Unmapped, Private, Shared, Guest, State, bytes_of, written, with_slot, page_at}
-use Rattle.page_model.specs.Steps.{Outcome, Step, stored, released, proposed, loaded, on_page, at_page, answered, step, counted}
+use Rattle.page_model.specs.Steps.{Outcome, Step, stored, released, on_page, answered, step, counted}
 use Rattle.page_model.specs.Replay.{state_after}
 use Rattle.page_model.specs.Stored.{is_done, text_at}
 use Rattle.page_model.specs.declared.request.Entry.{Entry}
 use Rattle.page_model.specs.declared.request.Request.{Request}
 use Rattle.page_model.specs.declared.request.Request.TheVariants.{Propose, Store, Load, Release, Count, Close}
-use Rattle.page_model.proofs.Texts.{Keeps, changed, other, at_page_keeps, proposed_keeps, still}
+use Rattle.page_model.proofs.Texts.{Keeps, changed, other, at_page_keeps, proposed_keeps}
 use Rattle.page_lending.specs.Lending.{page_stored, page_lent}
 use Rattle.page_lending.specs.Laws.{IsWhole, at_once, writes_page, LeavesPage, LentIsTakenBack}
 use Rattle.page_lending.proofs.Written.{all_written}

@@ -1,13 +1,12 @@
 -- The stores of a whole page, one after the other.
-use Rattle.std.proofs.Common.{◌≡◌, ℕ, zero, suc, ◌+◌, ◌*◌, ◌≤◌, Bool, true, false, cond, List, [], ◌∷◌, ◌++◌, length, take, drop, replicate, map, Option, Some, None, refl, ap, sym, subst, ◌∙◌, arith}
+use Rattle.std.proofs.Common.{◌≡◌, ℕ, zero, suc, ◌+◌, ◌*◌, Bool, true, false, cond, List, [], ◌∷◌, ◌++◌, length, take, drop, replicate, Option, Some, None, refl, ap, sym, ◌∙◌, arith}
 use Rattle.std.specs.Prelude.{slice_index_or, nat_eq}
 use Rattle.std.specs.Option.{option_map}
 use Rattle.std.proofs.lemmas.List.{length-append, length-take-le, length-drop, take-append-drop, append-nil, append_assoc}
-use Rattle.page_model.specs.Pages.{Slot, Unmapped, Private, Shared, Guest, State, blank, bytes_of, written, with_slot, page_at, used, peers}
+use Rattle.page_model.specs.Pages.{Slot, Unmapped, Private, Shared, Guest, State, bytes_of, written, with_slot, page_at, used, peers}
 use Rattle.page_model.specs.Steps.{Outcome, Step, stored, stays, sets, on_page, at_page, answered, step}
 use Rattle.page_model.specs.Replay.{state_after, verdicts_of}
 use Rattle.page_model.specs.Stored.{is_done, text_at}
-use Rattle.page_model.specs.declared.request.Request.{Request}
 use Rattle.page_model.specs.declared.request.Request.TheVariants.{Store}
 use Rattle.page_model.specs.declared.verdict.Verdict.{Verdict}
 use Rattle.page_model.specs.declared.verdict.Verdict.TheVariants as v

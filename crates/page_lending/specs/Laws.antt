@@ -1,7 +1,7 @@
 -- What the stores of a whole page come to.
 use Rattle.std.specs.Prelude.{◌≡◌, ℕ, ◌+◌, ◌-◌, ◌==◌, Bool, true, false, ◌&&◌, if◌then◌else◌}
-use Rattle.std.specs.Prelude.{List, [], ◌∷◌, length, replicate, All, Some, IfSome}
-use Rattle.page_model.specs.Pages.{State, page_at}
+use Rattle.std.specs.Prelude.{List, ◌∷◌, length, replicate, All, Some, IfSome}
+use Rattle.page_model.specs.Pages.{State}
 use Rattle.page_model.specs.Steps.{Step, Outcome, stored, at_page}
 use Rattle.page_model.specs.Replay.{state_after, verdicts_of}
 use Rattle.page_model.specs.Stored.{is_done, text_at}

@@ -1,5 +1,5 @@
 use Rattle.std.proofs.Common.{◌∙◌, ap, arith}
-use Rattle.machine_frames.specs.PageLists.{PageList, page_in}
+use Rattle.machine_frames.specs.PageLists.{PageList}
 use Rattle.machine_frames.specs.FrameMap.{no_frames}
 use Rattle.machine_frames.proofs.Places.{fresh}
 use Rattle.machine_frames.proofs.Frames.new.Goals as goal

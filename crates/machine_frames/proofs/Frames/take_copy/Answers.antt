@@ -1,4 +1,4 @@
-use Rattle.std.proofs.Common.{◌∙◌, ◌++◌, ◌∷◌, [], ap, sym, refl, arith, length, true≢false}
+use Rattle.std.proofs.Common.{◌++◌, ◌∷◌, [], ap, refl, arith, length, true≢false}
 use Rattle.machine_frames.specs.PageLists.{PageList, page_in}
 use Rattle.machine_frames.specs.Places.{IsSound}
 use Rattle.machine_frames.proofs.Places.{length-frames_of, again, again_at, first_at, all_taken, not_all_taken, is_full, is_below, known}

@@ -1,5 +1,5 @@
-use Rattle.std.proofs.Common.{sym, refl, ◌∙◌}
-use Rattle.machine_frames.proofs.Places.{length-frames_of, written_at, again_at, first_at, fresh, all_taken}
+use Rattle.std.proofs.Common.{sym, ◌∙◌}
+use Rattle.machine_frames.proofs.Places.{length-frames_of}
 use Rattle.machine_frames.proofs.Frames.total.Goals as goal
 
 pub returns : goal.returns

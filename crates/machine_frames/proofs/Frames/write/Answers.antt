@@ -1,6 +1,6 @@
 use Rattle.std.proofs.Common.{List, ℕ, ap, arith}
 use Rattle.page_model.specs.Pages.{written}
-use Rattle.machine_frames.specs.PageLists.{PageList, page_in}
+use Rattle.machine_frames.specs.PageLists.{PageList}
 use Rattle.machine_frames.proofs.Places.{known, written_at}
 use Rattle.machine_frames.proofs.Frames.write.Goals as goal
 

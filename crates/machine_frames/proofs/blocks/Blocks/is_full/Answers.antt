@@ -1,5 +1,4 @@
 use Rattle.std.proofs.Common.{refl}
-use Rattle.machine_frames.specs.InBlocks.{block_of}
 use Rattle.machine_frames.proofs.InBlocks.{length-pages_in}
 use Rattle.machine_frames.proofs.blocks.Blocks.is_full.Goals as goal
 

@@ -1,7 +1,7 @@
-use Rattle.std.proofs.Common.{◌≡◌, ◌+◌, ◌*◌, ◌<◌, ℕ, List, length, ap, arith}
+use Rattle.std.proofs.Common.{◌+◌, ◌*◌, ◌<◌, ℕ, length, ap, arith}
 use Rattle.machine_frames.specs.PageLists.{PageList}
 use Rattle.machine_frames.specs.InBlocks.{block_of}
-use Rattle.machine_frames.proofs.InBlocks.{grown, no_blocks, pages_in-none, listed}
+use Rattle.machine_frames.proofs.InBlocks.{grown, pages_in-none, listed}
 use Rattle.machine_frames.proofs.blocks.Blocks.new.Goals as goal
 
 pub loop-number-preserved : goal.loop-number-preserved

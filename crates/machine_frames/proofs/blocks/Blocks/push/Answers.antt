@@ -1,8 +1,7 @@
-use Rattle.std.proofs.Common.{◌≡◌, ◌<◌, ℕ, List, ap, sym, refl, arith, length}
-use Rattle.page_model.specs.Pages.{blank, written}
+use Rattle.std.proofs.Common.{◌<◌, ap, sym, refl, arith, length}
 use Rattle.machine_frames.specs.PageLists.{PageList}
 use Rattle.machine_frames.specs.InBlocks.{block_of}
-use Rattle.machine_frames.proofs.InBlocks.{length-pages_in, within_keys, has_page, has_room, found, rewritten, pushed, listed}
+use Rattle.machine_frames.proofs.InBlocks.{length-pages_in, within_keys, has_room, pushed, listed}
 use Rattle.machine_frames.proofs.blocks.Blocks.push.Goals as goal
 
 pub index-key-requires : goal.index-key-requires
