@@ -16,7 +16,9 @@ use Rattle.merge_run.specs.Fronts.{IsOfFront, AreOfFronts}
 use Rattle.merge_run.proofs.Fronts.{counts_all, with_whole}
 
 -- whether it was published or refused, each published report is that of a front
-pub fronts_after : {A : Type 0} (hash : ℕ → List ℕ → ℕ) (s : State) (journal : List Entry) (before after : Publisher A) (r : Totals) (answer : Result Told OutOfMemory) → IsReplayOf hash s journal → r ≡ totals s.entries s.guests → AreOfFronts hash (opening s) journal (published before) → MatchResult answer (Publishes before after r) (λ _. published after ≡ published before) → AreOfFronts hash (opening s) journal (published after)
+pub fronts_after : {A : Type 0} (hash : ℕ → List ℕ → ℕ) (s : State) (journal : List Entry) (before after : Publisher A) (r : Totals) (answer : Result Told OutOfMemory)
+    → IsReplayOf hash s journal → r ≡ totals s.entries s.guests → AreOfFronts hash (opening s) journal (published before)
+    → MatchResult answer (Publishes before after r) (λ _. published after ≡ published before) → AreOfFronts hash (opening s) journal (published after)
 fronts_after hash s journal before after r (Ok told) replayed is fronts answered =
     subst (AreOfFronts hash (opening s) journal) (sym (answered.list ∙ ap (λ (x : Totals). published before ++ x ∷ []) is)) (with_whole hash s journal (published before) replayed fronts)
 fronts_after hash s journal before after r (Err refused) replayed is fronts answered = subst (AreOfFronts hash (opening s) journal) (sym answered) fronts

@@ -25,4 +25,6 @@ module _ {H A P : Type 0} {ghosts : Ghosts H} where
 
 -- reports of fronts of a journal are reports of fronts of each longer one
 abbrev pub ReportsStay : Type 0
-ReportsStay = (hash : ℕ → List ℕ → ℕ) (machine : State) (journal more : List Entry) (reports : List Totals) → AreOfFronts hash machine journal reports → AreOfFronts hash machine (journal ++ more) reports
+ReportsStay =
+    (hash : ℕ → List ℕ → ℕ) (machine : State) (journal more : List Entry) (reports : List Totals)
+    → AreOfFronts hash machine journal reports → AreOfFronts hash machine (journal ++ more) reports

@@ -12,6 +12,7 @@ mod causes;
 mod finished;
 mod laws;
 mod lent_publisher;
+mod plan;
 mod reports;
 mod view;
 mod viewer;

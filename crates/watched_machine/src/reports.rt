@@ -25,7 +25,9 @@ pub fn publish<R: Wait, H: PageHash, A: Allocator, P: Allocator>(
     publisher: &mut Publisher<P>,
 ) -> Result<Told, OutOfMemory>
     requires reports { AreReportsOf H.hash_of merger.now publisher.old }
-    ensures published { MatchResult result (PublishesJournal H.hash_of merger.now publisher.old publisher.new) (λ _. Unchanged publisher.old publisher.new) }
+    ensures published { MatchResult result
+        (PublishesJournal H.hash_of merger.now publisher.old publisher.new)
+        (λ _. Unchanged publisher.old publisher.new) }
     ensures reports { AreReportsOf H.hash_of merger.now publisher.new }
     ensures same { publisher_id publisher.new ≡ publisher_id publisher.old }
 {

@@ -11,6 +11,7 @@ ghost use Rattle.merge_run.specs.Runs.{CanBeRun, IsWholeRun, NotRunFor};
 use crate::causes::find_cause;
 use crate::finished::Finished;
 use crate::lent_publisher::LentPublisher;
+use crate::plan::Plan;
 use crate::view::{end_view, view};
 use crate::viewer::Viewer;
 use merge_machine::Config;
@@ -53,22 +54,20 @@ pub fn run<
     viewer: &V,
 ) -> Result<Finished<H, A>, RunFault>
     requires scripts { CanBeRun config.now scripts.items }
-    ensures run { MatchResult result (λ f. IsWholeRun H.hash_of config.now scripts.items f.settled f.verdicts.items) (λ fault. NotRunFor config.now scripts.items fault) }
+    ensures run { MatchResult result
+        (λ f. IsWholeRun H.hash_of config.now scripts.items f.settled f.verdicts.items)
+        (λ fault. NotRunFor config.now scripts.items fault) }
 {
     let Ok(mut publisher) = Publisher::new(alloc, rt) else {
         return Err(find_cause(config, &scripts));
     };
-    let ran = run_published(
-        rt,
-        alloc,
+    let plan = Plan {
         config,
         hash,
         scripts,
         gate,
-        viewer,
-        &mut publisher,
-    );
-    match ran {
+    };
+    match run_published(rt, alloc, plan, viewer, &mut publisher) {
         Ok(finished) => {
             let merge_run::Finished { settled, verdicts } = finished;
             viewer.show(&settled.report());
@@ -95,24 +94,24 @@ fn run_published<
 >(
     rt: &R,
     alloc: A,
-    config: &Config<A>,
-    hash: H,
-    scripts: Vec<Vec<Request, A>, A>,
-    gate: &G,
+    plan: Plan<'_, H, A, G>,
     viewer: &V,
     publisher: &mut Publisher<A>,
 ) -> Result<merge_run::Finished<H, A>, RunFault>
-    requires scripts { CanBeRun config.now scripts.items }
+    requires scripts { CanBeRun plan.config.now plan.scripts.items }
     requires fresh { published publisher.old ≡ [] }
-    ensures run { MatchResult result (λ f. IsWholeRun H.hash_of config.now scripts.items f.settled f.verdicts.items) (λ fault. NotRunFor config.now scripts.items fault) }
-    ensures fronts { IfOk result (λ f. AreOfFronts H.hash_of (opening (state_of (settled_core f.settled))) (settled_journal f.settled) (published publisher.new)) }
+    ensures run { MatchResult result
+        (λ f. IsWholeRun H.hash_of plan.entry.config.now plan.entry.scripts.items f.settled f.verdicts.items)
+        (λ fault. NotRunFor plan.entry.config.now plan.entry.scripts.items fault) }
+    ensures fronts { IfOk result
+        (λ f. AreOfFronts H.hash_of (opening (state_of (settled_core f.settled))) (settled_journal f.settled) (published publisher.new)) }
 {
     let watch = publisher.watch().ok();
     let lent = LentPublisher {
         publisher,
         unpublished: 0,
     };
-    let (finished, lent) = run_viewed(rt, alloc, config, hash, scripts, gate, viewer, watch, lent)?;
+    let (finished, lent) = run_viewed(rt, alloc, plan, viewer, watch, lent)?;
     let LentPublisher {
         publisher,
         unpublished: _,
@@ -132,26 +131,33 @@ fn run_viewed<
 >(
     rt: &R,
     alloc: A,
-    config: &Config<A>,
-    hash: H,
-    scripts: Vec<Vec<Request, A>, A>,
-    gate: &G,
+    plan: Plan<'_, H, A, G>,
     viewer: &V,
     watch: Option<Watch<A>>,
     observer: O,
 ) -> Result<(merge_run::Finished<H, A>, O), RunFault>
-    requires scripts { CanBeRun config.now scripts.items }
+    requires scripts { CanBeRun plan.config.now plan.scripts.items }
     requires fresh { O.kept observer ≡ [] }
-    ensures run { MatchResult result (λ (f, o). IsWholeRun H.hash_of config.now scripts.items f.settled f.verdicts.items) (λ fault. NotRunFor config.now scripts.items fault) }
+    ensures run { MatchResult result
+        (λ (f, o). IsWholeRun H.hash_of plan.entry.config.now plan.entry.scripts.items f.settled f.verdicts.items)
+        (λ fault. NotRunFor plan.entry.config.now plan.entry.scripts.items fault) }
     ensures observer { IfOk result (λ (f, o). ObservesRun O.name O.kept O.becomes H.hash_of observer o f.settled) }
 {
+    let Plan {
+        config,
+        hash,
+        scripts,
+        gate,
+    } = plan;
     let over = AtomicU64::new(0);
     let over = &over;
     let shows = move || view(rt, viewer, watch, over);
     let runs = move || -> Result<(merge_run::Finished<H, A>, O), RunFault>
         requires scripts { CanBeRun config.now scripts.items }
         requires fresh { O.kept observer ≡ [] }
-        ensures run { MatchResult result (λ (f, o). IsWholeRun H.hash_of config.entry.now scripts.items f.settled f.verdicts.items) (λ fault. NotRunFor config.entry.now scripts.items fault) }
+        ensures run { MatchResult result
+            (λ (f, o). IsWholeRun H.hash_of config.entry.now scripts.items f.settled f.verdicts.items)
+            (λ fault. NotRunFor config.entry.now scripts.items fault) }
         ensures observer { IfOk result (λ (f, o). ObservesRun O.name O.kept O.becomes H.hash_of observer o f.settled) }
     {
         let answer = run_observed(rt, alloc, config, hash, scripts, gate, observer);
