@@ -24,7 +24,8 @@ fn publish<R: Abort + Wait, A: Allocator>(
 ) -> Told
     requires not_older { (last_of (published publisher.old)).entries ≤ report.entries }
     requires same { watch_id watch.old ≡ publisher_id publisher.old }
-    ensures publisher { (published publisher.new ≡ published publisher.old ++ report ∷ []) × (publisher_id publisher.new ≡ publisher_id publisher.old) }
+    ensures list { published publisher.new ≡ published publisher.old ++ report ∷ [] }
+    ensures publisher { publisher_id publisher.new ≡ publisher_id publisher.old }
     ensures watch { watch_id watch.new ≡ watch_id watch.old }
     ensures told { told_id result ≡ publisher_id publisher.old }
 {

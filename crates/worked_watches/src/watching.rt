@@ -21,7 +21,8 @@ fn publish_for_sure<R: Abort + Wait, A: Allocator>(
     before: Report,
 ) -> Told
     requires same { watch_id watch.old ≡ publisher_id watched.old.publisher }
-    ensures watched { (watched.new.merger ≡ watched.old.merger) × (publisher_id watched.new.publisher ≡ publisher_id watched.old.publisher) }
+    ensures merger { watched.new.merger ≡ watched.old.merger }
+    ensures publisher { publisher_id watched.new.publisher ≡ publisher_id watched.old.publisher }
     ensures watch { watch_id watch.new ≡ watch_id watch.old }
     ensures told { told_id result ≡ publisher_id watched.old.publisher }
 {
