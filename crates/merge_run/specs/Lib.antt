@@ -4,4 +4,5 @@ pub mod Turns
 pub mod Fronts
 pub mod Showings
 pub mod Observed
+pub mod Crews
 pub mod Runs

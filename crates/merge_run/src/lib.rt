@@ -9,6 +9,7 @@
 //! of this, and serves by rounds.
 #![tactic(auto)]
 
+mod crew;
 mod finished;
 mod gate;
 mod guest_thread;

@@ -9,18 +9,20 @@ ghost use Rattle.merge_machine.specs.View.{ends_of, core_of, journal_of, machine
 ghost use Rattle.merge_settle.specs.Settling.{Settles, is_running, is_undrained};
 ghost use Rattle.merge_settle.specs.View.{settled_journal, settled_ports, settled_core};
 ghost use Rattle.merge_run.specs.Fronts.{AreOfFronts};
-ghost use Rattle.merge_run.specs.Observed.{ObservesMerger, ObservesRun};
+ghost use Rattle.merge_run.specs.Observed.{ObservesRun};
 ghost use Rattle.merge_run.specs.Runs.{CanBeRun, IsWholeRun, NotRunFor};
 ghost use Rattle.merge_run.specs.Tasks.{IsReady, task_names, task_capacities, task_requests, ports_of, lists_of};
-ghost use Rattle.merge_run.specs.Turns.{CanRun, HasRun};
+ghost use Rattle.merge_run.specs.Crews.{HasRunObserved};
+ghost use Rattle.merge_run.specs.Turns.{CanRun};
 ghost use Rattle.merge_run.specs.declared.run_fault.RunFault.TheVariants.{OutOfMemory, NoThread};
 
+use crate::crew::Crew;
 use crate::finished::Finished;
 use crate::gate::Gate;
 use crate::observer::{NoObserver, Observer};
 use crate::rounds::serve_all;
 use crate::run_fault::RunFault;
-use crate::task::{DoneTask, Handles, Task};
+use crate::task::{DoneTask, Task};
 use crate::task_list::{count_requests, has_room, into_lists, new_tasks};
 use crate::threads::{join_all, start_all};
 use merge_machine::{Config, JournalFull, Machine, Merger};
@@ -63,7 +65,9 @@ pub fn run<
     gate: &G,
 ) -> Result<Finished<H, A>, RunFault>
     requires scripts { CanBeRun config.now scripts.items }
-    ensures run { MatchResult result (λ f. IsWholeRun H.hash_of config.now scripts.items f.settled f.verdicts.items) (λ fault. NotRunFor config.now scripts.items fault) }
+    ensures run { MatchResult result
+        (λ f. IsWholeRun H.hash_of config.now scripts.items f.settled f.verdicts.items)
+        (λ fault. NotRunFor config.now scripts.items fault) }
 {
     let (finished, _) = run_observed(rt, alloc, config, hash, scripts, gate, NoObserver)?;
     Ok(finished)
@@ -93,7 +97,9 @@ pub fn run_observed<
 ) -> Result<(Finished<H, A>, O), RunFault>
     requires scripts { CanBeRun config.now scripts.items }
     requires fresh { O.kept observer ≡ [] }
-    ensures run { MatchResult result (λ (f, o). IsWholeRun H.hash_of config.now scripts.items f.settled f.verdicts.items) (λ fault. NotRunFor config.now scripts.items fault) }
+    ensures run { MatchResult result
+        (λ (f, o). IsWholeRun H.hash_of config.now scripts.items f.settled f.verdicts.items)
+        (λ fault. NotRunFor config.now scripts.items fault) }
     ensures observer { IfOk result (λ (f, o). ObservesRun O.name O.kept O.becomes H.hash_of observer o f.settled) }
 {
     let checked = config.check()?;
@@ -126,7 +132,8 @@ fn run_tasks<
     requires pairs { task_names tasks.items ≡ end_names (ends_of merger) }
     requires unserved { journal_of merger ≡ [] }
     requires fronts { AreOfFronts H.hash_of (machine_of merger) (journal_of merger) (O.kept observer) }
-    ensures settles { IfOk result (λ (f, o). Settles H.hash_of (settled_ports f.settled) (settled_journal f.settled) (settled_core f.settled)) }
+    ensures settles { IfOk result
+        (λ (f, o). Settles H.hash_of (settled_ports f.settled) (settled_journal f.settled) (settled_core f.settled)) }
     ensures machine { IfOk result (λ (f, o). opening (state_of (settled_core f.settled)) ≡ machine_of merger) }
     ensures capacities { IfOk result (λ (f, o). map closed_capacity (settled_ports f.settled) ≡ task_capacities tasks.items) }
     ensures sent { IfOk result (λ (f, o). map closed_sent (settled_ports f.settled) ≡ task_requests tasks.items) }
@@ -139,9 +146,12 @@ fn run_tasks<
     let done = Vec::with_capacity(alloc, guests)?;
     let ports = Vec::with_capacity(alloc, guests)?;
     let verdicts = Vec::with_capacity(alloc, guests)?;
-    let (merger, done, observer) = run_threads(
-        rt, &alloc, gate, merger, tasks, handles, done, observer,
-    );
+    let crew = Crew {
+        tasks,
+        handles,
+        done,
+    };
+    let (merger, done, observer) = run_threads(rt, &alloc, gate, merger, crew, observer);
     if done.len() < guests {
         return Err(RunFault::NoThread);
     }
@@ -185,29 +195,21 @@ fn run_threads<
     alloc: &A,
     gate: &G,
     merger: Merger<H, A>,
-    tasks: Vec<Task<A>, A>,
-    handles: Handles<A>,
-    done: Vec<DoneTask<A>, A>,
+    crew: Crew<A>,
     observer: O,
 ) -> (Merger<H, A>, Vec<DoneTask<A>, A>, O)
-    requires ready { CanRun tasks.items merger handles done }
+    requires ready { CanRun crew.tasks.items merger crew.handles crew.done }
     requires fronts { AreOfFronts H.hash_of (machine_of merger) (journal_of merger) (O.kept observer) }
-    ensures run { HasRun tasks.items merger result.0 result.1.items }
-    ensures observer { ObservesMerger O.name O.kept O.becomes H.hash_of observer result.2 merger result.0 }
+    ensures { HasRunObserved H.hash_of O.name O.kept O.becomes crew.tasks.items merger observer result.0 result.1.items result.2 }
 {
     thread::scope(
         thread::scope_env(),
         rt,
         |scope| -> (Merger<H, A>, Vec<DoneTask<A>, A>, O)
-            requires ready { CanRun tasks.items merger handles done }
+            requires ready { CanRun crew.tasks.items merger crew.handles crew.done }
             requires fronts { AreOfFronts H.hash_of (machine_of merger) (journal_of merger) (O.kept observer) }
-            ensures run { HasRun tasks.items merger result.0 result.1.items }
-            ensures observer { ObservesMerger O.name O.kept O.becomes H.hash_of observer result.2 merger result.0 }
-        {
-            run_in(
-                scope, rt, alloc, gate, merger, tasks, handles, done, observer,
-            )
-        },
+            ensures { HasRunObserved H.hash_of O.name O.kept O.becomes crew.tasks.items merger observer result.0 result.1.items result.2 }
+        { run_in(scope, rt, alloc, gate, merger, crew, observer) },
     )
 }
 
@@ -226,16 +228,18 @@ fn run_in<
     alloc: &'s A,
     gate: &'s G,
     mut merger: Merger<H, A>,
-    tasks: Vec<Task<A>, A>,
-    mut handles: Handles<A>,
-    mut done: Vec<DoneTask<A>, A>,
+    crew: Crew<A>,
     observer: O,
 ) -> (Merger<H, A>, Vec<DoneTask<A>, A>, O)
-    requires ready { CanRun tasks.items merger handles done }
+    requires ready { CanRun crew.tasks.items merger crew.handles crew.done }
     requires fronts { AreOfFronts H.hash_of (machine_of merger) (journal_of merger) (O.kept observer) }
-    ensures run { HasRun tasks.items merger result.0 result.1.items }
-    ensures observer { ObservesMerger O.name O.kept O.becomes H.hash_of observer result.2 merger result.0 }
+    ensures { HasRunObserved H.hash_of O.name O.kept O.becomes crew.tasks.items merger observer result.0 result.1.items result.2 }
 {
+    let Crew {
+        tasks,
+        mut handles,
+        mut done,
+    } = crew;
     start_all(scope, rt, gate, tasks, &mut handles);
     let observer = serve_all(rt, alloc, &mut merger, handles.len() as u8, observer);
     join_all(rt, handles, &mut done);
