@@ -77,7 +77,8 @@ Refused faults.Write old new r = (r ≡ Err faults.Write) × Keeps old new
 
 -- What an engine does with the bytes; answer has the output for each input, or the input's fault. input: what the reader had;
 -- old and new: what the writer holds.
-abbrev pub Writes : (List ℕ → Result (List ℕ) TextFault) → Option (List ℕ) → Option (List ℕ) → Option (List ℕ) → Result (Unit {0}) TextFault → Type 0
+abbrev pub Writes : (List ℕ → Result (List ℕ) TextFault) → Option (List ℕ) → Option (List ℕ) → Option (List ℕ)
+    → Result (Unit {0}) TextFault → Type 0
 Writes answer input old new (Ok done) = IfSome input (λ text. IsOk (answer text) × Appends old new (written_for (answer text)))
 Writes answer input old new (Err (faults.Line n cause)) = IfSome input (λ text. Told (faults.Line n cause) old new (answer text))
 Writes answer input old new (Err (faults.Truncated n)) = IfSome input (λ text. Told (faults.Truncated n) old new (answer text))

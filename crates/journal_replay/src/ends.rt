@@ -1,5 +1,6 @@
 //! Readers and writers that remember whether they failed.
-ghost use Rattle.std.specs.Prelude.{◌≡◌, ◌+◌, ◌<◌, ◌≤◌, ◌++◌, ◌^◌, ◌||◌, ℕ, List, Option, Bool, true, false, length, vec_len, is_err, is_some, IfOk, IfErr, IfSome, OnOk, OnErr};
+ghost use Rattle.std.specs.Prelude.{◌≡◌, ◌+◌, ◌<◌, ◌≤◌, ◌++◌, ◌^◌, ◌||◌, ℕ, List, Option, Bool};
+ghost use Rattle.std.specs.Prelude.{true, false, length, vec_len, is_err, is_some, IfOk, IfErr, IfSome, OnOk, OnErr};
 ghost use Rattle.std.specs.Io.{ReadsAtMost, WritesAtMost};
 ghost use Rattle.std.specs.Io.KnownBytes.{Appends, Keeps, ReadConsumes, WriteAppends};
 ghost use Rattle.journal_replay.specs.Ends.{inner_of, failed_of, write_failed, tells_read, AppendsFront, NotRead, ReadsUpTo};

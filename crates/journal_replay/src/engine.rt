@@ -1,5 +1,6 @@
 //! The engine that replays a journal.
-ghost use Rattle.std.specs.Prelude.{◌≡◌, ◌+◌, ◌<◌, ◌≤◌, ◌++◌, [], length, codes, true, false, string_bytes, string_len, string_capacity, IfOk, OnOk, OnErr, IfErr, IsErr};
+ghost use Rattle.std.specs.Prelude.{◌≡◌, ◌+◌, ◌<◌, ◌≤◌, ◌++◌, [], length, codes, true};
+ghost use Rattle.std.specs.Prelude.{false, string_bytes, string_len, string_capacity, IfOk, OnOk, OnErr, IfErr, IsErr};
 ghost use Rattle.std.specs.Io.KnownBytes.{Appends};
 ghost use Rattle.merge_core.specs.Shown.{state_of};
 ghost use Rattle.page_model.specs.Limits.{shapes};
@@ -11,6 +12,7 @@ ghost use Rattle.journal_text.specs.Texts.{AreBelow};
 ghost use Rattle.journal_text.specs.Views.{journal_seen};
 ghost use Rattle.journal_replay.specs.Ends.{AppendsFront, Sends, is_read_fault, is_write_fault, tells_read, tells_write};
 ghost use Rattle.journal_replay.specs.Replayed.{lines_from, report_text, printed_from, printed, Replays, Refuses, Refused, NotPrinted};
+ghost use Rattle.page_model.specs.declared.limits.TheConstants.{MAX_ENTRIES};
 
 use crate::ends::{Sink, Source, read_all, write_all};
 use crate::output::{LINE_BYTES, buffer, make_room, put_report, put_verdict};
@@ -44,13 +46,15 @@ fn print_entry<H: PageHash, W: Sink, A: Allocator>(
     out: &mut String<A>,
 ) -> Result<(), TextFault>
     requires guest { entry.now.guest < length (state_of core.old).guests }
-    requires few { core.old.entries < 16777216 }
+    requires few { core.old.entries < MAX_ENTRIES }
     requires fine { W.has_failed writer.old ≡ false }
     requires room { LINE_BYTES ≤ string_capacity out.old }
     ensures step { OnOk result (state_of core.new ≡ (step H.hash_of (state_of core.old) entry.now.guest entry.now.request).state) }
     ensures entries { OnOk result (core.new.entries ≡ core.old.entries + 1) }
     ensures guests { OnOk result (length (state_of core.new).guests ≡ length (state_of core.old).guests) }
-    ensures sends { OnOk result (Sends (W.contents writer.old) (W.contents writer.new) (string_bytes out.new) (string_bytes out.old ++ (verdict_line entry.now.guest (step H.hash_of (state_of core.old) entry.now.guest entry.now.request).verdict ++ codes "\n"))) }
+    ensures sends { OnOk result (Sends (W.contents writer.old) (W.contents writer.new) (string_bytes out.new)
+        (string_bytes out.old ++ (verdict_line entry.now.guest
+        (step H.hash_of (state_of core.old) entry.now.guest entry.now.request).verdict ++ codes "\n"))) }
     ensures fine { OnOk result (W.has_failed writer.new ≡ false) }
     ensures room { OnOk result (LINE_BYTES ≤ string_capacity out.new) }
     ensures err { OnErr result (AppendsFront (W.contents writer.old) (W.contents writer.new) (string_bytes out.old)) }
@@ -71,16 +75,18 @@ pub fn print_run<H: PageHash, W: Sink, A: Allocator>(
     out: &mut String<A>,
 ) -> Result<(), TextFault>
     requires guests { AreBelow (length (state_of core.old).guests) entries.now }
-    requires few { core.old.entries + length entries.now ≤ 16777216 }
+    requires few { core.old.entries + length entries.now ≤ MAX_ENTRIES }
     requires fine { W.has_failed writer.old ≡ false }
     requires room { LINE_BYTES ≤ string_capacity out.old }
-    ensures sends { OnOk result (Sends (W.contents writer.old) (W.contents writer.new) (string_bytes out.new) (string_bytes out.old ++ lines_from H.hash_of (state_of core.old) entries.now)) }
+    ensures sends { OnOk result (Sends (W.contents writer.old) (W.contents writer.new) (string_bytes out.new)
+        (string_bytes out.old ++ lines_from H.hash_of (state_of core.old) entries.now)) }
     ensures state { OnOk result (state_of core.new ≡ state_after H.hash_of (state_of core.old) entries.now) }
     ensures entries { OnOk result (core.new.entries ≡ core.old.entries + length entries.now) }
     ensures guests { OnOk result (length (state_of core.new).guests ≡ length (state_of core.old).guests) }
     ensures fine { OnOk result (W.has_failed writer.new ≡ false) }
     ensures room { OnOk result (LINE_BYTES ≤ string_capacity out.new) }
-    ensures err { OnErr result (AppendsFront (W.contents writer.old) (W.contents writer.new) (string_bytes out.old ++ lines_from H.hash_of (state_of core.old) entries.now)) }
+    ensures err { OnErr result (AppendsFront (W.contents writer.old) (W.contents writer.new)
+        (string_bytes out.old ++ lines_from H.hash_of (state_of core.old) entries.now)) }
     ensures failed { OnErr result (W.has_failed writer.new ≡ true) }
     ensures fault { IfErr result (λ e. e ≡ TextFault.Write) }
 {
@@ -98,8 +104,10 @@ pub fn print_report<H: PageHash, W: Sink, A: Allocator>(
 ) -> Result<(), TextFault>
     requires fine { W.has_failed writer.old ≡ false }
     requires room { LINE_BYTES ≤ string_capacity out.old }
-    ensures ok { OnOk result (Appends (W.contents writer.old) (W.contents writer.new) (string_bytes out.old ++ report_text (state_of core.now))) }
-    ensures err { OnErr result (AppendsFront (W.contents writer.old) (W.contents writer.new) (string_bytes out.old ++ report_text (state_of core.now))) }
+    ensures ok { OnOk result (Appends (W.contents writer.old) (W.contents writer.new)
+        (string_bytes out.old ++ report_text (state_of core.now))) }
+    ensures err { OnErr result (AppendsFront (W.contents writer.old) (W.contents writer.new)
+        (string_bytes out.old ++ report_text (state_of core.now))) }
     ensures fine { OnOk result (W.has_failed writer.new ≡ false) }
     ensures failed { OnErr result (W.has_failed writer.new ≡ true) }
     ensures fault { IfErr result (λ e. e ≡ TextFault.Write) }
@@ -117,12 +125,14 @@ fn print_all<H: PageHash, W: Sink, A: Allocator>(
     out: &mut String<A>,
 ) -> Result<(), TextFault>
     requires guests { AreBelow (length (state_of core.old).guests) entries.now }
-    requires few { core.old.entries + length entries.now ≤ 16777216 }
+    requires few { core.old.entries + length entries.now ≤ MAX_ENTRIES }
     requires fine { W.has_failed writer.old ≡ false }
     requires empty { string_bytes out.old ≡ [] }
     requires room { LINE_BYTES ≤ string_capacity out.old }
-    ensures ok { OnOk result (Appends (W.contents writer.old) (W.contents writer.new) (printed_from H.hash_of (state_of core.old) entries.now)) }
-    ensures err { OnErr result (AppendsFront (W.contents writer.old) (W.contents writer.new) (printed_from H.hash_of (state_of core.old) entries.now)) }
+    ensures ok { OnOk result (Appends (W.contents writer.old) (W.contents writer.new)
+        (printed_from H.hash_of (state_of core.old) entries.now)) }
+    ensures err { OnErr result (AppendsFront (W.contents writer.old) (W.contents writer.new)
+        (printed_from H.hash_of (state_of core.old) entries.now)) }
     ensures fine { OnOk result (W.has_failed writer.new ≡ false) }
     ensures failed { OnErr result (W.has_failed writer.new ≡ true) }
     ensures fault { IfErr result (λ e. e ≡ TextFault.Write) }
@@ -141,10 +151,12 @@ fn print_entries<H: PageHash + Drop, W: Sink, A: Allocator + Clone>(
     hash: H,
 ) -> Result<(), TextFault>
     requires guests { AreBelow (length shape.now.pages) entries.now }
-    requires few { length entries.now ≤ 16777216 }
+    requires few { length entries.now ≤ MAX_ENTRIES }
     requires fine { W.has_failed writer.old ≡ false }
-    ensures ok { OnOk result (Appends (W.contents writer.old) (W.contents writer.new) (printed_from H.hash_of (empty_state shape.now.frames (shapes shape.now.salts shape.now.pages)) entries.now)) }
-    ensures err { IfErr result (λ e. NotPrinted (W.contents writer.old) (W.contents writer.new) (printed_from H.hash_of (empty_state shape.now.frames (shapes shape.now.salts shape.now.pages)) entries.now) e) }
+    ensures ok { OnOk result (Appends (W.contents writer.old) (W.contents writer.new)
+        (printed_from H.hash_of (empty_state shape.now.frames (shapes shape.now.salts shape.now.pages)) entries.now)) }
+    ensures err { IfErr result (λ e. NotPrinted (W.contents writer.old) (W.contents writer.new)
+        (printed_from H.hash_of (empty_state shape.now.frames (shapes shape.now.salts shape.now.pages)) entries.now) e) }
     ensures reader { tells_read result ≡ false }
     ensures writer { W.has_failed writer.new ≡ tells_write result }
 {
@@ -162,7 +174,8 @@ fn print_journal<H: PageHash + Drop, W: Sink, A: Allocator + Clone>(
 ) -> Result<(), TextFault>
     requires fine { W.has_failed writer.old ≡ false }
     ensures ok { OnOk result (Appends (W.contents writer.old) (W.contents writer.new) (printed H.hash_of (journal_seen journal.now))) }
-    ensures err { IfErr result (λ e. NotPrinted (W.contents writer.old) (W.contents writer.new) (printed H.hash_of (journal_seen journal.now)) e) }
+    ensures err { IfErr result (λ e. NotPrinted (W.contents writer.old) (W.contents writer.new)
+        (printed H.hash_of (journal_seen journal.now)) e) }
     ensures reader { tells_read result ≡ false }
     ensures writer { W.has_failed writer.new ≡ tells_write result }
 {

@@ -1,5 +1,6 @@
 //! Lines on their way to a writer, through a buffer that takes no memory once it is made.
-ghost use Rattle.std.specs.Prelude.{◌≡◌, ◌+◌, ◌≤◌, ◌++◌, [], codes, true, false, string_bytes, string_len, string_capacity, IfOk, IfErr, OnOk, OnErr};
+ghost use Rattle.std.specs.Prelude.{◌≡◌, ◌+◌, ◌≤◌, ◌++◌, [], codes, true};
+ghost use Rattle.std.specs.Prelude.{false, string_bytes, string_len, string_capacity, IfOk, IfErr, OnOk, OnErr};
 ghost use Rattle.page_model.specs.Parts.{Totals};
 ghost use Rattle.journal_replay.specs.Ends.{AppendsFront, Sends};
 ghost use Rattle.journal_text.specs.Printed.{verdict_line, report_line};

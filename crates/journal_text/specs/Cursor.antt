@@ -16,7 +16,8 @@ seen view (Err e) = Err e
 -- the bytes are cut at the first byte of this value; None: there is no such byte
 abbrev pub IsCut : ℕ → List ℕ → Option (Bor (List ℕ) × Bor (List ℕ)) → Type 0
 IsCut byte bytes cut = MatchOption cut (position_or_len (λ b. b == byte) bytes ≡ length bytes)
-    (λ x. (position_or_len (λ b. b == byte) bytes < length bytes) × (x.0.now ≡ before_first (λ b. b == byte) bytes) × (x.1.now ≡ after_first (λ b. b == byte) bytes))
+    (λ x. (position_or_len (λ b. b == byte) bytes < length bytes) × (x.0.now ≡ before_first (λ b. b == byte) bytes)
+    × (x.1.now ≡ after_first (λ b. b == byte) bytes))
 
 -- the number of bytes that are left, with the space before them
 abbrev pub left_length : Option (List ℕ) → ℕ

@@ -13,7 +13,8 @@ is_feed b = b == 10
 
 -- Line n, and what comes after its line feed. A line that has none is cut off.
 unfoldable pub line_at : ℕ → List ℕ → Result (List ℕ × List ℕ) TextFault
-line_at n text = if nat_lt (position_or_len is_feed text) (length text) then Ok (before_first is_feed text, after_first is_feed text) else Err (faults.Truncated n)
+line_at n text = if nat_lt (position_or_len is_feed text) (length text) then Ok
+    (before_first is_feed text, after_first is_feed text) else Err (faults.Truncated n)
 
 -- what line n says, or what is wrong with it
 abbrev pub at_line : {A : Type 0} → ℕ → Result A Cause → Result A TextFault

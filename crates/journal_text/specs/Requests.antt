@@ -94,7 +94,8 @@ end_at left = do
 
 -- A guest's line: its form is checked first, then whether its guest may ask, then its numbers, and then what `enter` makes of
 -- it.
-abbrev pub asking : {X Y : Type 0} → (Option (List ℕ) → Result (Result X Cause) Cause) → (ℕ → Result (Unit {0}) Cause) → (ℕ → X → Result Y Cause) → List ℕ → Option (List ℕ) → Result (Line Y) Cause
+abbrev pub asking : {X Y : Type 0} → (Option (List ℕ) → Result (Result X Cause) Cause) → (ℕ → Result (Unit {0}) Cause)
+    → (ℕ → X → Result Y Cause) → List ℕ → Option (List ℕ) → Result (Line Y) Cause
 asking asked_at may enter first left = do
   guest ← number first
   asked ← asked_at left
@@ -111,7 +112,8 @@ behind_head guest_at line = do
 
 -- a request line; closed says of each guest whether it has closed
 unfoldable pub entry_at : List Bool → List ℕ → Option (List ℕ) → Result (Line Entry) Cause
-entry_at closed first left = asking asked_at (λ guest. may_ask (slice_get closed guest)) (λ guest request. Ok (record { guest = guest; request = request })) first left
+entry_at closed first left = asking asked_at (λ guest. may_ask (slice_get closed guest))
+    (λ guest request. Ok (record { guest = guest; request = request })) first left
 
 -- what a line after a journal's head says
 unfoldable pub line_of : List Bool → List ℕ → Result (Line Entry) Cause

@@ -101,9 +101,11 @@ is_none (line ∷ lines) = false
 
 -- What the lines from number n on enter, with k request lines before them. read: what a line says, given what is known from the
 -- lines before it; after: what is known then; whole: no byte comes after the lines.
-unfoldable pub body_from : {S X : Type 0} → (S → List ℕ → Result (Line X) Cause) → (S → X → S) → Bool → S → ℕ → ℕ → List (List ℕ) → Result (List X) TextFault
+unfoldable pub body_from : {S X : Type 0} → (S → List ℕ → Result (Line X) Cause) → (S → X → S) → Bool → S → ℕ → ℕ → List (List ℕ)
+    → Result (List X) TextFault
 body_from read after whole s n k [] = Err (faults.Truncated n)
-body_from read after whole s n k (line ∷ lines) = goes_on n k (is_none lines && whole) (read s line) (λ x. body_from read after whole (after s x) (n + 1) (k + 1) lines)
+body_from read after whole s n k (line ∷ lines) = goes_on n k (is_none lines && whole) (read s line)
+    (λ x. body_from read after whole (after s x) (n + 1) (k + 1) lines)
 
 -- what a text enters after the lines at its head, or after some request lines
 abbrev pub body_in : {S X : Type 0} → (S → List ℕ → Result (Line X) Cause) → (S → X → S) → S → ℕ → ℕ → List ℕ → Result (List X) TextFault

@@ -9,6 +9,7 @@ use Rattle.page_model.specs.declared.request.Request.TheVariants.{Propose, Store
 use Rattle.journal_text.specs.Printed.{counted}
 use Rattle.page_model.specs.Limits.{AreFrames, AreGuests, ArePages}
 use Rattle.journal_text.specs.Texts.{Journal, AreBelow, journal_of}
+use Rattle.page_model.specs.declared.limits.TheConstants.{MAX_ENTRIES}
 
 -- the words of a request
 unfoldable pub request_words : Request → List ℕ
@@ -42,7 +43,8 @@ needs_salts salts = not (list_all (λ salt. salt == 0) salts)
 
 -- the lines of the version and of the frames
 abbrev pub machine_lines : Bool → ℕ → List ℕ
-machine_lines has_salts frames = (if has_salts then codes "pageshare journal 2\nframes " else codes "pageshare journal 1\nframes ") ++ (decimal frames ++ codes "\n")
+machine_lines has_salts frames = (if has_salts then codes "pageshare journal 2\nframes " else codes "pageshare journal 1\nframes ") ++
+    (decimal frames ++ codes "\n")
 
 -- the line of the guests' pages, and that of their salts if it is needed
 abbrev pub guests_lines : Bool → List ℕ → List ℕ → List ℕ
@@ -54,7 +56,8 @@ entries_lines es = entry_lines es ++ (counted (codes "end ") (length es) ++ code
 
 -- the whole text
 unfoldable pub journal_text : Journal → List ℕ
-journal_text j = machine_lines (needs_salts j.salts) j.frames ++ (guests_lines (needs_salts j.salts) j.pages j.salts ++ entries_lines j.entries)
+journal_text j = machine_lines (needs_salts j.salts) j.frames ++
+    (guests_lines (needs_salts j.salts) j.pages j.salts ++ entries_lines j.entries)
 
 -- a request that its type can hold
 abbrev pub IsWritable : Request → Type 0
@@ -81,7 +84,7 @@ pub record CanBeRead (j : Journal) : Type 0 where
   pub members : AreBelow (length j.pages) j.entries
   pub requests : All (λ e. IsWritable e.request) j.entries
   pub closing : NoneAfterClose j.entries
-  pub few : length j.entries < 16777216
+  pub few : length j.entries < MAX_ENTRIES
   pub short : length (journal_text j) ≤ 2 ^ 26
 
 -- what is written for a journal is read as that journal

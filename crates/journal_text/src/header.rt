@@ -1,9 +1,11 @@
 //! The lines at the head of a text.
 ghost use Rattle.std.specs.Prelude.{◌≡◌, ◌+◌, ◌<◌, ◌≤◌, ◌^◌, Option, Some, None, Ok, Err, length, IfOk, IfErr, OnOk};
 ghost use Rattle.page_model.specs.Limits.{AreFrames, ArePages};
-ghost use Rattle.journal_text.specs.Headers.{line_at, keyword, frames_of, frames_in_limits, numbers, words_in, are_pages, pages_in_limits, pages_of, salts_in_limits, salts_of, at_line};
+ghost use Rattle.journal_text.specs.Headers.{line_at, keyword, frames_of, frames_in_limits, numbers, words_in};
+ghost use Rattle.journal_text.specs.Headers.{are_pages, pages_in_limits, pages_of, salts_in_limits, salts_of, at_line};
 ghost use Rattle.journal_text.specs.Views.{Gives};
 ghost use Rattle.journal_text.specs.Cursor.{left, seen};
+ghost use Rattle.page_model.specs.declared.limits.TheConstants.{MAX_GUESTS};
 
 use crate::fault::{Cause, TextFault};
 use crate::word::{Left, cut, first_word, next_number, nothing, number, word};
@@ -105,7 +107,7 @@ fn are_pages(pages: &[u32]) -> bool
 fn pages_in_limits(pages: &[u32]) -> Result<(), Cause>
     ensures value { seen (λ _. pages.now) result ≡ pages_in_limits pages.now }
     ensures some { OnOk result (1 ≤ length pages.now) }
-    ensures few { OnOk result (length pages.now ≤ 64) }
+    ensures few { OnOk result (length pages.now ≤ MAX_GUESTS) }
     ensures limits { OnOk result (ArePages pages.now) }
 {
     if pages.is_empty() {
@@ -125,7 +127,7 @@ fn pages_in_limits(pages: &[u32]) -> Result<(), Cause>
 pub fn pages<A: Allocator>(alloc: A, line: &[u8]) -> Result<Vec<u32, A>, TextFault>
     ensures value { Gives (λ v. v.items) result (at_line 3 (pages_of line.now)) }
     ensures some { IfOk result (λ v. 1 ≤ length v.items) }
-    ensures few { IfOk result (λ v. length v.items ≤ 64) }
+    ensures few { IfOk result (λ v. length v.items ≤ MAX_GUESTS) }
     ensures limits { IfOk result (λ v. ArePages v.items) }
 {
     let (first, rest) = at_line(3, word(Some(line)))?;

@@ -2,6 +2,7 @@
 ghost use Rattle.std.specs.Prelude.{◌≡◌, ◌<◌, length};
 ghost use Rattle.page_model.specs.Limits.{AreLimits};
 ghost use Rattle.journal_text.specs.Texts.{AreBelow};
+ghost use Rattle.page_model.specs.declared.limits.TheConstants.{MAX_ENTRIES};
 
 use page_model::{Entry, MachineShape, ShapeFault};
 use std::alloc::Allocator;
@@ -18,7 +19,7 @@ pub struct Journal<A: Allocator> {
     pub entries: Vec<Entry, A>,
     pub ghost limits: { AreLimits frames pages.items salts.items },
     pub ghost members: { AreBelow (length pages.items) entries.items },
-    pub ghost few: { length entries.items < 16777216 },
+    pub ghost few: { length entries.items < MAX_ENTRIES },
 }
 
 impl<A: Allocator> Journal<A> {

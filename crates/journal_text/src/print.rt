@@ -2,9 +2,11 @@
 //!
 //! Each `push_` function appends to a string, and all but `push_fault` say how many bytes they append at most. So room that was
 //! reserved for a longest line of a verdict or a report is always enough.
-ghost use Rattle.std.specs.Prelude.{◌≡◌, ◌+◌, ◌*◌, ◌<◌, ◌≤◌, ◌++◌, ◌^◌, length, codes, decimal, string_bytes, string_len, string_capacity, IfOk, OnOk, OnErr};
+ghost use Rattle.std.specs.Prelude.{◌≡◌, ◌+◌, ◌*◌, ◌<◌, ◌≤◌, ◌++◌, ◌^◌, length};
+ghost use Rattle.std.specs.Prelude.{codes, decimal, string_bytes, string_len, string_capacity, IfOk, OnOk, OnErr};
 ghost use Rattle.hex.specs.Hex.{encode_lower};
-ghost use Rattle.journal_text.specs.Printed.{pages_words, saved_words, frames_words, report_words, report_line, verdict_words, verdict_line, cause_word, fault_line};
+ghost use Rattle.journal_text.specs.Printed.{pages_words, saved_words, frames_words, report_words};
+ghost use Rattle.journal_text.specs.Printed.{report_line, verdict_words, verdict_line, cause_word, fault_line};
 
 use crate::fault::{Cause, TextFault};
 use itoa::Buffer;

@@ -1,8 +1,10 @@
 //! The reader of journals.
-ghost use Rattle.std.specs.Prelude.{◌≡◌, ◌+◌, ◌*◌, ◌<◌, ◌≤◌, ◌^◌, ◌++◌, ℕ, List, [], Option, Some, None, Ok, Err, false, length, replicate, IfOk, IfErr, OnOk, IsTrue};
+ghost use Rattle.std.specs.Prelude.{◌≡◌, ◌+◌, ◌*◌, ◌<◌, ◌≤◌, ◌^◌, ◌++◌, ℕ, List, [], Option};
+ghost use Rattle.std.specs.Prelude.{Some, None, Ok, Err, false, length, replicate, IfOk, IfErr, OnOk, IsTrue};
 ghost use Rattle.journal_text.specs.declared.fault.TextFault.TheVariants.{OutOfMemory};
 ghost use Rattle.journal_text.specs.Words.{with_front};
-ghost use Rattle.journal_text.specs.Texts.{journal_in, journal_of, closed_after, ended, nothing_more, line_behind_head, entries_in, AreBelow};
+ghost use Rattle.journal_text.specs.Texts.{journal_in, journal_of, closed_after, ended};
+ghost use Rattle.journal_text.specs.Texts.{nothing_more, line_behind_head, entries_in, AreBelow};
 ghost use Rattle.journal_text.specs.Views.{Gives, journal_seen};
 
 use crate::fault::TextFault;

@@ -1,8 +1,10 @@
 //! The lines after a text's head: a request of a guest, or the end.
-ghost use Rattle.std.specs.Prelude.{◌≡◌, ◌+◌, ◌/◌, ◌<◌, ◌≤◌, ◌^◌, ℕ, List, Option, Some, None, Ok, Err, false, codes, length, IsTrue, slice_get, IfOk, OnOk};
+ghost use Rattle.std.specs.Prelude.{◌≡◌, ◌+◌, ◌/◌, ◌<◌, ◌≤◌, ◌^◌, ℕ, List, Option, Some};
+ghost use Rattle.std.specs.Prelude.{None, Ok, Err, false, codes, length, IsTrue, slice_get, IfOk, OnOk};
 ghost use Rattle.std.specs.Str.{bytes_eq};
 ghost use Rattle.journal_text.specs.Words.{spelled, is_bytes_word};
-ghost use Rattle.journal_text.specs.Requests.{stored, loaded, propose_at, store_at, load_at, release_at, bare_at, named, asked_at, may_ask, end_at, entry_at, line_of, IsBelow, IsEnd, IsPlain};
+ghost use Rattle.journal_text.specs.Requests.{stored, loaded, propose_at, store_at, load_at, release_at, bare_at, named};
+ghost use Rattle.journal_text.specs.Requests.{asked_at, may_ask, end_at, entry_at, line_of, IsBelow, IsEnd, IsPlain};
 ghost use Rattle.journal_text.specs.Texts.{ended};
 ghost use Rattle.journal_text.specs.Cursor.{left, left_length, seen};
 

@@ -1,6 +1,7 @@
 //! The words of a line.
 ghost use Rattle.std.specs.Prelude.{◌≡◌, ◌+◌, ◌-◌, ◌<◌, ◌≤◌, ◌^◌, ℕ, List, Option, Some, None, length, IfOk, IfSome, OnOk};
-ghost use Rattle.journal_text.specs.Words.{word_at, nothing_at, number_to, number, bytes_in, number_at, is_bytes_word, is_lower_digit, is_space, behind_space};
+ghost use Rattle.journal_text.specs.Words.{word_at, nothing_at, number_to, number, bytes_in};
+ghost use Rattle.journal_text.specs.Words.{number_at, is_bytes_word, is_lower_digit, is_space, behind_space};
 ghost use Rattle.std.specs.List.{before_first};
 ghost use Rattle.journal_text.specs.Cursor.{left, left_length, seen, IsCut};
 

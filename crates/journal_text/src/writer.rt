@@ -1,7 +1,8 @@
 //! The writer of journals.
 ghost use Rattle.std.specs.Prelude.{◌≡◌, ◌<◌, ◌^◌, ◌++◌, [], codes, decimal, length, string_bytes, IfOk, OnOk};
 ghost use Rattle.journal_text.specs.Views.{journal_seen};
-ghost use Rattle.journal_text.specs.Written.{request_words, entry_line, entry_lines, number_words, numbers_line, needs_salts, machine_lines, guests_lines, entries_lines, journal_text};
+ghost use Rattle.journal_text.specs.Written.{request_words, entry_line, entry_lines, number_words, numbers_line};
+ghost use Rattle.journal_text.specs.Written.{needs_salts, machine_lines, guests_lines, entries_lines, journal_text};
 
 use crate::journal::Journal;
 use crate::print::{push_counted, push_digits, push_number};
@@ -154,7 +155,8 @@ pub fn write_entries<A: Allocator>(
     entries: &[Entry],
 ) -> Result<String<A>, AllocError>
     requires { length entries.now < 2 ^ 32 }
-    ensures { IfOk result (λ text. string_bytes text ≡ journal_text (record { frames = frames; pages = pages.now; salts = salts.now; entries = entries.now })) }
+    ensures { IfOk result (λ text. string_bytes text ≡ journal_text
+        (record { frames = frames; pages = pages.now; salts = salts.now; entries = entries.now })) }
 {
     let has_salts = needs_salts(salts);
     let mut text = String::new(alloc);

@@ -324,7 +324,8 @@ module _ {A : Type 0} where
       (passed_on (asked i entries) [] [] (answers hash s i entries) (get_or ends0 i d) (get_or ends1 i d) (get_or ends2 i d) (took i d l) all)
 
   -- where no more could be taken, none can be once all is answered
-  pub exhausted_served : (hash : ℕ → List ℕ → ℕ) (s : State) (entries : List Entry) (ends1 ends2 : List (MergerEnd A)) (i : ℕ) (d : MergerEnd A) → ServedSo hash s entries (length entries) ends1 ends2 → i < length ends1 → IsExhausted (length (asked i entries)) (get_or ends1 i d) → IsExhausted 0 (get_or ends2 i d)
+  pub exhausted_served : (hash : ℕ → List ℕ → ℕ) (s : State) (entries : List Entry) (ends1 ends2 : List (MergerEnd A)) (i : ℕ) (d : MergerEnd A) → ServedSo hash s entries (length entries) ends1 ends2 → i < length ends1 → IsExhausted (length (asked i entries)) (get_or ends1 i d)
+      → IsExhausted 0 (get_or ends2 i d)
   exhausted_served hash s entries ends1 ends2 i d served l left =
       let all : take (length entries) entries ≡ entries = take-length entries in
       let p = served.each i d l in let only = served.only i d l in

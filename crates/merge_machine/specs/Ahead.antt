@@ -42,6 +42,7 @@ module _ {A : Type 0} where
   Finds full before after Ended = (has_closed (end_given before) ≡ true) × (after ≡ before)
   Finds full before after Full = IsOpen before × (full ≡ true) × (after ≡ before)
   Finds full before after Blocked =
-      IsOpen before × (full ≡ false) × (end_free after ≡ 0) × (end_capacity before ≤ length (end_given before)) × (end_known after ≡ end_known before) × Looked before after
+      IsOpen before × (full ≡ false) × (end_free after ≡ 0) × (end_capacity before ≤ length (end_given before))
+      × (end_known after ≡ end_known before) × Looked before after
   Finds full before after Idle = IsOpen before × (full ≡ false) × (0 < end_free after) × (end_known before ≡ []) × Looked before after
   Finds full before after (Next request) = IsOpen before × (full ≡ false) × TookOne request before after

@@ -7,6 +7,7 @@ use Rattle.share_rings.specs.Faults.{IsCapacity}
 use Rattle.merge_machine.specs.declared.config.Config.{Config}
 use Rattle.merge_machine.specs.declared.config.Fault.{Fault}
 use Rattle.merge_machine.specs.declared.config.Fault.TheVariants.{Frames, Guests, Pages, Ring, Journal, OutOfMemory}
+use Rattle.page_model.specs.declared.limits.TheConstants.{MAX_ENTRIES}
 
 -- a machine's numbers: its frames, each guest's number of pages and salt, and how much a ring and the journal hold
 pub record Numbers : Type 0 where
@@ -22,7 +23,7 @@ numbers_of c = record { frames = c.frames; pages = c.pages.items; salts = c.salt
 
 -- a journal may hold this many entries
 abbrev pub IsJournal : ℕ → Type 0
-IsJournal entries = (1 ≤ entries) × (entries ≤ 16777216)
+IsJournal entries = (1 ≤ entries) × (entries ≤ MAX_ENTRIES)
 
 -- there may be such a machine
 abbrev pub IsMachine : {A : Type 0} → Config A → Type 0

@@ -14,7 +14,8 @@ module _ {A : Type 0} where
 
   -- the same for each of the first n pairs
   abbrev pub MeetWhereClosed : List (ClosedPort A) → List (MergerEnd A) → ℕ → Type 0
-  MeetWhereClosed ports ends n = (i : ℕ) (p : ClosedPort A) (e : MergerEnd A) → i < n → MeetWhereClosedAt (slice_index_or ports i p) (slice_index_or ends i e)
+  MeetWhereClosed ports ends n = (i : ℕ) (p : ClosedPort A) (e : MergerEnd A) → i < n
+      → MeetWhereClosedAt (slice_index_or ports i p) (slice_index_or ends i e)
 
   -- `Closed` is not the last verdict received
   abbrev pub is_unclosed : ClosedPort A → Bool
@@ -22,7 +23,8 @@ module _ {A : Type 0} where
 
   -- no end knows of fewer free slots than before
   abbrev pub NoFewerFree : List (MergerEnd A) → List (MergerEnd A) → Type 0
-  NoFewerFree ends ends' = (i : ℕ) (e : MergerEnd A) → i < length ends → end_free (slice_index_or ends i e) ≤ end_free (slice_index_or ends' i e)
+  NoFewerFree ends ends' = (i : ℕ) (e : MergerEnd A) → i < length ends
+      → end_free (slice_index_or ends i e) ≤ end_free (slice_index_or ends' i e)
 
   -- all items in the two rings of a pair are known to the ends that take them
   abbrev pub KnownAt : ClosedPort A → MergerEnd A → Type 0
@@ -30,7 +32,8 @@ module _ {A : Type 0} where
 
   -- the same for each of the first n pairs
   abbrev pub KnownBelow : List (ClosedPort A) → List (MergerEnd A) → ℕ → Type 0
-  KnownBelow ports ends n = (i : ℕ) (p : ClosedPort A) (e : MergerEnd A) → i < n → KnownAt (slice_index_or ports i p) (slice_index_or ends i e)
+  KnownBelow ports ends n = (i : ℕ) (p : ClosedPort A) (e : MergerEnd A) → i < n
+      → KnownAt (slice_index_or ports i p) (slice_index_or ends i e)
 
   -- the same for all pairs
   abbrev pub AllKnown : List (ClosedPort A) → List (MergerEnd A) → Type 0

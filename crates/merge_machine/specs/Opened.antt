@@ -11,7 +11,8 @@ use Rattle.merge_machine.specs.Limits.{Numbers}
 use Rattle.merge_machine.specs.declared.merger.Merger.{Merger}
 
 -- The machine of these numbers. Nothing has passed through its rings, nothing was journaled, and no page is mapped.
-pub record IsFreshMachine {H A : Type 0} {ghosts : Ghosts H} (numbers : Numbers) (merger : Merger H A ghosts) (ports : List (Port A)) : Type 0 where
+pub record IsFreshMachine {H A : Type 0} {ghosts : Ghosts H} (numbers : Numbers) (merger : Merger H A ghosts)
+    (ports : List (Port A)) : Type 0 where
   -- port i and end i belong to one pair
   pub pairs : port_names ports ≡ end_names (ends_of merger)
   pub guests : guest_count merger ≡ length numbers.pages

@@ -35,7 +35,8 @@ module _ {A : Type 0} where
   -- those of a replay from the state s on.
   abbrev pub EachPassed : (ℕ → List ℕ → ℕ) → State → List Entry → List Entry → List (MergerEnd A) → List (MergerEnd A) → Type 0
   EachPassed hash s entries first ends ends' =
-      (i : ℕ) (d : MergerEnd A) → i < length ends → Passed (asked i entries) (answers hash s i first) (slice_index_or ends i d) (slice_index_or ends' i d)
+      (i : ℕ) (d : MergerEnd A) → i < length ends
+      → Passed (asked i entries) (answers hash s i first) (slice_index_or ends i d) (slice_index_or ends' i d)
 
   -- `Closed` was not given
   abbrev pub is_open : MergerEnd A → Bool
@@ -57,7 +58,8 @@ module _ {H A : Type 0} {ghosts : Ghosts H} where
     pub memory : memory_of new ≡ state_after hash (memory_of old) entries
     pub each : EachPassed hash (memory_of old) entries entries (ends_of old) (ends_of new)
     pub may : HasRoom old ⊎ (has_open (ends_of old) ≡ false)
-    pub exhausted : done < limit → HasRoom new → (i : ℕ) (d : MergerEnd A) → i < guest_count new → IsExhausted 0 (slice_index_or (ends_of new) i d)
+    pub exhausted : done < limit → HasRoom new → (i : ℕ) (d : MergerEnd A) → i < guest_count new
+        → IsExhausted 0 (slice_index_or (ends_of new) i d)
 
   -- the journal is full, some guest hasn't ended, and nothing was done
   pub record IsFullForAll (old new : Merger H A ghosts) : Type 0 where

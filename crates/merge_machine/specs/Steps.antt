@@ -45,8 +45,10 @@ module _ {H A : Type 0} {ghosts : Ghosts H} where
   abbrev pub Does : (ℕ → List ℕ → ℕ) → ℕ → MergerEnd A → MergerEnd A → Merger H A ghosts → Merger H A ghosts → Step → Type 0
   Does hash guest before after old new Ended = (has_closed (end_given before) ≡ true) × (after ≡ before) × Same old new
   Does hash guest before after old new Blocked =
-      IsOpen before × HasRoom old × (end_free after ≡ 0) × (end_capacity before ≤ length (end_given before)) × (end_known after ≡ end_known before) × Looked before after × Same old new
-  Does hash guest before after old new Idle = IsOpen before × HasRoom old × (0 < end_free after) × (end_known before ≡ []) × Looked before after × Same old new
+      IsOpen before × HasRoom old × (end_free after ≡ 0) × (end_capacity before ≤ length (end_given before))
+      × (end_known after ≡ end_known before) × Looked before after × Same old new
+  Does hash guest before after old new Idle = IsOpen before × HasRoom old × (0 < end_free after) × (end_known before ≡ [])
+      × Looked before after × Same old new
   Does hash guest before after old new Done = IsOpen before × HasRoom old × ServedOne hash guest before after old new
 
   -- a step that returns this answer

@@ -34,9 +34,11 @@ module _ {A : Type 0} where
     pub grew : journal' ≡ journal ++ entries
     pub size : length ends' ≡ length ends
     pub members : All (λ e. e.guest < length ends) entries
-    pub each : (i : ℕ) (d : MergerEnd A) → i < length ends → Passed (asked i entries) [] (slice_index_or ends i d) (slice_index_or ends' i d)
+    pub each : (i : ℕ) (d : MergerEnd A) → i < length ends
+        → Passed (asked i entries) [] (slice_index_or ends i d) (slice_index_or ends' i d)
     pub owed_is : (i : ℕ) → i < length ends → slice_index_or owed' i 0 ≡ slice_index_or owed i 0 + length (asked i entries)
-    pub slots : (i : ℕ) (d : MergerEnd A) → i < length ends → slice_index_or owed i 0 ≤ end_free (slice_index_or ends i d) → slice_index_or owed' i 0 ≤ end_free (slice_index_or ends' i d)
+    pub slots : (i : ℕ) (d : MergerEnd A) → i < length ends → slice_index_or owed i 0 ≤ end_free (slice_index_or ends i d)
+        → slice_index_or owed' i 0 ≤ end_free (slice_index_or ends' i d)
 
   -- nothing more can be taken for now from the guests below `n`, which are owed these verdicts
   abbrev pub AreExhausted : ℕ → List ℕ → List (MergerEnd A) → Type 0
@@ -50,9 +52,11 @@ module _ {A : Type 0} where
     pub count : length entries ≤ most
     pub size : length ends' ≡ length ends
     pub members : All (λ e. e.guest < length ends) entries
-    pub each : (i : ℕ) (d : MergerEnd A) → i < length ends → Passed (asked i entries) [] (slice_index_or ends i d) (slice_index_or ends' i d)
+    pub each : (i : ℕ) (d : MergerEnd A) → i < length ends
+        → Passed (asked i entries) [] (slice_index_or ends i d) (slice_index_or ends' i d)
     pub slots : (i : ℕ) (d : MergerEnd A) → i < length ends → length (asked i entries) ≤ end_free (slice_index_or ends' i d)
-    pub exhausted : length entries < most → (i : ℕ) (d : MergerEnd A) → i < length ends → IsExhausted (length (asked i entries)) (slice_index_or ends' i d)
+    pub exhausted : length entries < most → (i : ℕ) (d : MergerEnd A) → i < length ends
+        → IsExhausted (length (asked i entries)) (slice_index_or ends' i d)
 
   -- these are the requests taken last, no other lacks a verdict, and a slot is known to be free for the verdict of each
   pub record Owes (requests : List Request) (e : MergerEnd A) : Type 0 where
@@ -72,16 +76,20 @@ module _ {A : Type 0} where
   -- the first n of these entries were answered, and the verdicts of the others are owed
   pub record ServedSo (hash : ℕ → List ℕ → ℕ) (s : State) (entries : List Entry) (n : ℕ) (ends ends' : List (MergerEnd A)) : Type 0 where
     pub size : length ends' ≡ length ends
-    pub each : (i : ℕ) (d : MergerEnd A) → i < length ends → Passed [] (answers hash s i (take n entries)) (slice_index_or ends i d) (slice_index_or ends' i d)
-    pub only : (i : ℕ) (d : MergerEnd A) → i < length ends → OnlyGave (answers hash s i (take n entries)) (slice_index_or ends i d) (slice_index_or ends' i d)
+    pub each : (i : ℕ) (d : MergerEnd A) → i < length ends
+        → Passed [] (answers hash s i (take n entries)) (slice_index_or ends i d) (slice_index_or ends' i d)
+    pub only : (i : ℕ) (d : MergerEnd A) → i < length ends
+        → OnlyGave (answers hash s i (take n entries)) (slice_index_or ends i d) (slice_index_or ends' i d)
     pub owes : (i : ℕ) (d : MergerEnd A) → i < length ends → Owes (asked i (drop n entries)) (slice_index_or ends' i d)
 
   -- at each end, the number of verdicts given is that of requests taken
   abbrev pub AllAnswered : List (MergerEnd A) → Type 0
-  AllAnswered ends = (i : ℕ) (d : MergerEnd A) → i < length ends → length (end_given (slice_index_or ends i d)) ≡ length (end_taken (slice_index_or ends i d))
+  AllAnswered ends = (i : ℕ) (d : MergerEnd A) → i < length ends
+      → length (end_given (slice_index_or ends i d)) ≡ length (end_taken (slice_index_or ends i d))
 
   -- what a round did to the ends, the journal and the core
-  pub record Done (hash : ℕ → List ℕ → ℕ) (most done : ℕ) (ends ends' : List (MergerEnd A)) (journal journal' : List Entry) (core core' : Shown) : Type 0 where
+  pub record Done (hash : ℕ → List ℕ → ℕ) (most done : ℕ) (ends ends' : List (MergerEnd A)) (journal journal' : List Entry)
+      (core core' : Shown) : Type 0 where
     pub entries : List Entry
     pub count : length entries ≡ done
     pub few : done ≤ most

@@ -87,7 +87,13 @@ impl<'a> Model for CheckedConfig<'a> {
     ghost use Rattle.share_rings.specs.Faults.{IsCapacity};
     ghost use Rattle.merge_machine.specs.Limits.{IsJournal};
 
-    ghost view = { λ c. record { frames = c.shape.frames; pages = c.shape.pages; salts = c.shape.salts; ring = c.ring; journal = c.journal } };
+    ghost view = { λ c. record {
+      frames = c.shape.frames;
+      pages = c.shape.pages;
+      salts = c.shape.salts;
+      ring = c.ring;
+      journal = c.journal;
+    } };
 
     ghost invariant = { λ c. IsCapacity c.ring × IsJournal c.journal };
 }

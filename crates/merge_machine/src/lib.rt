@@ -7,6 +7,7 @@
 
 mod ahead;
 mod config;
+mod limits;
 mod machine;
 mod meet_each;
 mod merger;
@@ -18,5 +19,6 @@ mod take_requests;
 mod workers;
 
 pub use config::{CheckedConfig, Config, Fault};
+pub use limits::MAX_ROUND;
 pub use machine::Machine;
 pub use merger::{JournalFull, Merger, Step};

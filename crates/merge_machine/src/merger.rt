@@ -3,6 +3,7 @@ ghost use Rattle.std.specs.Prelude.{◌≡◌, ◌≤◌, ◌<◌, All, length, 
 ghost use Rattle.merge_core.specs.Shown.{state_of};
 ghost use Rattle.merge_machine.specs.Kept.{Keeps};
 ghost use Rattle.merge_machine.specs.Machines.{opening, IsReplayOf};
+ghost use Rattle.page_model.specs.declared.limits.TheConstants.{MAX_ENTRIES};
 
 use crate::ahead::{Ahead, look_ahead};
 use crate::meet_each::meet_each;
@@ -50,7 +51,7 @@ pub struct Merger<H: PageHash, A: Allocator = Global> {
     pub ghost few: { length ends.items ≤ 64 },
     pub ghost counted: { core.entries ≡ length journal.items },
     pub ghost within: { length journal.items ≤ limit },
-    ghost room: { (limit ≤ vec_capacity journal) × (limit ≤ 16777216) },
+    ghost room: { (limit ≤ vec_capacity journal) × (limit ≤ MAX_ENTRIES) },
 }
 
 impl<H: PageHash, A: Allocator> Merger<H, A> {
@@ -127,7 +128,8 @@ impl<H: PageHash, A: Allocator> Merger<H, A> {
         requires page { IsSome (page_at (memory_of self.now).guests guest ppn) }
         requires at { at < 4096 }
         ensures byte { result ≡ byte_at (memory_of self.now) guest ppn at }
-        ensures stored { result ≡ last_stored (journal_of self.now) (verdicts_of H.hash_of (machine_of self.now) (journal_of self.now)) guest ppn at }
+        ensures stored { result ≡ last_stored (journal_of self.now)
+            (verdicts_of H.hash_of (machine_of self.now) (journal_of self.now)) guest ppn at }
     {
         self.core.read(guest, ppn, at)
     }

@@ -1,5 +1,6 @@
 //! Hashing the pages that a round's requests propose, with several workers.
 ghost use Rattle.std.specs.Prelude.{◌≡◌, ◌<◌, ◌≤◌, length};
+ghost use Rattle.merge_core.specs.Hashing.{AreWorkers};
 
 use crate::workers::Workers;
 use arrayvec::ArrayVec;
@@ -22,7 +23,7 @@ pub(crate) fn note_ahead<
     A: Allocator + Sync,
     B: Allocator + Clone + Send,
 >(workers: &Workers<'_, R, B>, core: &mut Core<H, A>, entries: &[Entry], at: usize)
-    requires workers { (1 ≤ workers.now.count) × (workers.now.count ≤ 64) }
+    requires workers { AreWorkers workers.now.count }
     requires at { at < length entries.now }
     ensures { core.new ≡ core.old }
 {

@@ -3,6 +3,9 @@ ghost use Rattle.std.specs.Prelude.{◌≡◌, ◌+◌, ◌≤◌, length, vec_c
 ghost use Rattle.merge_core.specs.Shown.{state_of};
 ghost use Rattle.merge_machine.specs.Rounds.{has_open};
 ghost use Rattle.merge_machine.specs.Taking.{AllAnswered, Done};
+ghost use Rattle.merge_core.specs.Hashing.{AreWorkers};
+ghost use Rattle.merge_machine.specs.declared.limits.TheConstants.{MAX_ROUND};
+ghost use Rattle.page_model.specs.declared.limits.TheConstants.{MAX_ENTRIES};
 
 use crate::merger::{JournalFull, Merger};
 use crate::serve_taken::serve_taken;
@@ -21,6 +24,8 @@ impl<H: PageHash, A: Allocator + Sync> Merger<H, A> {
     ghost use Rattle.merge_machine.specs.Same.{SameMachine};
     ghost use Rattle.merge_machine.specs.Rounds.{Rounds, IsFullForAll};
     ghost use Rattle.merge_machine.specs.View.{journal_of, limit_of};
+    ghost use Rattle.merge_core.specs.Hashing.{AreWorkers};
+    ghost use Rattle.merge_machine.specs.declared.limits.TheConstants.{MAX_ROUND};
 
     /// Serves several requests: visits guests 0, 1, .. in turn, skipping those that have ended, and takes one request at each
     /// visit, as [`step`](Merger::step) does, until `limit` requests are taken, a whole turn finds none, or the journal has no
@@ -30,7 +35,7 @@ impl<H: PageHash, A: Allocator + Sync> Merger<H, A> {
     /// A request is taken only if a slot for its verdict is free beyond those for the verdicts that its guest is owed. The
     /// hashes of proposed pages are computed ahead, four at a time and, if there are enough of them, by several workers: at
     /// most `workers`, 1 to 64, one of which is the calling thread. If memory or a thread is refused, the calling thread
-    /// computes them alone. `limit` is 1 to 1,024.
+    /// computes them alone. `limit` is 1 to [`MAX_ROUND`](crate::MAX_ROUND).
     ///
     /// # Errors
     ///
@@ -42,8 +47,8 @@ impl<H: PageHash, A: Allocator + Sync> Merger<H, A> {
         workers: u32,
         limit: u32,
     ) -> Result<u32, JournalFull>
-        requires workers { (1 ≤ workers) × (workers ≤ 64) }
-        requires limit { (1 ≤ limit) × (limit ≤ 1024) }
+        requires workers { AreWorkers workers }
+        requires limit { (1 ≤ limit) × (limit ≤ MAX_ROUND) }
         ensures round { MatchResult result (λ done. Rounds H.hash_of limit done self.old self.new) (λ _. IsFullForAll self.old self.new) }
         ensures same { SameMachine self.old self.new }
     {
@@ -86,12 +91,12 @@ pub(crate) fn take_and_serve<
     core: &mut Core<H, A>,
     most: u32,
 ) -> u32
-    requires workers { (1 ≤ workers.now.count) × (workers.now.count ≤ 64) }
+    requires workers { AreWorkers workers.now.count }
     requires few { length ends.old.items ≤ 64 }
     requires room { length journal.old.items + most ≤ vec_capacity journal.old }
-    requires most { most ≤ 1024 }
+    requires most { most ≤ MAX_ROUND }
     requires guests { length (state_of core.old).guests ≡ length ends.old.items }
-    requires entries { core.old.entries + most ≤ 16777216 }
+    requires entries { core.old.entries + most ≤ MAX_ENTRIES }
     requires answered { AllAnswered ends.old.items }
     ensures done { Done H.hash_of most result ends.old.items ends.new.items journal.old.items journal.new.items core.old core.new }
     ensures capacity { vec_capacity journal.new ≡ vec_capacity journal.old }

@@ -5,6 +5,7 @@ ghost use Rattle.share_rings.specs.Closing.{is_close};
 ghost use Rattle.share_rings.specs.Ends.{end_free, IsUnanswered};
 ghost use Rattle.merge_core.specs.Shown.{state_of};
 ghost use Rattle.merge_machine.specs.Ahead.{GaveOne};
+ghost use Rattle.page_model.specs.declared.limits.TheConstants.{MAX_ENTRIES};
 
 use merge_core::Core;
 use page_digest::PageHash;
@@ -24,7 +25,7 @@ pub(crate) fn serve_one<H: PageHash, A: Allocator>(
     requires unanswered { IsUnanswered end.old (is_close request) }
     requires room { length journal.old.items < vec_capacity journal.old }
     requires guest { guest < length (state_of core.old).guests }
-    requires entries { core.old.entries < 16777216 }
+    requires entries { core.old.entries < MAX_ENTRIES }
     ensures end { GaveOne (step H.hash_of (state_of core.old) guest request).verdict end.old end.new }
     ensures journal { journal.new.items ≡ journal.old.items ++ record { guest = guest; request = request } ∷ [] }
     ensures capacity { vec_capacity journal.new ≡ vec_capacity journal.old }
@@ -48,7 +49,7 @@ pub(crate) fn answer_one<H: PageHash, A: Allocator>(
     requires slot { 0 < end_free end.old }
     requires unanswered { IsUnanswered end.old (is_close request.now) }
     requires guest { guest < length (state_of core.old).guests }
-    requires entries { core.old.entries < 16777216 }
+    requires entries { core.old.entries < MAX_ENTRIES }
     ensures end { GaveOne (step H.hash_of (state_of core.old) guest request.now).verdict end.old end.new }
     ensures memory { state_of core.new ≡ (step H.hash_of (state_of core.old) guest request.now).state }
     ensures entries { core.new.entries ≡ core.old.entries + 1 }

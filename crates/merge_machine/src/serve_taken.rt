@@ -3,6 +3,8 @@ ghost use Rattle.std.specs.Prelude.{◌≡◌, ◌+◌, ◌<◌, ◌≤◌, All,
 ghost use Rattle.page_model.specs.Replay.{state_after};
 ghost use Rattle.merge_core.specs.Shown.{state_of};
 ghost use Rattle.merge_machine.specs.Taking.{EachOwes, ServedSo};
+ghost use Rattle.merge_core.specs.Hashing.{AreWorkers};
+ghost use Rattle.page_model.specs.declared.limits.TheConstants.{MAX_ENTRIES};
 
 use crate::note_next::note_ahead;
 use crate::serve::answer_one;
@@ -27,10 +29,10 @@ pub(crate) fn serve_taken<
     core: &mut Core<H, A>,
     entries: &[Entry],
 )
-    requires workers { (1 ≤ workers.now.count) × (workers.now.count ≤ 64) }
+    requires workers { AreWorkers workers.now.count }
     requires members { All (λ e. e.guest < length ends.old.items) entries.now }
     requires guests { length (state_of core.old).guests ≡ length ends.old.items }
-    requires room { core.old.entries + length entries.now ≤ 16777216 }
+    requires room { core.old.entries + length entries.now ≤ MAX_ENTRIES }
     requires owes { EachOwes entries.now ends.old.items }
     ensures served { ServedSo H.hash_of (state_of core.old) entries.now (length entries.now) ends.old.items ends.new.items }
     ensures memory { state_of core.new ≡ state_after H.hash_of (state_of core.old) entries.now }

@@ -1,6 +1,7 @@
 //! Taking a round's requests.
 ghost use Rattle.std.specs.Prelude.{◌≡◌, ◌+◌, ◌<◌, ◌≤◌, length, replicate, vec_capacity};
 ghost use Rattle.merge_machine.specs.Taking.{AreExhausted, Took, TookSo, Visits};
+ghost use Rattle.merge_machine.specs.declared.limits.TheConstants.{MAX_ROUND};
 
 use page_model::Entry;
 use share_rings::MergerEnd;
@@ -15,7 +16,7 @@ pub(crate) fn take_requests<A: Allocator>(
 )
     requires few { length ends.old.items ≤ 64 }
     requires room { length journal.old.items + most ≤ vec_capacity journal.old }
-    requires most { most ≤ 1024 }
+    requires most { most ≤ MAX_ROUND }
     ensures took { Took most ends.old.items ends.new.items journal.old.items journal.new.items }
     ensures capacity { vec_capacity journal.new ≡ vec_capacity journal.old }
 {
@@ -43,7 +44,8 @@ fn take_turn<A: Allocator>(
     requires room { full ≤ vec_capacity journal.old }
     ensures took { TookSo ends.old.items ends.new.items journal.old.items journal.new.items owed.old owed.new }
     ensures within { length journal.new.items ≤ full }
-    ensures exhausted { length journal.new.items ≡ length journal.old.items → length journal.old.items < full → AreExhausted (length ends.old.items) owed.new ends.new.items }
+    ensures exhausted { length journal.new.items ≡ length journal.old.items → length journal.old.items < full
+        → AreExhausted (length ends.old.items) owed.new ends.new.items }
     ensures owed { length owed.new ≡ 64 }
     ensures capacity { vec_capacity journal.new ≡ vec_capacity journal.old }
 {

@@ -22,7 +22,15 @@ pub record ShowsLast (x : Shown) (seats : List Seat) : Type 0 where
 
 -- a new watch knows nothing
 abbrev pub newcomer : Seat
-newcomer = record { is_tied = false; history = record { marker = record {}; book = record { number = 0; log_name = 0; cells_name = 0 }; names = []; log = [] } }
+newcomer = record {
+  is_tied = false;
+  history = record {
+    marker = record {};
+    book = record { number = 0; log_name = 0; cells_name = 0 };
+    names = [];
+    log = [];
+  };
+}
 
 -- it learns whose log it is, and no list
 abbrev pub tied_only : Seat → Seat

@@ -83,7 +83,8 @@ module _ {A : Type 0} where
   wanting config scripts fault machine room (inl memory) = subst (λ f. NotRunFor config scripts f) (sym memory) (machine, room)
   wanting config scripts fault machine room (inr thread) = subst (λ f. NotRunFor config scripts f) (sym thread) (machine, room)
 
-  pub wanting_memory : {X : Type 0} (P : X → Type 0) (config : Config A) (scripts : List (Vec Request A)) (result : Result X RunFault) → IsMachine config → entries_needed scripts ≤ config.journal → IsErrAnd result (λ fault. fault ≡ OutOfMemory) → MatchResult result P (λ fault. NotRunFor config scripts fault)
+  pub wanting_memory : {X : Type 0} (P : X → Type 0) (config : Config A) (scripts : List (Vec Request A)) (result : Result X RunFault) → IsMachine config → entries_needed scripts ≤ config.journal → IsErrAnd result (λ fault. fault ≡ OutOfMemory)
+      → MatchResult result P (λ fault. NotRunFor config scripts fault)
   wanting_memory P config scripts (Ok x) machine room is = absurd is
   wanting_memory P config scripts (Err fault) machine room is = wanting config scripts fault machine room (inl is)
 

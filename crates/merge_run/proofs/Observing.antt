@@ -30,7 +30,8 @@ module _ (hash : ℕ → List ℕ → ℕ) where
   none_later_than s journal kept report is replayed fronts = rw is (none_later s journal kept replayed fronts)
 
   -- whether the report was kept or not
-  fronts_kept : (s : State) (journal : List Entry) (before after : List Totals) (report : Totals) → report ≡ totals s.entries s.guests → IsReplayOf hash s journal → AreOfFronts hash (opening s) journal before → ((after ≡ before) ⊎ (after ≡ before ++ report ∷ [])) → AreOfFronts hash (opening s) journal after
+  fronts_kept : (s : State) (journal : List Entry) (before after : List Totals) (report : Totals) → report ≡ totals s.entries s.guests → IsReplayOf hash s journal → AreOfFronts hash (opening s) journal before → ((after ≡ before) ⊎ (after ≡ before ++ report ∷ []))
+      → AreOfFronts hash (opening s) journal after
   fronts_kept s journal before after report is replayed fronts (inl same) = subst (AreOfFronts hash (opening s) journal) (sym same) fronts
   fronts_kept s journal before after report is replayed fronts (inr more) =
       subst (AreOfFronts hash (opening s) journal) (sym (more ∙ ap (λ (x : Totals). before ++ x ∷ []) is)) (with_whole hash s journal before replayed fronts)

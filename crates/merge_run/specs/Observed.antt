@@ -15,16 +15,21 @@ use Rattle.merge_run.specs.Showings.{WasShown}
 
 -- It is the same observer. It was shown the run all along, from the moment at which the journal had so many entries, and each
 -- report that it kept is that of a front of this journal.
-pub record Observes {O : Type 0} (name : O → ℕ) (kept : O → List Totals) (becomes : O → Totals → ℕ → O → Type 0) (hash : ℕ → List ℕ → ℕ) (before after : O) (machine : State) (from : ℕ) (journal : List Entry) : Type 0 where
+pub record Observes {O : Type 0} (name : O → ℕ) (kept : O → List Totals) (becomes : O → Totals → ℕ → O → Type 0) (hash : ℕ → List ℕ → ℕ)
+    (before after : O) (machine : State) (from : ℕ) (journal : List Entry) : Type 0 where
   pub same : name after ≡ name before
   pub fronts : AreOfFronts hash machine journal (kept after)
   pub shown : WasShown becomes hash before after machine from journal
 
 module _ {H A : Type 0} {ghosts : Ghosts H} where
   -- it observed what this merger served to become the other
-  abbrev pub ObservesMerger : {O : Type 0} → (O → ℕ) → (O → List Totals) → (O → Totals → ℕ → O → Type 0) → (ℕ → List ℕ → ℕ) → O → O → Merger H A ghosts → Merger H A ghosts → Type 0
-  ObservesMerger name kept becomes hash o o' old new = Observes name kept becomes hash o o' (machine_of new) (length (journal_of old)) (journal_of new)
+  abbrev pub ObservesMerger : {O : Type 0} → (O → ℕ) → (O → List Totals) → (O → Totals → ℕ → O → Type 0) → (ℕ → List ℕ → ℕ) → O → O
+      → Merger H A ghosts → Merger H A ghosts → Type 0
+  ObservesMerger name kept becomes hash o o' old new = Observes name kept becomes hash o o' (machine_of new) (length (journal_of old))
+      (journal_of new)
 
   -- it observed the whole run of the settled machine
-  abbrev pub ObservesRun : {O : Type 0} → (O → ℕ) → (O → List Totals) → (O → Totals → ℕ → O → Type 0) → (ℕ → List ℕ → ℕ) → O → O → Settled H A ghosts → Type 0
-  ObservesRun name kept becomes hash o o' s = Observes name kept becomes hash o o' (opening (state_of (settled_core s))) 0 (settled_journal s)
+  abbrev pub ObservesRun : {O : Type 0} → (O → ℕ) → (O → List Totals) → (O → Totals → ℕ → O → Type 0) → (ℕ → List ℕ → ℕ) → O → O
+      → Settled H A ghosts → Type 0
+  ObservesRun name kept becomes hash o o' s = Observes name kept becomes hash o o' (opening (state_of (settled_core s))) 0
+      (settled_journal s)

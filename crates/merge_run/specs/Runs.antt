@@ -54,7 +54,8 @@ module _ {H A : Type 0} {ghosts : Ghosts H} where
   -- The run of these scripts on the machine of this configuration: there is such a machine, with room in its journal for all
   -- that the guests send. It is settled. Each guest sent its script and a close over rings of the configuration's capacity,
   -- and these are the verdicts that it received.
-  pub record IsWholeRun (hash : ℕ → List ℕ → ℕ) (c : Config A) (scripts : List (Vec Request A)) (settled : Settled H A ghosts) (verdicts : List (Vec Verdict A)) : Type 0 where
+  pub record IsWholeRun (hash : ℕ → List ℕ → ℕ) (c : Config A) (scripts : List (Vec Request A)) (settled : Settled H A ghosts)
+      (verdicts : List (Vec Verdict A)) : Type 0 where
     pub limits : IsMachine c
     pub room : entries_needed scripts ≤ c.journal
     pub settles : Settles hash (settled_ports settled) (settled_journal settled) (settled_core settled)

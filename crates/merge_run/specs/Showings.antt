@@ -25,7 +25,8 @@ pub record IsShownNext (hash : ℕ → List ℕ → ℕ) (machine : State) (jour
 -- it, and nothing was served after the last.
 abbrev pub ShownAllAlong : (ℕ → List ℕ → ℕ) → State → List Entry → ℕ → List Showing → Type 0
 ShownAllAlong hash machine journal before [] = before ≡ length journal
-ShownAllAlong hash machine journal before (s ∷ later) = IsShownNext hash machine journal before s × ShownAllAlong hash machine journal (before + s.served) later
+ShownAllAlong hash machine journal before (s ∷ later) = IsShownNext hash machine journal before s
+    × ShownAllAlong hash machine journal (before + s.served) later
 
 -- the observer was called with these showings, in order and with no others, and became the other
 abbrev pub BecomesBy : {O : Type 0} → (O → Totals → ℕ → O → Type 0) → O → List Showing → O → Type 0
@@ -33,7 +34,8 @@ BecomesBy becomes o [] after = after ≡ o
 BecomesBy becomes o (s ∷ later) after = (next : _) × becomes o s.report s.served next × BecomesBy becomes next later after
 
 -- the observer was shown the run all along, from the moment at which the journal had so many entries
-pub record WasShown {O : Type 0} (becomes : O → Totals → ℕ → O → Type 0) (hash : ℕ → List ℕ → ℕ) (before after : O) (machine : State) (from : ℕ) (journal : List Entry) : Type 0 where
+pub record WasShown {O : Type 0} (becomes : O → Totals → ℕ → O → Type 0) (hash : ℕ → List ℕ → ℕ) (before after : O) (machine : State)
+    (from : ℕ) (journal : List Entry) : Type 0 where
   pub showings : List Showing
   pub calls : BecomesBy becomes before showings after
   pub along : ShownAllAlong hash machine journal from showings

@@ -13,6 +13,7 @@ use Rattle.merge_machine.specs.Scripts.{with_close}
 use Rattle.merge_run.specs.declared.task.Task.{Task}
 use Rattle.merge_run.specs.declared.task.DoneTask.{DoneTask}
 use Rattle.merge_run.specs.declared.task.DoesTask.{DoesTask}
+use Rattle.page_model.specs.declared.limits.TheConstants.{MAX_ENTRIES}
 
 module _ {A : Type 0} where
   -- all that each guest sends
@@ -29,7 +30,7 @@ module _ {A : Type 0} where
   pub record IsReady (task : Task A) : Type 0 where
     pub unused : IsUnused task.port
     pub plain : has_close task.script.items ≡ false
-    pub few : length task.script.items < 16777216
+    pub few : length task.script.items < MAX_ENTRIES
     pub empty : task.verdicts.items ≡ []
     pub room : length task.script.items < vec_capacity task.verdicts
 

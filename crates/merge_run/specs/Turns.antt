@@ -20,7 +20,8 @@ HaveEnded n ends = (i : ℕ) (e : MergerEnd _) → i < n → has_closed (end_giv
 
 module _ {H A : Type 0} {ghosts : Ghosts H} where
   -- the tasks can be run alongside this merger: no guest has begun, and the two lists are empty, with room for all
-  pub record CanRun (tasks : List (Task A)) (merger : Merger H A ghosts) (handles : Vec (PromisedHandle (DoneTask A) (DoesTask A)) A) (done : Vec (DoneTask A) A) : Type 0 where
+  pub record CanRun (tasks : List (Task A)) (merger : Merger H A ghosts) (handles : Vec (PromisedHandle (DoneTask A) (DoesTask A)) A)
+      (done : Vec (DoneTask A) A) : Type 0 where
     pub ready : All IsReady tasks
     pub few : length tasks ≤ guest_count merger
     pub no_handles : handles.items ≡ []

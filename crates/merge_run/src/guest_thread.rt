@@ -2,7 +2,8 @@
 ghost use Rattle.std.specs.Prelude.{◌≡◌, true, false, [], ◌∷◌, ◌++◌};
 ghost use Rattle.page_model.specs.declared.request.Request.TheVariants.{Close};
 ghost use Rattle.share_rings.specs.Closing.{is_close, last_closed};
-ghost use Rattle.share_rings.specs.Ends.{port_sent, port_got, port_name, port_capacity, closed_sent, closed_got, closed_name, closed_capacity};
+ghost use Rattle.share_rings.specs.Ends.{port_sent, port_got, port_name, port_capacity};
+ghost use Rattle.share_rings.specs.Ends.{closed_sent, closed_got, closed_name, closed_capacity};
 ghost use Rattle.merge_run.specs.Tasks.{IsReady, IsDone};
 
 use crate::gate::Gate;

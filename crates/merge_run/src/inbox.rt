@@ -1,5 +1,6 @@
 //! A guest's verdicts as they come.
 ghost use Rattle.std.specs.Prelude.{◌≤◌, vec_capacity};
+ghost use Rattle.page_model.specs.declared.limits.TheConstants.{MAX_ENTRIES};
 
 use crate::gate::Gate;
 use crate::patience::Patience;
@@ -20,7 +21,7 @@ pub(crate) struct Inbox<'g, A: Allocator, G: Gate> {
     pub(crate) looks: u32,
     ghost room: { most ≤ vec_capacity verdicts },
     // At most the entries of a journal, so that they can be numbered.
-    ghost few: { most ≤ 16777216 },
+    ghost few: { most ≤ MAX_ENTRIES },
 }
 
 impl<'g, A: Allocator, G: Gate> Inbox<'g, A, G> {

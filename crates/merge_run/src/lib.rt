@@ -25,7 +25,7 @@ mod whole_run;
 
 pub use finished::Finished;
 pub use gate::{Gate, OpenGate};
-pub use merge_machine::{Config, Fault, JournalFull, Machine, Merger, Step};
+pub use merge_machine::{Config, Fault, JournalFull, MAX_ROUND, Machine, Merger, Step};
 pub use merge_settle::{SettleFault, Settled, Unsettled, settle};
 pub use observer::Observer;
 pub use page_model::laws::schedule_law;

@@ -4,6 +4,8 @@ ghost use Rattle.share_rings.specs.Closing.{has_close};
 ghost use Rattle.merge_machine.specs.Kept.{port_names, port_capacities};
 ghost use Rattle.merge_machine.specs.Scripts.{entries_needed};
 ghost use Rattle.merge_run.specs.Tasks.{IsUnused, IsReady, task_names, task_capacities, task_requests, ports_of, lists_of, all_sent};
+ghost use Rattle.page_model.specs.declared.limits.TheConstants.{MAX_GUESTS};
+ghost use Rattle.page_model.specs.declared.limits.TheConstants.{MAX_ENTRIES};
 
 use crate::task::{DoneTask, Task};
 use page_model::{Request, Verdict};
@@ -41,7 +43,7 @@ pub(crate) fn new_tasks<A: Allocator + Copy>(
     scripts: Vec<Vec<Request, A>, A>,
 ) -> Result<Vec<Task<A>, A>, AllocError>
     requires each { length ports.items ≡ length scripts.items }
-    requires few { (length scripts.items ≤ 64) × (entries_needed scripts.items ≤ 16777216) }
+    requires few { (length scripts.items ≤ MAX_GUESTS) × (entries_needed scripts.items ≤ MAX_ENTRIES) }
     requires fresh { All IsUnused ports.items }
     requires plain { All (λ script. has_close script.items ≡ false) scripts.items }
     ensures ready { IfOk result (λ tasks. All IsReady tasks.items) }

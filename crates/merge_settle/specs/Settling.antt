@@ -42,13 +42,15 @@ module _ {A : Type 0} where
   -- A settled machine with these ports, this journal, and a core that shows this.
   pub record Settles (hash : ℕ → List ℕ → ℕ) (ports : List (ClosedPort A)) (journal : List Entry) (core : Shown) : Type 0 where
     -- each guest has received one verdict for each request that it sent, in order, and they are those of the replay
-    pub guests : (i : ℕ) (d : ClosedPort A) → i < length ports → SettlesGuest hash (opening (state_of core)) journal i (slice_index_or ports i d)
+    pub guests : (i : ℕ) (d : ClosedPort A) → i < length ports
+        → SettlesGuest hash (opening (state_of core)) journal i (slice_index_or ports i d)
     -- the journal holds the requests of these guests and no others
     pub members : All (λ e. e.guest < length ports) journal
     -- memory is as left by one thread that replays the journal on plain page contents
     pub memory : state_of core ≡ state_after hash (opening (state_of core)) journal
     -- each page reads the bytes last stored to it
-    pub stored : (guest ppn at : ℕ) → at < 4096 → byte_at (state_of core) guest ppn at ≡ last_stored journal (verdicts_of hash (opening (state_of core)) journal) guest ppn at
+    pub stored : (guest ppn at : ℕ) → at < 4096
+        → byte_at (state_of core) guest ppn at ≡ last_stored journal (verdicts_of hash (opening (state_of core)) journal) guest ppn at
     -- the frames reclaimed are the pages mapped less the distinct frames that the pages name
     pub adds_up : AddUp (totals (state_of core).entries (state_of core).guests)
     pub frames : (totals (state_of core).entries (state_of core).guests).frames ≡ distinct_numbers (frames_of core.pmap)

@@ -8,7 +8,8 @@ use Rattle.merge_machine.specs.View.{ends_of, journal_of, limit_of, core_of, gue
 use Rattle.merge_machine.specs.declared.merger.Merger.{Merger}
 
 -- The merger and the ports as they were, except that each end may have learned what is left in its rings.
-pub record IsUnsettled {H A : Type 0} {ghosts : Ghosts H} (merger : Merger H A ghosts) (ports : List (ClosedPort A)) (merger' : Merger H A ghosts) (ports' : List (ClosedPort A)) : Type 0 where
+pub record IsUnsettled {H A : Type 0} {ghosts : Ghosts H} (merger : Merger H A ghosts) (ports : List (ClosedPort A))
+    (merger' : Merger H A ghosts) (ports' : List (ClosedPort A)) : Type 0 where
   pub same_ports : closed_views ports' ≡ closed_views ports
   pub same_ends : end_views (ends_of merger') ≡ end_views (ends_of merger)
   pub journal : journal_of merger' ≡ journal_of merger

@@ -3,6 +3,7 @@ ghost use Rattle.std.specs.Prelude.{◌≡◌, ◌≤◌, length};
 ghost use Rattle.std.specs.List.{position};
 ghost use Rattle.merge_machine.specs.Meets.{is_unclosed};
 ghost use Rattle.merge_settle.specs.Settling.{is_running, running_fault, undrained_fault};
+ghost use Rattle.page_model.specs.declared.limits.TheConstants.{MAX_GUESTS};
 
 use crate::unsettled::SettleFault;
 use share_rings::{ClosedPort, MergerEnd};
@@ -13,7 +14,7 @@ pub(crate) fn find_fault<A: Allocator>(
     ends: &[MergerEnd<A>],
     ports: &[ClosedPort<A>],
 ) -> Option<SettleFault>
-    requires { (length ends.now ≤ 64) × (length ports.now ≤ 64) }
+    requires { (length ends.now ≤ MAX_GUESTS) × (length ports.now ≤ MAX_GUESTS) }
     ensures { result ≡ running_fault (position is_running ends.now) (undrained_fault (position is_unclosed ports.now)) }
 {
     if let Some(guest) = first_running(ends) {

@@ -37,7 +37,8 @@ pub fn settle<H: PageHash, A: Allocator>(
     ensures guests { IfOk result (λ s. length (settled_ports s) ≡ guest_count merger) }
     ensures journal { IfOk result (λ s. settled_journal s ≡ journal_of merger) }
     ensures core { IfOk result (λ s. settled_core s ≡ core_of merger) }
-    ensures fault { MatchResult result (λ _. first_fault (ends_of merger) ports.items ≡ None) (λ u. first_fault (ends_of merger) ports.items ≡ Some u.fault) }
+    ensures fault { MatchResult result (λ _. first_fault (ends_of merger) ports.items ≡ None)
+        (λ u. first_fault (ends_of merger) ports.items ≡ Some u.fault) }
     ensures unsettled { IfErr result (λ u. IsUnsettled merger ports.items u.merger u.ports.items) }
 {
     let mut merger = merger;

@@ -45,7 +45,8 @@ impl<H: PageHash, A: Allocator> Settled<H, A> {
         requires page { IsSome (page_at (state_of (settled_core self.now)).guests guest ppn) }
         requires at { at < 4096 }
         ensures byte { result ≡ byte_at (state_of (settled_core self.now)) guest ppn at }
-        ensures stored { result ≡ last_stored (settled_journal self.now) (verdicts_of H.hash_of (opening (state_of (settled_core self.now))) (settled_journal self.now)) guest ppn at }
+        ensures stored { result ≡ last_stored (settled_journal self.now)
+            (verdicts_of H.hash_of (opening (state_of (settled_core self.now))) (settled_journal self.now)) guest ppn at }
     {
         self.merger.read(guest, ppn, at)
     }

@@ -2,6 +2,7 @@
 ghost use Rattle.std.specs.Prelude.{◌≡◌, ◌≤◌, All, IfOk, length, take, drop};
 ghost use Rattle.page_digest.specs.Many.{AreTaken, frame_hashes};
 ghost use Rattle.page_digest.specs.Parts.{CanShare, IsReady, hashes_of_part, hashes_of_parts, task_parts};
+ghost use Rattle.page_model.specs.declared.limits.TheConstants.{MAX_WORKERS};
 
 use crate::PageHash;
 use crate::part::push_hashes;
@@ -53,7 +54,7 @@ pub fn hash_many<
     frames: &Frames<B>,
     pairs: &[(u32, u32)],
 ) -> Result<Vec<u64, A>, HashFault>
-    requires workers { (1 ≤ workers) × (workers ≤ 64) }
+    requires workers { (1 ≤ workers) × (workers ≤ MAX_WORKERS) }
     requires taken { AreTaken frames.now pairs.now }
     ensures { IfOk result (λ hashes. hashes.items ≡ frame_hashes H.hash_of frames.now pairs.now) }
 {

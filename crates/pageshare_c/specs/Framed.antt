@@ -86,7 +86,8 @@ left_by (Err refusal) first own = None
 
 -- the frame that is free since a page of this core was lent
 abbrev pub left_in : (ℕ → List ℕ → ℕ) → Shown → ℕ → ℕ → List ℕ → Option ℕ
-left_in hash c guest ppn page = left_by (lend_steps hash (state_of c) guest ppn page) (page_stored hash (state_of c) guest ppn page).verdict (frame_at c.pmap guest ppn)
+left_in hash c guest ppn page = left_by (lend_steps hash (state_of c) guest ppn page)
+    (page_stored hash (state_of c) guest ppn page).verdict (frame_at c.pmap guest ppn)
 
 -- the same for the machine behind a handle
 abbrev pub frame_left : Option HashedCore → ℕ → ℕ → List ℕ → Option ℕ

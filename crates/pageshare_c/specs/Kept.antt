@@ -38,14 +38,16 @@ StoreKept guest ppn outcome (Some old) (Some new) = CoreStores guest ppn outcome
 -- A lent page leaves each other page its frame, and has the frame that the verdicts of its first store and of its proposal say.
 -- A refused call changes nothing.
 abbrev pub CoreLends : (ℕ → List ℕ → ℕ) → ℕ → ℕ → List ℕ → Result Verdict Refusal → Shown → Shown → Type 0
-CoreLends hash guest ppn page (Ok verdict) old new = LendKeeps old.frames guest ppn (page_stored hash (state_of old) guest ppn page).verdict verdict old.pmap new.pmap
+CoreLends hash guest ppn page (Ok verdict) old new = LendKeeps old.frames guest ppn
+    (page_stored hash (state_of old) guest ppn page).verdict verdict old.pmap new.pmap
 CoreLends hash guest ppn page (Err refusal) old new = new ≡ old
 
 -- the same for the machine behind a handle
 abbrev pub LendKept : ℕ → ℕ → List ℕ → Result Verdict Refusal → Option HashedCore → Option HashedCore → Type 0
 LendKept guest ppn page outcome None new = new ≡ None
 LendKept guest ppn page outcome (Some old) None = ⊥
-LendKept guest ppn page outcome (Some old) (Some new) = CoreLends (hash_in old) guest ppn page outcome (shown_in old) (shown_in new) × SameHash old new
+LendKept guest ppn page outcome (Some old) (Some new) = CoreLends (hash_in old) guest ppn page outcome (shown_in old) (shown_in new)
+    × SameHash old new
 
 -- the count of requests begins anew, and all else stays
 abbrev pub restarted : Shown → Shown

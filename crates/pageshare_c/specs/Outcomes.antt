@@ -94,7 +94,8 @@ store_outcome (Some c) guest ppn page = verdict_in (store_steps (hash_in c) (sta
 
 abbrev pub state_stored : Option HashedCore → ℕ → ℕ → List ℕ → Option State
 state_stored None guest ppn page = None
-state_stored (Some c) guest ppn page = Some (state_in (state_of (shown_in c)) (store_steps (hash_in c) (state_of (shown_in c)) guest ppn page))
+state_stored (Some c) guest ppn page = Some
+    (state_in (state_of (shown_in c)) (store_steps (hash_in c) (state_of (shown_in c)) guest ppn page))
 
 -- the same for a page that is lent
 abbrev pub lend_outcome : Option HashedCore → ℕ → ℕ → List ℕ → Result Verdict Refusal

@@ -23,7 +23,13 @@ frame_number (Some mpn) = mpn
 
 -- the answer to a request: its verdict, the named page's frame afterwards, and a frame that is free since
 abbrev pub told : Result Verdict Refusal → Option ℕ → Option ℕ → Answer
-told (Ok verdict) frame freed = record { status = 0; verdict = code_of verdict; count = count_of verdict; frame = frame_number frame; freed = frame_number freed }
+told (Ok verdict) frame freed = record {
+  status = 0;
+  verdict = code_of verdict;
+  count = count_of verdict;
+  frame = frame_number frame;
+  freed = frame_number freed;
+}
 told (Err refusal) frame freed = record { status = status_of refusal; verdict = 0; count = 0; frame = NO_FRAME; freed = NO_FRAME }
 
 -- the answer to a request of the machine behind a handle, which shows old and then new
@@ -59,7 +65,14 @@ taken room _ text = room
 
 -- the six numbers of a report
 abbrev pub numbers : Report → Totals
-numbers r = record { entries = r.entries; mapped = r.mapped; shared = r.shared; frames = r.frames; reclaimed = r.reclaimed; hints = r.hints }
+numbers r = record {
+  entries = r.entries;
+  mapped = r.mapped;
+  shared = r.shared;
+  frames = r.frames;
+  reclaimed = r.reclaimed;
+  hints = r.hints;
+}
 
 -- the room of a count
 abbrev pub counted : Totals → Result Verdict Refusal → Totals

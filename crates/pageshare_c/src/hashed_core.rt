@@ -106,8 +106,10 @@ impl HashedCore {
     pub(crate) fn take_back(&mut self, guest: u32, ppn: u32, room: &mut Page) -> Answer
         ensures answer { result ≡ answer_to (Some self.old) (Some self.new) guest (Ok (Release ppn)) }
         ensures state { seen (Some self.new) ≡ state_after (Some self.old) guest (Ok (Release ppn)) }
-        ensures frames { FramesKept guest (Ok (Release ppn)) (outcome (Some self.old) guest (Ok (Release ppn))) (Some self.old) (Some self.new) }
-        ensures bytes { room.new ≡ taken room.old (outcome (Some self.old) guest (Ok (Release ppn))) (text_of (seen (Some self.old)) guest ppn) }
+        ensures frames { FramesKept guest (Ok (Release ppn)) (outcome (Some self.old) guest (Ok (Release ppn))) (Some self.old)
+            (Some self.new) }
+        ensures bytes { room.new ≡ taken room.old (outcome (Some self.old) guest (Ok (Release ppn)))
+            (text_of (seen (Some self.old)) guest ppn) }
         ensures free { LeftFree (frame_freed (Some self.old) guest (Ok (Release ppn))) (Some self.new) }
     {
         match self {

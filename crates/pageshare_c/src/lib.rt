@@ -109,7 +109,8 @@ pub extern "C" fn pageshare_propose(
 ) -> Answer
     ensures answer { result ≡ answer_to machine.old.slot.core machine.new.slot.core guest (Ok (Request.Propose ppn)) }
     ensures state { seen machine.new.slot.core ≡ state_after machine.old.slot.core guest (Ok (Request.Propose ppn)) }
-    ensures frames { FramesKept guest (Ok (Request.Propose ppn)) (outcome machine.old.slot.core guest (Ok (Request.Propose ppn))) machine.old.slot.core machine.new.slot.core }
+    ensures frames { FramesKept guest (Ok (Request.Propose ppn))
+        (outcome machine.old.slot.core guest (Ok (Request.Propose ppn))) machine.old.slot.core machine.new.slot.core }
 {
     serve(alloc, machine, guest, &Ok(Request::Propose(ppn)))
 }
@@ -126,7 +127,8 @@ pub extern "C" fn pageshare_store(
 ) -> Answer
     ensures answer { result ≡ answer_to machine.old.slot.core machine.new.slot.core guest (store_of ppn at bytes.now) }
     ensures state { seen machine.new.slot.core ≡ state_after machine.old.slot.core guest (store_of ppn at bytes.now) }
-    ensures frames { FramesKept guest (store_of ppn at bytes.now) (outcome machine.old.slot.core guest (store_of ppn at bytes.now)) machine.old.slot.core machine.new.slot.core }
+    ensures frames { FramesKept guest (store_of ppn at bytes.now)
+        (outcome machine.old.slot.core guest (store_of ppn at bytes.now)) machine.old.slot.core machine.new.slot.core }
 {
     serve(alloc, machine, guest, &store_request(ppn, at, bytes))
 }
@@ -144,7 +146,8 @@ pub extern "C" fn pageshare_load(
 ) -> Answer
     ensures answer { result ≡ answer_to machine.old.slot.core machine.new.slot.core guest (load_of ppn at (length room.old)) }
     ensures state { seen machine.new.slot.core ≡ state_after machine.old.slot.core guest (load_of ppn at (length room.old)) }
-    ensures frames { FramesKept guest (load_of ppn at (length room.old)) (outcome machine.old.slot.core guest (load_of ppn at (length room.old))) machine.old.slot.core machine.new.slot.core }
+    ensures frames { FramesKept guest (load_of ppn at (length room.old))
+        (outcome machine.old.slot.core guest (load_of ppn at (length room.old))) machine.old.slot.core machine.new.slot.core }
     ensures bytes { room.new ≡ loaded room.old (outcome machine.old.slot.core guest (load_of ppn at (length room.old))) }
 {
     let asked = load_request(ppn, at, room.len());
@@ -161,7 +164,8 @@ pub extern "C" fn pageshare_release(
 ) -> Answer
     ensures answer { result ≡ answer_to machine.old.slot.core machine.new.slot.core guest (Ok (Request.Release ppn)) }
     ensures state { seen machine.new.slot.core ≡ state_after machine.old.slot.core guest (Ok (Request.Release ppn)) }
-    ensures frames { FramesKept guest (Ok (Request.Release ppn)) (outcome machine.old.slot.core guest (Ok (Request.Release ppn))) machine.old.slot.core machine.new.slot.core }
+    ensures frames { FramesKept guest (Ok (Request.Release ppn))
+        (outcome machine.old.slot.core guest (Ok (Request.Release ppn))) machine.old.slot.core machine.new.slot.core }
 {
     serve(alloc, machine, guest, &Ok(Request::Release(ppn)))
 }
@@ -206,7 +210,8 @@ pub extern "C" fn pageshare_lend(
 ) -> Answer
     ensures answer { result ≡ lend_answer machine.old.slot.core machine.new.slot.core guest ppn page.now }
     ensures state { seen machine.new.slot.core ≡ state_lent machine.old.slot.core guest ppn page.now }
-    ensures frames { LendKept guest ppn page.now (lend_outcome machine.old.slot.core guest ppn page.now) machine.old.slot.core machine.new.slot.core }
+    ensures frames { LendKept guest ppn page.now
+        (lend_outcome machine.old.slot.core guest ppn page.now) machine.old.slot.core machine.new.slot.core }
     ensures free { LeftFree (frame_left machine.old.slot.core guest ppn page.now) machine.new.slot.core }
 {
     match machine.take(alloc) {
@@ -231,8 +236,10 @@ pub extern "C" fn pageshare_take_back(
 ) -> Answer
     ensures answer { result ≡ answer_to machine.old.slot.core machine.new.slot.core guest (Ok (Request.Release ppn)) }
     ensures state { seen machine.new.slot.core ≡ state_after machine.old.slot.core guest (Ok (Request.Release ppn)) }
-    ensures frames { FramesKept guest (Ok (Request.Release ppn)) (outcome machine.old.slot.core guest (Ok (Request.Release ppn))) machine.old.slot.core machine.new.slot.core }
-    ensures bytes { room.new ≡ taken room.old (outcome machine.old.slot.core guest (Ok (Request.Release ppn))) (text_of (seen machine.old.slot.core) guest ppn) }
+    ensures frames { FramesKept guest (Ok (Request.Release ppn))
+        (outcome machine.old.slot.core guest (Ok (Request.Release ppn))) machine.old.slot.core machine.new.slot.core }
+    ensures bytes { room.new ≡ taken room.old (outcome machine.old.slot.core guest (Ok (Request.Release ppn)))
+        (text_of (seen machine.old.slot.core) guest ppn) }
     ensures free { LeftFree (frame_freed machine.old.slot.core guest (Ok (Request.Release ppn))) machine.new.slot.core }
 {
     match machine.take(alloc) {
@@ -256,7 +263,8 @@ pub extern "C" fn pageshare_count(
 ) -> Answer
     ensures answer { result ≡ answer_to machine.old.slot.core machine.new.slot.core guest (Ok Request.Count) }
     ensures state { seen machine.new.slot.core ≡ state_after machine.old.slot.core guest (Ok Request.Count) }
-    ensures frames { FramesKept guest (Ok Request.Count) (outcome machine.old.slot.core guest (Ok Request.Count)) machine.old.slot.core machine.new.slot.core }
+    ensures frames { FramesKept guest (Ok Request.Count)
+        (outcome machine.old.slot.core guest (Ok Request.Count)) machine.old.slot.core machine.new.slot.core }
     ensures totals { totals.new ≡ counted totals.old (outcome machine.old.slot.core guest (Ok Request.Count)) }
 {
     serve_count(alloc, machine, guest, &Ok(Request::Count), totals)

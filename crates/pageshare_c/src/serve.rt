@@ -60,7 +60,8 @@ fn accept<'a, H: PageHash>(
     guest: u32,
     asked: &'a Result<Request, RequestFault>,
 ) -> Result<&'a Request, Refusal>
-    ensures told { MatchResult result (λ request. accepted (state_of core.now) guest asked.now ≡ Ok request.now) (λ refusal. accepted (state_of core.now) guest asked.now ≡ Err refusal) }
+    ensures told { MatchResult result (λ request. accepted (state_of core.now) guest asked.now ≡ Ok request.now)
+        (λ refusal. accepted (state_of core.now) guest asked.now ≡ Err refusal) }
     ensures asked { IfOk result (λ request. asked.now ≡ Ok request.now) }
     ensures guest { IfOk result (λ _. guest < length (state_of core.now).guests) }
     ensures few { IfOk result (λ _. guest < 256) }
@@ -82,7 +83,8 @@ fn apply<H: PageHash>(core: &mut Core<H>, guest: u32, request: &Request) -> (Ver
     requires few { guest < 256 }
     requires room { core.old.entries < 4294967295 }
     ensures applies { Applies H.hash_of guest request.now result.0 core.old core.new }
-    ensures answer { result.1 ≡ told (Ok result.0) (named_frame core.new.pmap guest request.now) (freed_at result.0 (own_frame core.old.pmap guest request.now)) }
+    ensures answer { result.1 ≡ told (Ok result.0) (named_frame core.new.pmap guest request.now)
+        (freed_at result.0 (own_frame core.old.pmap guest request.now)) }
 {
     let own = find_own(core, guest, request);
     let verdict = core.apply(guest as u8, request);
@@ -98,7 +100,8 @@ pub(crate) fn answer<H: PageHash>(
     guest: u32,
     asked: &Result<Request, RequestFault>,
 ) -> Answer
-    ensures answer { result ≡ told (answered H.hash_of (state_of core.old) guest asked.now) (asked_frame core.new.pmap guest asked.now) (freed_by (answered H.hash_of (state_of core.old) guest asked.now) core.old.pmap guest asked.now) }
+    ensures answer { result ≡ told (answered H.hash_of (state_of core.old) guest asked.now) (asked_frame core.new.pmap guest asked.now)
+        (freed_by (answered H.hash_of (state_of core.old) guest asked.now) core.old.pmap guest asked.now) }
     ensures state { state_of core.new ≡ answered_state H.hash_of (state_of core.old) guest asked.now }
     ensures frames { CoreKeeps guest asked.now (answered H.hash_of (state_of core.old) guest asked.now) core.old core.new }
 {
@@ -116,7 +119,8 @@ pub(crate) fn answer_load<H: PageHash>(
     asked: &Result<Request, RequestFault>,
     room: &mut [u8],
 ) -> Answer
-    ensures answer { result ≡ told (answered H.hash_of (state_of core.old) guest asked.now) (asked_frame core.new.pmap guest asked.now) (freed_by (answered H.hash_of (state_of core.old) guest asked.now) core.old.pmap guest asked.now) }
+    ensures answer { result ≡ told (answered H.hash_of (state_of core.old) guest asked.now) (asked_frame core.new.pmap guest asked.now)
+        (freed_by (answered H.hash_of (state_of core.old) guest asked.now) core.old.pmap guest asked.now) }
     ensures state { state_of core.new ≡ answered_state H.hash_of (state_of core.old) guest asked.now }
     ensures frames { CoreKeeps guest asked.now (answered H.hash_of (state_of core.old) guest asked.now) core.old core.new }
     ensures bytes { room.new ≡ loaded room.old (answered H.hash_of (state_of core.old) guest asked.now) }
@@ -139,7 +143,8 @@ pub(crate) fn answer_count<H: PageHash>(
     asked: &Result<Request, RequestFault>,
     totals: &mut Totals,
 ) -> Answer
-    ensures answer { result ≡ told (answered H.hash_of (state_of core.old) guest asked.now) (asked_frame core.new.pmap guest asked.now) (freed_by (answered H.hash_of (state_of core.old) guest asked.now) core.old.pmap guest asked.now) }
+    ensures answer { result ≡ told (answered H.hash_of (state_of core.old) guest asked.now) (asked_frame core.new.pmap guest asked.now)
+        (freed_by (answered H.hash_of (state_of core.old) guest asked.now) core.old.pmap guest asked.now) }
     ensures state { state_of core.new ≡ answered_state H.hash_of (state_of core.old) guest asked.now }
     ensures frames { CoreKeeps guest asked.now (answered H.hash_of (state_of core.old) guest asked.now) core.old core.new }
     ensures totals { totals.new ≡ counted totals.old (answered H.hash_of (state_of core.old) guest asked.now) }
@@ -163,7 +168,8 @@ pub(crate) fn serve(
 ) -> Answer
     ensures answer { result ≡ answer_to machine.old.slot.core machine.new.slot.core guest asked.now }
     ensures state { seen machine.new.slot.core ≡ state_after machine.old.slot.core guest asked.now }
-    ensures frames { FramesKept guest asked.now (outcome machine.old.slot.core guest asked.now) machine.old.slot.core machine.new.slot.core }
+    ensures frames { FramesKept guest asked.now
+        (outcome machine.old.slot.core guest asked.now) machine.old.slot.core machine.new.slot.core }
 {
     match machine.take(alloc) {
         None => refuse(Refusal::NoMachine),
@@ -185,7 +191,8 @@ pub(crate) fn serve_load(
 ) -> Answer
     ensures answer { result ≡ answer_to machine.old.slot.core machine.new.slot.core guest asked.now }
     ensures state { seen machine.new.slot.core ≡ state_after machine.old.slot.core guest asked.now }
-    ensures frames { FramesKept guest asked.now (outcome machine.old.slot.core guest asked.now) machine.old.slot.core machine.new.slot.core }
+    ensures frames { FramesKept guest asked.now
+        (outcome machine.old.slot.core guest asked.now) machine.old.slot.core machine.new.slot.core }
     ensures bytes { room.new ≡ loaded room.old (outcome machine.old.slot.core guest asked.now) }
 {
     match machine.take(alloc) {
@@ -208,7 +215,8 @@ pub(crate) fn serve_count(
 ) -> Answer
     ensures answer { result ≡ answer_to machine.old.slot.core machine.new.slot.core guest asked.now }
     ensures state { seen machine.new.slot.core ≡ state_after machine.old.slot.core guest asked.now }
-    ensures frames { FramesKept guest asked.now (outcome machine.old.slot.core guest asked.now) machine.old.slot.core machine.new.slot.core }
+    ensures frames { FramesKept guest asked.now
+        (outcome machine.old.slot.core guest asked.now) machine.old.slot.core machine.new.slot.core }
     ensures totals { totals.new ≡ counted totals.old (outcome machine.old.slot.core guest asked.now) }
 {
     match machine.take(alloc) {

@@ -27,7 +27,8 @@ pub(crate) fn store_page<H: PageHash>(
     ppn: u32,
     page: &Page,
 ) -> Answer
-    ensures answer { result ≡ told (verdict_in (store_steps H.hash_of (state_of core.old) guest ppn page.now)) (frame_at core.new.pmap guest ppn) None }
+    ensures answer { result ≡ told (verdict_in (store_steps H.hash_of (state_of core.old) guest ppn page.now))
+        (frame_at core.new.pmap guest ppn) None }
     ensures state { state_of core.new ≡ state_in (state_of core.old) (store_steps H.hash_of (state_of core.old) guest ppn page.now) }
     ensures frames { CoreStores guest ppn (verdict_in (store_steps H.hash_of (state_of core.old) guest ppn page.now)) core.old core.new }
 {
@@ -41,9 +42,11 @@ pub(crate) fn store_page<H: PageHash>(
 /// Lends a page.
 #[tactic(auto, using(crate::proofs::Tellings::no_steps))]
 pub(crate) fn lend<H: PageHash>(core: &mut Core<H>, guest: u32, ppn: u32, page: &Page) -> Answer
-    ensures answer { result ≡ told (verdict_in (lend_steps H.hash_of (state_of core.old) guest ppn page.now)) (frame_at core.new.pmap guest ppn) (left_in H.hash_of core.old guest ppn page.now) }
+    ensures answer { result ≡ told (verdict_in (lend_steps H.hash_of (state_of core.old) guest ppn page.now))
+        (frame_at core.new.pmap guest ppn) (left_in H.hash_of core.old guest ppn page.now) }
     ensures state { state_of core.new ≡ state_in (state_of core.old) (lend_steps H.hash_of (state_of core.old) guest ppn page.now) }
-    ensures frames { CoreLends H.hash_of guest ppn page.now (verdict_in (lend_steps H.hash_of (state_of core.old) guest ppn page.now)) core.old core.new }
+    ensures frames { CoreLends H.hash_of guest ppn page.now
+        (verdict_in (lend_steps H.hash_of (state_of core.old) guest ppn page.now)) core.old core.new }
     ensures free { IsFree (left_in H.hash_of core.old guest ppn page.now) core.new }
 {
     if let Some(refusal) = refusal_for(core, guest, STORES_A_PAGE + 1) {
@@ -61,11 +64,15 @@ pub(crate) fn take_back<H: PageHash>(
     ppn: u32,
     room: &mut Page,
 ) -> Answer
-    ensures answer { result ≡ told (answered H.hash_of (state_of core.old) guest (Ok (Release ppn))) (frame_at core.new.pmap guest ppn) (freed_by (answered H.hash_of (state_of core.old) guest (Ok (Release ppn))) core.old.pmap guest (Ok (Release ppn))) }
+    ensures answer { result ≡ told (answered H.hash_of (state_of core.old) guest (Ok (Release ppn))) (frame_at core.new.pmap guest ppn)
+        (freed_by (answered H.hash_of (state_of core.old) guest (Ok (Release ppn))) core.old.pmap guest (Ok (Release ppn))) }
     ensures state { state_of core.new ≡ answered_state H.hash_of (state_of core.old) guest (Ok (Release ppn)) }
-    ensures frames { CoreKeeps guest (Ok (Release ppn)) (answered H.hash_of (state_of core.old) guest (Ok (Release ppn))) core.old core.new }
-    ensures room { room.new ≡ taken room.old (answered H.hash_of (state_of core.old) guest (Ok (Release ppn))) (text_in (state_of core.old) guest ppn) }
-    ensures free { IsFree (freed_by (answered H.hash_of (state_of core.old) guest (Ok (Release ppn))) core.old.pmap guest (Ok (Release ppn))) core.new }
+    ensures frames { CoreKeeps guest (Ok (Release ppn))
+        (answered H.hash_of (state_of core.old) guest (Ok (Release ppn))) core.old core.new }
+    ensures room { room.new ≡ taken room.old (answered H.hash_of (state_of core.old) guest (Ok (Release ppn)))
+        (text_in (state_of core.old) guest ppn) }
+    ensures free { IsFree (freed_by (answered H.hash_of (state_of core.old) guest (Ok (Release ppn))) core.old.pmap guest
+        (Ok (Release ppn))) core.new }
 {
     if let Some(refusal) = refusal_for(core, guest, 1) {
         return refuse(refusal);

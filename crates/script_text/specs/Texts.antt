@@ -75,7 +75,14 @@ script_in text = do
   head ← head_in (codes "pageshare script 1") (codes "pageshare script 2") text
   rooms ← rooms_in (line_behind_head head.0.has_salts) (length head.0.pages) head.1
   scripts ← scripts_in head.0.pages rooms.0.1 (line_behind_head head.0.has_salts + 2) rooms.1
-  Ok (record { frames = head.0.frames; pages = head.0.pages; salts = head.0.salts; ring = rooms.0.0; journal = rooms.0.1; scripts = scripts })
+  Ok (record {
+    frames = head.0.frames;
+    pages = head.0.pages;
+    salts = head.0.salts;
+    ring = rooms.0.0;
+    journal = rooms.0.1;
+    scripts = scripts;
+  })
 
 -- What a script's text says: its script, or its first fault. A text has at most 67,108,864 bytes, which is checked first.
 unfoldable pub script_of : List ℕ → Result Script TextFault

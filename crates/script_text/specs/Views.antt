@@ -27,4 +27,11 @@ module _ {A : Type 0} where
 
   -- a script as the definitions have it
   abbrev pub script_seen : Script A → said.Script
-  script_seen s = record { frames = s.config.frames; pages = s.config.pages.items; salts = s.config.salts.items; ring = s.config.ring; journal = s.config.journal; scripts = lists_of s.scripts.items }
+  script_seen s = record {
+    frames = s.config.frames;
+    pages = s.config.pages.items;
+    salts = s.config.salts.items;
+    ring = s.config.ring;
+    journal = s.config.journal;
+    scripts = lists_of s.scripts.items;
+  }

@@ -1,5 +1,6 @@
 //! The engine that serves a script in its serial order.
-ghost use Rattle.std.specs.Prelude.{◌≡◌, ◌+◌, ◌≤◌, [], false, true, length, string_bytes, string_capacity, vec_capacity, IfErr, OnOk, OnErr};
+ghost use Rattle.std.specs.Prelude.{◌≡◌, ◌+◌, ◌≤◌, [], false, true};
+ghost use Rattle.std.specs.Prelude.{length, string_bytes, string_capacity, vec_capacity, IfErr, OnOk, OnErr};
 ghost use Rattle.std.specs.Io.KnownBytes.{Appends};
 ghost use Rattle.merge_core.specs.Shown.{state_of};
 ghost use Rattle.merge_machine.specs.Scripts.{entries_needed};
@@ -8,6 +9,7 @@ ghost use Rattle.journal_replay.specs.Replayed.{NotPrinted, printed_from};
 ghost use Rattle.script_text.specs.Order.{serial_order};
 ghost use Rattle.script_text.specs.Served.{serial_printed, Serves};
 ghost use Rattle.script_text.specs.Views.{lists_of, script_seen};
+ghost use Rattle.page_model.specs.declared.limits.TheConstants.{MAX_ENTRIES};
 
 use crate::order::{push_turn, turns_of};
 use crate::reader::read_script;
@@ -40,14 +42,16 @@ fn print_turns<H: PageHash, W: Sink, A: Allocator>(
 ) -> Result<(), TextFault>
     requires many { length scripts.now ≤ 64 }
     requires guests { length (state_of core.old).guests ≡ length scripts.now }
-    requires few { core.old.entries + entries_needed scripts.now ≤ 16777216 }
+    requires few { core.old.entries + entries_needed scripts.now ≤ MAX_ENTRIES }
     requires none { entries.old.items ≡ [] }
     requires space { ROOM ≤ vec_capacity entries.old }
     requires fine { W.has_failed writer.old ≡ false }
     requires empty { string_bytes out.old ≡ [] }
     requires room { LINE_BYTES ≤ string_capacity out.old }
-    ensures ok { OnOk result (Appends (W.contents writer.old) (W.contents writer.new) (printed_from H.hash_of (state_of core.old) (serial_order (lists_of scripts.now)))) }
-    ensures err { OnErr result (AppendsFront (W.contents writer.old) (W.contents writer.new) (printed_from H.hash_of (state_of core.old) (serial_order (lists_of scripts.now)))) }
+    ensures ok { OnOk result (Appends (W.contents writer.old) (W.contents writer.new)
+        (printed_from H.hash_of (state_of core.old) (serial_order (lists_of scripts.now)))) }
+    ensures err { OnErr result (AppendsFront (W.contents writer.old) (W.contents writer.new)
+        (printed_from H.hash_of (state_of core.old) (serial_order (lists_of scripts.now)))) }
     ensures fine { OnOk result (W.has_failed writer.new ≡ false) }
     ensures failed { OnErr result (W.has_failed writer.new ≡ true) }
     ensures fault { IfErr result (λ e. e ≡ TextFault.Write) }
@@ -72,7 +76,8 @@ fn print_script<H: PageHash + Drop, W: Sink, A: Allocator + Clone>(
 ) -> Result<(), TextFault>
     requires fine { W.has_failed writer.old ≡ false }
     ensures ok { OnOk result (Appends (W.contents writer.old) (W.contents writer.new) (serial_printed H.hash_of (script_seen script.now))) }
-    ensures err { IfErr result (λ e. NotPrinted (W.contents writer.old) (W.contents writer.new) (serial_printed H.hash_of (script_seen script.now)) e) }
+    ensures err { IfErr result (λ e. NotPrinted (W.contents writer.old) (W.contents writer.new)
+        (serial_printed H.hash_of (script_seen script.now)) e) }
     ensures reader { tells_read result ≡ false }
     ensures writer { W.has_failed writer.new ≡ tells_write result }
 {

@@ -3,7 +3,8 @@ ghost use Rattle.std.specs.Prelude.{◌≡◌, ◌+◌, ◌<◌, ◌≤◌, fals
 ghost use Rattle.page_model.specs.Closing.{is_close};
 ghost use Rattle.script_text.specs.Works.{size_of};
 ghost use Rattle.journal_text.specs.Cursor.{left, seen};
-ghost use Rattle.script_text.specs.Lines.{seed_at, scanned, in_order_at, at_random_at, scan_named, scan_at, as_work, work_named, work_at, is_guest, with_room, item_at, script_line_of, IsPlain, Fits};
+ghost use Rattle.script_text.specs.Lines.{seed_at, scanned, in_order_at, at_random_at, scan_named, scan_at, as_work};
+ghost use Rattle.script_text.specs.Lines.{work_named, work_at, is_guest, with_room, item_at, script_line_of, IsPlain, Fits};
 
 use crate::work::{Item, Work};
 use journal_text::Cause;

@@ -25,7 +25,11 @@ pub struct Script<A: Allocator> {
 impl<A: Allocator> Script<A> {
     /// Returns the shape of the script's machine.
     pub fn shape(&self) -> MachineShape<'_>
-        ensures { result ≡ record { frames = self.now.config.frames; pages = self.now.config.pages.items; salts = self.now.config.salts.items } }
+        ensures { result ≡ record {
+          frames = self.now.config.frames;
+          pages = self.now.config.pages.items;
+          salts = self.now.config.salts.items;
+        } }
     {
         let config = &self.config;
         match MachineShape::new(config.frames, &config.pages, &config.salts) {

@@ -73,7 +73,8 @@ module _ {H A : Type 0} {ghosts : Ghosts H} where
       let es : List Entry = settled_journal f.settled in
       let ports : List (ClosedPort A) = settled_ports f.settled in
       let before : State = opening (state_of (settled_core f.settled)) in
-      let each : map closed_got ports ≡ each_from (λ guest. journal.answers hash before guest es) 0 (length ports) = each_at (λ guest. journal.answers hash before guest es) closed_got 0 ports (λ i d l. (settles.guests i d l).got ∙ ap (λ (guest : ℕ). journal.answers hash before guest es) (from_none i)) in
+      let each : map closed_got ports ≡ each_from (λ guest. journal.answers hash before guest es) 0 (length ports) = each_at (λ guest. journal.answers hash before guest es) closed_got 0 ports
+      (λ i d l. (settles.guests i d l).got ∙ ap (λ (guest : ℕ). journal.answers hash before guest es) (from_none i)) in
       each ∙ ap (λ (n : ℕ). each_from (λ guest. journal.answers hash before guest es) 0 n) guests
       ∙ ap (λ (m : State). each_from (λ guest. journal.answers hash m guest es) 0 (length s.config.pages.items)) same
 

@@ -68,7 +68,8 @@ Answers NoThread (Err (threaded.Text fault)) = Unit {0}
 
 -- What `threaded` does with the bytes, in this form: the run of the input's script, if the input has one, ended in one of the
 -- ways in which it may; the answer fits that way, and what was written is the output for it.
-pub record Threads (hash : ℕ → List ℕ → ℕ) (form : Output) (input old new : Option (List ℕ)) (r : Result (Unit {0}) ThreadedFault) : Type 0 where
+pub record Threads (hash : ℕ → List ℕ → ℕ) (form : Output) (input old new : Option (List ℕ))
+    (r : Result (Unit {0}) ThreadedFault) : Type 0 where
   pub outcome : Outcome
   pub can_end : IfSome input (λ text. IfOk (script_of text) (λ s. CanEnd s outcome))
   pub answers : Answers outcome r
@@ -80,7 +81,8 @@ pub record NeitherFailed (read_failed write_failed : Bool) : Type 0 where
   pub writer : write_failed ≡ false
 
 -- All that `threaded` does: what it does with the bytes, and that its answer shows which end failed.
-pub record RunsText (hash : ℕ → List ℕ → ℕ) (form : Output) (input old new : Option (List ℕ)) (read_failed write_failed : Bool) (r : Result (Unit {0}) ThreadedFault) : Type 0 where
+pub record RunsText (hash : ℕ → List ℕ → ℕ) (form : Output) (input old new : Option (List ℕ)) (read_failed write_failed : Bool)
+    (r : Result (Unit {0}) ThreadedFault) : Type 0 where
   pub bytes : Threads hash form input old new r
   pub reader : read_failed ≡ tells_read (as_written r)
   pub writer : write_failed ≡ tells_write (as_written r)
@@ -105,7 +107,8 @@ pub record EndsAs (outcome : Outcome) (due : List ℕ) (old new : Option (List �
   pub err : IfErr (as_written r) (λ e. NotPrinted old new due e)
 
 -- the work on a script ended as one of its runs does
-pub record Serves (hash : ℕ → List ℕ → ℕ) (form : Output) (s : Script) (old new : Option (List ℕ)) (r : Result (Unit {0}) ThreadedFault) : Type 0 where
+pub record Serves (hash : ℕ → List ℕ → ℕ) (form : Output) (s : Script) (old new : Option (List ℕ))
+    (r : Result (Unit {0}) ThreadedFault) : Type 0 where
   pub outcome : Outcome
   pub can_end : CanEnd s outcome
   pub ends : EndsAs outcome (outcome_text hash form s outcome) old new r
@@ -114,4 +117,5 @@ module _ {H A : Type 0} {ghosts : Ghosts H} where
   -- what is written of a run that has ended, by what it returned
   abbrev pub finished_text : Output → Config A → Finished H A ghosts → List ℕ
   finished_text Verdicts c f = lists_lines 0 (map (λ list. list.items) f.verdicts.items) ++ report_text (state_of (settled_core f.settled))
-  finished_text JournalText c f = journal_text (record { frames = c.frames; pages = c.pages.items; salts = c.salts.items; entries = settled_journal f.settled })
+  finished_text JournalText c f = journal_text
+      (record { frames = c.frames; pages = c.pages.items; salts = c.salts.items; entries = settled_journal f.settled })

@@ -91,7 +91,8 @@ fn run_machine<
     viewer: Option<&V>,
 ) -> Result<Finished<H, A>, RunFault>
     requires scripts { CanBeRun config.now scripts.items }
-    ensures run { MatchResult result (λ f. IsWholeRun H.hash_of config.now scripts.items f.settled f.verdicts.items) (λ fault. NotRunFor config.now scripts.items fault) }
+    ensures run { MatchResult result (λ f. IsWholeRun H.hash_of config.now scripts.items f.settled f.verdicts.items)
+        (λ fault. NotRunFor config.now scripts.items fault) }
 {
     let Some(viewer) = viewer else {
         return run(rt, alloc, config, hash, scripts, gate);
@@ -152,7 +153,8 @@ fn read_and_run<
     form: Output,
 ) -> Result<(), ThreadedFault>
     requires { NeitherFailed (R.has_failed reader.old) (W.has_failed writer.old) }
-    ensures { RunsText H.hash_of form (R.remaining reader.old) (W.contents writer.old) (W.contents writer.new) (R.has_failed reader.new) (W.has_failed writer.new) result }
+    ensures { RunsText H.hash_of form (R.remaining reader.old) (W.contents writer.old) (W.contents writer.new) (R.has_failed reader.new)
+        (W.has_failed writer.new) result }
 {
     let text = match read_all(alloc, reader) {
         Ok(text) => text,
@@ -193,7 +195,8 @@ pub fn threaded<
     form: Output,
 ) -> Result<(), ThreadedFault>
     requires { NeitherFailed (R.has_failed reader.old) (W.has_failed writer.old) }
-    ensures { RunsText H.hash_of form (R.remaining reader.old) (W.contents writer.old) (W.contents writer.new) (R.has_failed reader.new) (W.has_failed writer.new) result }
+    ensures { RunsText H.hash_of form (R.remaining reader.old) (W.contents writer.old) (W.contents writer.new) (R.has_failed reader.new)
+        (W.has_failed writer.new) result }
 {
     let viewer: Option<&Nobody> = None;
     read_and_run(rt, alloc, reader, writer, hash, gate, viewer, form)
@@ -220,7 +223,8 @@ pub fn threaded_viewed<
     form: Output,
 ) -> Result<(), ThreadedFault>
     requires { NeitherFailed (R.has_failed reader.old) (W.has_failed writer.old) }
-    ensures { RunsText H.hash_of form (R.remaining reader.old) (W.contents writer.old) (W.contents writer.new) (R.has_failed reader.new) (W.has_failed writer.new) result }
+    ensures { RunsText H.hash_of form (R.remaining reader.old) (W.contents writer.old) (W.contents writer.new) (R.has_failed reader.new)
+        (W.has_failed writer.new) result }
 {
     read_and_run(rt, alloc, reader, writer, hash, gate, Some(viewer), form)
 }

@@ -1,5 +1,6 @@
 //! What a run returned, as lines or as a journal's text.
-ghost use Rattle.std.specs.Prelude.{◌≡◌, ◌+◌, ◌≤◌, ◌++◌, [], codes, false, true, length, map, string_bytes, string_capacity, IfErr, OnOk, OnErr};
+ghost use Rattle.std.specs.Prelude.{◌≡◌, ◌+◌, ◌≤◌, ◌++◌, [], codes, false};
+ghost use Rattle.std.specs.Prelude.{true, length, map, string_bytes, string_capacity, IfErr, OnOk, OnErr};
 ghost use Rattle.std.specs.Io.KnownBytes.{Appends};
 ghost use Rattle.merge_core.specs.Shown.{state_of};
 ghost use Rattle.merge_run.specs.View.{settled_core};
@@ -8,6 +9,7 @@ ghost use Rattle.journal_text.specs.Printed.{verdict_line};
 ghost use Rattle.journal_replay.specs.Replayed.{report_text, NotPrinted};
 ghost use Rattle.share_text.specs.Runs.{guest_lines, lists_lines};
 ghost use Rattle.share_text.specs.Threads.{finished_text};
+ghost use Rattle.page_model.specs.declared.limits.TheConstants.{MAX_GUESTS};
 
 use crate::form::Output;
 use journal_replay::Sink;
@@ -32,7 +34,8 @@ fn print_verdict<W: Sink, A: Allocator>(
 ) -> Result<(), TextFault>
     requires fine { W.has_failed writer.old ≡ false }
     requires room { LINE_BYTES ≤ string_capacity out.old }
-    ensures sends { OnOk result (Sends (W.contents writer.old) (W.contents writer.new) (string_bytes out.new) (string_bytes out.old ++ (verdict_line guest verdict.now ++ codes "\n"))) }
+    ensures sends { OnOk result (Sends (W.contents writer.old) (W.contents writer.new) (string_bytes out.new)
+        (string_bytes out.old ++ (verdict_line guest verdict.now ++ codes "\n"))) }
     ensures fine { OnOk result (W.has_failed writer.new ≡ false) }
     ensures room { OnOk result (LINE_BYTES ≤ string_capacity out.new) }
     ensures err { OnErr result (AppendsFront (W.contents writer.old) (W.contents writer.new) (string_bytes out.old)) }
@@ -53,10 +56,12 @@ fn print_guest<W: Sink, A: Allocator>(
 ) -> Result<(), TextFault>
     requires fine { W.has_failed writer.old ≡ false }
     requires room { LINE_BYTES ≤ string_capacity out.old }
-    ensures sends { OnOk result (Sends (W.contents writer.old) (W.contents writer.new) (string_bytes out.new) (string_bytes out.old ++ guest_lines guest verdicts.now)) }
+    ensures sends { OnOk result (Sends (W.contents writer.old) (W.contents writer.new) (string_bytes out.new)
+        (string_bytes out.old ++ guest_lines guest verdicts.now)) }
     ensures fine { OnOk result (W.has_failed writer.new ≡ false) }
     ensures room { OnOk result (LINE_BYTES ≤ string_capacity out.new) }
-    ensures err { OnErr result (AppendsFront (W.contents writer.old) (W.contents writer.new) (string_bytes out.old ++ guest_lines guest verdicts.now)) }
+    ensures err { OnErr result (AppendsFront (W.contents writer.old) (W.contents writer.new)
+        (string_bytes out.old ++ guest_lines guest verdicts.now)) }
     ensures failed { OnErr result (W.has_failed writer.new ≡ true) }
     ensures fault { IfErr result (λ e. e ≡ TextFault.Write) }
 {
@@ -72,13 +77,15 @@ fn print_guests<W: Sink, A: Allocator>(
     writer: &mut W,
     out: &mut String<A>,
 ) -> Result<(), TextFault>
-    requires guests { length lists.now ≤ 64 }
+    requires guests { length lists.now ≤ MAX_GUESTS }
     requires fine { W.has_failed writer.old ≡ false }
     requires room { LINE_BYTES ≤ string_capacity out.old }
-    ensures sends { OnOk result (Sends (W.contents writer.old) (W.contents writer.new) (string_bytes out.new) (string_bytes out.old ++ lists_lines 0 (map (λ list. list.items) lists.now))) }
+    ensures sends { OnOk result (Sends (W.contents writer.old) (W.contents writer.new) (string_bytes out.new)
+        (string_bytes out.old ++ lists_lines 0 (map (λ list. list.items) lists.now))) }
     ensures fine { OnOk result (W.has_failed writer.new ≡ false) }
     ensures room { OnOk result (LINE_BYTES ≤ string_capacity out.new) }
-    ensures err { OnErr result (AppendsFront (W.contents writer.old) (W.contents writer.new) (string_bytes out.old ++ lists_lines 0 (map (λ list. list.items) lists.now))) }
+    ensures err { OnErr result (AppendsFront (W.contents writer.old) (W.contents writer.new)
+        (string_bytes out.old ++ lists_lines 0 (map (λ list. list.items) lists.now))) }
     ensures failed { OnErr result (W.has_failed writer.new ≡ true) }
     ensures fault { IfErr result (λ e. e ≡ TextFault.Write) }
 {
@@ -97,12 +104,14 @@ fn print_lines<H: PageHash, W: Sink, A: Allocator>(
     writer: &mut W,
     out: &mut String<A>,
 ) -> Result<(), TextFault>
-    requires guests { length lists.now ≤ 64 }
+    requires guests { length lists.now ≤ MAX_GUESTS }
     requires fine { W.has_failed writer.old ≡ false }
     requires empty { string_bytes out.old ≡ [] }
     requires room { LINE_BYTES ≤ string_capacity out.old }
-    ensures ok { OnOk result (Appends (W.contents writer.old) (W.contents writer.new) (lists_lines 0 (map (λ list. list.items) lists.now) ++ report_text (state_of core.now))) }
-    ensures err { OnErr result (AppendsFront (W.contents writer.old) (W.contents writer.new) (lists_lines 0 (map (λ list. list.items) lists.now) ++ report_text (state_of core.now))) }
+    ensures ok { OnOk result (Appends (W.contents writer.old) (W.contents writer.new)
+        (lists_lines 0 (map (λ list. list.items) lists.now) ++ report_text (state_of core.now))) }
+    ensures err { OnErr result (AppendsFront (W.contents writer.old) (W.contents writer.new)
+        (lists_lines 0 (map (λ list. list.items) lists.now) ++ report_text (state_of core.now))) }
     ensures fine { OnOk result (W.has_failed writer.new ≡ false) }
     ensures failed { OnErr result (W.has_failed writer.new ≡ true) }
     ensures fault { IfErr result (λ e. e ≡ TextFault.Write) }
@@ -119,8 +128,10 @@ fn print_journal<H: PageHash, W: Sink, A: Allocator + Copy>(
     writer: &mut W,
 ) -> Result<(), TextFault>
     requires fine { W.has_failed writer.old ≡ false }
-    ensures ok { OnOk result (Appends (W.contents writer.old) (W.contents writer.new) (finished_text Output.JournalText config.now finished.now)) }
-    ensures err { IfErr result (λ e. NotPrinted (W.contents writer.old) (W.contents writer.new) (finished_text Output.JournalText config.now finished.now) e) }
+    ensures ok { OnOk result (Appends (W.contents writer.old) (W.contents writer.new)
+        (finished_text Output.JournalText config.now finished.now)) }
+    ensures err { IfErr result (λ e. NotPrinted (W.contents writer.old) (W.contents writer.new)
+        (finished_text Output.JournalText config.now finished.now) e) }
     ensures reader { tells_read result ≡ false }
     ensures writer { W.has_failed writer.new ≡ tells_write result }
 {
@@ -135,10 +146,14 @@ fn print_verdicts<H: PageHash, W: Sink, A: Allocator + Copy>(
     finished: &Finished<H, A>,
     writer: &mut W,
 ) -> Result<(), TextFault>
-    requires guests { length finished.now.verdicts.items ≤ 64 }
+    requires guests { length finished.now.verdicts.items ≤ MAX_GUESTS }
     requires fine { W.has_failed writer.old ≡ false }
-    ensures ok { OnOk result (Appends (W.contents writer.old) (W.contents writer.new) (lists_lines 0 (map (λ list. list.items) finished.now.verdicts.items) ++ report_text (state_of (settled_core finished.now.settled)))) }
-    ensures err { IfErr result (λ e. NotPrinted (W.contents writer.old) (W.contents writer.new) (lists_lines 0 (map (λ list. list.items) finished.now.verdicts.items) ++ report_text (state_of (settled_core finished.now.settled))) e) }
+    ensures ok { OnOk result (Appends (W.contents writer.old) (W.contents writer.new)
+        (lists_lines 0 (map (λ list. list.items) finished.now.verdicts.items) ++ report_text
+        (state_of (settled_core finished.now.settled)))) }
+    ensures err { IfErr result (λ e. NotPrinted (W.contents writer.old) (W.contents writer.new)
+        (lists_lines 0 (map (λ list. list.items) finished.now.verdicts.items) ++ report_text
+        (state_of (settled_core finished.now.settled))) e) }
     ensures reader { tells_read result ≡ false }
     ensures writer { W.has_failed writer.new ≡ tells_write result }
 {
@@ -159,10 +174,11 @@ pub(crate) fn print_run<H: PageHash, W: Sink, A: Allocator + Copy>(
     finished: &Finished<H, A>,
     writer: &mut W,
 ) -> Result<(), TextFault>
-    requires guests { length finished.now.verdicts.items ≤ 64 }
+    requires guests { length finished.now.verdicts.items ≤ MAX_GUESTS }
     requires fine { W.has_failed writer.old ≡ false }
     ensures ok { OnOk result (Appends (W.contents writer.old) (W.contents writer.new) (finished_text form config.now finished.now)) }
-    ensures err { IfErr result (λ e. NotPrinted (W.contents writer.old) (W.contents writer.new) (finished_text form config.now finished.now) e) }
+    ensures err { IfErr result (λ e. NotPrinted (W.contents writer.old) (W.contents writer.new)
+        (finished_text form config.now finished.now) e) }
     ensures reader { tells_read result ≡ false }
     ensures writer { W.has_failed writer.new ≡ tells_write result }
 {

@@ -43,4 +43,5 @@ returns-clause-err g c =
     let out = string_bytes c.print_run.new.out in
     let all : (string_bytes c.args.out.now ++ lines) ++ report ≡ printed_from hash s es = ap (λ (xs : List ℕ). (xs ++ lines) ++ report) c.requires.empty ∙ ap (λ (t : State). lines ++ report_text t) c.in_ok-print_run.ensures.state ∙ sym (printed_whole hash s es) in
     let sends : Sends (contents c.args.writer.now) (contents c.print_run.new.writer) (out ++ report) (printed_from hash s es) = rw all at (sends_more _ _ out (string_bytes c.args.out.now ++ lines) report c.in_ok-print_run.ensures.sends) in
-    on_err_map c.print_report.result _ _ (λ (h : AppendsFront (contents c.print_run.new.writer) (contents c.print_report.new.writer) (out ++ report)). sends_front (contents c.args.writer.now) (contents c.print_run.new.writer) (contents c.print_report.new.writer) _ _ sends h) c.print_report.ensures.err
+    on_err_map c.print_report.result _ _ (λ (h : AppendsFront (contents c.print_run.new.writer) (contents c.print_report.new.writer) (out ++ report)). sends_front (contents c.args.writer.now) (contents c.print_run.new.writer)
+    (contents c.print_report.new.writer) _ _ sends h) c.print_report.ensures.err

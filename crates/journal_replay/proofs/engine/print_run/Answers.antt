@@ -18,7 +18,8 @@ returns-in_err-print_entry-clause-err g c =
     let hash = g.H.HashFunction.hash_of in
     let contents = g.W.Sink.contents in
     let rest : List ℕ = lines_from hash (state_of c.loop-at.core) (drop c.loop-at.at c.args.entries.now) in
-    on_err c.from_residual.result _ (sends_front (contents c.args.writer.now) (contents c.loop-at.writer) (contents c.print_entry.new.writer) (string_bytes c.loop-at.out ++ rest) (string_bytes c.args.out.now ++ lines_from hash (state_of c.args.core.now) c.args.entries.now) c.loop-at.invariant.sends (front_more _ _ (string_bytes c.loop-at.out) rest c.in_err-print_entry.ensures.err))
+    on_err c.from_residual.result _ (sends_front (contents c.args.writer.now) (contents c.loop-at.writer) (contents c.print_entry.new.writer) (string_bytes c.loop-at.out ++ rest)
+    (string_bytes c.args.out.now ++ lines_from hash (state_of c.args.core.now) c.args.entries.now) c.loop-at.invariant.sends (front_more _ _ (string_bytes c.loop-at.out) rest c.in_err-print_entry.ensures.err))
 
 pub loop-at-preserved : goal.loop-at-preserved
 loop-at-preserved g c =

@@ -18,7 +18,8 @@ loop-preserved g c =
     let O = g.O.Observer in
     let so_far = c.loop.invariant in
     let round = c.serve_and_show-shown.ensures in
-    let observed = observes_then g.H.HashFunction.hash_of O.name O.kept O.becomes c.args.observer c.loop.observer c.serve_and_show-shown.result.0 (machine_of before) (machine_of after) (length (journal_of c.args.merger.now)) c.serve_and_show-shown.result.1 (journal_of before) (journal_of after) round.same.machine round.journal so_far.observed round.observer in
+    let observed = observes_then g.H.HashFunction.hash_of O.name O.kept O.becomes c.args.observer c.loop.observer c.serve_and_show-shown.result.0 (machine_of before) (machine_of after) (length (journal_of c.args.merger.now)) c.serve_and_show-shown.result.1 (journal_of before)
+    (journal_of after) round.same.machine round.journal so_far.observed round.observer in
     record {
       names = round.same.names ∙ so_far.names;
       guests = round.same.guests ∙ so_far.guests;
@@ -34,7 +35,8 @@ loop-preserved-then-served-gt0 g c =
     let O = g.O.Observer in
     let so_far = c.loop.invariant in
     let round = c.serve_and_show-shown.ensures in
-    let observed = observes_then g.H.HashFunction.hash_of O.name O.kept O.becomes c.args.observer c.loop.observer c.serve_and_show-shown.result.0 (machine_of before) (machine_of after) (length (journal_of c.args.merger.now)) c.serve_and_show-shown.result.1 (journal_of before) (journal_of after) round.same.machine round.journal so_far.observed round.observer in
+    let observed = observes_then g.H.HashFunction.hash_of O.name O.kept O.becomes c.args.observer c.loop.observer c.serve_and_show-shown.result.0 (machine_of before) (machine_of after) (length (journal_of c.args.merger.now)) c.serve_and_show-shown.result.1 (journal_of before)
+    (journal_of after) round.same.machine round.journal so_far.observed round.observer in
     record {
       names = round.same.names ∙ so_far.names;
       guests = round.same.guests ∙ so_far.guests;
@@ -49,4 +51,5 @@ returns-then-have_ended-clause-observer g c =
     let after = c.serve_and_show-shown.new.merger in
     let O = g.O.Observer in
     let round = c.serve_and_show-shown.ensures in
-    observes_then g.H.HashFunction.hash_of O.name O.kept O.becomes c.args.observer c.loop.observer c.serve_and_show-shown.result.0 (machine_of before) (machine_of after) (length (journal_of c.args.merger.now)) c.serve_and_show-shown.result.1 (journal_of before) (journal_of after) round.same.machine round.journal c.loop.invariant.observed round.observer
+    observes_then g.H.HashFunction.hash_of O.name O.kept O.becomes c.args.observer c.loop.observer c.serve_and_show-shown.result.0 (machine_of before) (machine_of after) (length (journal_of c.args.merger.now)) c.serve_and_show-shown.result.1 (journal_of before)
+    (journal_of after) round.same.machine round.journal c.loop.invariant.observed round.observer

@@ -18,4 +18,5 @@ returns-clause-observer g c =
     let O = g.O.Observer in
     let round = c.serve_round-served.ensures in
     let shown = c.observe-observer.ensures in
-    observes_once g.H.HashFunction.hash_of O.name O.kept O.becomes c.args.observer c.observe-observer.result (machine_of before) (memory_of after) c.serve_round-served.result (journal_of before) (journal_of after) c.report-report.result c.report-report.ensures after.replayed round.same.machine round.journal c.requires.fronts shown.name shown.kept shown.becomes
+    observes_once g.H.HashFunction.hash_of O.name O.kept O.becomes c.args.observer c.observe-observer.result (machine_of before) (memory_of after) c.serve_round-served.result (journal_of before)
+    (journal_of after) c.report-report.result c.report-report.ensures after.replayed round.same.machine round.journal c.requires.fronts shown.name shown.kept shown.becomes

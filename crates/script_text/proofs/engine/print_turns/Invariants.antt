@@ -11,7 +11,8 @@ use Rattle.script_text.proofs.engine.print_turns.Given as goal
 -- the entries that wait, and those of the turns that are left, are what is still to be served
 abbrev pub invariant-loop-turn : goal.invariant-loop-turn
 invariant-loop-turn g l = record {
-  sends : Sends (g.W.Sink.contents l.fn.writer) (g.W.Sink.contents l.writer) (string_bytes l.out ++ printed_from g.H.HashFunction.hash_of (state_of l.core) (l.entries.items ++ turns (longest (map with_close (lists_of l.scripts)) - l.turn) (left_of l.turn (lists_of l.scripts)))) (printed_from g.H.HashFunction.hash_of (state_of l.fn.core) (serial_order (lists_of l.scripts)));
+  sends : Sends (g.W.Sink.contents l.fn.writer) (g.W.Sink.contents l.writer) (string_bytes l.out ++ printed_from g.H.HashFunction.hash_of (state_of l.core) (l.entries.items ++ turns (longest (map with_close (lists_of l.scripts)) - l.turn) (left_of l.turn (lists_of l.scripts))))
+      (printed_from g.H.HashFunction.hash_of (state_of l.fn.core) (serial_order (lists_of l.scripts)));
   few : l.core.entries + length (l.entries.items ++ turns (longest (map with_close (lists_of l.scripts)) - l.turn) (left_of l.turn (lists_of l.scripts))) ≤ 16777216;
   guests : length (state_of l.core).guests ≡ length l.scripts;
   below : AreBelow (length l.scripts) l.entries.items;

@@ -13,7 +13,8 @@ returns-in_err-print_verdict-clause-err g c =
     let contents = g.W.Sink.contents in
     let l = c.loop-verdict in
     let rest : List ℕ = guest_lines c.args.guest (drop l.verdict-index c.args.verdicts.now) in
-    on_err c.from_residual.result _ (sends_front (contents c.args.writer.now) (contents l.writer) (contents c.print_verdict.new.writer) (string_bytes l.out ++ rest) (string_bytes c.args.out.now ++ guest_lines c.args.guest c.args.verdicts.now) l.invariant.sends (front_more _ _ (string_bytes l.out) rest c.in_err-print_verdict.ensures.err))
+    on_err c.from_residual.result _ (sends_front (contents c.args.writer.now) (contents l.writer) (contents c.print_verdict.new.writer) (string_bytes l.out ++ rest) (string_bytes c.args.out.now ++ guest_lines c.args.guest c.args.verdicts.now) l.invariant.sends
+    (front_more _ _ (string_bytes l.out) rest c.in_err-print_verdict.ensures.err))
 
 pub loop-verdict-preserved : goal.loop-verdict-preserved
 loop-verdict-preserved g c =
