@@ -11,8 +11,8 @@ line_form n =
     if n == 1 then codes "\"pageshare journal 1\" or \"pageshare journal 2\""
     else if n == 2 then codes "\"frames NUMBER\""
     else if n == 3 then codes "\"pages NUMBER ..\""
-    else if n == 4 then codes "a request line, as \"GUEST propose PPN\", or \"end NUMBER\" with nothing behind that line;
-        in version 2 \"salts NUMBER ..\""
+    else if n == 4 then
+    codes "a request line, as \"GUEST propose PPN\", or \"end NUMBER\" with nothing behind that line; in version 2 \"salts NUMBER ..\""
     else codes "a request line, as \"GUEST propose PPN\", or \"end NUMBER\" with nothing behind that line"
 
 -- what line n must be, if it is at fault for this cause
