@@ -19,6 +19,6 @@ mod take_requests;
 mod workers;
 
 pub use config::{CheckedConfig, Config, Fault};
-pub use limits::MAX_ROUND;
+pub use limits::{MAX_ROUND, max_round_law};
 pub use machine::Machine;
 pub use merger::{JournalFull, Merger, Step};

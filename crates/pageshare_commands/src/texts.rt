@@ -112,9 +112,7 @@ fn run<T: Threads + Wait + Sync + Eprint + Clock, R: Source, W: Sink>(
         return threaded(rt, alloc, reader, writer, Sha256Hash, &OpenGate, form);
     };
     let running = Running::new(line);
-    let done = threaded_viewed(
-        rt, alloc, reader, writer, Sha256Hash, &running, &running, form,
-    );
+    let done = threaded_viewed(rt, alloc, reader, writer, Sha256Hash, &running, form);
     running.end();
     done
 }

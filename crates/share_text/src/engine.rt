@@ -74,6 +74,13 @@ impl Viewer for Nobody {
     fn show(&self, _report: &Report) {}
 }
 
+/// Who looks on at a run: the gate that its threads call, and the viewer, if there is one.
+#[derive(Drop)]
+struct Onlookers<'o, G, V> {
+    gate: &'o G,
+    viewer: Option<&'o V>,
+}
+
 /// Runs a machine to its end. If there is a viewer, it is shown the reports as they are published.
 fn run_machine<
     T: Threads + Wait + Sync,
@@ -87,13 +94,13 @@ fn run_machine<
     config: &Config<A>,
     hash: H,
     scripts: Vec<Vec<Request, A>, A>,
-    gate: &G,
-    viewer: Option<&V>,
+    onlookers: Onlookers<'_, G, V>,
 ) -> Result<Finished<H, A>, RunFault>
     requires scripts { CanBeRun config.now scripts.items }
     ensures run { MatchResult result (λ f. IsWholeRun H.hash_of config.now scripts.items f.settled f.verdicts.items)
         (λ fault. NotRunFor config.now scripts.items fault) }
 {
+    let Onlookers { gate, viewer } = onlookers;
     let Some(viewer) = viewer else {
         return run(rt, alloc, config, hash, scripts, gate);
     };
@@ -117,8 +124,7 @@ fn run_script<
     script: Script<A>,
     writer: &mut W,
     hash: H,
-    gate: &G,
-    viewer: Option<&V>,
+    onlookers: Onlookers<'_, G, V>,
     form: Output,
 ) -> Result<(), ThreadedFault>
     requires fine { W.has_failed writer.old ≡ false }
@@ -127,7 +133,7 @@ fn run_script<
     ensures writer { W.has_failed writer.new ≡ tells_write (as_written result) }
 {
     let Script { config, scripts } = script;
-    match run_machine(rt, alloc, &config, hash, scripts, gate, viewer) {
+    match run_machine(rt, alloc, &config, hash, scripts, onlookers) {
         Ok(finished) => of_text(print_run(alloc, form, &config, &finished, writer)),
         Err(fault) => tell_refused(writer, fault),
     }
@@ -148,8 +154,7 @@ fn read_and_run<
     reader: &mut R,
     writer: &mut W,
     hash: H,
-    gate: &G,
-    viewer: Option<&V>,
+    onlookers: Onlookers<'_, G, V>,
     form: Output,
 ) -> Result<(), ThreadedFault>
     requires { NeitherFailed (R.has_failed reader.old) (W.has_failed writer.old) }
@@ -161,7 +166,7 @@ fn read_and_run<
         Err(fault) => return Err(ThreadedFault::Text(fault)),
     };
     match read_script(alloc, &text) {
-        Ok(script) => run_script(rt, alloc, script, writer, hash, gate, viewer, form),
+        Ok(script) => run_script(rt, alloc, script, writer, hash, onlookers, form),
         Err(fault) => of_text(tell_fault(alloc, writer, fault)),
     }
 }
@@ -198,27 +203,25 @@ pub fn threaded<
     ensures { RunsText H.hash_of form (R.remaining reader.old) (W.contents writer.old) (W.contents writer.new) (R.has_failed reader.new)
         (W.has_failed writer.new) result }
 {
-    let viewer: Option<&Nobody> = None;
-    read_and_run(rt, alloc, reader, writer, hash, gate, viewer, form)
+    let onlookers: Onlookers<'_, G, Nobody> = Onlookers { gate, viewer: None };
+    read_and_run(rt, alloc, reader, writer, hash, onlookers, form)
 }
 
-/// Does the same as [`threaded`], while a viewer is shown how the run goes on, in a separate thread. Nothing that is written
-/// depends on it.
+/// Does the same as [`threaded`], while its gate is also a viewer, which is shown how the run goes on, in a separate thread.
+/// Nothing that is written depends on it.
 pub fn threaded_viewed<
     T: Threads + Wait + Sync,
     R: Source,
     W: Sink,
     H: PageHash + Drop,
     A: Allocator + Copy + Send + Sync,
-    G: Gate + Sync,
-    V: Viewer + Sync,
+    V: Gate + Viewer + Sync,
 >(
     rt: &T,
     alloc: A,
     reader: &mut R,
     writer: &mut W,
     hash: H,
-    gate: &G,
     viewer: &V,
     form: Output,
 ) -> Result<(), ThreadedFault>
@@ -226,5 +229,9 @@ pub fn threaded_viewed<
     ensures { RunsText H.hash_of form (R.remaining reader.old) (W.contents writer.old) (W.contents writer.new) (R.has_failed reader.new)
         (W.has_failed writer.new) result }
 {
-    read_and_run(rt, alloc, reader, writer, hash, gate, Some(viewer), form)
+    let onlookers = Onlookers {
+        gate: viewer,
+        viewer: Some(viewer),
+    };
+    read_and_run(rt, alloc, reader, writer, hash, onlookers, form)
 }
