@@ -4,7 +4,7 @@ use Rattle.std.specs.Prelude.{◌==◌, ◌&&◌, Option, Some, None}
 use Rattle.std.proofs.lemmas.Bool.{cases_eq, eq-eqb, ne_eqb, and_left, and_right}
 use Rattle.std.proofs.lemmas.Bool.Decides.{nat_tests}
 use Rattle.page_model.specs.Pages.{Slot, Unmapped, Private, Shared, Guest, written, peers, used, page_at, with_slot, bytes_of, find_page, has_hint, any_page, is_shared_as, is_shared_under}
-use Rattle.page_model.specs.Steps.{stored, released, matched, offered, held, weighed, key_of, kept_hint, proposed, sets, stays}
+use Rattle.page_model.specs.Steps.{stored, released, matched, offered, by_hint, weighed, key_of, kept_hint, proposed, sets, stays}
 use Rattle.std.specs.Str.{bytes_eq}
 use Rattle.page_model.specs.declared.verdict.Verdict.{Verdict}
 use Rattle.page_model.specs.declared.verdict.Verdict.TheVariants as v
@@ -35,11 +35,11 @@ released_more gs a b salt old h = rw (not_eq (peers salt old gs) 1 h) refl
 -- the arms of an offer
 module _ (hash : ℕ → List ℕ → ℕ) (gs : List Guest) (guest ppn salt : ℕ) (bytes : List ℕ) (key : ℕ) where
   pub offered_hinted : find_page (has_hint key) gs ≡ None → offered hash gs guest ppn salt bytes key ≡ sets gs guest ppn (Private bytes (Some key)) v.Hinted
-  unfolding offered held
+  unfolding offered by_hint
   offered_hinted h = rw h refl
 
   pub offered_kept : find_page (has_hint key) gs ≡ Some (guest, ppn) → offered hash gs guest ppn salt bytes key ≡ stays gs v.Kept
-  unfolding offered held
+  unfolding offered by_hint
   offered_kept h = rw (h, eq-eqb guest guest refl, eq-eqb ppn ppn refl) refl
 
   not_both : (x y : ℕ) → (x ≡ guest → y ≡ ppn → ⊥) → (x == guest && y == ppn) ≡ false
@@ -49,7 +49,7 @@ module _ (hash : ℕ → List ℕ → ℕ) (gs : List Guest) (guest ppn salt : �
     pick (inr e) = and_left (x == guest) (y == ppn) (ne_eqb x guest e)
 
   pub offered_other : (x y other_salt : ℕ) (slot : Slot) → find_page (has_hint key) gs ≡ Some (x, y) → (x ≡ guest → y ≡ ppn → ⊥) → page_at gs x y ≡ Some (other_salt, slot) → offered hash gs guest ppn salt bytes key ≡ weighed hash gs guest ppn salt bytes key x y other_salt (bytes_of slot)
-  unfolding offered held
+  unfolding offered by_hint
   offered_other x y other_salt slot h n at = rw (h, not_both x y n, at) refl
 
   pub weighed_replaced : (x y other_salt : ℕ) (others : List ℕ) → (key_of (hash other_salt others) ≡ key → ⊥) → weighed hash gs guest ppn salt bytes key x y other_salt others ≡ sets (with_slot gs x y (Private others None)) guest ppn (Private bytes (Some key)) v.Replaced

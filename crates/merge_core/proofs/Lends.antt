@@ -4,7 +4,7 @@ use Rattle.std.specs.Prelude.{◌==◌, ◌&&◌, replicate}
 use Rattle.std.specs.Str.{bytes_eq}
 use Rattle.std.proofs.lemmas.List.{length-replicate}
 use Rattle.page_model.specs.Pages.{Slot, Unmapped, Private, Shared, Guest, blank, bytes_of, written, used, peers, page_at, with_slot, is_shared_as, is_shared_under, any_page, find_page, has_hint}
-use Rattle.page_model.specs.Steps.{Outcome, stays, sets, stored, weighed, held as held_hint, offered, matched, proposed, on_page, at_page, key_of, kept_hint}
+use Rattle.page_model.specs.Steps.{Outcome, stays, sets, stored, weighed, by_hint, offered, matched, proposed, on_page, at_page, key_of, kept_hint}
 use Rattle.page_model.specs.Stored.{is_done}
 use Rattle.page_model.specs.declared.verdict.Verdict.{Verdict}
 use Rattle.page_model.specs.declared.verdict.Verdict.TheVariants as v
@@ -55,8 +55,8 @@ module _ (hash : ℕ → List ℕ → ℕ) (gs : List Guest) (guest ppn salt : �
   on_page_offers f None h = calm gs v.NoPage refl
   on_page_offers f (Some (s, slot)) h = h s slot
 
-  held_offers : (key : ℕ) (o : Option (ℕ × ℕ)) → Offers (held_hint hash gs guest ppn salt bytes key o)
-  unfolding held_hint
+  held_offers : (key : ℕ) (o : Option (ℕ × ℕ)) → Offers (by_hint hash gs guest ppn salt bytes key o)
+  unfolding by_hint
   held_offers key None = calm (with_slot gs guest ppn (Private bytes (Some key))) v.Hinted refl
   held_offers key (Some (other, place)) =
       let weigh : ℕ → Slot → Outcome = λ s slot. weighed hash gs guest ppn salt bytes key other place s (bytes_of slot) in
@@ -68,7 +68,7 @@ module _ (hash : ℕ → List ℕ → ℕ) (gs : List Guest) (guest ppn salt : �
   matched_offers code =
       let joined : List Guest = with_slot gs guest ppn (Shared bytes) in
       let join : Outcome = stays joined (v.Joined (peers salt bytes joined)) in
-      let offer : Outcome = held_hint hash gs guest ppn salt bytes (key_of code) (find_page (has_hint (key_of code)) gs) in
+      let offer : Outcome = by_hint hash gs guest ppn salt bytes (key_of code) (find_page (has_hint (key_of code)) gs) in
       choose (any_page (is_shared_as salt bytes) gs) join (cond (any_page (is_shared_under hash code) gs) (stays gs v.Ineligible) offer) (moves joined (v.Joined (peers salt bytes joined)) refl)
       (choose (any_page (is_shared_under hash code) gs) (stays gs v.Ineligible) offer (calm gs v.Ineligible refl) (held_offers (key_of code) (find_page (has_hint (key_of code)) gs)))
 

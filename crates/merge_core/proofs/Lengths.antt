@@ -3,7 +3,7 @@ use Rattle.std.proofs.Common.{◌≡◌, ℕ, Bool, true, false, cond, List, len
 use Rattle.std.specs.Prelude.{◌==◌, ◌&&◌}
 use Rattle.std.specs.Str.{bytes_eq}
 use Rattle.page_model.specs.Pages.{Slot, Unmapped, Private, Shared, Guest, blank, bytes_of, written, used, peers, any_page, is_shared_as, is_shared_under, page_at, with_slot, find_page, has_hint}
-use Rattle.page_model.specs.Steps.{Outcome, stays, sets, key_of, kept_hint, stored, weighed, on_page, at_page, held, offered, matched, proposed, released}
+use Rattle.page_model.specs.Steps.{Outcome, stays, sets, key_of, kept_hint, stored, weighed, on_page, at_page, by_hint, offered, matched, proposed, released}
 use Rattle.page_model.specs.declared.verdict.Verdict.TheVariants as v
 use Rattle.merge_core.proofs.Limits.{length_after}
 
@@ -47,8 +47,8 @@ module _ (hash : ℕ → List ℕ → ℕ) (guest ppn salt : ℕ) (bytes : List 
       (either (other_salt == salt && bytes_eq others bytes) pair (stays gs v.Ineligible) (length gs) (twice_after gs other place guest ppn (Shared others) (Shared bytes)) refl)
       (twice_after gs other place guest ppn (Private others None) (Private bytes (Some key)))
 
-  held_len : (gs : List Guest) (key : ℕ) (o : Option (ℕ × ℕ)) → length (held hash gs guest ppn salt bytes key o).guests ≡ length gs
-  unfolding held
+  held_len : (gs : List Guest) (key : ℕ) (o : Option (ℕ × ℕ)) → length (by_hint hash gs guest ppn salt bytes key o).guests ≡ length gs
+  unfolding by_hint
   held_len gs key None = length_after gs guest ppn (Private bytes (Some key))
   held_len gs key (Some (other, place)) =
       let weigh : ℕ → Slot → Outcome = λ other_salt slot. weighed hash gs guest ppn salt bytes key other place other_salt (bytes_of slot) in
@@ -60,7 +60,7 @@ module _ (hash : ℕ → List ℕ → ℕ) (guest ppn salt : ℕ) (bytes : List 
   matched_len gs code =
       let joined : List Guest = with_slot gs guest ppn (Shared bytes) in
       let join : Outcome = stays joined (v.Joined (peers salt bytes joined)) in
-      let offer : Outcome = held hash gs guest ppn salt bytes (key_of code) (find_page (has_hint (key_of code)) gs) in
+      let offer : Outcome = by_hint hash gs guest ppn salt bytes (key_of code) (find_page (has_hint (key_of code)) gs) in
       either (any_page (is_shared_as salt bytes) gs) join (cond (any_page (is_shared_under hash code) gs) (stays gs v.Ineligible) offer) (length gs) (length_after gs guest ppn (Shared bytes))
       (either (any_page (is_shared_under hash code) gs) (stays gs v.Ineligible) offer (length gs) refl (held_len gs (key_of code) (find_page (has_hint (key_of code)) gs)))
 

@@ -4,7 +4,7 @@ use Rattle.std.specs.Str.{bytes_eq}
 use Rattle.std.proofs.Common.{◌≡◌, ℕ, Bool, true, false, cond, List, [], ◌∷◌, Option, Some, None, length, refl, arith}
 use Rattle.std.specs.List.{list_any}
 use Rattle.page_model.specs.Pages.{Slot, Unmapped, Private, Shared, Guest, State, blank, written, bytes_of, has_hint, is_shared_as, is_shared_under, any_page, find_page, peers, used, page_at, with_slot}
-use Rattle.page_model.specs.Steps.{Outcome, stays, sets, stored, weighed, held, offered, matched, proposed, released, on_page, key_of, kept_hint, answered, step, counted}
+use Rattle.page_model.specs.Steps.{Outcome, stays, sets, stored, weighed, by_hint, offered, matched, proposed, released, on_page, key_of, kept_hint, answered, step, counted}
 use Rattle.page_model.specs.declared.request.Request.{Request}
 use Rattle.page_model.specs.declared.request.Request.TheVariants.{Propose, Store, Load, Release, Count, Close}
 use Rattle.page_model.specs.declared.verdict.Verdict.TheVariants as v
@@ -52,8 +52,8 @@ weighed_open hash gs a b salt bytes key c d other others =
     either (key_of (hash other others) == key) (cond equal paired (stays gs v.Ineligible)) replaced
     (either equal paired (stays gs v.Ineligible) (ends paired refl) (ends (stays gs v.Ineligible) refl)) (ends replaced refl)
 
-held_open : (hash : ℕ → List ℕ → ℕ) (gs : List Guest) (a b salt : ℕ) (bytes : List ℕ) (key : ℕ) (holder : Option (ℕ × ℕ)) → Open (held hash gs a b salt bytes key holder)
-unfolding held
+held_open : (hash : ℕ → List ℕ → ℕ) (gs : List Guest) (a b salt : ℕ) (bytes : List ℕ) (key : ℕ) (holder : Option (ℕ × ℕ)) → Open (by_hint hash gs a b salt bytes key holder)
+unfolding by_hint
 held_open hash gs a b salt bytes key None = ends _ refl
 held_open hash gs a b salt bytes key (Some (c, d)) =
     let weigh : ℕ → Slot → Outcome = λ other slot. weighed hash gs a b salt bytes key c d other (bytes_of slot) in
@@ -65,7 +65,7 @@ unfolding matched offered
 matched_open hash gs a b salt bytes code =
     let joined = with_slot gs a b (Shared bytes) in
     let joins = stays joined (v.Joined (peers salt bytes joined)) in
-    let rest = held hash gs a b salt bytes (key_of code) (find_page (has_hint (key_of code)) gs) in
+    let rest = by_hint hash gs a b salt bytes (key_of code) (find_page (has_hint (key_of code)) gs) in
     either (any_page (is_shared_as salt bytes) gs) joins (cond (any_page (is_shared_under hash code) gs) (stays gs v.Ineligible) rest) (ends joins refl)
     (either (any_page (is_shared_under hash code) gs) (stays gs v.Ineligible) rest (ends (stays gs v.Ineligible) refl) (held_open hash gs a b salt bytes (key_of code) (find_page (has_hint (key_of code)) gs)))
 

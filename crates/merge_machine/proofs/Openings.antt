@@ -3,7 +3,7 @@ use Rattle.std.proofs.Common.{◌≡◌, ℕ, zero, suc, Bool, true, false, cond
 use Rattle.std.specs.Prelude.{slice_set}
 use Rattle.std.proofs.lemmas.List.{length-set, length-replicate}
 use Rattle.page_model.specs.Pages.{Slot, Unmapped, Private, Shared, Guest, State, bytes_of, page_at, with_slot}
-use Rattle.page_model.specs.Steps.{Outcome, stored, weighed, held, offered, matched, proposed, released, on_page, key_of, kept_hint, answered, step, counted}
+use Rattle.page_model.specs.Steps.{Outcome, stored, weighed, by_hint, offered, matched, proposed, released, on_page, key_of, kept_hint, answered, step, counted}
 use Rattle.page_model.specs.Replay.{Shape, empty_guest, empty_state}
 use Rattle.page_model.specs.declared.request.Request.{Request}
 use Rattle.page_model.specs.declared.request.Request.TheVariants.{Propose, Store, Load, Release, Count, Close}
@@ -72,8 +72,8 @@ weighed_keeps hash gs a b salt bytes key c d other others =
     (record { same = sets_keep gs c d (Private others None) a b (Private bytes (Some key)) })
 
 -- Looking at the page that holds a hint keeps the shapes.
-held_keeps : (hash : ℕ → List ℕ → ℕ) (gs : List Guest) (a b salt : ℕ) (bytes : List ℕ) (key : ℕ) (holder : Option (ℕ × ℕ)) → Keeps gs (held hash gs a b salt bytes key holder)
-unfolding held
+held_keeps : (hash : ℕ → List ℕ → ℕ) (gs : List Guest) (a b salt : ℕ) (bytes : List ℕ) (key : ℕ) (holder : Option (ℕ × ℕ)) → Keeps gs (by_hint hash gs a b salt bytes key holder)
+unfolding by_hint
 held_keeps hash gs a b salt bytes key None = one gs a b _ _ refl
 held_keeps hash gs a b salt bytes key (Some (c, d)) =
     either gs _ _ _ (still gs _ refl)

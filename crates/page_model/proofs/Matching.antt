@@ -5,7 +5,7 @@ use Rattle.std.specs.Str.{bytes_eq}
 use Rattle.std.proofs.lemmas.Bool.{eqb-true, eq-eqb, and_parts, and_from, false≢true}
 use Rattle.std.proofs.lemmas.Slice.Eq.{bytes_eq-Decides}
 use Rattle.page_model.specs.Pages.{Slot, Unmapped, Private, Shared, Guest, bytes_of, has_hint, is_shared_as, is_shared_under, any_page, peers, find_page, page_at, with_slot}
-use Rattle.page_model.specs.Steps.{Outcome, weighed, held, offered, matched, proposed, on_page, key_of, kept_hint}
+use Rattle.page_model.specs.Steps.{Outcome, weighed, by_hint, offered, matched, proposed, on_page, key_of, kept_hint}
 use Rattle.page_model.specs.declared.verdict.Verdict.TheVariants as v
 use Rattle.page_model.proofs.Finds.{find_page_passes}
 use Rattle.page_model.proofs.Places.{same_page, at_same}
@@ -73,8 +73,8 @@ weighed_ends hash gs g p salt bytes un w = pick (nat_eq (key_for hash w.salt w.b
   pick false e c f = replaces un w (λ k. false≢true (sym e ∙ eq-eqb _ _ k)) refl
 
 held_ends : (hash : ℕ → List ℕ → ℕ) (gs : List Guest) (g p salt : ℕ) (bytes : List ℕ) (hint : Option ℕ) → page_at gs g p ≡ Some (salt, Private bytes hint) → Unmatched hash gs salt bytes → (o : Option (ℕ × ℕ)) → find_page (has_hint (key_for hash salt bytes)) gs ≡ o →
-    Ends hash gs g p salt bytes (held hash gs g p salt bytes (key_for hash salt bytes) o)
-unfolding held
+    Ends hash gs g p salt bytes (by_hint hash gs g p salt bytes (key_for hash salt bytes) o)
+unfolding by_hint
 held_ends hash gs g p salt bytes hint own un None e = hints un e refl
 held_ends hash gs g p salt bytes hint own un (Some (a, b)) e = pick (nat_eq a g && nat_eq b p) refl where
   key : ℕ
@@ -103,10 +103,10 @@ matched_ends : (hash : ℕ → List ℕ → ℕ) (gs : List Guest) (g p salt : �
 unfolding matched offered
 matched_ends hash gs g p salt bytes hint own = pick (any_page (is_shared_as salt bytes) gs) refl (any_page (is_shared_under hash (hash salt bytes)) gs) refl (held_ends hash gs g p salt bytes hint own) where
   rest : Outcome
-  rest = held hash gs g p salt bytes (key_for hash salt bytes) (find_page (has_hint (key_for hash salt bytes)) gs)
+  rest = by_hint hash gs g p salt bytes (key_for hash salt bytes) (find_page (has_hint (key_for hash salt bytes)) gs)
 
   pick : (b : Bool) → any_page (is_shared_as salt bytes) gs ≡ b → (c : Bool) → any_page (is_shared_under hash (hash salt bytes)) gs ≡ c →
-      (Unmatched hash gs salt bytes → (o : Option (ℕ × ℕ)) → find_page (has_hint (key_for hash salt bytes)) gs ≡ o → Ends hash gs g p salt bytes (held hash gs g p salt bytes (key_for hash salt bytes) o)) →
+      (Unmatched hash gs salt bytes → (o : Option (ℕ × ℕ)) → find_page (has_hint (key_for hash salt bytes)) gs ≡ o → Ends hash gs g p salt bytes (by_hint hash gs g p salt bytes (key_for hash salt bytes) o)) →
       Ends hash gs g p salt bytes (cond b (record { guests = with_slot gs g p (Shared bytes); verdict = v.Joined (peers salt bytes (with_slot gs g p (Shared bytes))) }) (cond c (record { guests = gs; verdict = v.Ineligible }) rest))
   pick true e c f k = joins e refl
   pick false e true f k = clashes_shared e f refl

@@ -7,7 +7,7 @@ use Rattle.std.proofs.lemmas.Bool.{cases_eq, ne_eqb, or_parts, and_from, eq-eqb,
 use Rattle.std.proofs.lemmas.Slice.Eq.{bytes_eq-Decides}
 use Rattle.std.proofs.lemmas.List.Sums.{sum_by-cons}
 use Rattle.page_model.specs.Pages.{Slot, Unmapped, Private, Shared, Guest, State, is_mapped, is_shared_as, any_page, count_pages, peers, used, page_at, with_slot}
-use Rattle.page_model.specs.Steps.{Outcome, stored, weighed, held, offered, matched, proposed, released, on_page, at_page, answered, step, counted}
+use Rattle.page_model.specs.Steps.{Outcome, stored, weighed, by_hint, offered, matched, proposed, released, on_page, at_page, answered, step, counted}
 use Rattle.page_model.specs.Alone.{is_no_frame}
 use Rattle.page_model.specs.declared.request.Request.{Request}
 use Rattle.page_model.specs.declared.request.Request.TheVariants.{Propose, Store, Load, Release, Count, Close}
@@ -67,8 +67,8 @@ weighed_stays hash gs guest ppn salt bytes key a b other_salt others =
     (either gs _ _ _ (set_twice gs a b (Shared others) guest ppn (Shared bytes) _ refl) (still gs _ refl))
     (set_twice gs a b (Private others None) guest ppn (Private bytes (Some key)) _ refl)
 
-held_stays : (hash : ℕ → List ℕ → ℕ) (gs : List Guest) (guest ppn salt : ℕ) (bytes : List ℕ) (key : ℕ) (holder : Option (ℕ × ℕ)) → Stays gs (held hash gs guest ppn salt bytes key holder)
-unfolding held
+held_stays : (hash : ℕ → List ℕ → ℕ) (gs : List Guest) (guest ppn salt : ℕ) (bytes : List ℕ) (key : ℕ) (holder : Option (ℕ × ℕ)) → Stays gs (by_hint hash gs guest ppn salt bytes key holder)
+unfolding by_hint
 held_stays hash gs guest ppn salt bytes key None = set gs guest ppn (Private bytes (Some key)) _ refl
 held_stays hash gs guest ppn salt bytes key (Some (a, b)) =
     either gs _ _ _ (still gs _ refl) (on_page_stays gs _ (page_at gs a b) (λ other_salt slot. weighed_stays hash gs guest ppn salt bytes key a b other_salt _))

@@ -69,16 +69,16 @@ at_page guests guest ppn f = on_page guests f (page_at guests guest ppn)
 
 -- What happens depends on the page that holds the hint under the key: if none does, this page becomes the hint, and if
 -- this page does, it stays the hint.
-unfoldable pub held : (ℕ → List ℕ → ℕ) → List Guest → ℕ → ℕ → ℕ → List ℕ → ℕ → Option (ℕ × ℕ) → Outcome
-held hash guests guest ppn salt bytes key None = sets guests guest ppn (Private bytes (Some key)) v.Hinted
-held hash guests guest ppn salt bytes key (Some (other, place)) =
+unfoldable pub by_hint : (ℕ → List ℕ → ℕ) → List Guest → ℕ → ℕ → ℕ → List ℕ → ℕ → Option (ℕ × ℕ) → Outcome
+by_hint hash guests guest ppn salt bytes key None = sets guests guest ppn (Private bytes (Some key)) v.Hinted
+by_hint hash guests guest ppn salt bytes key (Some (other, place)) =
     if other == guest && place == ppn
     then stays guests v.Kept
     else at_page guests other place (λ other_salt slot. weighed hash guests guest ppn salt bytes key other place other_salt (bytes_of slot))
 
 -- no shared page has the hash of this page, so a hint is looked for
 unfoldable pub offered : (ℕ → List ℕ → ℕ) → List Guest → ℕ → ℕ → ℕ → List ℕ → ℕ → Outcome
-offered hash guests guest ppn salt bytes key = held hash guests guest ppn salt bytes key (find_page (has_hint key) guests)
+offered hash guests guest ppn salt bytes key = by_hint hash guests guest ppn salt bytes key (find_page (has_hint key) guests)
 
 -- A private page is matched with the shared pages: it joins those with the same content, and otherwise a shared page of
 -- other content with the same hash makes it ineligible.
