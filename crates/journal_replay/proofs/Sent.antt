@@ -1,11 +1,13 @@
 -- Texts that are sent piece by piece.
-use Rattle.std.proofs.Common.{◌≡◌, ◌++◌, ℕ, List, [], length, take, drop, Option, Result, Ok, Err, refl, sym, ap, ◌∙◌, subst, append_assoc}
-use Rattle.std.specs.Prelude.{OnOk, OnErr}
+use Rattle.std.proofs.Common.{◌≡◌, ◌++◌, ℕ, Bool, true, List, [], length, take, drop, Option, Result, Ok, Err, refl, sym, ap, ◌∙◌, subst, append_assoc}
+use Rattle.std.specs.Prelude.{OnOk, OnErr, IfErr, IsErr}
 use Rattle.std.specs.Io.KnownBytes.{Appends}
 use Rattle.std.proofs.KnownBytes.{Appends-nil, Appends-trans}
 use Rattle.std.proofs.Math.Seq.{take-append_seam}
 use Rattle.std.proofs.lemmas.List.{take-append-drop}
-use Rattle.journal_replay.specs.Ends.{AppendsFront, Sends}
+use Rattle.journal_text.specs.declared.fault.TextFault.{TextFault}
+use Rattle.journal_text.specs.declared.fault.TextFault.TheVariants as faults
+use Rattle.journal_replay.specs.Ends.{AppendsFront, Sends, Buffers, WritesAll}
 
 -- what holds anyhow holds at an error
 pub on_err : {X E : Type 0} (r : Result X E) (P : Type 0) → P → OnErr r P
@@ -71,3 +73,25 @@ front_more a c bytes more h =
     let rest : List ℕ = drop h.0 bytes in
     let parts : first ++ (rest ++ more) ≡ bytes ++ more = sym (append_assoc first rest more) ∙ ap (λ (xs : List ℕ). xs ++ more) (take-append-drop h.0 bytes) in
     front_of a c first (rest ++ more) (bytes ++ more) parts h.1
+
+-- what was ahead was written, so the whole was
+pub writes_rest : (a b c : Option (List ℕ)) (failed : Bool) (ahead whole : List ℕ) (r : Result (Unit {0}) TextFault)
+    → Sends a b ahead whole → WritesAll b c failed ahead r → WritesAll a c failed whole r
+writes_rest a b c failed ahead whole r s w = record {
+  ok = on_ok_map r (Appends b c ahead) (Appends a c whole) (sends_all a b c ahead whole s) w.ok;
+  fine = w.fine;
+  err = on_err_map r (AppendsFront b c ahead) (AppendsFront a c whole) (sends_front a b c ahead whole s) w.err;
+  failed = w.failed;
+  fault = w.fault;
+}
+
+-- the writer failed among the whole
+pub writes_cut : (a c : Option (List ℕ)) (failed : Bool) (whole : List ℕ) (r : Result (Unit {0}) TextFault)
+    → IsErr r → IfErr r (λ e. e ≡ faults.Write) → failed ≡ true → AppendsFront a c whole → WritesAll a c failed whole r
+writes_cut a c failed whole (Ok done) is fault test front = cc
+writes_cut a c failed whole (Err e) is fault test front = record { ok = tt; fine = tt; err = front; failed = test; fault = fault }
+
+pub buffers_cut : (a c : Option (List ℕ)) (failed : Bool) (ahead whole cut : List ℕ) (r : Result (Unit {0}) TextFault)
+    → IsErr r → IfErr r (λ e. e ≡ faults.Write) → failed ≡ true → AppendsFront a c cut → Buffers a c failed ahead whole cut r
+buffers_cut a c failed ahead whole cut (Ok done) is fault test front = cc
+buffers_cut a c failed ahead whole cut (Err e) is fault test front = record { sends = tt; fine = tt; err = front; failed = test; fault = fault }

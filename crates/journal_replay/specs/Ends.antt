@@ -1,5 +1,6 @@
 -- Readers and writers: when a call on one failed, and what reading all and writing all do to their bytes.
-use Rattle.std.specs.Prelude.{ℕ, ◌<◌, ◌≤◌, ◌^◌, ◌==◌, ◌&&◌, ◌++◌, ◌≡◌, nat_lt, is_some, Bool, true, false, List, length, take, Option, Result, Ok, Err, IfSome}
+use Rattle.std.specs.Prelude.{ℕ, ◌<◌, ◌≤◌, ◌^◌, ◌==◌, ◌&&◌, ◌++◌, ◌≡◌, nat_lt, is_some, Bool, true, false, List, length, take}
+use Rattle.std.specs.Prelude.{Option, Result, Ok, Err, IfSome, IfErr, OnOk, OnErr}
 use Rattle.std.specs.Io.KnownBytes.{Appends, Consumes}
 use Rattle.journal_replay.specs.declared.ends.Noted.{Noted}
 use Rattle.journal_text.specs.declared.fault.TextFault.{TextFault}
@@ -31,6 +32,28 @@ pub record Sends (old new : Option (List ℕ)) (ahead whole : List ℕ) : Type 0
   pub sent : List ℕ
   pub appends : Appends old new sent
   pub rest : sent ++ ahead ≡ whole
+
+-- All of a text was written. Else the answer is `Write`, the writer has failed, and a front of the text went out. old and new:
+-- what the writer holds.
+pub record WritesAll
+    (old new : Option (List ℕ)) (has_failed : Bool) (text : List ℕ) (r : Result (Unit {0}) TextFault)
+    : Type 0 where
+  pub ok : OnOk r (Appends old new text)
+  pub fine : OnOk r (has_failed ≡ false)
+  pub err : OnErr r (AppendsFront old new text)
+  pub failed : OnErr r (has_failed ≡ true)
+  pub fault : IfErr r (λ e. e ≡ faults.Write)
+
+-- A text stands behind what a buffer held, some of which may have been written. Else the answer is `Write`, the writer has
+-- failed, and a front of `cut` went out. ahead: what the buffer holds now; whole: what it held, and the text.
+pub record Buffers
+    (old new : Option (List ℕ)) (has_failed : Bool) (ahead whole cut : List ℕ) (r : Result (Unit {0}) TextFault)
+    : Type 0 where
+  pub sends : OnOk r (Sends old new ahead whole)
+  pub fine : OnOk r (has_failed ≡ false)
+  pub err : OnErr r (AppendsFront old new cut)
+  pub failed : OnErr r (has_failed ≡ true)
+  pub fault : IfErr r (λ e. e ≡ faults.Write)
 
 -- the fault says that a read failed
 abbrev pub is_read_fault : TextFault → Bool

@@ -1,15 +1,17 @@
 -- What a replay writes.
-use Rattle.std.specs.Prelude.{◌≡◌, ◌⊎◌, ℕ, List, [], ◌∷◌, ◌++◌, codes, Option, Result, Ok, Err, IfSome, IfErr, IsOk, IsErr}
+use Rattle.std.specs.Prelude.{◌≡◌, ◌⊎◌, ℕ, Bool, false, List, [], ◌∷◌, ◌++◌, codes, Option, Result, Ok, Err}
+use Rattle.std.specs.Prelude.{IfSome, IfErr, IsOk, IsErr, OnOk}
 use Rattle.std.specs.Io.KnownBytes.{Appends, Keeps}
 use Rattle.page_model.specs.Limits.{shapes}
 use Rattle.page_model.specs.Pages.{State, totals}
 use Rattle.page_model.specs.Replay.{empty_state, state_after, verdicts_of}
+use Rattle.page_model.specs.Steps.{step}
 use Rattle.page_model.specs.declared.request.Entry.{Entry}
 use Rattle.page_model.specs.declared.verdict.Verdict.{Verdict}
 use Rattle.journal_text.specs.Texts.{Journal, journal_of}
 use Rattle.journal_text.specs.Printed.{verdict_line, report_line, fault_line}
 use Rattle.journal_text.specs.Words.{◌>>=◌}
-use Rattle.journal_replay.specs.Ends.{AppendsFront}
+use Rattle.journal_replay.specs.Ends.{AppendsFront, tells_read, tells_write}
 use Rattle.journal_text.specs.declared.fault.TextFault.{TextFault}
 use Rattle.journal_text.specs.declared.fault.TextFault.TheVariants as faults
 
@@ -18,6 +20,10 @@ abbrev pub verdict_lines : List Entry → List Verdict → List ℕ
 verdict_lines [] verdicts = []
 verdict_lines (e ∷ es) [] = []
 verdict_lines (e ∷ es) (verdict ∷ verdicts) = (verdict_line e.guest verdict ++ codes "\n") ++ verdict_lines es verdicts
+
+-- the line of the verdict that an entry gets in a state, with its line feed
+abbrev pub served_line : (ℕ → List ℕ → ℕ) → State → Entry → List ℕ
+served_line hash s e = verdict_line e.guest (step hash s e.guest e.request).verdict ++ codes "\n"
 
 -- the lines of the entries' verdicts from a state on
 abbrev pub lines_from : (ℕ → List ℕ → ℕ) → State → List Entry → List ℕ
@@ -54,6 +60,15 @@ NotPrinted old new text faults.Count = ⊥
 NotPrinted old new text faults.Read = ⊥
 NotPrinted old new text faults.Long = ⊥
 
+-- A text was printed, or the answer says why it wasn't; no read failed, and a write did exactly if the answer says so.
+pub record Prints
+    (old new : Option (List ℕ)) (has_failed : Bool) (text : List ℕ) (r : Result (Unit {0}) TextFault)
+    : Type 0 where
+  pub ok : OnOk r (Appends old new text)
+  pub err : IfErr r (λ e. NotPrinted old new text e)
+  pub reader : tells_read r ≡ false
+  pub writer : has_failed ≡ tells_write r
+
 -- a fault of the text, whose line was written
 abbrev pub Told : TextFault → Option (List ℕ) → Option (List ℕ) → Result (List ℕ) TextFault → Type 0
 Told fault old new answer = (answer ≡ Err fault) × Appends old new (written_for answer)
@@ -77,8 +92,8 @@ Refused faults.Write old new r = (r ≡ Err faults.Write) × Keeps old new
 
 -- What an engine does with the bytes; answer has the output for each input, or the input's fault. input: what the reader had;
 -- old and new: what the writer holds.
-abbrev pub Writes : (List ℕ → Result (List ℕ) TextFault) → Option (List ℕ) → Option (List ℕ) → Option (List ℕ)
-    → Result (Unit {0}) TextFault → Type 0
+abbrev pub Writes : (List ℕ → Result (List ℕ) TextFault)
+    → Option (List ℕ) → Option (List ℕ) → Option (List ℕ) → Result (Unit {0}) TextFault → Type 0
 Writes answer input old new (Ok done) = IfSome input (λ text. IsOk (answer text) × Appends old new (written_for (answer text)))
 Writes answer input old new (Err (faults.Line n cause)) = IfSome input (λ text. Told (faults.Line n cause) old new (answer text))
 Writes answer input old new (Err (faults.Truncated n)) = IfSome input (λ text. Told (faults.Truncated n) old new (answer text))
@@ -89,5 +104,6 @@ Writes answer input old new (Err faults.Write) = IfSome input (λ text. AppendsF
 Writes answer input old new (Err faults.Long) = IfSome input (λ text. answer text ≡ Err faults.Long) × Keeps old new
 
 -- what a replay of a journal does with the bytes
-abbrev pub Replays : (ℕ → List ℕ → ℕ) → Option (List ℕ) → Option (List ℕ) → Option (List ℕ) → Result (Unit {0}) TextFault → Type 0
+abbrev pub Replays : (ℕ → List ℕ → ℕ)
+    → Option (List ℕ) → Option (List ℕ) → Option (List ℕ) → Result (Unit {0}) TextFault → Type 0
 Replays hash input old new r = Writes (answer_of hash) input old new r

@@ -1,9 +1,9 @@
 //! Readers and writers that remember whether they failed.
-ghost use Rattle.std.specs.Prelude.{◌≡◌, ◌+◌, ◌<◌, ◌≤◌, ◌++◌, ◌^◌, ◌||◌, ℕ, List, Option, Bool};
-ghost use Rattle.std.specs.Prelude.{true, false, length, vec_len, is_err, is_some, IfOk, IfErr, IfSome, OnOk, OnErr};
+ghost use Rattle.std.specs.Prelude.{◌≡◌, ◌≤◌, ◌^◌, ◌||◌, ℕ, List, Option, Bool, false, length, vec_len, is_err, is_some};
+ghost use Rattle.std.specs.Prelude.{IfOk, IfErr, IfSome};
 ghost use Rattle.std.specs.Io.{ReadsAtMost, WritesAtMost};
-ghost use Rattle.std.specs.Io.KnownBytes.{Appends, Keeps, ReadConsumes, WriteAppends};
-ghost use Rattle.journal_replay.specs.Ends.{inner_of, failed_of, write_failed, tells_read, AppendsFront, NotRead, ReadsUpTo};
+ghost use Rattle.std.specs.Io.KnownBytes.{ReadConsumes, WriteAppends};
+ghost use Rattle.journal_replay.specs.Ends.{inner_of, failed_of, write_failed, tells_read, NotRead, ReadsUpTo, WritesAll};
 
 use journal_text::TextFault;
 use page_model::MAX_TEXT_BYTES;
@@ -164,11 +164,7 @@ pub fn read_all<R: Source, A: Allocator + Clone>(
 /// Writes all of some bytes. An `Err` is `Write`, and then a front of them went out.
 pub fn write_all<W: Sink>(writer: &mut W, bytes: &[u8]) -> Result<(), TextFault>
     requires { W.has_failed writer.old ≡ false }
-    ensures ok { OnOk result (Appends (W.contents writer.old) (W.contents writer.new) bytes.now) }
-    ensures fine { OnOk result (W.has_failed writer.new ≡ false) }
-    ensures err { OnErr result (AppendsFront (W.contents writer.old) (W.contents writer.new) bytes.now) }
-    ensures failed { OnErr result (W.has_failed writer.new ≡ true) }
-    ensures fault { IfErr result (λ e. e ≡ TextFault.Write) }
+    ensures { WritesAll (W.contents writer.old) (W.contents writer.new) (W.has_failed writer.new) bytes.now result }
 {
     let mut done = 0;
     while done < bytes.len() {

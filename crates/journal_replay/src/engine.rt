@@ -1,18 +1,15 @@
 //! The engine that replays a journal.
-ghost use Rattle.std.specs.Prelude.{◌≡◌, ◌+◌, ◌<◌, ◌≤◌, ◌++◌, [], length, codes, true};
-ghost use Rattle.std.specs.Prelude.{false, string_bytes, string_len, string_capacity, IfOk, OnOk, OnErr, IfErr, IsErr};
-ghost use Rattle.std.specs.Io.KnownBytes.{Appends};
+ghost use Rattle.std.specs.Prelude.{◌≡◌, ◌+◌, ◌<◌, ◌≤◌, ◌++◌, [], length, false, string_bytes, string_capacity, IfOk, OnOk, IfErr, IsErr};
 ghost use Rattle.merge_core.specs.Shown.{state_of};
 ghost use Rattle.page_model.specs.Limits.{shapes};
 ghost use Rattle.page_model.specs.Replay.{empty_state, state_after};
 ghost use Rattle.page_model.specs.Steps.{step};
 ghost use Rattle.journal_text.specs.declared.fault.TextFault.TheVariants.{OutOfMemory};
-ghost use Rattle.journal_text.specs.Printed.{verdict_line};
 ghost use Rattle.journal_text.specs.Texts.{AreBelow};
 ghost use Rattle.journal_text.specs.Views.{journal_seen};
-ghost use Rattle.journal_replay.specs.Ends.{AppendsFront, Sends, is_read_fault, is_write_fault, tells_read, tells_write};
-ghost use Rattle.journal_replay.specs.Replayed.{lines_from, report_text, printed_from, printed, Replays, Refuses, Refused, NotPrinted};
-ghost use Rattle.page_model.specs.declared.limits.TheConstants.{MAX_ENTRIES};
+ghost use Rattle.journal_replay.specs.Ends.{is_read_fault, is_write_fault, tells_read, tells_write, Buffers, WritesAll};
+ghost use Rattle.journal_replay.specs.Replayed.{served_line, lines_from, report_text, printed_from, printed};
+ghost use Rattle.journal_replay.specs.Replayed.{Prints, Replays, Refuses, Refused};
 
 use crate::ends::{Sink, Source, read_all, write_all};
 use crate::output::{LINE_BYTES, buffer, make_room, put_report, put_verdict};
@@ -52,14 +49,9 @@ fn print_entry<H: PageHash, W: Sink, A: Allocator>(
     ensures step { OnOk result (state_of core.new ≡ (step H.hash_of (state_of core.old) entry.now.guest entry.now.request).state) }
     ensures entries { OnOk result (core.new.entries ≡ core.old.entries + 1) }
     ensures guests { OnOk result (length (state_of core.new).guests ≡ length (state_of core.old).guests) }
-    ensures sends { OnOk result (Sends (W.contents writer.old) (W.contents writer.new) (string_bytes out.new)
-        (string_bytes out.old ++ (verdict_line entry.now.guest
-        (step H.hash_of (state_of core.old) entry.now.guest entry.now.request).verdict ++ codes "\n"))) }
-    ensures fine { OnOk result (W.has_failed writer.new ≡ false) }
+    ensures buffers { Buffers (W.contents writer.old) (W.contents writer.new) (W.has_failed writer.new) (string_bytes out.new)
+        (string_bytes out.old ++ served_line H.hash_of (state_of core.old) entry.now) (string_bytes out.old) result }
     ensures room { OnOk result (LINE_BYTES ≤ string_capacity out.new) }
-    ensures err { OnErr result (AppendsFront (W.contents writer.old) (W.contents writer.new) (string_bytes out.old)) }
-    ensures failed { OnErr result (W.has_failed writer.new ≡ true) }
-    ensures fault { IfErr result (λ e. e ≡ TextFault.Write) }
 {
     make_room(writer, out)?;
     let verdict = core.apply_ahead(entry.guest, &entry.request, next);
@@ -78,17 +70,13 @@ pub fn print_run<H: PageHash, W: Sink, A: Allocator>(
     requires few { core.old.entries + length entries.now ≤ MAX_ENTRIES }
     requires fine { W.has_failed writer.old ≡ false }
     requires room { LINE_BYTES ≤ string_capacity out.old }
-    ensures sends { OnOk result (Sends (W.contents writer.old) (W.contents writer.new) (string_bytes out.new)
-        (string_bytes out.old ++ lines_from H.hash_of (state_of core.old) entries.now)) }
     ensures state { OnOk result (state_of core.new ≡ state_after H.hash_of (state_of core.old) entries.now) }
     ensures entries { OnOk result (core.new.entries ≡ core.old.entries + length entries.now) }
     ensures guests { OnOk result (length (state_of core.new).guests ≡ length (state_of core.old).guests) }
-    ensures fine { OnOk result (W.has_failed writer.new ≡ false) }
+    ensures buffers { Buffers (W.contents writer.old) (W.contents writer.new) (W.has_failed writer.new) (string_bytes out.new)
+        (string_bytes out.old ++ lines_from H.hash_of (state_of core.old) entries.now)
+        (string_bytes out.old ++ lines_from H.hash_of (state_of core.old) entries.now) result }
     ensures room { OnOk result (LINE_BYTES ≤ string_capacity out.new) }
-    ensures err { OnErr result (AppendsFront (W.contents writer.old) (W.contents writer.new)
-        (string_bytes out.old ++ lines_from H.hash_of (state_of core.old) entries.now)) }
-    ensures failed { OnErr result (W.has_failed writer.new ≡ true) }
-    ensures fault { IfErr result (λ e. e ≡ TextFault.Write) }
 {
     for at in 0..entries.len() {
         print_entry(core, &entries[at], &entries[at + 1..], writer, out)?;
@@ -104,13 +92,8 @@ pub fn print_report<H: PageHash, W: Sink, A: Allocator>(
 ) -> Result<(), TextFault>
     requires fine { W.has_failed writer.old ≡ false }
     requires room { LINE_BYTES ≤ string_capacity out.old }
-    ensures ok { OnOk result (Appends (W.contents writer.old) (W.contents writer.new)
-        (string_bytes out.old ++ report_text (state_of core.now))) }
-    ensures err { OnErr result (AppendsFront (W.contents writer.old) (W.contents writer.new)
-        (string_bytes out.old ++ report_text (state_of core.now))) }
-    ensures fine { OnOk result (W.has_failed writer.new ≡ false) }
-    ensures failed { OnErr result (W.has_failed writer.new ≡ true) }
-    ensures fault { IfErr result (λ e. e ≡ TextFault.Write) }
+    ensures { WritesAll (W.contents writer.old) (W.contents writer.new) (W.has_failed writer.new)
+        (string_bytes out.old ++ report_text (state_of core.now)) result }
 {
     make_room(writer, out)?;
     put_report(out, &core.report());
@@ -129,13 +112,8 @@ fn print_all<H: PageHash, W: Sink, A: Allocator>(
     requires fine { W.has_failed writer.old ≡ false }
     requires empty { string_bytes out.old ≡ [] }
     requires room { LINE_BYTES ≤ string_capacity out.old }
-    ensures ok { OnOk result (Appends (W.contents writer.old) (W.contents writer.new)
-        (printed_from H.hash_of (state_of core.old) entries.now)) }
-    ensures err { OnErr result (AppendsFront (W.contents writer.old) (W.contents writer.new)
-        (printed_from H.hash_of (state_of core.old) entries.now)) }
-    ensures fine { OnOk result (W.has_failed writer.new ≡ false) }
-    ensures failed { OnErr result (W.has_failed writer.new ≡ true) }
-    ensures fault { IfErr result (λ e. e ≡ TextFault.Write) }
+    ensures { WritesAll (W.contents writer.old) (W.contents writer.new) (W.has_failed writer.new)
+        (printed_from H.hash_of (state_of core.old) entries.now) result }
 {
     print_run(core, entries, writer, out)?;
     print_report(core, writer, out)
@@ -153,12 +131,8 @@ fn print_entries<H: PageHash + Drop, W: Sink, A: Allocator + Clone>(
     requires guests { AreBelow (length shape.now.pages) entries.now }
     requires few { length entries.now ≤ MAX_ENTRIES }
     requires fine { W.has_failed writer.old ≡ false }
-    ensures ok { OnOk result (Appends (W.contents writer.old) (W.contents writer.new)
-        (printed_from H.hash_of (empty_state shape.now.frames (shapes shape.now.salts shape.now.pages)) entries.now)) }
-    ensures err { IfErr result (λ e. NotPrinted (W.contents writer.old) (W.contents writer.new)
-        (printed_from H.hash_of (empty_state shape.now.frames (shapes shape.now.salts shape.now.pages)) entries.now) e) }
-    ensures reader { tells_read result ≡ false }
-    ensures writer { W.has_failed writer.new ≡ tells_write result }
+    ensures { Prints (W.contents writer.old) (W.contents writer.new) (W.has_failed writer.new)
+        (printed_from H.hash_of (empty_state shape.now.frames (shapes shape.now.salts shape.now.pages)) entries.now) result }
 {
     let mut out = buffer(alloc.clone()?)?;
     let mut core = core_of(alloc, shape, hash)?;
@@ -173,11 +147,8 @@ fn print_journal<H: PageHash + Drop, W: Sink, A: Allocator + Clone>(
     hash: H,
 ) -> Result<(), TextFault>
     requires fine { W.has_failed writer.old ≡ false }
-    ensures ok { OnOk result (Appends (W.contents writer.old) (W.contents writer.new) (printed H.hash_of (journal_seen journal.now))) }
-    ensures err { IfErr result (λ e. NotPrinted (W.contents writer.old) (W.contents writer.new)
-        (printed H.hash_of (journal_seen journal.now)) e) }
-    ensures reader { tells_read result ≡ false }
-    ensures writer { W.has_failed writer.new ≡ tells_write result }
+    ensures { Prints (W.contents writer.old) (W.contents writer.new) (W.has_failed writer.new)
+        (printed H.hash_of (journal_seen journal.now)) result }
 {
     let shape = journal.shape();
     print_entries(alloc, &shape, &journal.entries, writer, hash)

@@ -1,8 +1,7 @@
 //! Lines on their way to a writer, through a buffer that takes no memory once it is made.
-ghost use Rattle.std.specs.Prelude.{◌≡◌, ◌+◌, ◌≤◌, ◌++◌, [], codes, true};
-ghost use Rattle.std.specs.Prelude.{false, string_bytes, string_len, string_capacity, IfOk, IfErr, OnOk, OnErr};
+ghost use Rattle.std.specs.Prelude.{◌≡◌, ◌+◌, ◌≤◌, ◌++◌, [], codes, false, string_bytes, string_len, string_capacity, IfOk, OnOk};
 ghost use Rattle.page_model.specs.Parts.{Totals};
-ghost use Rattle.journal_replay.specs.Ends.{AppendsFront, Sends};
+ghost use Rattle.journal_replay.specs.Ends.{Buffers};
 ghost use Rattle.journal_text.specs.Printed.{verdict_line, report_line};
 
 use crate::ends::{Sink, write_all};
@@ -32,12 +31,9 @@ pub fn make_room<W: Sink, A: Allocator>(
 ) -> Result<(), TextFault>
     requires fine { W.has_failed writer.old ≡ false }
     requires room { LINE_BYTES ≤ string_capacity out.old }
-    ensures sends { OnOk result (Sends (W.contents writer.old) (W.contents writer.new) (string_bytes out.new) (string_bytes out.old)) }
+    ensures buffers { Buffers (W.contents writer.old) (W.contents writer.new) (W.has_failed writer.new) (string_bytes out.new)
+        (string_bytes out.old) (string_bytes out.old) result }
     ensures room { OnOk result (string_len out.new + LINE_BYTES ≤ string_capacity out.new) }
-    ensures fine { OnOk result (W.has_failed writer.new ≡ false) }
-    ensures err { OnErr result (AppendsFront (W.contents writer.old) (W.contents writer.new) (string_bytes out.old)) }
-    ensures failed { OnErr result (W.has_failed writer.new ≡ true) }
-    ensures fault { IfErr result (λ e. e ≡ TextFault.Write) }
 {
     if out.capacity() - out.len() < LINE_BYTES {
         write_all(writer, out.as_bytes())?;

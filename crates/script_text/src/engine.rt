@@ -1,11 +1,9 @@
 //! The engine that serves a script in its serial order.
-ghost use Rattle.std.specs.Prelude.{◌≡◌, ◌+◌, ◌≤◌, [], false, true};
-ghost use Rattle.std.specs.Prelude.{length, string_bytes, string_capacity, vec_capacity, IfErr, OnOk, OnErr};
-ghost use Rattle.std.specs.Io.KnownBytes.{Appends};
+ghost use Rattle.std.specs.Prelude.{◌≡◌, ◌+◌, ◌≤◌, [], false, length, string_bytes, string_capacity, vec_capacity};
 ghost use Rattle.merge_core.specs.Shown.{state_of};
 ghost use Rattle.merge_machine.specs.Scripts.{entries_needed};
-ghost use Rattle.journal_replay.specs.Ends.{AppendsFront, tells_read, tells_write};
-ghost use Rattle.journal_replay.specs.Replayed.{NotPrinted, printed_from};
+ghost use Rattle.journal_replay.specs.Ends.{WritesAll, tells_read, tells_write};
+ghost use Rattle.journal_replay.specs.Replayed.{Prints, printed_from};
 ghost use Rattle.script_text.specs.Order.{serial_order};
 ghost use Rattle.script_text.specs.Served.{serial_printed, Serves};
 ghost use Rattle.script_text.specs.Views.{lists_of, script_seen};
@@ -48,13 +46,8 @@ fn print_turns<H: PageHash, W: Sink, A: Allocator>(
     requires fine { W.has_failed writer.old ≡ false }
     requires empty { string_bytes out.old ≡ [] }
     requires room { LINE_BYTES ≤ string_capacity out.old }
-    ensures ok { OnOk result (Appends (W.contents writer.old) (W.contents writer.new)
-        (printed_from H.hash_of (state_of core.old) (serial_order (lists_of scripts.now)))) }
-    ensures err { OnErr result (AppendsFront (W.contents writer.old) (W.contents writer.new)
-        (printed_from H.hash_of (state_of core.old) (serial_order (lists_of scripts.now)))) }
-    ensures fine { OnOk result (W.has_failed writer.new ≡ false) }
-    ensures failed { OnErr result (W.has_failed writer.new ≡ true) }
-    ensures fault { IfErr result (λ e. e ≡ TextFault.Write) }
+    ensures { WritesAll (W.contents writer.old) (W.contents writer.new) (W.has_failed writer.new)
+        (printed_from H.hash_of (state_of core.old) (serial_order (lists_of scripts.now))) result }
 {
     for turn in 0..turns_of(scripts) {
         push_turn(entries, scripts, turn);
@@ -75,11 +68,8 @@ fn print_script<H: PageHash + Drop, W: Sink, A: Allocator + Clone>(
     hash: H,
 ) -> Result<(), TextFault>
     requires fine { W.has_failed writer.old ≡ false }
-    ensures ok { OnOk result (Appends (W.contents writer.old) (W.contents writer.new) (serial_printed H.hash_of (script_seen script.now))) }
-    ensures err { IfErr result (λ e. NotPrinted (W.contents writer.old) (W.contents writer.new)
-        (serial_printed H.hash_of (script_seen script.now)) e) }
-    ensures reader { tells_read result ≡ false }
-    ensures writer { W.has_failed writer.new ≡ tells_write result }
+    ensures { Prints (W.contents writer.old) (W.contents writer.new) (W.has_failed writer.new)
+        (serial_printed H.hash_of (script_seen script.now)) result }
 {
     let mut out = buffer(alloc.clone()?)?;
     let mut entries = Vec::with_capacity(alloc.clone()?, ROOM)?;

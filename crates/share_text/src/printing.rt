@@ -1,12 +1,10 @@
 //! What a run returned, as lines or as a journal's text.
-ghost use Rattle.std.specs.Prelude.{◌≡◌, ◌+◌, ◌≤◌, ◌++◌, [], codes, false};
-ghost use Rattle.std.specs.Prelude.{true, length, map, string_bytes, string_capacity, IfErr, OnOk, OnErr};
-ghost use Rattle.std.specs.Io.KnownBytes.{Appends};
+ghost use Rattle.std.specs.Prelude.{◌≡◌, ◌≤◌, ◌++◌, [], codes, false, length, map, string_bytes, string_capacity, OnOk};
 ghost use Rattle.merge_core.specs.Shown.{state_of};
 ghost use Rattle.merge_run.specs.View.{settled_core};
-ghost use Rattle.journal_replay.specs.Ends.{AppendsFront, Sends, tells_read, tells_write};
+ghost use Rattle.journal_replay.specs.Ends.{Buffers, WritesAll};
 ghost use Rattle.journal_text.specs.Printed.{verdict_line};
-ghost use Rattle.journal_replay.specs.Replayed.{report_text, NotPrinted};
+ghost use Rattle.journal_replay.specs.Replayed.{report_text, Prints};
 ghost use Rattle.share_text.specs.Runs.{guest_lines, lists_lines};
 ghost use Rattle.share_text.specs.Threads.{finished_text};
 ghost use Rattle.page_model.specs.declared.limits.TheConstants.{MAX_GUESTS};
@@ -34,13 +32,9 @@ fn print_verdict<W: Sink, A: Allocator>(
 ) -> Result<(), TextFault>
     requires fine { W.has_failed writer.old ≡ false }
     requires room { LINE_BYTES ≤ string_capacity out.old }
-    ensures sends { OnOk result (Sends (W.contents writer.old) (W.contents writer.new) (string_bytes out.new)
-        (string_bytes out.old ++ (verdict_line guest verdict.now ++ codes "\n"))) }
-    ensures fine { OnOk result (W.has_failed writer.new ≡ false) }
+    ensures buffers { Buffers (W.contents writer.old) (W.contents writer.new) (W.has_failed writer.new) (string_bytes out.new)
+        (string_bytes out.old ++ (verdict_line guest verdict.now ++ codes "\n")) (string_bytes out.old) result }
     ensures room { OnOk result (LINE_BYTES ≤ string_capacity out.new) }
-    ensures err { OnErr result (AppendsFront (W.contents writer.old) (W.contents writer.new) (string_bytes out.old)) }
-    ensures failed { OnErr result (W.has_failed writer.new ≡ true) }
-    ensures fault { IfErr result (λ e. e ≡ TextFault.Write) }
 {
     make_room(writer, out)?;
     put_verdict(out, guest, verdict);
@@ -56,14 +50,9 @@ fn print_guest<W: Sink, A: Allocator>(
 ) -> Result<(), TextFault>
     requires fine { W.has_failed writer.old ≡ false }
     requires room { LINE_BYTES ≤ string_capacity out.old }
-    ensures sends { OnOk result (Sends (W.contents writer.old) (W.contents writer.new) (string_bytes out.new)
-        (string_bytes out.old ++ guest_lines guest verdicts.now)) }
-    ensures fine { OnOk result (W.has_failed writer.new ≡ false) }
+    ensures buffers { Buffers (W.contents writer.old) (W.contents writer.new) (W.has_failed writer.new) (string_bytes out.new)
+        (string_bytes out.old ++ guest_lines guest verdicts.now) (string_bytes out.old ++ guest_lines guest verdicts.now) result }
     ensures room { OnOk result (LINE_BYTES ≤ string_capacity out.new) }
-    ensures err { OnErr result (AppendsFront (W.contents writer.old) (W.contents writer.new)
-        (string_bytes out.old ++ guest_lines guest verdicts.now)) }
-    ensures failed { OnErr result (W.has_failed writer.new ≡ true) }
-    ensures fault { IfErr result (λ e. e ≡ TextFault.Write) }
 {
     for verdict in verdicts {
         print_verdict(guest, verdict, writer, out)?;
@@ -80,14 +69,10 @@ fn print_guests<W: Sink, A: Allocator>(
     requires guests { length lists.now ≤ MAX_GUESTS }
     requires fine { W.has_failed writer.old ≡ false }
     requires room { LINE_BYTES ≤ string_capacity out.old }
-    ensures sends { OnOk result (Sends (W.contents writer.old) (W.contents writer.new) (string_bytes out.new)
-        (string_bytes out.old ++ lists_lines 0 (map (λ list. list.items) lists.now))) }
-    ensures fine { OnOk result (W.has_failed writer.new ≡ false) }
+    ensures buffers { Buffers (W.contents writer.old) (W.contents writer.new) (W.has_failed writer.new) (string_bytes out.new)
+        (string_bytes out.old ++ lists_lines 0 (map (λ list. list.items) lists.now))
+        (string_bytes out.old ++ lists_lines 0 (map (λ list. list.items) lists.now)) result }
     ensures room { OnOk result (LINE_BYTES ≤ string_capacity out.new) }
-    ensures err { OnErr result (AppendsFront (W.contents writer.old) (W.contents writer.new)
-        (string_bytes out.old ++ lists_lines 0 (map (λ list. list.items) lists.now))) }
-    ensures failed { OnErr result (W.has_failed writer.new ≡ true) }
-    ensures fault { IfErr result (λ e. e ≡ TextFault.Write) }
 {
     let mut guest = 0;
     for list in lists {
@@ -108,13 +93,8 @@ fn print_lines<H: PageHash, W: Sink, A: Allocator>(
     requires fine { W.has_failed writer.old ≡ false }
     requires empty { string_bytes out.old ≡ [] }
     requires room { LINE_BYTES ≤ string_capacity out.old }
-    ensures ok { OnOk result (Appends (W.contents writer.old) (W.contents writer.new)
-        (lists_lines 0 (map (λ list. list.items) lists.now) ++ report_text (state_of core.now))) }
-    ensures err { OnErr result (AppendsFront (W.contents writer.old) (W.contents writer.new)
-        (lists_lines 0 (map (λ list. list.items) lists.now) ++ report_text (state_of core.now))) }
-    ensures fine { OnOk result (W.has_failed writer.new ≡ false) }
-    ensures failed { OnErr result (W.has_failed writer.new ≡ true) }
-    ensures fault { IfErr result (λ e. e ≡ TextFault.Write) }
+    ensures { WritesAll (W.contents writer.old) (W.contents writer.new) (W.has_failed writer.new)
+        (lists_lines 0 (map (λ list. list.items) lists.now) ++ report_text (state_of core.now)) result }
 {
     print_guests(lists, writer, out)?;
     print_report(core, writer, out)
@@ -128,12 +108,8 @@ fn print_journal<H: PageHash, W: Sink, A: Allocator + Copy>(
     writer: &mut W,
 ) -> Result<(), TextFault>
     requires fine { W.has_failed writer.old ≡ false }
-    ensures ok { OnOk result (Appends (W.contents writer.old) (W.contents writer.new)
-        (finished_text Output.JournalText config.now finished.now)) }
-    ensures err { IfErr result (λ e. NotPrinted (W.contents writer.old) (W.contents writer.new)
-        (finished_text Output.JournalText config.now finished.now) e) }
-    ensures reader { tells_read result ≡ false }
-    ensures writer { W.has_failed writer.new ≡ tells_write result }
+    ensures { Prints (W.contents writer.old) (W.contents writer.new) (W.has_failed writer.new)
+        (finished_text Output.JournalText config.now finished.now) result }
 {
     let entries = finished.settled.journal();
     let text = write_entries(alloc, config.frames, &config.pages, &config.salts, entries)?;
@@ -148,14 +124,9 @@ fn print_verdicts<H: PageHash, W: Sink, A: Allocator + Copy>(
 ) -> Result<(), TextFault>
     requires guests { length finished.now.verdicts.items ≤ MAX_GUESTS }
     requires fine { W.has_failed writer.old ≡ false }
-    ensures ok { OnOk result (Appends (W.contents writer.old) (W.contents writer.new)
-        (lists_lines 0 (map (λ list. list.items) finished.now.verdicts.items) ++ report_text
-        (state_of (settled_core finished.now.settled)))) }
-    ensures err { IfErr result (λ e. NotPrinted (W.contents writer.old) (W.contents writer.new)
-        (lists_lines 0 (map (λ list. list.items) finished.now.verdicts.items) ++ report_text
-        (state_of (settled_core finished.now.settled))) e) }
-    ensures reader { tells_read result ≡ false }
-    ensures writer { W.has_failed writer.new ≡ tells_write result }
+    ensures { Prints (W.contents writer.old) (W.contents writer.new) (W.has_failed writer.new)
+        (lists_lines 0 (map (λ list. list.items) finished.now.verdicts.items)
+            ++ report_text (state_of (settled_core finished.now.settled))) result }
 {
     let mut out = buffer(alloc)?;
     print_lines(
@@ -176,11 +147,8 @@ pub(crate) fn print_run<H: PageHash, W: Sink, A: Allocator + Copy>(
 ) -> Result<(), TextFault>
     requires guests { length finished.now.verdicts.items ≤ MAX_GUESTS }
     requires fine { W.has_failed writer.old ≡ false }
-    ensures ok { OnOk result (Appends (W.contents writer.old) (W.contents writer.new) (finished_text form config.now finished.now)) }
-    ensures err { IfErr result (λ e. NotPrinted (W.contents writer.old) (W.contents writer.new)
-        (finished_text form config.now finished.now) e) }
-    ensures reader { tells_read result ≡ false }
-    ensures writer { W.has_failed writer.new ≡ tells_write result }
+    ensures { Prints (W.contents writer.old) (W.contents writer.new) (W.has_failed writer.new)
+        (finished_text form config.now finished.now) result }
 {
     match form {
         Output::Verdicts => print_verdicts(alloc, finished, writer),

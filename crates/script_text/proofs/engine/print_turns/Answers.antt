@@ -1,5 +1,4 @@
-use Rattle.std.proofs.Common.{◌≡◌, ◌+◌, ◌-◌, ◌++◌, ℕ, suc, List, [], length, map, string_bytes, vec_capacity, sym, ap, ◌∙◌, arith, length-append}
-use Rattle.std.specs.Io.KnownBytes.{Appends}
+use Rattle.std.proofs.Common.{rules, ◌≡◌, ◌+◌, ◌-◌, ◌++◌, ℕ, suc, List, [], length, map, string_bytes, vec_capacity, sym, ap, ◌∙◌, arith, length-append}
 use Rattle.page_model.specs.Pages.{State}
 use Rattle.page_model.specs.Replay.{state_after}
 use Rattle.page_model.specs.declared.request.Entry.{Entry}
@@ -8,7 +7,7 @@ use Rattle.merge_core.specs.Shown.{state_of}
 use Rattle.merge_machine.specs.Scripts.{with_close}
 use Rattle.journal_replay.specs.Ends.{AppendsFront, Sends}
 use Rattle.journal_replay.specs.Replayed.{lines_from, printed_from, report_text}
-use Rattle.journal_replay.proofs.Sent.{on_err, on_err_map, on_ok_map, sends_none, sends_all, sends_front}
+use Rattle.journal_replay.proofs.Sent.{sends_none, writes_cut, writes_rest}
 use Rattle.script_text.specs.Order.{turns, longest, left_of, serial_order}
 use Rattle.script_text.specs.Views.{lists_of}
 use Rattle.script_text.proofs.Turns.{turn_more, turn_none, left_first, serial_few}
@@ -49,8 +48,8 @@ print_run-requires-clause-few g c κs within =
     let same : c.loop-turn.entries.items ++ turns (t - turn) (left_of turn lists) ≡ run ++ later = turn_more c.loop-turn.entries.items lists (t - turn) (t - (turn + 1)) turn next ∙ ap (λ (xs : List Entry). xs ++ later) (sym c.push_turn.ensures.items) in
     omega (arith, c.loop-turn.invariant.few, ap length same, length-append run later, ap length c.deref.ensures.value)
 
-pub returns-in_err-print_run-clause-err : goal.returns-in_err-print_run-clause-err
-returns-in_err-print_run-clause-err g c =
+pub returns-in_err-print_run : goal.returns-in_err-print_run
+returns-in_err-print_run g c =
     let hash = g.H.HashFunction.hash_of in
     let contents = g.W.Sink.contents in
     let s : State = state_of c.loop-turn.core in
@@ -63,8 +62,9 @@ returns-in_err-print_run-clause-err g c =
     let same : c.loop-turn.entries.items ++ turns (t - turn) (left_of turn lists) ≡ run ++ later = turn_more c.loop-turn.entries.items lists (t - turn) (t - (turn + 1)) turn next ∙ ap (λ (xs : List Entry). xs ++ later) (sym c.push_turn.ensures.items) in
     let out = string_bytes c.loop-turn.out in
     let whole : List ℕ = printed_from hash (state_of c.args.core.now) (serial_order lists) in
-    let front : AppendsFront (contents c.loop-turn.writer) (contents c.print_run.new.writer) (out ++ lines_from hash s run) = rw c.deref.ensures.value at c.in_err-print_run.ensures.err in
-    on_err c.from_residual.result _ (run_cut hash (contents c.args.writer.now) (contents c.loop-turn.writer) (contents c.print_run.new.writer) out whole s run later _ same c.loop-turn.invariant.sends front)
+    let front : AppendsFront (contents c.loop-turn.writer) (contents c.print_run.new.writer) (out ++ lines_from hash s run) = rw c.deref.ensures.value at c.in_err-print_run.ensures.buffers.err in
+    let all = run_cut hash (contents c.args.writer.now) (contents c.loop-turn.writer) (contents c.print_run.new.writer) out whole s run later _ same c.loop-turn.invariant.sends front in
+    writes_cut _ _ _ whole c.from_residual.result (search rules) (search rules) c.in_err-print_run.ensures.buffers.failed all
 
 pub loop-turn-preserved : goal.loop-turn-preserved
 loop-turn-preserved g c =
@@ -83,7 +83,7 @@ loop-turn-preserved g c =
     let whole : List ℕ = printed_from hash (state_of c.args.core.now) (serial_order lists) in
     elim c.if-len-ge-WINDOW.branch [
       | then-len-ge-WINDOW+in_ok-print_run w ↦
-          let sent : Sends (contents c.loop-turn.writer) (contents w.print_run.new.writer) (string_bytes w.print_run.new.out) (out ++ lines_from hash s run) = rw w.deref.ensures.value at w.in_ok-print_run.ensures.sends in
+          let sent : Sends (contents c.loop-turn.writer) (contents w.print_run.new.writer) (string_bytes w.print_run.new.out) (out ++ lines_from hash s run) = rw w.deref.ensures.value at w.in_ok-print_run.ensures.buffers.sends in
           let state : state_of w.print_run.new.core ≡ state_after hash s run = rw w.deref.ensures.value at w.in_ok-print_run.ensures.state in
           let none : c.if-len-ge-WINDOW.entries.items ≡ [] = ap (λ x. x.items) w.entries-is ∙ w.clear.ensures.items in
           record {
@@ -93,7 +93,7 @@ loop-turn-preserved g c =
             below = rw none (λ k d l. absurd (omega (arith, l)));
             waiting = omega (arith, ap length none);
             space = omega (arith, ap (λ x. vec_capacity x) w.entries-is, w.clear.ensures.capacity, c.push_turn.ensures.capacity, c.loop-turn.invariant.space);
-            fine = rw w.writer-is w.in_ok-print_run.ensures.fine;
+            fine = rw w.writer-is w.in_ok-print_run.ensures.buffers.fine;
             room = rw w.out-is w.in_ok-print_run.ensures.room;
           }
       | else-len-ge-WINDOW w ↦
@@ -111,8 +111,8 @@ loop-turn-preserved g c =
           }
     ]
 
-pub returns-in_err-print_run-2-clause-err : goal.returns-in_err-print_run-2-clause-err
-returns-in_err-print_run-2-clause-err g c =
+pub returns-in_err-print_run-2 : goal.returns-in_err-print_run-2
+returns-in_err-print_run-2 g c =
     let hash = g.H.HashFunction.hash_of in
     let contents = g.W.Sink.contents in
     let s : State = state_of c.loop-turn.core in
@@ -123,11 +123,12 @@ returns-in_err-print_run-2-clause-err g c =
     let run : List Entry = c.loop-turn.entries.items in
     let out = string_bytes c.loop-turn.out in
     let whole : List ℕ = printed_from hash (state_of c.args.core.now) (serial_order lists) in
-    let front : AppendsFront (contents c.loop-turn.writer) (contents c.print_run-2.new.writer) (out ++ lines_from hash s run) = rw c.deref-2.ensures.value at c.in_err-print_run-2.ensures.err in
-    on_err c.from_residual-in_err-print_run-2.result _ (last_cut hash (contents c.args.writer.now) (contents c.loop-turn.writer) (contents c.print_run-2.new.writer) out whole s run _ (turn_none run lists (t - turn) turn none) c.loop-turn.invariant.sends front)
+    let front : AppendsFront (contents c.loop-turn.writer) (contents c.print_run-2.new.writer) (out ++ lines_from hash s run) = rw c.deref-2.ensures.value at c.in_err-print_run-2.ensures.buffers.err in
+    let all = last_cut hash (contents c.args.writer.now) (contents c.loop-turn.writer) (contents c.print_run-2.new.writer) out whole s run _ (turn_none run lists (t - turn) turn none) c.loop-turn.invariant.sends front in
+    writes_cut _ _ _ whole c.from_residual-in_err-print_run-2.result (search rules) (search rules) c.in_err-print_run-2.ensures.buffers.failed all
 
-pub returns-clause-ok : goal.returns-clause-ok
-returns-clause-ok g c =
+pub returns : goal.returns
+returns g c =
     let hash = g.H.HashFunction.hash_of in
     let contents = g.W.Sink.contents in
     let a = contents c.args.writer.now in
@@ -143,29 +144,7 @@ returns-clause-ok g c =
     let out = string_bytes c.loop-turn.out in
     let ahead = string_bytes c.print_run-2.new.out in
     let whole : List ℕ = printed_from hash (state_of c.args.core.now) (serial_order lists) in
-    let sent : Sends (contents c.loop-turn.writer) b ahead (out ++ lines_from hash s run) = rw c.deref-2.ensures.value at c.in_ok-print_run-2.ensures.sends in
+    let sent : Sends (contents c.loop-turn.writer) b ahead (out ++ lines_from hash s run) = rw c.deref-2.ensures.value at c.in_ok-print_run-2.ensures.buffers.sends in
     let state : after ≡ state_after hash s run = rw c.deref-2.ensures.value at c.in_ok-print_run-2.ensures.state in
     let sends : Sends a b (ahead ++ report_text after) whole = last_sent hash a (contents c.loop-turn.writer) b out ahead whole s after run _ (turn_none run lists (t - turn) turn none) state c.loop-turn.invariant.sends sent in
-    on_ok_map c.print_report.result _ _ (λ (h : Appends b d (ahead ++ report_text after)). sends_all a b d _ _ sends h) c.print_report.ensures.ok
-
-pub returns-clause-err : goal.returns-clause-err
-returns-clause-err g c =
-    let hash = g.H.HashFunction.hash_of in
-    let contents = g.W.Sink.contents in
-    let a = contents c.args.writer.now in
-    let b = contents c.print_run-2.new.writer in
-    let d = contents c.print_report.new.writer in
-    let s : State = state_of c.loop-turn.core in
-    let after : State = state_of c.print_run-2.new.core in
-    let lists : List (List Request) = lists_of c.args.scripts.now in
-    let t : ℕ = longest (map with_close lists) in
-    let turn : ℕ = c.loop-turn.turn in
-    let none : t - turn ≡ 0 = omega (arith, c.turns_of-turn-end.ensures) in
-    let run : List Entry = c.loop-turn.entries.items in
-    let out = string_bytes c.loop-turn.out in
-    let ahead = string_bytes c.print_run-2.new.out in
-    let whole : List ℕ = printed_from hash (state_of c.args.core.now) (serial_order lists) in
-    let sent : Sends (contents c.loop-turn.writer) b ahead (out ++ lines_from hash s run) = rw c.deref-2.ensures.value at c.in_ok-print_run-2.ensures.sends in
-    let state : after ≡ state_after hash s run = rw c.deref-2.ensures.value at c.in_ok-print_run-2.ensures.state in
-    let sends : Sends a b (ahead ++ report_text after) whole = last_sent hash a (contents c.loop-turn.writer) b out ahead whole s after run _ (turn_none run lists (t - turn) turn none) state c.loop-turn.invariant.sends sent in
-    on_err_map c.print_report.result _ _ (λ (h : AppendsFront b d (ahead ++ report_text after)). sends_front a b d _ _ sends h) c.print_report.ensures.err
+    writes_rest a b d _ (ahead ++ report_text after) whole c.print_report.result sends c.print_report.ensures
