@@ -11,7 +11,7 @@ use Rattle.journal_text.specs.Views.{Fails}
 use Rattle.journal_text.specs.Words.{◌>>=◌}
 use Rattle.journal_replay.specs.Ends.{AppendsFront, NotRead}
 use Rattle.journal_text.specs.Printed.{fault_line}
-use Rattle.journal_replay.specs.Replayed.{answer_of, printed, written_for, Told, NotPrinted, Refuses, Refused, Writes}
+use Rattle.journal_replay.specs.Replayed.{answer_of, printed, written_for, WritesFault, NotPrinted, Refuses, Refused, Writes}
 
 -- an input that is too long has that fault
 abbrev pub KnowsLong : (List ℕ → Result (List ℕ) TextFault) → Type 0
@@ -81,13 +81,13 @@ IsTold faults.Read = ⊥
 IsTold faults.Write = ⊥
 IsTold faults.Long = ⊥
 
-told_as : (old new : Option (List ℕ)) (fault : TextFault) (answer : Result (List ℕ) TextFault) → answer ≡ Err fault → Appends old new (fault_line fault ++ codes "\n") → Told fault old new answer
+told_as : (old new : Option (List ℕ)) (fault : TextFault) (answer : Result (List ℕ) TextFault) → answer ≡ Err fault → Appends old new (fault_line fault ++ codes "\n") → WritesFault fault old new answer
 told_as old new fault answer e h = let P : Result (List ℕ) TextFault → Type 0 = λ a. Appends old new (written_for a) in (e, subst P (sym e) h)
 
 told_on : (answer : List ℕ → Result (List ℕ) TextFault) (input old new : Option (List ℕ)) (text : List ℕ) (fault : TextFault)
-    → IfSome input (λ bytes. text ≡ bytes) → answer text ≡ Err fault → Appends old new (fault_line fault ++ codes "\n") → IfSome input (λ bytes. Told fault old new (answer bytes))
+    → IfSome input (λ bytes. text ≡ bytes) → answer text ≡ Err fault → Appends old new (fault_line fault ++ codes "\n") → IfSome input (λ bytes. WritesFault fault old new (answer bytes))
 told_on answer input old new text fault same read h =
-    let Q : List ℕ → Type 0 = λ bytes. Told fault old new (answer bytes) in
+    let Q : List ℕ → Type 0 = λ bytes. WritesFault fault old new (answer bytes) in
     on_input input text Q same (told_as old new fault (answer text) read h)
 
 tells : (answer : List ℕ → Result (List ℕ) TextFault) (input old new : Option (List ℕ)) (text : List ℕ) (fault : TextFault) → IsTold fault

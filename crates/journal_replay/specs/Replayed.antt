@@ -70,8 +70,8 @@ pub record Prints
   pub writer : has_failed ≡ tells_write r
 
 -- a fault of the text, whose line was written
-abbrev pub Told : TextFault → Option (List ℕ) → Option (List ℕ) → Result (List ℕ) TextFault → Type 0
-Told fault old new answer = (answer ≡ Err fault) × Appends old new (written_for answer)
+abbrev pub WritesFault : TextFault → Option (List ℕ) → Option (List ℕ) → Result (List ℕ) TextFault → Type 0
+WritesFault fault old new answer = (answer ≡ Err fault) × Appends old new (written_for answer)
 
 -- How a refusal for a fault ends: its line went out, or a front of it since the writer failed, or nothing since memory ran out.
 abbrev pub Refuses : TextFault → Option (List ℕ) → Option (List ℕ) → TextFault → Type 0
@@ -95,9 +95,9 @@ Refused faults.Write old new r = (r ≡ Err faults.Write) × Keeps old new
 abbrev pub Writes : (List ℕ → Result (List ℕ) TextFault)
     → Option (List ℕ) → Option (List ℕ) → Option (List ℕ) → Result (Unit {0}) TextFault → Type 0
 Writes answer input old new (Ok done) = IfSome input (λ text. IsOk (answer text) × Appends old new (written_for (answer text)))
-Writes answer input old new (Err (faults.Line n cause)) = IfSome input (λ text. Told (faults.Line n cause) old new (answer text))
-Writes answer input old new (Err (faults.Truncated n)) = IfSome input (λ text. Told (faults.Truncated n) old new (answer text))
-Writes answer input old new (Err faults.Count) = IfSome input (λ text. Told faults.Count old new (answer text))
+Writes answer input old new (Err (faults.Line n cause)) = IfSome input (λ text. WritesFault (faults.Line n cause) old new (answer text))
+Writes answer input old new (Err (faults.Truncated n)) = IfSome input (λ text. WritesFault (faults.Truncated n) old new (answer text))
+Writes answer input old new (Err faults.Count) = IfSome input (λ text. WritesFault faults.Count old new (answer text))
 Writes answer input old new (Err faults.OutOfMemory) = Keeps old new
 Writes answer input old new (Err faults.Read) = Keeps old new
 Writes answer input old new (Err faults.Write) = IfSome input (λ text. AppendsFront old new (written_for (answer text)))

@@ -1,6 +1,6 @@
 //! ELF cores.
 
-use crate::images::files::{Memory, Told, core_file, fails, load, opened_has_pages, put};
+use crate::images::files::{Memory, ProgramHeader, core_file, fails, load, opened_has_pages, put};
 use memory_images::FormFault;
 use std::alloc::{AllocError, Global};
 use std::test::Fail;
@@ -8,13 +8,13 @@ use std::test::Fail;
 // Segments out of order, with holes between them, one that overlaps another, and one that is longer in memory.
 #[test]
 fn segments(rt: HostRuntime) -> Result<(), Fail> {
-    let note = Told {
+    let note = ProgramHeader {
         kind: 4,
         offset: 512,
         file_bytes: 100,
         memory_bytes: 0,
     };
-    let longer = Told {
+    let longer = ProgramHeader {
         kind: 1,
         offset: 1000,
         file_bytes: 10,

@@ -69,7 +69,7 @@ pub fn put(bytes: &mut [u8], at: usize, len: usize, number: u64) {
 
 /// A program header: its type, the place and the number of its bytes in the file, and the number in memory.
 #[derive(Clone, Copy)]
-pub struct Told {
+pub struct ProgramHeader {
     pub kind: u32,
     pub offset: u64,
     pub file_bytes: u64,
@@ -77,8 +77,8 @@ pub struct Told {
 }
 
 /// Returns a segment to load that is as long in memory as in the file.
-pub fn load(offset: u64, len: u64) -> Told {
-    Told {
+pub fn load(offset: u64, len: u64) -> ProgramHeader {
+    ProgramHeader {
         kind: 1,
         offset,
         file_bytes: len,
@@ -87,7 +87,11 @@ pub fn load(offset: u64, len: u64) -> Told {
 }
 
 /// Makes a core of `len` bytes with these program headers, from byte 64 on.
-pub fn core_file(alloc: Global, len: usize, headers: &[Told]) -> Result<Memory, AllocError> {
+pub fn core_file(
+    alloc: Global,
+    len: usize,
+    headers: &[ProgramHeader],
+) -> Result<Memory, AllocError> {
     let mut file = plain_file(alloc, len)?;
     put_header(file.bytes.as_mut_slice(), headers.len() as u64);
     let mut at: usize = 64;
@@ -116,7 +120,7 @@ fn put_header(bytes: &mut [u8], count: u64) {
 }
 
 /// Puts a program header at a place.
-fn put_program_header(bytes: &mut [u8], at: usize, header: &Told) {
+fn put_program_header(bytes: &mut [u8], at: usize, header: &ProgramHeader) {
     for (place, len, number) in [
         (0, 4, u64::from(header.kind)),
         (8, 8, header.offset),
