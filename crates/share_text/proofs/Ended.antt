@@ -1,5 +1,5 @@
 -- What is written of a run that has ended, by its journal alone.
-use Rattle.std.proofs.Common.{◌≡◌, ◌+◌, ◌<◌, ◌++◌, zero, suc, ℕ, Option, Result, Ok, Err, List, [], ◌∷◌, length, get_or, map, refl, ap, sym, subst, ◌∙◌, arith}
+use Rattle.std.proofs.Common.{◌≡◌, ◌+◌, ◌<◌, ◌++◌, zero, suc, ℕ, Bool, Option, Result, Ok, Err, List, [], ◌∷◌, length, get_or, map, refl, ap, sym, subst, ◌∙◌, arith}
 use Rattle.std.specs.declared.vec.Vec.{Vec}
 use Rattle.page_model.specs.Journal as journal
 use Rattle.page_model.specs.Pages.{State}
@@ -16,11 +16,9 @@ use Rattle.merge_settle.specs.Settling.{Settles}
 use Rattle.merge_run.specs.Tasks.{all_sent}
 use Rattle.merge_run.specs.View.{opening, settled_journal, settled_ports, settled_core}
 use Rattle.merge_run.specs.declared.finished.Finished.{Finished}
-use Rattle.std.specs.Prelude.{OnErr, IfErr}
-use Rattle.journal_replay.specs.Ends.{AppendsFront}
-use Rattle.journal_replay.specs.Replayed.{report_text, NotPrinted}
+use Rattle.journal_replay.specs.Ends.{WritesAll}
+use Rattle.journal_replay.specs.Replayed.{report_text, Prints}
 use Rattle.journal_text.specs.declared.fault.TextFault.{TextFault}
-use Rattle.journal_text.specs.declared.fault.TextFault.TheVariants as faults
 use Rattle.journal_text.specs.Texts.{AreBelow}
 use Rattle.script_text.specs.Views.{lists_of, script_seen}
 use Rattle.script_text.specs.declared.script.Script.{Script}
@@ -29,10 +27,13 @@ use Rattle.share_text.specs.Threads.{finished_text}
 use Rattle.share_text.specs.declared.form.Output.{Output}
 use Rattle.share_text.specs.declared.form.Output.TheVariants.{Verdicts, JournalText}
 
--- why a writer that failed kept bytes from being written
-pub front_at : (r : Result (Unit {0}) TextFault) (old new : Option (List ℕ)) (text : List ℕ) → OnErr r (AppendsFront old new text) → IfErr r (λ e. e ≡ faults.Write) → IfErr r (λ e. NotPrinted old new text e)
-front_at (Ok done) old new text front is = tt
-front_at (Err e) old new text front is = let P : TextFault → Type 0 = λ x. NotPrinted old new text x in subst P (sym is) front
+-- a text that was written is printed, or its writer failed
+pub prints_written : (old new : Option (List ℕ)) (failed : Bool) (text : List ℕ) (r : Result (Unit {0}) TextFault)
+    → WritesAll old new failed text r → Prints old new failed text r
+prints_written old new failed text (Ok done) w = record { ok = w.ok; err = tt; reader = refl; writer = w.fine }
+prints_written old new failed text (Err e) w =
+    let P : TextFault → Type 0 = λ x. Prints old new failed text (Err x) in
+    subst P (sym w.fault) (record { ok = tt; err = w.err; reader = refl; writer = w.failed })
 
 -- what holds at each place holds of the list
 each_at : {X Y : Type 0} (f : ℕ → Y) (view : X → Y) (k : ℕ) (xs : List X) → ((i : ℕ) (d : X) → i < length xs → view (get_or xs i d) ≡ f (k + i)) → map view xs ≡ each_from f k (length xs)

@@ -126,7 +126,7 @@ fn print_verdicts<H: PageHash, W: Sink, A: Allocator + Copy>(
     requires fine { W.has_failed writer.old ≡ false }
     ensures { Prints (W.contents writer.old) (W.contents writer.new) (W.has_failed writer.new)
         (lists_lines 0 (map (λ list. list.items) finished.now.verdicts.items)
-            ++ report_text (state_of (settled_core finished.now.settled))) result }
+        ++ report_text (state_of (settled_core finished.now.settled))) result }
 {
     let mut out = buffer(alloc)?;
     print_lines(

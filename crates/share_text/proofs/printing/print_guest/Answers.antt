@@ -49,5 +49,5 @@ returns-clause-buffers g c =
     let out = string_bytes l.out in
     let done : drop l.verdict-index vs ≡ [] = drop_all l.verdict-index vs (omega arith) in
     let rest : out ++ guest_lines c.args.guest (drop l.verdict-index vs) ≡ out =
-        ap (λ (left : List Verdict). out ++ guest_lines c.args.guest left) done ∙ append-nil out in
+    ap (λ (left : List Verdict). out ++ guest_lines c.args.guest left) done ∙ append-nil out in
     record { sends = rw rest at l.invariant.sends; fine = l.invariant.fine; err = tt; failed = tt; fault = tt }
