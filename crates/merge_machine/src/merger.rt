@@ -56,6 +56,7 @@ pub struct Merger<H: PageHash, A: Allocator = Global> {
 
 impl<H: PageHash, A: Allocator> Merger<H, A> {
     ghost use Rattle.std.specs.Prelude.{◌≡◌, ◌<◌, true, false, MatchResult, IsSome, length};
+    ghost use Rattle.page_model.specs.declared.limits.TheConstants.{PAGE_BYTES};
     ghost use Rattle.page_model.specs.Pages.{page_at, totals};
     ghost use Rattle.page_model.specs.Replay.{verdicts_of};
     ghost use Rattle.page_model.specs.Stored.{byte_at, last_stored};
@@ -126,7 +127,7 @@ impl<H: PageHash, A: Allocator> Merger<H, A> {
     /// Returns the byte of a page at a place, 0 if the page is unmapped: the byte last stored there.
     pub fn read(&self, guest: u8, ppn: u32, at: u32) -> u8
         requires page { IsSome (page_at (memory_of self.now).guests guest ppn) }
-        requires at { at < 4096 }
+        requires at { at < PAGE_BYTES }
         ensures byte { result ≡ byte_at (memory_of self.now) guest ppn at }
         ensures stored { result ≡ last_stored (journal_of self.now)
             (verdicts_of H.hash_of (machine_of self.now) (journal_of self.now)) guest ppn at }

@@ -19,6 +19,7 @@ pub struct Settled<H: PageHash, A: Allocator = Global> {
 
 impl<H: PageHash, A: Allocator> Settled<H, A> {
     ghost use Rattle.std.specs.Prelude.{◌≡◌, ◌<◌, Some, length, slice_get, IsSome};
+    ghost use Rattle.page_model.specs.declared.limits.TheConstants.{PAGE_BYTES};
     ghost use Rattle.page_model.specs.Pages.{page_at, totals};
     ghost use Rattle.page_model.specs.Replay.{verdicts_of};
     ghost use Rattle.page_model.specs.Stored.{byte_at, last_stored};
@@ -43,7 +44,7 @@ impl<H: PageHash, A: Allocator> Settled<H, A> {
     /// Returns the byte of a page at a place, 0 if the page is unmapped: the byte last stored there.
     pub fn read(&self, guest: u8, ppn: u32, at: u32) -> u8
         requires page { IsSome (page_at (state_of (settled_core self.now)).guests guest ppn) }
-        requires at { at < 4096 }
+        requires at { at < PAGE_BYTES }
         ensures byte { result ≡ byte_at (state_of (settled_core self.now)) guest ppn at }
         ensures stored { result ≡ last_stored (settled_journal self.now)
             (verdicts_of H.hash_of (opening (state_of (settled_core self.now))) (settled_journal self.now)) guest ppn at }

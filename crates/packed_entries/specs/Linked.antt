@@ -5,6 +5,7 @@ use Rattle.std.specs.Prelude.{if◌then◌else◌, ◌==◌, nat_lt, slice_index
 use Rattle.packed_entries.specs.declared.entry.Entry.{Entry}
 use Rattle.packed_entries.specs.Places.{no_entry}
 use Prim.Native.Nat.{suc, zero}
+use Rattle.packed_entries.specs.declared.limits.TheConstants.{MAX_ENTRIES}
 
 -- how often a place is in a list
 abbrev pub times : ℕ → List ℕ → ℕ
@@ -104,7 +105,7 @@ chains_from links heads = map (walk (link_in links) (length links)) heads
 
 -- what always holds of the fields
 pub record IsKept (heads links : List ℕ) (free used : ℕ) : Type 0 where
-  pub limit : length links ≤ 1048576
+  pub limit : length links ≤ MAX_ENTRIES
   pub linked : Linked (link_in links) (length links) free heads (walk (link_in links) (length links) free) (chains_from links heads)
   pub counted : lengths (chains_from links heads) ≡ used
 

@@ -3,6 +3,7 @@ ghost use Rattle.std.specs.Prelude.{◌≡◌, ◌+◌, ◌*◌, ◌≤◌, ◌<
 ghost use Rattle.packed_entries.specs.Keys.{key_of, first_with, with_other, without_first, shared_parts, hint_parts, field_in};
 ghost use Rattle.packed_entries.specs.declared.key.Key.TheVariants as keys;
 ghost use Rattle.packed_entries.specs.Entries.{empty_chains, entry_count, home, chain_of, with_chain, counted_up, counted_down};
+ghost use Rattle.packed_entries.specs.declared.limits.TheConstants.{MAX_ENTRIES};
 
 use crate::places::Places;
 use crate::{Entry, Key};
@@ -32,10 +33,12 @@ impl<A: Allocator> Model for Chains<A> {
 }
 
 impl<A: Allocator + Clone> Chains<A> {
+    ghost use Rattle.packed_entries.specs.declared.limits.TheConstants.{MAX_ENTRIES};
+
     /// Makes empty chains in `buckets` buckets, with room for `capacity` entries.
     pub fn new(alloc: A, buckets: u32, capacity: u32) -> Result<Chains<A>, AllocError>
         requires buckets { 1 ≤ buckets }
-        requires capacity { capacity ≤ 1048576 }
+        requires capacity { capacity ≤ MAX_ENTRIES }
         ensures { IfOk result (λ chains. chains ≡ empty_chains buckets capacity) }
     {
         let places = Places::new(alloc, buckets, capacity)?;

@@ -8,6 +8,7 @@
 mod chains;
 mod entry;
 mod key;
+mod limits;
 mod numbers;
 mod packed;
 mod packed_entry;
@@ -16,5 +17,6 @@ mod places;
 pub use chains::Chains;
 pub use entry::Entry;
 pub use key::Key;
+pub use limits::MAX_ENTRIES;
 pub use numbers::{Below, U23, U24};
 pub use packed::Packed;

@@ -7,6 +7,7 @@ ghost use Rattle.packed_entries.specs.Keys.{has_key};
 ghost use Rattle.packed_entries.specs.Places.{no_entry};
 ghost use Rattle.packed_entries.specs.Linked.{Chained, no_chains, chain_at, entry_at, used, times, times_in};
 ghost use Rattle.packed_entries.specs.Linked.{with_place, without_place, link_before, first_of, with_entry_at};
+ghost use Rattle.packed_entries.specs.declared.limits.TheConstants.{MAX_ENTRIES};
 
 use crate::packed_entry::PackedEntry;
 use crate::{Entry, Key, Packed, U23, U24};
@@ -42,9 +43,11 @@ impl<A: Allocator> Model for Places<A> {
 }
 
 impl<A: Allocator + Clone> Places<A> {
+    ghost use Rattle.packed_entries.specs.declared.limits.TheConstants.{MAX_ENTRIES};
+
     // Makes empty chains for `buckets` buckets, and `capacity` places.
     pub(crate) fn new(alloc: A, buckets: u32, capacity: u32) -> Result<Places<A>, AllocError>
-        requires { capacity ≤ 1048576 }
+        requires { capacity ≤ MAX_ENTRIES }
         ensures { IfOk result (λ places. places ≡ no_chains buckets capacity) }
     {
         let mut heads = Vec::new(alloc.clone()?);

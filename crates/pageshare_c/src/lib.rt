@@ -184,7 +184,8 @@ pub extern "C" fn pageshare_store_page(
 ) -> Answer
     ensures answer { result ≡ store_answer machine.old.slot.core machine.new.slot.core guest ppn page.now }
     ensures state { seen machine.new.slot.core ≡ state_stored machine.old.slot.core guest ppn page.now }
-    ensures frames { StoreKept guest ppn (store_outcome machine.old.slot.core guest ppn page.now) machine.old.slot.core machine.new.slot.core }
+    ensures frames { StoreKept guest ppn (store_outcome machine.old.slot.core guest ppn page.now)
+        machine.old.slot.core machine.new.slot.core }
 {
     match machine.take(alloc) {
         None => refuse(Refusal::NoMachine),

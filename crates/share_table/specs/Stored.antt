@@ -11,6 +11,7 @@ use Rattle.share_table.specs.Buckets.{IsGreatestPower}
 use Rattle.share_table.specs.TableMaps.{SharedFrame, HintFrame, TableMaps, references, extended, entry_count}
 use Rattle.share_table.specs.declared.entries.SharedEntry.{SharedEntry}
 use Rattle.share_table.specs.declared.entries.WideCount.{WideCount}
+use Rattle.packed_entries.specs.declared.limits.TheConstants.{MAX_ENTRIES}
 
 -- the overflow table: the counts above 65,535, by hash
 abbrev pub WideMap : Type 0
@@ -109,7 +110,7 @@ pub record IsCounted (total : ℕ) (shared : List (ℕ × SharedEntry)) (wide : 
   pub agrees : (hash : ℕ) → Agrees (shared_in shared hash) (maps.get wide hash)
   -- the running sum is the sum of all counts
   pub summed : references (as_table 0 shared [] wide) ≡ total
-  pub bounded : total ≤ 1048576
+  pub bounded : total ≤ MAX_ENTRIES
   -- the overflow table has exactly the counts that don't fit
   pub widths : maps.len wide ≡ extended (as_table 0 shared [] wide)
 
@@ -119,7 +120,7 @@ pub record IsFiled (chains : EntryChains) : Type 0 where
   pub buckets : IsGreatestPower chains.capacity (length chains.chains)
   pub at_home : (b : ℕ) → BelongInto (length chains.chains) b (slice_index_or chains.chains b [])
   pub once : (b : ℕ) → HasEachOnce (slice_index_or chains.chains b [])
-  pub limit : chains.capacity ≤ 1048576
+  pub limit : chains.capacity ≤ MAX_ENTRIES
   pub room : chained chains ≤ chains.capacity
 
 -- what always holds of a table's fields

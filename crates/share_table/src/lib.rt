@@ -18,6 +18,7 @@ ghost use Rattle.std.specs.Prelude.{◌≡◌, ◌+◌, ◌*◌, ◌≤◌, ◌<
 ghost use Rattle.share_table.specs.Buckets.{IsRoom};
 ghost use Rattle.share_table.specs.TableMaps.{shared_at, hint_at, entry_count, references, extended, field_of, count_at, with_shared};
 ghost use Rattle.share_table.specs.TableMaps.{with_count, with_one_less, with_hint, without_hint, empty_table};
+ghost use Rattle.packed_entries.specs.declared.limits.TheConstants.{MAX_ENTRIES};
 
 use buckets::bucket_count;
 use entries::EXTENDED;
@@ -55,10 +56,12 @@ impl<A: Allocator> Model for Table<A> {
 }
 
 impl<A: Allocator + Clone> Table<A> {
+    ghost use Rattle.packed_entries.specs.declared.limits.TheConstants.{MAX_ENTRIES};
+
     /// Makes an empty table with room for `capacity` entries.
     pub fn new(alloc: A, capacity: u32) -> Result<Table<A>, AllocError>
         requires least { 1 ≤ capacity }
-        requires most { capacity ≤ 1048576 }
+        requires most { capacity ≤ MAX_ENTRIES }
         ensures { IfOk result (λ table. table ≡ empty_table capacity) }
     {
         let chains = Chains::new(alloc, bucket_count(capacity), capacity)?;
@@ -71,6 +74,8 @@ impl<A: Allocator + Clone> Table<A> {
 }
 
 impl<A: Allocator> Table<A> {
+    ghost use Rattle.packed_entries.specs.declared.limits.TheConstants.{MAX_ENTRIES};
+
     /// Returns the number of entries of both kinds.
     pub fn len(&self) -> u32
         ensures value { result ≡ entry_count self.now }
@@ -82,7 +87,7 @@ impl<A: Allocator> Table<A> {
     /// Returns the sum of the counts of all shared frames.
     pub fn references(&self) -> u32
         ensures value { result ≡ references self.now }
-        ensures limit { result ≤ 1048576 }
+        ensures limit { result ≤ MAX_ENTRIES }
     {
         self.references
     }
@@ -136,7 +141,7 @@ impl<A: Allocator> Table<A> {
     pub fn add_shared(&mut self, hash: u64, mpn: u32)
         requires absent { shared_at self.old hash ≡ None }
         requires room { entry_count self.old < self.old.capacity }
-        requires references { references self.old + 2 ≤ 1048576 }
+        requires references { references self.old + 2 ≤ MAX_ENTRIES }
         requires mpn { mpn < 2 ^ 24 }
         ensures { self.new ≡ with_shared self.old hash mpn 2 }
     {
@@ -151,7 +156,7 @@ impl<A: Allocator> Table<A> {
     /// Counts one more page that shares the frame with this hash, and returns the new count.
     pub fn join(&mut self, hash: u64) -> u32
         requires present { IsSome (shared_at self.old hash) }
-        requires references { references self.old < 1048576 }
+        requires references { references self.old < MAX_ENTRIES }
         ensures count { result ≡ count_at self.old hash + 1 }
         ensures joined { self.new ≡ with_count self.old hash (count_at self.old hash + 1) }
     {
@@ -166,7 +171,7 @@ impl<A: Allocator> Table<A> {
     // Does the same, however wide the count is.
     fn join_wide(&mut self, hash: u64) -> u32
         requires present { IsSome (shared_at self.old hash) }
-        requires references { references self.old < 1048576 }
+        requires references { references self.old < MAX_ENTRIES }
         ensures count { result ≡ count_at self.old hash + 1 }
         ensures joined { self.new ≡ with_count self.old hash (count_at self.old hash + 1) }
     {

@@ -4,6 +4,7 @@
 ghost use Rattle.std.specs.Prelude.{◌≡◌, ◌+◌, ◌*◌, ◌≤◌, false, All, length, IfOk};
 ghost use Rattle.share_rings.specs.Closing.{has_close, is_close};
 ghost use Rattle.merge_core.specs.Shown.{state_of};
+ghost use Rattle.page_model.specs.declared.limits.TheConstants.{MAX_ENTRIES, MAX_GUESTS};
 
 use merge_core::{Core, CoreFault};
 use merge_run::{Config, OpenGate, RunFault, run};
@@ -104,7 +105,7 @@ fn scripts(
 }
 
 fn config(alloc: Global, guests: u8, requests: u32) -> Result<Config, AllocError>
-    requires { (guests ≤ 64) × (requests ≤ 100000) }
+    requires { (guests ≤ MAX_GUESTS) × (requests ≤ 100000) }
     ensures { IfOk result (λ config. length config.pages.items ≡ guests) }
 {
     Ok(Config {
@@ -131,7 +132,7 @@ fn in_threads<R: Clock + Threads + Wait + Sync>(
     guests: u8,
     requests: u32,
 ) -> io::Result<Result<Measure, RunFault>>
-    requires { (guests ≤ 64) × (requests ≤ 100000) }
+    requires { (guests ≤ MAX_GUESTS) × (requests ≤ 100000) }
 {
     let config = config(alloc, guests, requests)?;
     let scripts = scripts(alloc, mix, guests, requests)?;
@@ -154,7 +155,7 @@ fn in_threads<R: Clock + Threads + Wait + Sync>(
 // Serves the same request of each guest in turn.
 fn turn(core: &mut Core<Sha256Hash>, guests: u8, request: &Request)
     requires guests { guests ≤ length (state_of core.old).guests }
-    requires room { core.old.entries + guests ≤ 16777216 }
+    requires room { core.old.entries + guests ≤ MAX_ENTRIES }
     ensures guests { length (state_of core.new).guests ≡ length (state_of core.old).guests }
     ensures entries { core.new.entries ≡ core.old.entries + guests }
 {
@@ -171,7 +172,7 @@ fn on_one_thread<R: Clock>(
     guests: u8,
     requests: u32,
 ) -> io::Result<Result<Measure, CoreFault>>
-    requires { (guests ≤ 64) × (requests ≤ 100000) }
+    requires { (guests ≤ MAX_GUESTS) × (requests ≤ 100000) }
 {
     let config = config(alloc, guests, requests)?;
     let start = Instant::now(rt)?;
