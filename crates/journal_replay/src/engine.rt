@@ -35,7 +35,7 @@ pub fn core_of<H: PageHash + Drop, A: Allocator + Clone>(
 
 /// Serves an entry, and appends its verdict's line to the buffer. The entries that come next are searched for pages to hash
 /// with the one that the entry proposes.
-fn print_entry<H: PageHash, W: Sink, A: Allocator>(
+fn serve_entry<H: PageHash, W: Sink, A: Allocator>(
     core: &mut Core<H, A>,
     entry: &Entry,
     next: &[Entry],
@@ -60,7 +60,7 @@ fn print_entry<H: PageHash, W: Sink, A: Allocator>(
 }
 
 /// Serves these entries, and appends the lines of their verdicts to the buffer.
-pub fn print_run<H: PageHash, W: Sink, A: Allocator>(
+pub fn serve_entries<H: PageHash, W: Sink, A: Allocator>(
     core: &mut Core<H, A>,
     entries: &[Entry],
     writer: &mut W,
@@ -79,7 +79,7 @@ pub fn print_run<H: PageHash, W: Sink, A: Allocator>(
     ensures room { OnOk result (LINE_BYTES ≤ string_capacity out.new) }
 {
     for at in 0..entries.len() {
-        print_entry(core, &entries[at], &entries[at + 1..], writer, out)?;
+        serve_entry(core, &entries[at], &entries[at + 1..], writer, out)?;
     }
     Ok(())
 }
@@ -115,7 +115,7 @@ fn print_all<H: PageHash, W: Sink, A: Allocator>(
     ensures { WritesAll (W.contents writer.old) (W.contents writer.new) (W.has_failed writer.new)
         (printed_from H.hash_of (state_of core.old) entries.now) result }
 {
-    print_run(core, entries, writer, out)?;
+    serve_entries(core, entries, writer, out)?;
     print_report(core, writer, out)
 }
 
@@ -140,7 +140,7 @@ fn print_entries<H: PageHash + Drop, W: Sink, A: Allocator + Clone>(
 }
 
 /// Writes what a journal prints.
-fn print_journal<H: PageHash + Drop, W: Sink, A: Allocator + Clone>(
+fn print_replay<H: PageHash + Drop, W: Sink, A: Allocator + Clone>(
     alloc: A,
     journal: &Journal<A>,
     writer: &mut W,
@@ -221,7 +221,7 @@ pub fn replay<R: Source, W: Sink, H: PageHash + Drop, A: Allocator + Clone>(
         Err(fault) => return Err(fault),
     };
     match read_journal(alloc.clone()?, &text) {
-        Ok(journal) => print_journal(alloc, &journal, writer, hash),
+        Ok(journal) => print_replay(alloc, &journal, writer, hash),
         Err(fault) => tell_fault(alloc, writer, fault),
     }
 }

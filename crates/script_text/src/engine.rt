@@ -13,7 +13,7 @@ use crate::order::{push_turn, turns_of};
 use crate::reader::read_script;
 use crate::script::Script;
 use journal_replay::ends::read_all;
-use journal_replay::engine::{core_of, print_report, print_run, tell_fault};
+use journal_replay::engine::{core_of, print_report, serve_entries, tell_fault};
 use journal_replay::output::{LINE_BYTES, buffer};
 use journal_replay::{Sink, Source};
 use journal_text::TextFault;
@@ -52,11 +52,11 @@ fn print_turns<H: PageHash, W: Sink, A: Allocator>(
     for turn in 0..turns_of(scripts) {
         push_turn(entries, scripts, turn);
         if entries.len() >= WINDOW {
-            print_run(core, entries, writer, out)?;
+            serve_entries(core, entries, writer, out)?;
             entries.clear();
         }
     }
-    print_run(core, entries, writer, out)?;
+    serve_entries(core, entries, writer, out)?;
     print_report(core, writer, out)
 }
 

@@ -13,8 +13,8 @@ returns-in-Ok-read_journal-clause-bytes g c =
     let hash = g.H.HashFunction.hash_of in
     let text = c.in-Ok.text.items in
     let read : journal_of text ≡ Ok (journal_seen c.in-Ok-read_journal.journal) = ap journal_of (sym c.deref.ensures.value) ∙ c.in-Ok-read_journal.ensures in
-    prints (answer_of hash) (g.R.Source.remaining c.args.reader.now) (g.W.Sink.contents c.args.writer.now) (g.W.Sink.contents c.print_journal.new.writer)
-    text _ c.print_journal.result c.in-Ok.ensures.ok (answer_ok hash text (journal_seen c.in-Ok-read_journal.journal) read) c.print_journal.ensures.ok c.print_journal.ensures.err
+    prints (answer_of hash) (g.R.Source.remaining c.args.reader.now) (g.W.Sink.contents c.args.writer.now) (g.W.Sink.contents c.print_replay.new.writer)
+    text _ c.print_replay.result c.in-Ok.ensures.ok (answer_ok hash text (journal_seen c.in-Ok-read_journal.journal) read) c.print_replay.ensures.ok c.print_replay.ensures.err
 
 pub returns-in-Err-read_journal-clause-bytes : goal.returns-in-Err-read_journal-clause-bytes
 returns-in-Err-read_journal-clause-bytes g c =

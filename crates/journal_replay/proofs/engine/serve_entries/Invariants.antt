@@ -3,7 +3,7 @@ use Rattle.merge_core.specs.Shown.{state_of}
 use Rattle.page_model.specs.Replay.{state_after}
 use Rattle.journal_replay.specs.Ends.{Sends}
 use Rattle.journal_replay.specs.Replayed.{lines_from}
-use Rattle.journal_replay.proofs.engine.print_run.Given as goal
+use Rattle.journal_replay.proofs.engine.serve_entries.Given as goal
 
 abbrev pub invariant-loop-at : goal.invariant-loop-at
 invariant-loop-at g l = record {
