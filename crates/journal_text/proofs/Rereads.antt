@@ -1,5 +1,5 @@
 -- A written journal, read back.
-use Rattle.std.proofs.Common.{◌≡◌, ℕ, ◌≤◌, ◌^◌, ◌==◌, Bool, true, false, not, List, [], ◌∷◌, ◌++◌, length, Some, Ok, refl, sym, ap, ◌∙◌, arith, nat_lt, decimal, append-nil, append_assoc, replicate}
+use Rattle.std.proofs.Common.{◌≡◌, ℕ, ◌≤◌, ◌^◌, ◌==◌, Bool, true, false, not, if◌then◌else◌, List, [], ◌∷◌, ◌++◌, length, Some, Ok, refl, sym, ap, ◌∙◌, arith, nat_lt, decimal, append-nil, append_assoc, replicate}
 use Rattle.std.specs.Prelude.{codes}
 use Rattle.std.specs.List.{list_all}
 use Rattle.std.proofs.lemmas.Bool.{and_parts, eqb-true, le-ltb}
@@ -7,6 +7,8 @@ use Rattle.std.proofs.lemmas.List.{get_or-replicate, length-replicate}
 use Rattle.std.proofs.lemmas.Option.{slice_get-get_or}
 use Rattle.journal_text.specs.Headers.{line_at, salts_of}
 use Rattle.journal_text.specs.Texts.{Journal, header_of, salts_at, head_in, journal_in, journal_of, entries_in}
+use Rattle.journal_text.specs.declared.version.Version.{Version}
+use Rattle.journal_text.specs.declared.version.Version.TheVariants.{One, Two}
 use Rattle.journal_text.specs.Written.{number_words, numbers_line, entries_lines, needs_salts, machine_lines, guests_lines, journal_text, CanBeRead}
 use Rattle.journal_text.proofs.Asked.{decimal_line}
 use Rattle.journal_text.proofs.Heads.{line_back_at, frames_back, pages_back, salts_back, numbers_above, numbers_line_at, entries_back}
@@ -33,22 +35,22 @@ body j h n = entries_back (replicate (length j.pages) false) n 0 (length j.entri
 frames_at : (frames : ℕ) (rest : List ℕ) → codes "frames " ++ ((decimal frames ++ codes "\n") ++ rest) ≡ (codes "frames " ++ decimal frames) ++ 10 ∷ rest
 frames_at frames rest = ap (λ xs. codes "frames " ++ xs) (append_assoc (decimal frames) (10 ∷ []) rest)
 
-pages_at : (pages salts rest : List ℕ) → guests_lines false pages salts ++ rest ≡ (codes "pages" ++ number_words pages) ++ 10 ∷ rest
+pages_at : (pages salts rest : List ℕ) → guests_lines One pages salts ++ rest ≡ (codes "pages" ++ number_words pages) ++ 10 ∷ rest
 pages_at pages salts rest = ap (λ (xs : List ℕ). xs ++ rest) (append-nil (numbers_line (codes "pages") pages)) ∙ numbers_line_at (codes "pages") pages rest
 
-guests_at : (pages salts rest : List ℕ) → guests_lines true pages salts ++ rest ≡ (codes "pages" ++ number_words pages) ++ 10 ∷ ((codes "salts" ++ number_words salts) ++ 10 ∷ rest)
+guests_at : (pages salts rest : List ℕ) → guests_lines Two pages salts ++ rest ≡ (codes "pages" ++ number_words pages) ++ 10 ∷ ((codes "salts" ++ number_words salts) ++ 10 ∷ rest)
 guests_at pages salts rest =
     append_assoc (numbers_line (codes "pages") pages) (numbers_line (codes "salts") salts) rest ∙ ap (λ (xs : List ℕ). numbers_line (codes "pages") pages ++ xs) (numbers_line_at (codes "salts") salts rest)
     ∙ numbers_line_at (codes "pages") pages ((codes "salts" ++ number_words salts) ++ 10 ∷ rest)
 
 -- a journal of version 1
-without_salts : (j : Journal) → CanBeRead j → needs_salts j.salts ≡ false → journal_in (machine_lines false j.frames ++ (guests_lines false j.pages j.salts ++ entries_lines j.entries)) ≡ Ok j
+without_salts : (j : Journal) → CanBeRead j → needs_salts j.salts ≡ false → journal_in (machine_lines One j.frames ++ (guests_lines One j.pages j.salts ++ entries_lines j.entries)) ≡ Ok j
 unfolding journal_in head_in header_of salts_at
 without_salts j h none =
     let text : List ℕ = entries_lines j.entries in
-    let guests : List ℕ = guests_lines false j.pages j.salts ++ text in
+    let guests : List ℕ = guests_lines One j.pages j.salts ++ text in
     let machine : List ℕ = codes "frames " ++ ((decimal j.frames ++ codes "\n") ++ guests) in
-    let first : line_at 1 (machine_lines false j.frames ++ guests) ≡ Ok (codes "pageshare journal 1", machine) = line_back_at 1 (codes "pageshare journal 1") machine refl in
+    let first : line_at 1 (machine_lines One j.frames ++ guests) ≡ Ok (codes "pageshare journal 1", machine) = line_back_at 1 (codes "pageshare journal 1") machine refl in
     let second : line_at 2 machine ≡ Ok (codes "frames " ++ decimal j.frames, guests) =
     ap (line_at 2) (frames_at j.frames guests) ∙ line_back_at 2 (codes "frames " ++ decimal j.frames) guests (decimal_line j.frames (omega (arith, h.frames.1))) in
     let third : line_at 3 guests ≡ Ok (codes "pages" ++ number_words j.pages, text) =
@@ -57,14 +59,14 @@ without_salts j h none =
     rw (first, second, frames_back j.frames h.frames.0 h.frames.1, third, pages_back j.pages h.guests.0 h.guests.1 h.pages h.pages_fit, body j h 4, salts) refl
 
 -- a journal of version 2
-with_salts : (j : Journal) → CanBeRead j → journal_in (machine_lines true j.frames ++ (guests_lines true j.pages j.salts ++ entries_lines j.entries)) ≡ Ok j
+with_salts : (j : Journal) → CanBeRead j → journal_in (machine_lines Two j.frames ++ (guests_lines Two j.pages j.salts ++ entries_lines j.entries)) ≡ Ok j
 unfolding journal_in head_in header_of salts_at
 with_salts j h =
     let text : List ℕ = entries_lines j.entries in
     let salts : List ℕ = (codes "salts" ++ number_words j.salts) ++ 10 ∷ text in
-    let guests : List ℕ = guests_lines true j.pages j.salts ++ text in
+    let guests : List ℕ = guests_lines Two j.pages j.salts ++ text in
     let machine : List ℕ = codes "frames " ++ ((decimal j.frames ++ codes "\n") ++ guests) in
-    let first : line_at 1 (machine_lines true j.frames ++ guests) ≡ Ok (codes "pageshare journal 2", machine) = line_back_at 1 (codes "pageshare journal 2") machine refl in
+    let first : line_at 1 (machine_lines Two j.frames ++ guests) ≡ Ok (codes "pageshare journal 2", machine) = line_back_at 1 (codes "pageshare journal 2") machine refl in
     let second : line_at 2 machine ≡ Ok (codes "frames " ++ decimal j.frames, guests) =
     ap (line_at 2) (frames_at j.frames guests) ∙ line_back_at 2 (codes "frames " ++ decimal j.frames) guests (decimal_line j.frames (omega (arith, h.frames.1))) in
     let third : line_at 3 guests ≡ Ok (codes "pages" ++ number_words j.pages, salts) =
@@ -74,7 +76,9 @@ with_salts j h =
     let read : salts_of (length j.pages) (codes "salts" ++ number_words j.salts) ≡ Ok j.salts = ap (λ (n : ℕ). salts_of n (codes "salts" ++ number_words j.salts)) (sym h.guests.2) ∙ salts_back j.salts some h.salts_fit in
     rw (first, second, frames_back j.frames h.frames.0 h.frames.1, third, pages_back j.pages h.guests.0 h.guests.1 h.pages h.pages_fit, fourth, read, body j h 5) refl
 
-either : (j : Journal) → CanBeRead j → (b : Bool) → needs_salts j.salts ≡ b → journal_in (machine_lines b j.frames ++ (guests_lines b j.pages j.salts ++ entries_lines j.entries)) ≡ Ok j
+either : (j : Journal) → CanBeRead j → (b : Bool) → needs_salts j.salts ≡ b
+    → let version : Version = if b then Two else One in
+    journal_in (machine_lines version j.frames ++ (guests_lines version j.pages j.salts ++ entries_lines j.entries)) ≡ Ok j
 either j h false none = without_salts j h none
 either j h true some = with_salts j h
 

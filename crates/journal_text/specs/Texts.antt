@@ -11,6 +11,8 @@ use Rattle.journal_text.specs.declared.fault.TextFault.{TextFault}
 use Rattle.journal_text.specs.declared.fault.TextFault.TheVariants as faults
 use Rattle.journal_text.specs.declared.request.Line.{Line}
 use Rattle.journal_text.specs.declared.request.Line.TheVariants.{Enters, Ends}
+use Rattle.journal_text.specs.declared.version.Version.{Version}
+use Rattle.journal_text.specs.declared.version.Version.TheVariants.{One, Two}
 use Rattle.journal_text.specs.Words.{◌>>=◌}
 use Rattle.journal_text.specs.Headers.{is_feed, line_at, at_line, frames_of, pages_of, salts_of}
 use Rattle.journal_text.specs.Requests.{line_of}
@@ -22,24 +24,24 @@ pub record Journal : Type 0 where
   pub salts : List ℕ
   pub entries : List Entry
 
--- what a text's first lines say of its machine: the total of frames, and each guest's number of pages and salt
+-- what a text's first lines say: its version, and of its machine the total of frames, and each guest's number of pages and salt
 pub record Head : Type 0 where
-  pub has_salts : Bool
+  pub version : Version
   pub frames : ℕ
   pub pages : List ℕ
   pub salts : List ℕ
 
 -- The first line, which says the version: it is one of two, and only version 2, the second, has a line of salts.
-unfoldable pub header_of : List ℕ → List ℕ → List ℕ → Result Bool Cause
+unfoldable pub header_of : List ℕ → List ℕ → List ℕ → Result Version Cause
 header_of one two line =
-    if bytes_eq line one then Ok false
-    else if bytes_eq line two then Ok true
+    if bytes_eq line one then Ok One
+    else if bytes_eq line two then Ok Two
     else Err causes.Header
 
 -- the salts of this many guests, and what comes after their line. If there is no such line, every salt is 0
-unfoldable pub salts_at : Bool → ℕ → List ℕ → Result (List ℕ × List ℕ) TextFault
-salts_at false guests text = Ok (replicate guests 0, text)
-salts_at true guests text = do
+unfoldable pub salts_at : Version → ℕ → List ℕ → Result (List ℕ × List ℕ) TextFault
+salts_at One guests text = Ok (replicate guests 0, text)
+salts_at Two guests text = do
   line ← line_at 4 text
   salts ← at_line 4 (salts_of guests line.0)
   Ok (salts, line.1)
@@ -48,17 +50,18 @@ salts_at true guests text = do
 unfoldable pub head_in : List ℕ → List ℕ → List ℕ → Result (Head × List ℕ) TextFault
 head_in one two text = do
   first ← line_at 1 text
-  has_salts ← at_line 1 (header_of one two first.0)
+  version ← at_line 1 (header_of one two first.0)
   second ← line_at 2 first.1
   frames ← at_line 2 (frames_of second.0)
   third ← line_at 3 second.1
   pages ← at_line 3 (pages_of third.0)
-  salts ← salts_at has_salts (length pages) third.1
-  Ok (record { has_salts = has_salts; frames = frames; pages = pages; salts = salts.0 }, salts.1)
+  salts ← salts_at version (length pages) third.1
+  Ok (record { version = version; frames = frames; pages = pages; salts = salts.0 }, salts.1)
 
 -- the number of the line after the head
-abbrev pub line_behind_head : Bool → ℕ
-line_behind_head has_salts = if has_salts then 5 else 4
+abbrev pub line_behind_head : Version → ℕ
+line_behind_head One = 4
+line_behind_head Two = 5
 
 -- puts one byte before the first of some lines, if there is one
 abbrev pub onto_line : ℕ → List (List ℕ) → List (List ℕ)
@@ -119,7 +122,7 @@ entries_in closed n k text = body_in line_of closed_after closed n k text
 unfoldable pub journal_in : List ℕ → Result Journal TextFault
 journal_in text = do
   head ← head_in (codes "pageshare journal 1") (codes "pageshare journal 2") text
-  entries ← entries_in (replicate (length head.0.pages) false) (line_behind_head head.0.has_salts) 0 head.1
+  entries ← entries_in (replicate (length head.0.pages) false) (line_behind_head head.0.version) 0 head.1
   Ok (record { frames = head.0.frames; pages = head.0.pages; salts = head.0.salts; entries = entries })
 
 -- What a journal's text says: its one journal, or its first fault. A text has at most 67,108,864 bytes, which is checked first.

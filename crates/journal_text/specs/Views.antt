@@ -12,7 +12,7 @@ journal_seen j = record { frames = j.frames; pages = j.pages.items; salts = j.sa
 
 -- what the first lines say, as the definitions have it
 abbrev pub head_seen : {A : Type 0} → Head A → said.Head
-head_seen h = record { has_salts = h.has_salts; frames = h.frames; pages = h.pages.items; salts = h.salts.items }
+head_seen h = record { version = h.version; frames = h.frames; pages = h.pages.items; salts = h.salts.items }
 
 -- A call returns this fault, and `read` is what the definitions say of the same bytes: the same fault, unless memory ran out.
 -- No call that reads a text's bytes returns Read or Write.

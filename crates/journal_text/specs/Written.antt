@@ -9,7 +9,9 @@ use Rattle.page_model.specs.declared.request.Request.TheVariants.{Propose, Store
 use Rattle.journal_text.specs.Printed.{counted}
 use Rattle.page_model.specs.Limits.{AreFrames, AreGuests, ArePages}
 use Rattle.journal_text.specs.Texts.{Journal, AreBelow, journal_of}
-use Rattle.page_model.specs.declared.limits.TheConstants.{MAX_ENTRIES}
+use Rattle.page_model.specs.declared.limits.TheConstants.{MAX_ACCESS_BYTES, MAX_ENTRIES, PAGE_BYTES}
+use Rattle.journal_text.specs.declared.version.Version.{Version}
+use Rattle.journal_text.specs.declared.version.Version.TheVariants.{One, Two}
 
 -- the words of a request
 unfoldable pub request_words : Request → List ℕ
@@ -41,14 +43,27 @@ numbers_line word ns = word ++ (number_words ns ++ codes "\n")
 abbrev pub needs_salts : List ℕ → Bool
 needs_salts salts = not (list_all (λ salt. salt == 0) salts)
 
--- the lines of the version and of the frames
-abbrev pub machine_lines : Bool → ℕ → List ℕ
-machine_lines has_salts frames = (if has_salts then codes "pageshare journal 2\nframes " else codes "pageshare journal 1\nframes ") ++
-    (decimal frames ++ codes "\n")
+-- the lowest version that can say these salts
+abbrev pub version_for : List ℕ → Version
+version_for salts = if needs_salts salts then Two else One
 
--- the line of the guests' pages, and that of their salts if it is needed
-abbrev pub guests_lines : Bool → List ℕ → List ℕ → List ℕ
-guests_lines has_salts pages salts = numbers_line (codes "pages") pages ++ (if has_salts then numbers_line (codes "salts") salts else [])
+-- the line of the version, and the first word of the frames' line
+abbrev pub version_line : Version → List ℕ
+version_line One = codes "pageshare journal 1\nframes "
+version_line Two = codes "pageshare journal 2\nframes "
+
+-- the lines of the version and of the frames
+abbrev pub machine_lines : Version → ℕ → List ℕ
+machine_lines version frames = version_line version ++ (decimal frames ++ codes "\n")
+
+-- the line of the guests' salts, which only version 2 has
+abbrev pub salts_line : Version → List ℕ → List ℕ
+salts_line One salts = []
+salts_line Two salts = numbers_line (codes "salts") salts
+
+-- the line of the guests' pages, and that of their salts if the version has one
+abbrev pub guests_lines : Version → List ℕ → List ℕ → List ℕ
+guests_lines version pages salts = numbers_line (codes "pages") pages ++ salts_line version salts
 
 -- the lines of the entries, and the line of their number
 abbrev pub entries_lines : List Entry → List ℕ
@@ -56,14 +71,15 @@ entries_lines es = entry_lines es ++ (counted (codes "end ") (length es) ++ code
 
 -- the whole text
 unfoldable pub journal_text : Journal → List ℕ
-journal_text j = machine_lines (needs_salts j.salts) j.frames ++
-    (guests_lines (needs_salts j.salts) j.pages j.salts ++ entries_lines j.entries)
+journal_text j = machine_lines (version_for j.salts) j.frames ++
+    (guests_lines (version_for j.salts) j.pages j.salts ++ entries_lines j.entries)
 
 -- a request that its type can hold
 abbrev pub IsWritable : Request → Type 0
 IsWritable (Propose ppn) = ppn < 2 ^ 32
-IsWritable (Store r) = (r.ppn < 2 ^ 32) × (1 ≤ length r.bytes) × (length r.bytes ≤ 64) × (r.at + length r.bytes ≤ 4096) × IsBytes r.bytes
-IsWritable (Load r) = (r.ppn < 2 ^ 32) × (1 ≤ r.len) × (r.len ≤ 64) × (r.at + r.len ≤ 4096)
+IsWritable (Store r) =
+    (r.ppn < 2 ^ 32) × (1 ≤ length r.bytes) × (length r.bytes ≤ MAX_ACCESS_BYTES) × (r.at + length r.bytes ≤ PAGE_BYTES) × IsBytes r.bytes
+IsWritable (Load r) = (r.ppn < 2 ^ 32) × (1 ≤ r.len) × (r.len ≤ MAX_ACCESS_BYTES) × (r.at + r.len ≤ PAGE_BYTES)
 IsWritable (Release ppn) = ppn < 2 ^ 32
 IsWritable Count = Unit {0}
 IsWritable Close = Unit {0}

@@ -1,13 +1,13 @@
 //! A text's head.
 ghost use Rattle.page_model.specs.Limits.{AreLimits};
 
+use crate::version::Version;
 use std::alloc::Allocator;
 
 /// What a text's first lines say of its machine, which is within the limits, with a salt for each guest.
 #[derive(Drop)]
 pub struct Head<A: Allocator> {
-    /// Whether the text is of version 2, which has a line of salts.
-    pub has_salts: bool,
+    pub version: Version,
     pub frames: u32,
     pub pages: Vec<u32, A>,
     pub salts: Vec<u32, A>,

@@ -7,17 +7,18 @@ ghost use Rattle.journal_text.specs.Views.{Gives, head_seen};
 use crate::fault::{Cause, TextFault};
 use crate::head::Head;
 use crate::header::{at_line, frames, next_line, pages, salts};
+use crate::version::Version;
 use std::alloc::Allocator;
 
-/// Returns whether the first line, which must be one of two, is that of version 2, which has a line of salts.
+/// Returns the version that the first line, which must be one of two, says.
 #[tactic(auto, unfolding(crate::specs::Texts::header_of))]
-fn header(one: &[u8], two: &[u8], line: &[u8]) -> Result<bool, Cause>
+fn header(one: &[u8], two: &[u8], line: &[u8]) -> Result<Version, Cause>
     ensures { result ≡ header_of one.now two.now line.now }
 {
     if line == one {
-        Ok(false)
+        Ok(Version::One)
     } else if line == two {
-        Ok(true)
+        Ok(Version::Two)
     } else {
         Err(Cause::Header)
     }
@@ -35,19 +36,21 @@ fn no_salts<A: Allocator>(alloc: A, guests: usize) -> Result<Vec<u32, A>, TextFa
 #[tactic(auto, unfolding(crate::specs::Texts::salts_at))]
 fn salts_in<'a, A: Allocator>(
     alloc: A,
-    has_salts: bool,
+    version: Version,
     guests: usize,
     text: &'a [u8],
 ) -> Result<(Vec<u32, A>, &'a [u8]), TextFault>
-    ensures value { Gives (λ x. (x.0.items, x.1.now)) result (salts_at has_salts guests text.now) }
+    ensures value { Gives (λ x. (x.0.items, x.1.now)) result (salts_at version guests text.now) }
     ensures count { IfOk result (λ x. length x.0.items ≡ guests) }
     ensures shorter { IfOk result (λ x. length x.1.now ≤ length text.now) }
 {
-    if !has_salts {
-        return Ok((no_salts(alloc, guests)?, text));
+    match version {
+        Version::One => Ok((no_salts(alloc, guests)?, text)),
+        Version::Two => {
+            let (line, rest) = next_line(4, text)?;
+            Ok((salts(alloc, guests, line)?, rest))
+        }
     }
-    let (line, rest) = next_line(4, text)?;
-    Ok((salts(alloc, guests, line)?, rest))
 }
 
 /// Reads the lines at the head of a text whose first line is `one` or `two`; also returns the text after them.
@@ -62,14 +65,14 @@ pub fn read_head<'a, A: Allocator + Clone>(
     ensures shorter { IfOk result (λ x. length x.1.now ≤ length text.now) }
 {
     let (line, rest) = next_line(1, text)?;
-    let has_salts = at_line(1, header(one, two, line))?;
+    let version = at_line(1, header(one, two, line))?;
     let (line, rest) = next_line(2, rest)?;
     let frames = at_line(2, frames(line))?;
     let (line, rest) = next_line(3, rest)?;
     let pages = pages(alloc.clone()?, line)?;
-    let (salts, rest) = salts_in(alloc, has_salts, pages.len(), rest)?;
+    let (salts, rest) = salts_in(alloc, version, pages.len(), rest)?;
     let head = Head {
-        has_salts,
+        version,
         frames,
         pages,
         salts,
@@ -78,9 +81,12 @@ pub fn read_head<'a, A: Allocator + Clone>(
 }
 
 /// Returns the number of the line after the lines of the machine.
-pub fn line_behind_head(has_salts: bool) -> u32
-    ensures line { result ≡ line_behind_head has_salts }
+pub fn line_behind_head(version: Version) -> u32
+    ensures line { result ≡ line_behind_head version }
     ensures small { result ≤ 5 }
 {
-    if has_salts { 5 } else { 4 }
+    match version {
+        Version::One => 4,
+        Version::Two => 5,
+    }
 }

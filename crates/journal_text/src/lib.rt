@@ -14,6 +14,7 @@ pub mod print;
 mod reader;
 pub mod request;
 pub mod room;
+pub mod version;
 pub mod word;
 pub mod writer;
 
@@ -22,4 +23,5 @@ pub use fault::{Cause, TextFault};
 pub use journal::Journal;
 pub use print::{fault_line, report_line, verdict_line};
 pub use reader::read_journal;
+pub use version::Version;
 pub use writer::write_journal;

@@ -7,6 +7,7 @@ ghost use Rattle.std.specs.Prelude.{codes, decimal, string_bytes, string_len, st
 ghost use Rattle.hex.specs.Hex.{encode_lower};
 ghost use Rattle.journal_text.specs.Printed.{pages_words, saved_words, frames_words, report_words};
 ghost use Rattle.journal_text.specs.Printed.{report_line, verdict_words, verdict_line, cause_word, fault_line};
+ghost use Rattle.page_model.specs.declared.limits.TheConstants.{MAX_ACCESS_BYTES};
 
 use crate::fault::{Cause, TextFault};
 use itoa::Buffer;
@@ -113,7 +114,7 @@ fn spell(bytes: &[u8], digits: &mut [u8])
 
 /// Appends the digits of at most 64 bytes: at most 128 bytes.
 pub(crate) fn push_digits<A: Allocator>(out: &mut String<A>, bytes: &[u8]) -> Result<(), AllocError>
-    requires { length bytes.now ≤ 64 }
+    requires { length bytes.now ≤ MAX_ACCESS_BYTES }
     ensures bytes { OnOk result (string_bytes out.new ≡ string_bytes out.old ++ encode_lower bytes.now) }
     ensures len { OnOk result (string_len out.new ≤ string_len out.old + 128) }
     ensures capacity { string_capacity out.old ≤ string_capacity out.new }
@@ -130,7 +131,7 @@ pub(crate) fn push_digits<A: Allocator>(out: &mut String<A>, bytes: &[u8]) -> Re
 
 /// Appends the bytes of a load: at most 134 bytes.
 fn push_loaded<A: Allocator>(out: &mut String<A>, bytes: &[u8]) -> Result<(), AllocError>
-    requires { length bytes.now ≤ 64 }
+    requires { length bytes.now ≤ MAX_ACCESS_BYTES }
     ensures bytes { OnOk result (string_bytes out.new ≡ string_bytes out.old ++ (codes "bytes " ++ encode_lower bytes.now)) }
     ensures len { OnOk result (string_len out.new ≤ string_len out.old + 134) }
     ensures capacity { string_capacity out.old ≤ string_capacity out.new }

@@ -6,6 +6,7 @@ ghost use Rattle.journal_text.specs.Words.{with_front};
 ghost use Rattle.journal_text.specs.Texts.{journal_in, journal_of, closed_after, ended};
 ghost use Rattle.journal_text.specs.Texts.{nothing_more, line_behind_head, entries_in, AreBelow};
 ghost use Rattle.journal_text.specs.Views.{Gives, journal_seen};
+ghost use Rattle.page_model.specs.declared.limits.TheConstants.{MAX_GUESTS};
 
 use crate::fault::TextFault;
 use crate::head::Head;
@@ -13,6 +14,7 @@ use crate::head_reader::{line_behind_head, read_head};
 use crate::journal::Journal;
 use crate::request::{Line, check_end, read_line};
 use crate::room::count_lines;
+use crate::version::Version;
 use crate::word::cut;
 use page_model::{Entry, MAX_GUESTS, MAX_TEXT_BYTES};
 use std::alloc::Allocator;
@@ -50,7 +52,7 @@ fn entries<A: Allocator>(
     text: &[u8],
 ) -> Result<Vec<Entry, A>, TextFault>
     requires first { first ≤ 5 }
-    requires guests { length closed.old ≤ 64 }
+    requires guests { length closed.old ≤ MAX_GUESTS }
     requires short { length text.now ≤ 2 ^ 26 }
     ensures value { Gives (λ v. v.items) result (entries_in closed.old first 0 text.now) }
     ensures guests { IfOk result (λ v. AreBelow (length closed.old) v.items) }
@@ -82,7 +84,7 @@ fn first_entries<A: Allocator>(
     text: &[u8],
 ) -> Result<Vec<Entry, A>, TextFault>
     requires first { first ≤ 5 }
-    requires guests { guests ≤ 64 }
+    requires guests { guests ≤ MAX_GUESTS }
     requires short { length text.now ≤ 2 ^ 26 }
     ensures value { Gives (λ v. v.items) result (entries_in (replicate guests false) first 0 text.now) }
     ensures guests { IfOk result (λ v. AreBelow guests v.items) }
@@ -95,17 +97,17 @@ fn first_entries<A: Allocator>(
 /// Reads the entries after the lines of the machine, for guests with these numbers of pages.
 fn entries_behind_head<A: Allocator>(
     alloc: A,
-    has_salts: bool,
+    version: Version,
     pages: &[u32],
     text: &[u8],
 ) -> Result<Vec<Entry, A>, TextFault>
-    requires guests { length pages.now ≤ 64 }
+    requires guests { length pages.now ≤ MAX_GUESTS }
     requires short { length text.now ≤ 2 ^ 26 }
-    ensures value { Gives (λ v. v.items) result (entries_in (replicate (length pages.now) false) (line_behind_head has_salts) 0 text.now) }
+    ensures value { Gives (λ v. v.items) result (entries_in (replicate (length pages.now) false) (line_behind_head version) 0 text.now) }
     ensures guests { IfOk result (λ v. AreBelow (length pages.now) v.items) }
     ensures few { IfOk result (λ v. length v.items < 2 ^ 24) }
 {
-    let first = line_behind_head(has_salts);
+    let first = line_behind_head(version);
     first_entries(alloc, first, pages.len(), text)
 }
 
@@ -122,12 +124,12 @@ fn journal_in<A: Allocator + Clone>(alloc: A, text: &[u8]) -> Result<Journal<A>,
         text,
     )?;
     let Head {
-        has_salts,
+        version,
         frames,
         pages,
         salts,
     } = head;
-    match entries_behind_head(alloc, has_salts, &pages, rest) {
+    match entries_behind_head(alloc, version, &pages, rest) {
         Ok(entries) => Ok(Journal {
             frames,
             pages,

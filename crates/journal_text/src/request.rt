@@ -7,6 +7,7 @@ ghost use Rattle.journal_text.specs.Requests.{stored, loaded, propose_at, store_
 ghost use Rattle.journal_text.specs.Requests.{asked_at, may_ask, end_at, entry_at, line_of, IsBelow, IsEnd, IsPlain};
 ghost use Rattle.journal_text.specs.Texts.{ended};
 ghost use Rattle.journal_text.specs.Cursor.{left, left_length, seen};
+ghost use Rattle.page_model.specs.declared.limits.TheConstants.{MAX_GUESTS};
 
 use crate::fault::{Cause, TextFault};
 use crate::word::{Left, is_bytes, next_number, nothing, number, word};
@@ -178,7 +179,7 @@ pub fn end<T>(rest: Left<'_>) -> Result<Line<T>, Cause>
 
 #[tactic(auto, unfolding(crate::specs::Requests::entry_at))]
 fn entry(closed: &[bool], first: &[u8], rest: Left<'_>) -> Result<Line<Entry>, Cause>
-    requires { length closed.now ≤ 64 }
+    requires { length closed.now ≤ MAX_GUESTS }
     ensures value { result ≡ entry_at closed.now first.now (left rest.entry) }
     ensures below { IfOk result (λ l. IsBelow (length closed.now) l) }
     ensures length { OnOk result (6 ≤ length first.now + left_length (left rest.entry)) }
@@ -196,7 +197,7 @@ fn entry(closed: &[bool], first: &[u8], rest: Left<'_>) -> Result<Line<Entry>, C
 /// Reads a line; `closed` says of each guest whether it has closed.
 #[tactic(auto, unfolding(crate::specs::Requests::line_of))]
 pub fn read_line(closed: &[bool], line: &[u8]) -> Result<Line<Entry>, Cause>
-    requires { length closed.now ≤ 64 }
+    requires { length closed.now ≤ MAX_GUESTS }
     ensures value { result ≡ line_of closed.now line.now }
     ensures below { IfOk result (λ l. IsBelow (length closed.now) l) }
     ensures length { OnOk result (5 ≤ length line.now) }

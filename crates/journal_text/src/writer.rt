@@ -2,10 +2,11 @@
 ghost use Rattle.std.specs.Prelude.{◌≡◌, ◌<◌, ◌^◌, ◌++◌, [], codes, decimal, length, string_bytes, IfOk, OnOk};
 ghost use Rattle.journal_text.specs.Views.{journal_seen};
 ghost use Rattle.journal_text.specs.Written.{request_words, entry_line, entry_lines, number_words, numbers_line};
-ghost use Rattle.journal_text.specs.Written.{needs_salts, machine_lines, guests_lines, entries_lines, journal_text};
+ghost use Rattle.journal_text.specs.Written.{needs_salts, version_for, machine_lines, guests_lines, entries_lines, journal_text};
 
 use crate::journal::Journal;
 use crate::print::{push_counted, push_digits, push_number};
+use crate::version::Version;
 use page_model::{Entry, LoadReq, Request, StoreReq};
 use std::alloc::{AllocError, Allocator};
 
@@ -100,37 +101,46 @@ fn needs_salts(salts: &[u32]) -> bool
     false
 }
 
+/// Returns the lowest version that can say these salts.
+fn version_for(salts: &[u32]) -> Version
+    ensures { result ≡ version_for salts.now }
+{
+    if needs_salts(salts) {
+        Version::Two
+    } else {
+        Version::One
+    }
+}
+
 /// Appends the lines of the version and of the frames.
 fn push_machine<A: Allocator>(
     out: &mut String<A>,
-    has_salts: bool,
+    version: Version,
     frames: u32,
 ) -> Result<(), AllocError>
-    ensures { OnOk result (string_bytes out.new ≡ string_bytes out.old ++ machine_lines has_salts frames) }
+    ensures { OnOk result (string_bytes out.new ≡ string_bytes out.old ++ machine_lines version frames) }
 {
-    let version = if has_salts {
-        "pageshare journal 2\nframes "
-    } else {
-        "pageshare journal 1\nframes "
+    let head = match version {
+        Version::One => "pageshare journal 1\nframes ",
+        Version::Two => "pageshare journal 2\nframes ",
     };
-    push_counted(out, version, frames)?;
+    push_counted(out, head, frames)?;
     out.push_str("\n")
 }
 
 /// Appends the line of the guests' pages, and that of their salts if it is needed.
 fn push_guests<A: Allocator>(
     out: &mut String<A>,
-    has_salts: bool,
+    version: Version,
     pages: &[u32],
     salts: &[u32],
 ) -> Result<(), AllocError>
-    ensures { OnOk result (string_bytes out.new ≡ string_bytes out.old ++ guests_lines has_salts pages.now salts.now) }
+    ensures { OnOk result (string_bytes out.new ≡ string_bytes out.old ++ guests_lines version pages.now salts.now) }
 {
     push_numbers_line(out, "pages", pages)?;
-    if has_salts {
-        push_numbers_line(out, "salts", salts)
-    } else {
-        Ok(())
+    match version {
+        Version::One => Ok(()),
+        Version::Two => push_numbers_line(out, "salts", salts),
     }
 }
 
@@ -158,10 +168,10 @@ pub fn write_entries<A: Allocator>(
     ensures { IfOk result (λ text. string_bytes text ≡ journal_text
         (record { frames = frames; pages = pages.now; salts = salts.now; entries = entries.now })) }
 {
-    let has_salts = needs_salts(salts);
+    let version = version_for(salts);
     let mut text = String::new(alloc);
-    push_machine(&mut text, has_salts, frames)?;
-    push_guests(&mut text, has_salts, pages, salts)?;
+    push_machine(&mut text, version, frames)?;
+    push_guests(&mut text, version, pages, salts)?;
     push_body(&mut text, entries)?;
     Ok(text)
 }

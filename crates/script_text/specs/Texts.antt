@@ -73,8 +73,8 @@ scripts_in pages most n text = do
 unfoldable pub script_in : List ℕ → Result Script TextFault
 script_in text = do
   head ← head_in (codes "pageshare script 1") (codes "pageshare script 2") text
-  rooms ← rooms_in (line_behind_head head.0.has_salts) (length head.0.pages) head.1
-  scripts ← scripts_in head.0.pages rooms.0.1 (line_behind_head head.0.has_salts + 2) rooms.1
+  rooms ← rooms_in (line_behind_head head.0.version) (length head.0.pages) head.1
+  scripts ← scripts_in head.0.pages rooms.0.1 (line_behind_head head.0.version + 2) rooms.1
   Ok (record {
     frames = head.0.frames;
     pages = head.0.pages;

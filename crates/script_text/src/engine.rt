@@ -8,6 +8,7 @@ ghost use Rattle.script_text.specs.Order.{serial_order};
 ghost use Rattle.script_text.specs.Served.{serial_printed, Serves};
 ghost use Rattle.script_text.specs.Views.{lists_of, script_seen};
 ghost use Rattle.page_model.specs.declared.limits.TheConstants.{MAX_ENTRIES};
+ghost use Rattle.page_model.specs.declared.limits.TheConstants.{MAX_GUESTS};
 
 use crate::order::{push_turn, turns_of};
 use crate::reader::read_script;
@@ -38,7 +39,7 @@ fn print_turns<H: PageHash, W: Sink, A: Allocator>(
     writer: &mut W,
     out: &mut String<A>,
 ) -> Result<(), TextFault>
-    requires many { length scripts.now ≤ 64 }
+    requires many { length scripts.now ≤ MAX_GUESTS }
     requires guests { length (state_of core.old).guests ≡ length scripts.now }
     requires few { core.old.entries + entries_needed scripts.now ≤ MAX_ENTRIES }
     requires none { entries.old.items ≡ [] }

@@ -5,6 +5,7 @@ ghost use Rattle.script_text.specs.Works.{size_of};
 ghost use Rattle.journal_text.specs.Cursor.{left, seen};
 ghost use Rattle.script_text.specs.Lines.{seed_at, scanned, in_order_at, at_random_at, scan_named, scan_at, as_work};
 ghost use Rattle.script_text.specs.Lines.{work_named, work_at, is_guest, with_room, item_at, script_line_of, IsPlain, Fits};
+ghost use Rattle.page_model.specs.declared.limits.TheConstants.{MAX_GUESTS};
 
 use crate::work::{Item, Work};
 use journal_text::Cause;
@@ -145,7 +146,7 @@ fn item(
     first: &[u8],
     rest: Left<'_>,
 ) -> Result<Line<Item>, Cause>
-    requires guests { guests ≤ 64 }
+    requires guests { guests ≤ MAX_GUESTS }
     requires room { total ≤ most }
     ensures value { result ≡ item_at guests most total first.now (left rest.entry) }
     ensures fits { IfOk result (λ line. Fits guests most total line) }
@@ -167,7 +168,7 @@ pub(crate) fn read_script_line(
     total: u32,
     line: &[u8],
 ) -> Result<Line<Item>, Cause>
-    requires guests { guests ≤ 64 }
+    requires guests { guests ≤ MAX_GUESTS }
     requires room { total ≤ most }
     ensures value { result ≡ script_line_of guests most total line.now }
     ensures fits { IfOk result (λ said. Fits guests most total said) }

@@ -4,6 +4,7 @@ ghost use Rattle.std.specs.Prelude.{◌≡◌, ◌+◌, ◌≤◌, ◌++◌, dro
 ghost use Rattle.journal_text.specs.Texts.{AreBelow};
 ghost use Rattle.script_text.specs.Order.{first_of, firsts, longest, left_of};
 ghost use Rattle.script_text.specs.Views.{lists_of};
+ghost use Rattle.page_model.specs.declared.limits.TheConstants.{MAX_GUESTS};
 
 use page_model::{Entry, Request};
 use std::alloc::Allocator;
@@ -27,7 +28,7 @@ pub(crate) fn push_turn<A: Allocator>(
     scripts: &[Vec<Request, A>],
     turn: usize,
 )
-    requires guests { length scripts.now ≤ 64 }
+    requires guests { length scripts.now ≤ MAX_GUESTS }
     requires below { AreBelow (length scripts.now) entries.old.items }
     requires room { length entries.old.items + length scripts.now ≤ vec_capacity entries.old }
     ensures items { entries.new.items ≡ entries.old.items ++ firsts 0 (left_of turn (lists_of scripts.now)) }

@@ -6,6 +6,7 @@ ghost use Rattle.merge_machine.specs.Scripts.{entries_needed};
 ghost use Rattle.script_text.specs.Texts.{scripts_in, script_in, script_of};
 ghost use Rattle.script_text.specs.Views.{lists_of, script_seen, Fills, Adds};
 ghost use Rattle.journal_text.specs.declared.fault.TextFault.TheVariants.{OutOfMemory};
+ghost use Rattle.page_model.specs.declared.limits.TheConstants.{MAX_GUESTS};
 
 use crate::fill::add;
 use crate::line::read_script_line;
@@ -47,7 +48,7 @@ fn add_lines<A: Allocator>(
     text: &[u8],
 ) -> Result<(), TextFault>
     requires first { first ≤ 7 }
-    requires guests { length pages.now ≤ 64 }
+    requires guests { length pages.now ≤ MAX_GUESTS }
     requires some { All (λ n. 1 ≤ n) pages.now }
     requires empty { lists_of scripts.old.items ≡ replicate (length pages.now) [] }
     requires room { length pages.now ≤ most }
@@ -86,7 +87,7 @@ fn read_lists<A: Allocator + Clone>(
     text: &[u8],
 ) -> Result<Vec<Vec<Request, A>, A>, TextFault>
     requires first { first ≤ 7 }
-    requires guests { length pages.now ≤ 64 }
+    requires guests { length pages.now ≤ MAX_GUESTS }
     requires some { All (λ n. 1 ≤ n) pages.now }
     requires room { length pages.now ≤ most }
     requires short { length text.now ≤ 2 ^ 26 }
@@ -113,12 +114,12 @@ fn script_in<A: Allocator + Clone>(alloc: A, text: &[u8]) -> Result<Script<A>, T
         text,
     )?;
     let Head {
-        has_salts,
+        version,
         frames,
         pages,
         salts,
     } = head;
-    let first = line_behind_head(has_salts);
+    let first = line_behind_head(version);
     let ((ring, journal), rest) = read_rooms(first, pages.len() as u32, rest)?;
     let scripts = read_lists(alloc, &pages, journal, first + 2, rest)?;
     let config = Config {

@@ -3,6 +3,7 @@ ghost use Rattle.std.specs.Prelude.{◌≡◌, ◌+◌, ◌*◌, ◌≤◌, [], 
 ghost use Rattle.journal_text.specs.declared.fault.TextFault.TheVariants.{OutOfMemory};
 ghost use Rattle.journal_text.specs.declared.room.TheConstants.{LEAST_LINE_BYTES};
 ghost use Rattle.script_text.specs.Views.{lists_of};
+ghost use Rattle.page_model.specs.declared.limits.TheConstants.{MAX_GUESTS};
 
 use journal_text::TextFault;
 use journal_text::room::LEAST_LINE_BYTES;
@@ -47,7 +48,7 @@ pub(crate) fn empty_scripts<A: Allocator + Clone>(
     guests: usize,
     text: &[u8],
 ) -> Result<Vec<Vec<Request, A>, A>, TextFault>
-    requires { guests ≤ 64 }
+    requires { guests ≤ MAX_GUESTS }
     ensures lists { IfOk result (λ v. lists_of v.items ≡ replicate guests []) }
     ensures guests { IfOk result (λ v. length v.items ≡ guests) }
     ensures err { IfErr result (λ e. e ≡ OutOfMemory) }
