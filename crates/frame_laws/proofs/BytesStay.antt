@@ -91,8 +91,8 @@ module _ (written : Option ℕ) (old new : Shown) (a b : ℕ) (whole : FramesOfP
     pick m taken still apart x y is (inr n) z = elsewhere m x y (λ q _. n q) is taken still
 
 -- where no page changes its text
-texts_stay : (written : Option ℕ) (old new : Shown) (a b : ℕ) (change : Change) → FramesOfPages new → NamedFrame change old.frames a b old.names new.names
-    → ((x y : ℕ) → (x ≡ a → y ≡ b → ⊥) → frame_at new.names x y ≡ frame_at old.names x y) → SameTexts (state_of old).guests (state_of new).guests → BytesStay written old new
+texts_stay : (written : Option ℕ) (old new : Shown) (a b : ℕ) (change : Change) → FramesOfPages new → NamedFrame change old.frames a b old.pmap new.pmap
+    → ((x y : ℕ) → (x ≡ a → y ≡ b → ⊥) → frame_at new.pmap x y ≡ frame_at old.pmap x y) → SameTexts (state_of old).guests (state_of new).guests → BytesStay written old new
 texts_stay written old new a b change whole named others same =
     bytes_stay written old new a b whole others (all_but a b _ _ same) change named (λ _ m _ _. same a b)
 
@@ -128,8 +128,8 @@ data StoresEnd (gs : List Guest) (guest ppn : ℕ) (verdict : Verdict) (new : Li
   refused : is_done verdict ≡ false → new ≡ gs → StoresEnd gs guest ppn verdict new
   done : is_done verdict ≡ true → TextsBut guest ppn gs new → StoresEnd gs guest ppn verdict new
 
-stores_stay : (old new : Shown) (guest ppn : ℕ) (verdict : Verdict) → FramesOfPages new → OthersKeep old.frames guest ppn verdict old.names new.names
-    → StoresEnd (state_of old).guests guest ppn verdict (state_of new).guests → BytesStay (written_by_store verdict (frame_at new.names guest ppn)) old new
+stores_stay : (old new : Shown) (guest ppn : ℕ) (verdict : Verdict) → FramesOfPages new → OthersKeep old.frames guest ppn verdict old.pmap new.pmap
+    → StoresEnd (state_of old).guests guest ppn verdict (state_of new).guests → BytesStay (written_by_store verdict (frame_at new.pmap guest ppn)) old new
 stores_stay old new guest ppn verdict whole stay (refused undone same) =
     texts_stay _ old new guest ppn (change_at verdict) whole stay.named stay.others (still_same _ _ same)
 stores_stay old new guest ppn verdict whole stay (done did texts) =

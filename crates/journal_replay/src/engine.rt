@@ -10,6 +10,7 @@ ghost use Rattle.journal_text.specs.Views.{journal_seen};
 ghost use Rattle.journal_replay.specs.Ends.{is_read_fault, is_write_fault, tells_read, tells_write, Buffers, WritesAll};
 ghost use Rattle.journal_replay.specs.Replayed.{served_line, lines_from, report_text, printed_from, printed};
 ghost use Rattle.journal_replay.specs.Replayed.{Prints, Replays, Refuses, Refused};
+ghost use Rattle.page_model.specs.declared.limits.TheConstants.{MAX_ENTRIES};
 
 use crate::ends::{Sink, Source, read_all, write_all};
 use crate::output::{LINE_BYTES, buffer, make_room, put_report, put_verdict};
