@@ -1,10 +1,10 @@
 -- A padded message by its blocks, and its hash value by theirs.
-use Rattle.std.proofs.Common.{◌≡◌, ℕ, ◌+◌, ◌-◌, ◌*◌, ◌/◌, ◌^◌, ◌<◌, ◌≤◌, List, [], ◌∷◌, ◌++◌, length, take, drop, slice_index, refl, sym, ap, ◌∙◌, arith, mod-lt, pow_pos, length-append, length-drop}
-use Rattle.std.proofs.lemmas.List.{append_assoc, drop-append-le, drop-drop, drop_at, take-append-le, take_all, take_at}
+use Rattle.std.proofs.Common.{◌≡◌, ℕ, suc, ◌+◌, ◌-◌, ◌*◌, ◌/◌, ◌^◌, ◌<◌, ◌≤◌, List, [], ◌∷◌, ◌++◌, length, map, take, drop, slice_index, slice_index_or, refl, sym, ap, ◌∙◌, arith, mod-lt, pow_pos, length-append, length-drop}
+use Rattle.std.proofs.lemmas.List.{append_assoc, drop-append-le, drop-drop, drop_at, get_or_default, take-append-le, take_all, take_at}
 use Rattle.std.specs.Int.{w64, w128, from_be_bytes}
 use Rattle.sha2.specs.Sha256.{compress, digest_bytes, hash_after, initial_hash_256}
 use Rattle.sha2.proofs.Absorbing256.{hash_after_next}
-use Rattle.sha256_lanes.specs.Hashes.{hash_value, leading_number, leading_digest}
+use Rattle.sha256_lanes.specs.Hashes.{block_at, hash_value, leading_number, leading_digest}
 use Rattle.sha256_lanes.specs.Lanes.{one_of, four_words_of}
 use Rattle.sha256_lanes.proofs.Lanes.{in_each}
 
@@ -82,6 +82,19 @@ digest_is padded hash number some eh en =
     let small = value-lt padded some in
     en ∙ rw eh (sym (four_words (hash_value padded) (small 0 (omega arith)) (small 1 (omega arith)) (small 2 (omega arith)) (small 3 (omega arith))))
 
+-- the blocks that four messages in a row have at one place
+pub blocks_from : (messages : List (List ℕ)) (n from : ℕ) (e f g h x y z w : List ℕ) → from + 4 ≤ length messages
+    → x ≡ block_at (slice_index_or messages from e) n → y ≡ block_at (slice_index_or messages (from + 1) f) n
+    → z ≡ block_at (slice_index_or messages (from + 2) g) n → w ≡ block_at (slice_index_or messages (from + 3) h) n
+    → (j : ℕ) → j < 4 → one_of j x y z w ≡ block_at (slice_index_or messages (from + j) []) n
+blocks_from messages n from e f g h x y z w within ex ey ez ew =
+    let first : from + 0 ≡ from = omega arith in
+    in_each (λ j. one_of j x y z w ≡ block_at (slice_index_or messages (from + j) []) n)
+    (rw first (ex ∙ ap (λ message. block_at message n) (get_or_default messages from e [] (omega (arith, within)))))
+    (ey ∙ ap (λ message. block_at message n) (get_or_default messages (from + 1) f [] (omega (arith, within))))
+    (ez ∙ ap (λ message. block_at message n) (get_or_default messages (from + 2) g [] (omega (arith, within))))
+    (ew ∙ ap (λ message. block_at message n) (get_or_default messages (from + 3) h [] (omega (arith, within))))
+
 -- the blocks that four messages have at one place
 pub blocks_of : (at : List ℕ → List ℕ) (a b c d x y z w : List ℕ) → x ≡ at a → y ≡ at b → z ≡ at c → w ≡ at d
     → (j : ℕ) → j < 4 → one_of j x y z w ≡ at (one_of j a b c d)
@@ -101,3 +114,12 @@ four_of f a b c d (p ∷ q ∷ []) four each = absurd (omega arith)
 four_of f a b c d (p ∷ q ∷ r ∷ []) four each = absurd (omega arith)
 four_of f a b c d (p ∷ q ∷ r ∷ s ∷ t ∷ more) four each = absurd (omega arith)
 four_of f a b c d (p ∷ q ∷ r ∷ s ∷ []) four each = rw (each 0 (omega arith), each 1 (omega arith), each 2 (omega arith), each 3 (omega arith)) refl
+
+-- the numbers of all messages from the number of each
+pub all_of : (f : List ℕ → ℕ) (messages : List (List ℕ)) (numbers : List ℕ) → length numbers ≡ length messages
+    → ((j : ℕ) → j < length messages → slice_index numbers j ≡ f (slice_index_or messages j [])) → numbers ≡ map f messages
+all_of f [] [] same each = refl
+all_of f [] (p ∷ numbers) same each = absurd (omega arith)
+all_of f (m ∷ messages) [] same each = absurd (omega arith)
+all_of f (m ∷ messages) (p ∷ numbers) same each =
+    rw (each 0 (omega arith)) (ap (λ rest. f m ∷ rest) (all_of f messages numbers (omega (arith, same)) (λ j lt. each (suc j) (omega (arith, lt)))))

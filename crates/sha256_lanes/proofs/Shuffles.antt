@@ -5,7 +5,7 @@ use Rattle.std.proofs.lemmas.Simd.{Each1-get_or}
 use Rattle.std.specs.Simd.Lanes.{Each1}
 use Rattle.sha2.specs.Sha256.{word_at}
 use Rattle.sha256_lanes.proofs.Lanes.{in_each, of_four}
-use Rattle.sha256_lanes.specs.Lanes.{one_of}
+use Rattle.sha256_lanes.specs.Lanes.{lane, one_of}
 
 -- ---- words of sixteen bytes
 
@@ -64,7 +64,7 @@ abbrev across : List ℕ → List ℕ → List ℕ → List ℕ → ℕ → List
 across a b c d k = slice_index_or (a ++ c) k 0 ∷ slice_index_or (b ++ d) k 0 ∷ slice_index_or (a ++ c) (4 + k) 0 ∷ slice_index_or (b ++ d) (4 + k) 0 ∷ []
 
 abbrev At : List ℕ → List ℕ → List ℕ → List ℕ → ℕ → ℕ → Type 0
-At a b c d j k = slice_index (slice_index_or (across a b c d 0 ∷ across a b c d 1 ∷ across a b c d 2 ∷ across a b c d 3 ∷ []) k []) j ≡ slice_index (one_of j a b c d) k
+At a b c d j k = slice_index (lane slice_index j (across a b c d 0 ∷ across a b c d 1 ∷ across a b c d 2 ∷ across a b c d 3 ∷ [])) k ≡ slice_index (one_of j a b c d) k
 
 abbrev Transposed : List ℕ → List ℕ → List ℕ → List ℕ → Type 0
 Transposed a b c d = (j k : ℕ) → j < 4 → k < 4 → At a b c d j k
@@ -88,3 +88,18 @@ transposes a b c d la lb lc ld =
     of_four (λ x. Transposed (a0 ∷ a1 ∷ a2 ∷ a3 ∷ []) (b0 ∷ b1 ∷ b2 ∷ b3 ∷ []) (c0 ∷ c1 ∷ c2 ∷ c3 ∷ []) x)
     (written_out a0 a1 a2 a3 b0 b1 b2 b3 c0 c1 c2 c3)
     d ld) c lc) b lb) a la
+
+-- ---- eight lanes of two vectors of four
+
+abbrev eight : (ℕ → ℕ) → List ℕ
+eight f = f 0 ∷ f 1 ∷ f 2 ∷ f 3 ∷ f 4 ∷ f 5 ∷ f 6 ∷ f 7 ∷ []
+
+abbrev Joined : List ℕ → List ℕ → Type 0
+Joined low high =
+    ((j : ℕ) → j < 4 → slice_index (eight (λ k. slice_index (low ++ high) k)) j ≡ slice_index low j)
+    × ((j : ℕ) → j < 4 → slice_index (eight (λ k. slice_index (low ++ high) k)) (4 + j) ≡ slice_index high j)
+
+pub joins : (low high : List ℕ) → length low ≡ 4 → length high ≡ 4 → Joined low high
+joins low high ll lh =
+    of_four (λ x. Joined x high) (λ a0 a1 a2 a3.
+    of_four (Joined (a0 ∷ a1 ∷ a2 ∷ a3 ∷ [])) (λ b0 b1 b2 b3. (in_each _ refl refl refl refl, in_each _ refl refl refl refl)) high lh) low ll

@@ -88,32 +88,14 @@ later_word words block t word late below so_far is =
     ∙ sym (slice_index-schedule_next block 48 t late (omega arith))
 
 -- ---- the sums of two states' words
-pub sums : (j : ℕ) (x y : List (List ℕ)) →
-    add32 (slice_index (slice_index_or x 0 []) j) (slice_index (slice_index_or y 0 []) j)
-    ∷ add32 (slice_index (slice_index_or x 1 []) j) (slice_index (slice_index_or y 1 []) j)
-    ∷ add32 (slice_index (slice_index_or x 2 []) j) (slice_index (slice_index_or y 2 []) j)
-    ∷ add32 (slice_index (slice_index_or x 3 []) j) (slice_index (slice_index_or y 3 []) j)
-    ∷ add32 (slice_index (slice_index_or x 4 []) j) (slice_index (slice_index_or y 4 []) j)
-    ∷ add32 (slice_index (slice_index_or x 5 []) j) (slice_index (slice_index_or y 5 []) j)
-    ∷ add32 (slice_index (slice_index_or x 6 []) j) (slice_index (slice_index_or y 6 []) j)
-    ∷ add32 (slice_index (slice_index_or x 7 []) j) (slice_index (slice_index_or y 7 []) j) ∷ []
-    ≡ add_state (lane j x) (lane j y)
-sums j x y =
-    rw (
-      word_of j 0 x,
-      word_of j 1 x,
-      word_of j 2 x,
-      word_of j 3 x,
-      word_of j 4 x,
-      word_of j 5 x,
-      word_of j 6 x,
-      word_of j 7 x,
-      word_of j 0 y,
-      word_of j 1 y,
-      word_of j 2 y,
-      word_of j 3 y,
-      word_of j 4 y,
-      word_of j 5 y,
-      word_of j 6 y,
-      word_of j 7 y,
-    ) refl
+module _ {V : Type 0} (word : V → ℕ → ℕ) (j : ℕ) (x y : List V) where
+  pub sum_at : (k : ℕ) (d e : V) (sum : ℕ) → k < length x → k < length y → sum ≡ add32 (word (slice_index_or x k d) j) (word (slice_index_or y k e) j)
+      → sum ≡ add32 (slice_index (lane word j x) k) (slice_index (lane word j y) k)
+  sum_at k d e sum in_x in_y is = is ∙ rw (word_of word j k x d in_x, word_of word j k y e in_y) refl
+
+  abbrev Sums : ℕ → ℕ → Type 0
+  Sums k sum = sum ≡ add32 (slice_index (lane word j x) k) (slice_index (lane word j y) k)
+
+  pub sums : (a b c d e f g h : ℕ) → Sums 0 a → Sums 1 b → Sums 2 c → Sums 3 d → Sums 4 e → Sums 5 f → Sums 6 g → Sums 7 h
+      → a ∷ b ∷ c ∷ d ∷ e ∷ f ∷ g ∷ h ∷ [] ≡ add_state (lane word j x) (lane word j y)
+  sums a b c d e f g h ea eb ec ed ee ef eg eh = rw (ea, eb, ec, ed, ee, ef, eg, eh) refl

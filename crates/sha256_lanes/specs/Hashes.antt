@@ -1,7 +1,11 @@
 -- The hash of a message that is already padded.
-use Rattle.std.specs.Prelude.{ℕ, ◌/◌, List, length, take}
+use Rattle.std.specs.Prelude.{ℕ, ◌*◌, ◌/◌, List, length, take, drop}
 use Rattle.std.specs.Int.{w64, w128, from_be_bytes}
 use Rattle.sha2.specs.Sha256.{digest_bytes, hash_after, initial_hash_256}
+
+-- the block that has n blocks before it
+abbrev pub block_at : List ℕ → ℕ → List ℕ
+block_at padded n = take 64 (drop (n * 64) padded)
 
 -- the message's hash value after all of its blocks
 abbrev pub hash_value : List ℕ → List ℕ

@@ -1,9 +1,9 @@
--- Four messages side by side: each word is a vector of four numbers, one for each message.
+-- Several messages side by side: each word of the computation is a vector, with a number for each message.
 use Rattle.std.specs.Prelude.{ℕ, zero, suc, ◌+◌, ◌*◌, ◌^◌, List, map, slice_index}
 
--- the words of message j
-abbrev pub lane : ℕ → List (List ℕ) → List ℕ
-lane j vectors = map (λ v. slice_index v j) vectors
+-- the words of message j, where word v j is the one that a vector has for it
+abbrev pub lane : {V : Type 0} → (V → ℕ → ℕ) → ℕ → List V → List ℕ
+lane word j vectors = map (λ v. word v j) vectors
 
 -- the one of four at place j
 abbrev pub one_of : {A : Type 0} → ℕ → A → A → A → A → A

@@ -1,5 +1,6 @@
 //! Messages that are whole blocks, padding included.
-ghost use Rattle.std.specs.Prelude.{◌≡◌, ◌≤◌, ◌<◌, ◌+◌, ◌*◌, ◌%◌, ◌++◌, length, take, drop};
+ghost use Rattle.std.specs.Prelude.{◌≡◌, ◌≤◌, ◌<◌, ◌+◌, ◌*◌, ◌%◌, ◌++◌, length};
+ghost use Rattle.sha256_lanes.specs.Hashes.{block_at};
 
 use std::marker::Model;
 
@@ -51,7 +52,7 @@ impl<'a> Padded<'a> {
     /// Returns the block that has `n` blocks before it.
     pub(crate) fn block(&self, n: usize) -> &[u8]
         requires { 64 * (n + 1) ≤ length self.now }
-        ensures value { result.now ≡ take 64 (drop (n * 64) self.now) }
+        ensures value { result.now ≡ block_at self.now n }
         ensures block { length result.now ≡ 64 }
     {
         if n == 0 {

@@ -1,56 +1,87 @@
-//! Operations on vectors, lane by lane. Only this file has operators on vectors.
-ghost use Rattle.std.specs.Prelude.{◌≡◌, ℕ, ◌<◌, ◌*◌, ◌/◌, ◌^◌, [], bit_xor, slice_index, slice_index_or};
+//! Vectors of 32-bit words, with a lane for each message. Only this file has operators on vectors.
+ghost use Rattle.std.specs.Prelude.{◌≡◌, ℕ, ◌+◌, ◌<◌, ◌*◌, ◌/◌, ◌^◌, bit_xor, slice_index};
 ghost use Rattle.std.specs.Int.{w32, rotate_right};
 ghost use Rattle.sha2.specs.Sha256.{add32, ch, maj, word_at};
-ghost use Rattle.sha256_lanes.specs.Lanes.{one_of};
+ghost use Rattle.sha256_lanes.specs.Lanes.{lane, one_of};
 
-use std::simd::{u8x16, u32x4};
+use std::simd::{Simd, u8x16, u32x4, u32x8};
 
-/// Returns the sum modulo 2^32.
-#[inline(always)]
-pub(crate) fn add(a: u32x4, b: u32x4) -> u32x4
-    ensures { (j : ℕ) → j < 4 → slice_index result j ≡ add32 (slice_index a j) (slice_index b j) }
-{
-    a + b
+/// A vector of words. Whoever uses it writes once what holds at each width.
+pub(crate) trait Vector: Copy {
+    // How many lanes there are.
+    ghost width: { ℕ };
+
+    // The word in a lane.
+    ghost word: { Self → ℕ → ℕ };
+
+    /// Returns the number in each lane.
+    fn splat(number: u32) -> Self
+        ensures { (j : ℕ) → j < width → word result j ≡ number };
+
+    /// Returns the sum modulo 2^32.
+    fn add(self, other: Self) -> Self
+        ensures { (j : ℕ) → j < width → word result j ≡ add32 (word self j) (word other j) };
+
+    fn xor(self, other: Self) -> Self
+        ensures { (j : ℕ) → j < width → word result j ≡ bit_xor (word self j) (word other j) };
+
+    fn shift_right(self, by: u32) -> Self
+        requires { by < 32 }
+        ensures { (j : ℕ) → j < width → word result j ≡ word self j / 2 ^ by };
+
+    fn rotate_right(self, by: u32) -> Self
+        requires { (0 < by) × (by < 32) }
+        ensures { (j : ℕ) → j < width → word result j ≡ rotate_right w32 (word self j) by };
+
+    /// Returns the bits of `y` where this has a 1, and those of `z` where it has a 0.
+    fn choose(self, y: Self, z: Self) -> Self
+        ensures { (j : ℕ) → j < width → word result j ≡ ch (word self j) (word y j) (word z j) };
+
+    /// Returns the bits that most of the three have.
+    fn majority(self, y: Self, z: Self) -> Self
+        ensures { (j : ℕ) → j < width → word result j ≡ maj (word self j) (word y j) (word z j) };
 }
 
-#[inline(always)]
-pub(crate) fn xor(a: u32x4, b: u32x4) -> u32x4
-    ensures { (j : ℕ) → j < 4 → slice_index result j ≡ bit_xor (slice_index a j) (slice_index b j) }
-{
-    a ^ b
-}
+impl<const N: usize> Vector for Simd<u32, N> {
+    ghost width = { N };
 
-#[inline(always)]
-pub(crate) fn shift_right(x: u32x4, by: u32) -> u32x4
-    requires { by < 32 }
-    ensures { (j : ℕ) → j < 4 → slice_index result j ≡ slice_index x j / 2 ^ by }
-{
-    x >> u32x4::splat(by)
-}
+    ghost word = { slice_index };
 
-#[inline(always)]
-pub(crate) fn rotate_right(x: u32x4, by: u32) -> u32x4
-    requires { (0 < by) × (by < 32) }
-    ensures { (j : ℕ) → j < 4 → slice_index result j ≡ rotate_right w32 (slice_index x j) by }
-{
-    (x >> u32x4::splat(by)) | (x << u32x4::splat(32 - by))
-}
+    #[inline(always)]
+    fn splat(number: u32) -> Simd<u32, N> {
+        Simd::splat(number)
+    }
 
-/// Returns the bits of `y` where `x` has a 1, and those of `z` where it has a 0.
-#[inline(always)]
-pub(crate) fn choose(x: u32x4, y: u32x4, z: u32x4) -> u32x4
-    ensures { (j : ℕ) → j < 4 → slice_index result j ≡ ch (slice_index x j) (slice_index y j) (slice_index z j) }
-{
-    z ^ (x & (y ^ z))
-}
+    #[inline(always)]
+    fn add(self, other: Simd<u32, N>) -> Simd<u32, N> {
+        self + other
+    }
 
-/// Returns the bits that most of the three have. In a row of rounds `y ^ z` is the `x ^ y` of the round before.
-#[inline(always)]
-pub(crate) fn majority(x: u32x4, y: u32x4, z: u32x4) -> u32x4
-    ensures { (j : ℕ) → j < 4 → slice_index result j ≡ maj (slice_index x j) (slice_index y j) (slice_index z j) }
-{
-    y ^ ((x ^ y) & (y ^ z))
+    #[inline(always)]
+    fn xor(self, other: Simd<u32, N>) -> Simd<u32, N> {
+        self ^ other
+    }
+
+    #[inline(always)]
+    fn shift_right(self, by: u32) -> Simd<u32, N> {
+        self >> Simd::splat(by)
+    }
+
+    #[inline(always)]
+    fn rotate_right(self, by: u32) -> Simd<u32, N> {
+        (self >> Simd::splat(by)) | (self << Simd::splat(32 - by))
+    }
+
+    #[inline(always)]
+    fn choose(self, y: Simd<u32, N>, z: Simd<u32, N>) -> Simd<u32, N> {
+        z ^ (self & (y ^ z))
+    }
+
+    // In a row of rounds `y ^ z` is the `self ^ y` of the round before.
+    #[inline(always)]
+    fn majority(self, y: Simd<u32, N>, z: Simd<u32, N>) -> Simd<u32, N> {
+        y ^ ((self ^ y) & (y ^ z))
+    }
 }
 
 /// Returns the words with these bytes, the highest byte of each word first.
@@ -65,7 +96,7 @@ pub(crate) fn big_endian(bytes: u8x16) -> u32x4
 #[inline(always)]
 pub(crate) fn transposed(a: u32x4, b: u32x4, c: u32x4, d: u32x4) -> [u32x4; 4]
     ensures { (j k : ℕ) → j < 4 → k < 4
-        → slice_index (slice_index_or result k []) j ≡ slice_index (one_of j a b c d) k }
+        → slice_index (lane slice_index j result) k ≡ slice_index (one_of j a b c d) k }
 {
     let low_odd = a.shuffle(c, [0, 4, 1, 5]);
     let low_even = b.shuffle(d, [0, 4, 1, 5]);
@@ -77,4 +108,13 @@ pub(crate) fn transposed(a: u32x4, b: u32x4, c: u32x4, d: u32x4) -> [u32x4; 4]
         high_odd.shuffle(high_even, [0, 4, 1, 5]),
         high_odd.shuffle(high_even, [2, 6, 3, 7]),
     ]
+}
+
+/// Returns the lanes of `low`, and then those of `high`.
+#[inline(always)]
+pub(crate) fn joined(low: u32x4, high: u32x4) -> u32x8
+    ensures low { (j : ℕ) → j < 4 → slice_index result j ≡ slice_index low j }
+    ensures high { (j : ℕ) → j < 4 → slice_index result (4 + j) ≡ slice_index high j }
+{
+    low.shuffle(high, [0, 1, 2, 3, 4, 5, 6, 7])
 }

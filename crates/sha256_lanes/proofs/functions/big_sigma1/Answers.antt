@@ -2,4 +2,4 @@ use Rattle.std.proofs.Common.{refl}
 use Rattle.sha256_lanes.proofs.functions.big_sigma1.Goals as goal
 
 pub returns : goal.returns
-returns c j lt = rw (c.xor-2.ensures j lt, c.xor.ensures j lt, c.rotate_right.ensures j lt, c.rotate_right-2.ensures j lt, c.rotate_right-3.ensures j lt) refl
+returns g c j lt = rw (c.xor-2.ensures j lt, c.xor.ensures j lt, c.rotate_right.ensures j lt, c.rotate_right-2.ensures j lt, c.rotate_right-3.ensures j lt) refl

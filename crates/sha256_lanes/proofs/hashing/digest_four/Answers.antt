@@ -11,6 +11,6 @@ returns c =
     let third = c.args.c.now in
     let d = c.args.d.now in
     let long : (j : ℕ) → j < 4 → 64 ≤ length (one_of j a b third d) =
-    λ j lt. omega (arith, c.state_after.ensures.some, each_long (length a) a b third d refl c.requires.b c.requires.c c.requires.d j lt) in
+    λ j lt. omega (arith, c.state_of_four.ensures.some, each_long (length a) a b third d refl c.requires.b c.requires.c c.requires.d j lt) in
     four_of leading_digest a b third d c.leading_digests.result c.leading_digests.ensures.len
-    (λ j lt. digest_is (one_of j a b third d) _ _ (long j lt) (c.state_after.ensures.each j lt) (c.leading_digests.ensures.each j lt))
+    (λ j lt. digest_is (one_of j a b third d) _ _ (long j lt) (c.state_of_four.ensures.each j lt) (c.leading_digests.ensures.each j lt))

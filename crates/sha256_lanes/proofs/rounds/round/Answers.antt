@@ -1,10 +1,11 @@
-use Rattle.std.proofs.Common.{refl}
+use Rattle.std.proofs.Common.{arith, refl}
 use Rattle.sha256_lanes.proofs.Lanes.{word_of}
 use Rattle.sha256_lanes.proofs.rounds.round.Goals as goal
 
 pub returns : goal.returns
-returns c j lt =
-    let state = c.args.state in
+returns g c j lt =
+    let state = c.args.state.now in
+    let word = g.V.Vector.word in
     rw (
       c.add-4.ensures j lt,
       c.add-3.ensures j lt,
@@ -17,12 +18,12 @@ returns c j lt =
       c.choose.ensures j lt,
       c.big_sigma0.ensures j lt,
       c.majority.ensures j lt,
-      word_of j 0 state,
-      word_of j 1 state,
-      word_of j 2 state,
-      word_of j 3 state,
-      word_of j 4 state,
-      word_of j 5 state,
-      word_of j 6 state,
-      word_of j 7 state,
+      word_of word j 0 state c.index-state-0.result (omega (arith, c.type_inv.state)),
+      word_of word j 1 state c.index-state-1.result (omega (arith, c.type_inv.state)),
+      word_of word j 2 state c.index-state-2.result (omega (arith, c.type_inv.state)),
+      word_of word j 3 state c.index-state-3.result (omega (arith, c.type_inv.state)),
+      word_of word j 4 state c.index-state-4.result (omega (arith, c.type_inv.state)),
+      word_of word j 5 state c.index-state-5.result (omega (arith, c.type_inv.state)),
+      word_of word j 6 state c.index-state-6.result (omega (arith, c.type_inv.state)),
+      word_of word j 7 state c.index-state-7.result (omega (arith, c.type_inv.state)),
     ) refl

@@ -4,4 +4,5 @@ use Rattle.sha256_lanes.specs.Schedules.{Schedules}
 use Rattle.sha256_lanes.proofs.schedule.extend.Given as goal
 
 abbrev pub invariant-loop-turn : goal.invariant-loop-turn
-invariant-loop-turn l = (j : ℕ) → j < 4 → (block : List ℕ) → Schedules (lane j l.initial.words) block 16 → Schedules (lane j l.words) block (4 * l.turn)
+invariant-loop-turn g l = (j : ℕ) → j < g.V.Vector.width → (block : List ℕ) → Schedules (lane g.V.Vector.word j l.initial.words) block 16
+    → Schedules (lane g.V.Vector.word j l.words) block (4 * l.turn)

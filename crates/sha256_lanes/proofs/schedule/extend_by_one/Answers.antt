@@ -5,9 +5,10 @@ use Rattle.sha256_lanes.proofs.Words.{later_word, word_put}
 use Rattle.sha256_lanes.proofs.schedule.extend_by_one.Goals as goal
 
 pub returns : goal.returns
-returns c j lt block so_far =
-    let words = lane j c.args.words.now in
+returns g c j lt block so_far =
+    let word = g.V.Vector.word in
+    let words = lane word j c.args.words.now in
     let t = c.args.t in
-    rw (lane_set j t c.args.words.now c.word_after.result)
-    (word_put words block t _ (omega (arith, length-lane j c.args.words.now, c.told-words, c.requires.high)) so_far
+    rw (lane_set word j t c.args.words.now c.word_after.result)
+    (word_put words block t _ (omega (arith, length-lane word j c.args.words.now, c.told-words, c.requires.high)) so_far
     (later_word words block t _ c.requires.low c.requires.high so_far (c.word_after.ensures j lt)))

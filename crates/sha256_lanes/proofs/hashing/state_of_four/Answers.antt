@@ -2,7 +2,7 @@ use Rattle.std.proofs.Common.{◌≡◌, ◌*◌, ◌/◌, ap, arith, drop, leng
 use Rattle.sha2.specs.Sha256.{hash_after, initial_hash_256}
 use Rattle.sha256_lanes.specs.Lanes.{one_of}
 use Rattle.sha256_lanes.proofs.Messages.{block_taken, blocks_of, each_long, none_taken}
-use Rattle.sha256_lanes.proofs.hashing.state_after.Goals as goal
+use Rattle.sha256_lanes.proofs.hashing.state_of_four.Goals as goal
 
 pub loop-n-init : goal.loop-n-init
 loop-n-init c j lt = none_taken (one_of j c.args.a.now c.args.b.now c.args.c.now c.args.d.now) _ (c.initial-state.ensures j lt)
@@ -12,7 +12,7 @@ loop-n-preserved c j lt =
     let n = c.loop-n.n in
     let blocks = blocks_of (λ padded. take 64 (drop (n * 64) padded)) c.args.a.now c.args.b.now c.args.c.now c.args.d.now _ _ _ _
     c.block.ensures.value c.block-in-loop-n.ensures.value c.block-in-loop-n-2.ensures.value c.block-in-loop-n-3.ensures.value j lt in
-    block_taken (one_of j c.args.a.now c.args.b.now c.args.c.now c.args.d.now) n _ _ _ (c.loop-n.invariant j lt) blocks (c.absorb.ensures j lt)
+    block_taken (one_of j c.args.a.now c.args.b.now c.args.c.now c.args.d.now) n _ _ _ (c.loop-n.invariant j lt) blocks (c.absorb.ensures j lt _ (c.begin_four.ensures j lt))
 
 pub returns-clause-some : goal.returns-clause-some
 returns-clause-some c = omega (arith, c.blocks-n-end.ensures.all, c.blocks-n-end.ensures.some)
