@@ -1,5 +1,5 @@
 -- The stated functions of the hash types: each a function of a salt and the bytes of a page.
-use Rattle.std.specs.Prelude.{ℕ, ◌+◌, ◌*◌, ◌^◌, ◌==◌, if◌then◌else◌, List, [], ◌∷◌, ◌++◌, take, slice_index}
+use Rattle.std.specs.Prelude.{ℕ, ◌+◌, ◌*◌, ◌^◌, ◌==◌, if◌then◌else◌, List, [], ◌∷◌, ◌++◌, take, slice_index, slice_index_or}
 use Rattle.std.specs.Hash.{le_bytes}
 use Rattle.std.specs.Hash.FoldHasher.{initial, write, finish}
 use Rattle.std.specs.Int.{w32, w64, w128, from_be_bytes, to_be_bytes}
@@ -33,3 +33,9 @@ two_byte_hash salt page = slice_index page 0 * 2 ^ 32 + slice_index page 1
 abbrev pub four_hashes : (ℕ → List ℕ → ℕ) → List ℕ → List ℕ → List ℕ → List ℕ → List ℕ → List ℕ
 four_hashes hash salts a b c d =
     hash (slice_index salts 0) a ∷ hash (slice_index salts 1) b ∷ hash (slice_index salts 2) c ∷ hash (slice_index salts 3) d ∷ []
+
+-- the hashes of eight pages, each under the salt at its place
+abbrev pub eight_hashes : (ℕ → List ℕ → ℕ) → List ℕ → List (List ℕ) → List ℕ
+eight_hashes hash salts pages =
+    let at = λ (n : ℕ). hash (slice_index salts n) (slice_index_or pages n []) in
+    at 0 ∷ at 1 ∷ at 2 ∷ at 3 ∷ at 4 ∷ at 5 ∷ at 6 ∷ at 7 ∷ []

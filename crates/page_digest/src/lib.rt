@@ -11,6 +11,7 @@ mod page_hash;
 mod part;
 mod sha256;
 mod short;
+mod wide_sha256;
 mod workers;
 
 pub use content::{digest_content, digest_four_contents};
@@ -19,3 +20,4 @@ pub use many::{HashFault, hash_many};
 pub use page_hash::PageHash;
 pub use sha256::Sha256Hash;
 pub use short::{FirstByteHash, TwoByteHash};
+pub use wide_sha256::WideSha256Hash;

@@ -1,6 +1,6 @@
 //! The trait of types that hash pages.
-ghost use Rattle.std.specs.Prelude.{◌≡◌};
-ghost use Rattle.page_digest.specs.Hashes.{four_hashes};
+ghost use Rattle.std.specs.Prelude.{◌≡◌, map};
+ghost use Rattle.page_digest.specs.Hashes.{four_hashes, eight_hashes};
 
 use page_model::{HashFunction, Page};
 
@@ -21,5 +21,27 @@ pub trait PageHash: HashFunction + Sync {
             self.hash(salts[2], c),
             self.hash(salts[3], d),
         ]
+    }
+
+    /// Does the same for eight pages. By default they are two fours. A type that hashes eight pages faster together overrides
+    /// this.
+    fn hash_eight(&self, salts: [u32; 8], pages: [&Page; 8]) -> [u64; 8]
+        ensures { result ≡ eight_hashes Self.hash_of salts (map (λ page. page.now) pages.entry) }
+    {
+        let [a, b, c, d] = self.hash_four(
+            [salts[0], salts[1], salts[2], salts[3]],
+            pages[0],
+            pages[1],
+            pages[2],
+            pages[3],
+        );
+        let [e, f, g, h] = self.hash_four(
+            [salts[4], salts[5], salts[6], salts[7]],
+            pages[4],
+            pages[5],
+            pages[6],
+            pages[7],
+        );
+        [a, b, c, d, e, f, g, h]
     }
 }

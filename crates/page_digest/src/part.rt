@@ -6,10 +6,10 @@ use crate::PageHash;
 use machine_frames::Frames;
 use std::alloc::Allocator;
 
-// How many pages are hashed at once.
-const LANES: usize = 4;
+// How many pages are hashed at once at most.
+const LANES: usize = 8;
 
-/// Appends the hash of each listed frame. The last frames, up to three of them, are hashed one by one.
+/// Appends the hash of each listed frame, eight at once as far as whole eights go.
 pub(crate) fn push_hashes<H: PageHash, A: Allocator, B: Allocator>(
     hash: &H,
     frames: &Frames<B>,
@@ -23,9 +23,61 @@ pub(crate) fn push_hashes<H: PageHash, A: Allocator, B: Allocator>(
 {
     let whole = pairs.len() / LANES;
     for n in 0..whole {
-        push_four(hash, frames, &pairs[LANES * n..LANES * n + LANES], hashes);
+        push_eight(hash, frames, &pairs[LANES * n..LANES * n + LANES], hashes);
     }
-    push_each(hash, frames, &pairs[LANES * whole..], hashes);
+    push_rest(hash, frames, &pairs[LANES * whole..], hashes);
+}
+
+fn push_eight<H: PageHash, A: Allocator, B: Allocator>(
+    hash: &H,
+    frames: &Frames<B>,
+    pairs: &[(u32, u32)],
+    hashes: &mut Vec<u64, A>,
+)
+    requires eight { length pairs.now ≡ 8 }
+    requires taken { AreTaken frames.now pairs.now }
+    requires room { vec_len hashes.old + 8 ≤ vec_capacity hashes.old }
+    ensures items { hashes.new.items ≡ hashes.old.items ++ frame_hashes H.hash_of frames.now pairs.now }
+    ensures len { vec_len hashes.new ≡ vec_len hashes.old + 8 }
+    ensures capacity { vec_capacity hashes.old ≤ vec_capacity hashes.new }
+{
+    let numbers = hash.hash_eight(
+        [
+            pairs[0].0, pairs[1].0, pairs[2].0, pairs[3].0, pairs[4].0, pairs[5].0, pairs[6].0,
+            pairs[7].0,
+        ],
+        [
+            frames.bytes(pairs[0].1),
+            frames.bytes(pairs[1].1),
+            frames.bytes(pairs[2].1),
+            frames.bytes(pairs[3].1),
+            frames.bytes(pairs[4].1),
+            frames.bytes(pairs[5].1),
+            frames.bytes(pairs[6].1),
+            frames.bytes(pairs[7].1),
+        ],
+    );
+    append(hashes, &numbers);
+}
+
+// Hashes four at once if there are as many, and the others one by one.
+fn push_rest<H: PageHash, A: Allocator, B: Allocator>(
+    hash: &H,
+    frames: &Frames<B>,
+    pairs: &[(u32, u32)],
+    hashes: &mut Vec<u64, A>,
+)
+    requires taken { AreTaken frames.now pairs.now }
+    requires room { vec_len hashes.old + length pairs.now ≤ vec_capacity hashes.old }
+    ensures items { hashes.new.items ≡ hashes.old.items ++ frame_hashes H.hash_of frames.now pairs.now }
+    ensures capacity { vec_capacity hashes.old ≤ vec_capacity hashes.new }
+{
+    if pairs.len() < 4 {
+        push_each(hash, frames, pairs, hashes);
+        return;
+    }
+    push_four(hash, frames, &pairs[..4], hashes);
+    push_each(hash, frames, &pairs[4..], hashes);
 }
 
 fn push_four<H: PageHash, A: Allocator, B: Allocator>(

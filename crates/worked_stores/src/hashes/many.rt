@@ -1,6 +1,6 @@
 //! Many frames, hashed by several workers.
 use crate::hashes::makes::{pairs_of, two_frames};
-use page_digest::{HashFault, PageHash, Sha256Hash, hash_many};
+use page_digest::{HashFault, PageHash, Sha256Hash, WideSha256Hash, hash_many};
 use refusing::Refusing;
 use std::alloc::{Allocator, Global};
 use std::process::Abort;
@@ -17,18 +17,19 @@ const LETTER: u64 = 0x9aab_2ec0_0da3_0c5d;
 const MOST_REQUESTS: u64 = 100;
 
 /// Returns the hashes of `count` frames.
-fn hashes_of<R: Threads + Wait + Abort + Sync, A: Allocator + Clone + Send>(
+fn hashes_of<R: Threads + Wait + Abort + Sync, A: Allocator + Clone + Send, H: PageHash>(
     rt: &R,
     lists: Global,
     alloc: A,
     workers: u32,
+    hash: &H,
     count: u8,
 ) -> Result<Result<Vec<u64, A>, HashFault>, Fail> {
     assert!(rt; workers >= 1);
     assert!(rt; workers <= 64);
     let two = two_frames(lists)?;
     let pairs = pairs_of(lists, &two, count)?;
-    Ok(hash_many(rt, alloc, workers, &Sha256Hash, &two.frames, &pairs))
+    Ok(hash_many(rt, alloc, workers, hash, &two.frames, &pairs))
 }
 
 /// Returns the hashes of `count` frames, with memory for all that is asked for.
@@ -38,7 +39,17 @@ fn all_hashes<R: Threads + Wait + Abort + Sync>(
     workers: u32,
     count: u8,
 ) -> Result<Vec<u64>, Fail> {
-    Ok(hashes_of(rt, alloc, alloc, workers, count)??)
+    Ok(hashes_of(rt, alloc, alloc, workers, &Sha256Hash, count)??)
+}
+
+/// Returns the same hashes, of eight frames at once where there are as many.
+fn wide_hashes<R: Threads + Wait + Abort + Sync>(
+    rt: &R,
+    alloc: Global,
+    workers: u32,
+    count: u8,
+) -> Result<Vec<u64>, Fail> {
+    Ok(hashes_of(rt, alloc, alloc, workers, &WideSha256Hash, count)??)
 }
 
 #[test]
@@ -78,6 +89,20 @@ fn as_each_alone(rt: HostRuntime) -> Result<(), Fail> {
     Ok(())
 }
 
+// Whole eights, and with or without a four more or less than a four left.
+#[test]
+fn by_eights(rt: HostRuntime) -> Result<(), Fail> {
+    for count in [3, 4, 7, 8, 9, 11, 12, 13, 15, 16, 17, 23, 24, 28] {
+        let hashes = wide_hashes(&rt, rt.alloc(), 1, count)?;
+        assert_eq!(rt; hashes.len(), usize::from(count));
+        are_as_alone(&rt, &hashes);
+    }
+    for workers in 2..5 {
+        are_as_alone(&rt, &wide_hashes(&rt, rt.alloc(), workers, 34)?);
+    }
+    Ok(())
+}
+
 #[test]
 fn most_workers(rt: HostRuntime) -> Result<(), Fail> {
     let hashes = all_hashes(&rt, rt.alloc(), 64, 64)?;
@@ -92,7 +117,7 @@ fn six_hashes<R: Threads + Wait + Abort + Sync>(
     lists: Global,
     heap: &Refusing,
 ) -> Result<Option<(usize, u64)>, Fail> {
-    match hashes_of(rt, lists, heap, 4, 6)? {
+    match hashes_of(rt, lists, heap, 4, &Sha256Hash, 6)? {
         Ok(hashes) => Ok(Some((hashes.len(), hashes.first().copied().unwrap_or(0)))),
         Err(HashFault::OutOfMemory) => Ok(None),
         Err(HashFault::NoThread) => panic!(rt; "no thread"),
