@@ -1,0 +1,21 @@
+//! The digests of a guest's pages, as a counted list.
+//!
+//! A digest takes the place of a page's content where memory is compared across hosts. Pages are read once and not kept.
+#![tactic(auto)]
+
+mod count;
+mod digests;
+mod fault;
+mod hashed;
+mod line;
+mod part;
+mod parts;
+mod sample;
+mod sampling;
+mod workers;
+
+pub use digests::{GuestDigests, digest_pages};
+pub use fault::DigestFault;
+pub use line::DigestLine;
+pub use sample::Sample;
+pub use sampling::Sampling;

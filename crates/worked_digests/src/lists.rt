@@ -1,0 +1,6 @@
+//! The counted digests of pages.
+mod changing;
+mod known;
+mod pages;
+mod samples;
+mod together;

@@ -1,0 +1,77 @@
+//! Reads each of which waits for another, so that two workers are needed.
+use crate::lists::pages::{Memory, Unreadable, digests_of, memory_of, sampling_of};
+use page_census::PageSource;
+use page_model::Page;
+use std::alloc::{AllocError, Global};
+use std::process::Abort;
+use std::sync::atomic::{AtomicBool, AtomicU64, Ordering};
+use std::test::Fail;
+use std::thread;
+use std::thread::Threads;
+
+const TRIES: u64 = 1 << 24;
+
+/// Pages in memory whose reads wait until there were two.
+#[derive(Drop)]
+struct Awaited {
+    memory: Memory,
+    came: AtomicU64,
+    missed: AtomicBool,
+}
+
+impl Awaited {
+    // Notes if a second read never comes.
+    fn meet(&self) {
+        self.came.fetch_add(1, Ordering::SeqCst);
+        for _ in 0..TRIES {
+            if self.came.load(Ordering::SeqCst) >= 2 {
+                return;
+            }
+            thread::yield_now();
+        }
+        self.missed.store(true, Ordering::SeqCst);
+    }
+}
+
+impl PageSource for Awaited {
+    type Fault = Unreadable;
+
+    ghost pages = { λ s. s.memory.pages.items };
+
+    ghost is_steady = { λ _. Unit {0} };
+
+    fn count(&self) -> u32 {
+        self.memory.count()
+    }
+
+    fn read(&self, first: u32, into: &mut [Page]) -> Result<(), Unreadable> {
+        self.meet();
+        self.memory.read(first, into)
+    }
+}
+
+/// Whether two workers read at the same time, and how many pages all lines tell of.
+fn are_read_together<R: Threads + Abort + Sync>(
+    rt: &R,
+    alloc: Global,
+) -> Result<(bool, u64), AllocError> {
+    let memory = memory_of(rt, alloc, &[Some(1); 128], 128)?;
+    let source = Awaited {
+        memory,
+        came: AtomicU64::new(0),
+        missed: AtomicBool::new(false),
+    };
+    let told = digests_of(rt, alloc, 2, sampling_of(rt, 0, 1), &source)
+        .ok()
+        .expect(rt, "digests");
+    let lines = told.lines.as_slice();
+    assert!(rt; lines.len() == 1);
+    Ok((!source.missed.load(Ordering::SeqCst), lines[0].copies))
+}
+
+// A worker has 64 pages at least. On one thread, the first 64 would wait in vain for the others.
+#[test]
+fn by_two_workers(rt: HostRuntime) -> Result<(), Fail> {
+    assert!(rt; are_read_together(&rt, rt.alloc())? == (true, 128));
+    Ok(())
+}
