@@ -1,7 +1,9 @@
-//! Worked digests: a few pages digested by hand, and what is written and read of given lists.
+//! Worked digests: a few pages digested by hand, and what is read of texts of digests.
 //!
 //! This crate has only tests.
 #![tactic(auto)]
 
 #[cfg(test)]
 mod lists;
+#[cfg(test)]
+mod texts;

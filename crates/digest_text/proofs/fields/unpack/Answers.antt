@@ -1,0 +1,13 @@
+use Rattle.std.proofs.Common.{◌≡◌, length, ◌∙◌, Ok}
+use Rattle.hex.specs.Hex.{decode_sized}
+use Rattle.hex.proofs.HexLemmas.{decode_sized-twice}
+use Rattle.journal_text.specs.Words.{spelled}
+use Rattle.journal_text.proofs.Bytes.{spelled_is}
+use Rattle.digest_text.proofs.fields.unpack.Goals as goal
+
+pub returns : goal.returns
+returns c =
+    let word = c.args.word.now in
+    let facts = spelled_is word c.requires.word in
+    let sized : decode_sized word (length c.args.bytes.now) ≡ Ok (spelled word) = decode_sized-twice word _ c.requires.room ∙ facts.0 in
+    (rw sized at c.decode_to_slice.ensures.value).1

@@ -1,0 +1,82 @@
+//! The fields of a line.
+ghost use Rattle.std.specs.Prelude.{◌≡◌, ◌*◌, ◌≤◌, ◌<◌, ◌^◌, IfSome, length, IsTrue};
+ghost use Rattle.std.specs.Int.{w128, from_be_bytes};
+ghost use Rattle.std.specs.Option.{option_map};
+ghost use Rattle.journal_text.specs.Words.{is_bytes_word, spelled};
+ghost use Rattle.page_digests.specs.Samples.{IsSample};
+ghost use Rattle.digest_text.specs.Fields.{copies_in, digest_in, field_in, number_in, sample_in};
+
+use journal_text::word::{cut, is_bytes, number_to};
+
+/// Returns what comes before the first comma and what comes after it.
+#[tactic(auto, unfolding(crate::specs::Fields::field_in))]
+pub(crate) fn field(bytes: &[u8]) -> Option<(&[u8], &[u8])>
+    ensures { option_map (λ x. (x.0.now, x.1.now)) result ≡ field_in bytes.now }
+{
+    cut(b',', bytes)
+}
+
+/// Returns the number that a field spells, at most `most`.
+#[tactic(auto, unfolding(crate::specs::Fields::number_in))]
+pub(crate) fn number(most: u64, word: &[u8]) -> Option<u64>
+    requires { 9 ≤ most }
+    ensures value { result ≡ number_in most word.now }
+    ensures within { IfSome result (λ n. n ≤ most) }
+{
+    number_to(most, word).ok()
+}
+
+/// Returns the sample that a field spells.
+#[tactic(auto, unfolding(crate::specs::Fields::sample_in))]
+pub(crate) fn sample(word: &[u8]) -> Option<u32>
+    ensures value { result ≡ sample_in word.now }
+    ensures sample { IfSome result (λ every. IsSample every) }
+{
+    let every = number(65_536, word)?;
+    if !every.is_power_of_two() {
+        return None;
+    }
+    Some(every as u32)
+}
+
+/// Returns the digest that a field spells.
+#[tactic(auto, unfolding(crate::specs::Fields::digest_in))]
+pub(crate) fn digest(word: &[u8]) -> Option<u128>
+    ensures { result ≡ digest_in word.now }
+{
+    if word.len() != 32 || !is_bytes(word) {
+        return None;
+    }
+    Some(digest_of(word))
+}
+
+fn digest_of(word: &[u8]) -> u128
+    requires long { length word.now ≡ 32 }
+    requires word { IsTrue (is_bytes_word word.now) }
+    ensures { result ≡ from_be_bytes w128 (spelled word.now) }
+{
+    let mut bytes = [0; 16];
+    unpack(word, &mut bytes);
+    u128::from_be_bytes(bytes)
+}
+
+/// Writes the bytes that a word spells.
+fn unpack(word: &[u8], bytes: &mut [u8])
+    requires word { IsTrue (is_bytes_word word.now) }
+    requires room { length word.now ≡ 2 * length bytes.old }
+    ensures { bytes.new ≡ spelled word.now }
+{
+    let _ = hex::decode_to_slice(word, bytes);
+}
+
+/// Returns how many copies a field spells, at least one.
+#[tactic(auto, unfolding(crate::specs::Fields::copies_in))]
+pub(crate) fn copies(word: &[u8]) -> Option<u64>
+    ensures { result ≡ copies_in word.now }
+{
+    let copies = number(u64::MAX, word)?;
+    if copies == 0 {
+        return None;
+    }
+    Some(copies)
+}

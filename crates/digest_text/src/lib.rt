@@ -1,0 +1,22 @@
+//! The text of a guest's digests: CSV, read a line at a time and written.
+//!
+//! `docs/FORMATS.md` has the lines and the order of faults; `specs/` defines them independently of the code.
+#![tactic(auto)]
+
+mod buffered;
+mod digest_reader;
+mod fault;
+mod fields;
+mod head;
+mod lines;
+mod name;
+mod read_fault;
+mod reader;
+mod row;
+mod so_far;
+
+pub use digest_reader::DigestReader;
+pub use fault::{Cause, LineFault};
+pub use head::DigestHead;
+pub use name::GuestName;
+pub use read_fault::ReadFault;

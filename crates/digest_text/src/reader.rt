@@ -1,0 +1,118 @@
+//! The reader of digests.
+ghost use Rattle.std.specs.Prelude.{◌≡◌, ◌+◌, ◌<◌, ◌≤◌, Ok, Err, Some, None, IfOk, IfSome, length, take, min};
+ghost use Rattle.std.specs.Option.{option_map};
+ghost use Rattle.digest_text.specs.Fields.{row_in};
+ghost use Rattle.digest_text.specs.Left.{unread};
+ghost use Rattle.digest_text.specs.Noted.{IsEnd, IsTaken};
+ghost use Rattle.digest_text.specs.Rows.{check_header, line_after};
+ghost use Rattle.digest_text.specs.Told.{IsFirst, IsNext, head_of, told};
+
+use crate::buffered::{Found, Lines};
+use crate::row::{MAX_LINE_BYTES, read_row};
+use crate::so_far::{SoFar, note};
+use crate::{Cause, DigestHead, DigestReader, LineFault, ReadFault};
+use page_digests::DigestLine;
+use std::alloc::Allocator;
+use std::io::Read;
+
+const HEADER: &[u8] = b"guest,salt,pages,sample,digest,copies";
+
+/// Checks the first line.
+fn check_header(line: &[u8]) -> Result<(), Cause>
+    ensures { result ≡ check_header line.now }
+{
+    if line.len() > MAX_LINE_BYTES || line.iter().filter(|byte| **byte == b',').count() != 5 {
+        return Err(Cause::Form);
+    }
+    if line != HEADER {
+        return Err(Cause::Head);
+    }
+    Ok(())
+}
+
+/// Notes what a line says, and returns its digest and copies, or its fault.
+fn take_line(so_far: &mut Option<SoFar>, line: &[u8]) -> Result<DigestLine, Cause>
+    ensures { IsTaken so_far.old so_far.new line.now result }
+{
+    let Some(row) = read_row(line) else {
+        return Err(Cause::Form);
+    };
+    note(so_far, &row)?;
+    Ok(row.line)
+}
+
+/// Checks that the lines tell of all pages, where each content is kept.
+fn check_end(so_far: &Option<SoFar>, line: u64) -> Result<(), LineFault>
+    ensures { IsEnd so_far.now line result }
+{
+    match so_far {
+        Some(so_far) => {
+            if so_far.head.sample.get() == 1 && so_far.left != Some(0) {
+                let cause = Cause::Total;
+                return Err(LineFault { line, cause });
+            }
+            Ok(())
+        }
+        None => Ok(()),
+    }
+}
+
+impl<R: Read + Drop, A: Allocator> DigestReader<R, A> {
+    /// Makes a reader of a digest's text, and reads its header.
+    pub fn new(alloc: A, source: R) -> Result<DigestReader<R, A>, ReadFault>
+        ensures { IfSome (R.remaining source) (λ text. IsFirst (told R.remaining) text result) }
+    {
+        let mut lines = Lines::new(alloc, source)?;
+        let Found::Line(count) = lines.find()? else {
+            let cause = Cause::Form;
+            return Err(ReadFault::Line(LineFault { line: 1, cause }));
+        };
+        if let Err(cause) = check_header(&lines.unread()[..count]) {
+            return Err(ReadFault::Line(LineFault { line: 1, cause }));
+        }
+        lines.take(count + 1);
+        Ok(DigestReader {
+            lines,
+            so_far: None,
+            line: 1,
+        })
+    }
+
+    /// Returns what all lines begin with, once a line was read.
+    pub fn head(&self) -> Option<&DigestHead>
+        ensures { option_map (λ head. head.now) result ≡ head_of self.now }
+    {
+        match &self.so_far {
+            Some(so_far) => Some(&so_far.head),
+            None => None,
+        }
+    }
+
+    /// Reads the next line; `None` at the end. After a fault of a line or the end the reader returns the same again, and after
+    /// a read that failed it goes on where it was.
+    pub fn next_line(&mut self) -> Result<Option<DigestLine>, ReadFault>
+        ensures { IfSome (told R.remaining self.old) (λ rows. IsNext rows (told R.remaining self.new) (head_of self.new) result) }
+    {
+        let line = self.line.saturating_add(1);
+        match self.lines.find()? {
+            Found::Line(count) => {
+                match take_line(&mut self.so_far, &self.lines.unread()[..count]) {
+                    Ok(found) => {
+                        self.lines.take(count + 1);
+                        self.line = line;
+                        Ok(Some(found))
+                    }
+                    Err(cause) => Err(ReadFault::Line(LineFault { line, cause })),
+                }
+            }
+            Found::Broken => {
+                let cause = Cause::Form;
+                Err(ReadFault::Line(LineFault { line, cause }))
+            }
+            Found::End => match check_end(&self.so_far, self.line) {
+                Ok(()) => Ok(None),
+                Err(fault) => Err(ReadFault::Line(fault)),
+            },
+        }
+    }
+}

@@ -1,0 +1,3 @@
+//! The texts of digests.
+mod faults;
+mod sources;
