@@ -5,7 +5,8 @@ use Rattle.digest_text.specs.declared.name.TheConstants.{MAX_NAME_BYTES}
 
 -- A-Z, a-z, 0-9, '.', '_' and '-'
 abbrev pub is_name_byte : ℕ → Bool
-is_name_byte b = (nat_le 65 b && nat_le b 90) || (nat_le 97 b && nat_le b 122) || (nat_le 48 b && nat_le b 57) || b == 46 || b == 95 || b == 45
+is_name_byte b =
+    (nat_le 65 b && nat_le b 90) || (nat_le 97 b && nat_le b 122) || (nat_le 48 b && nat_le b 57) || b == 46 || b == 95 || b == 45
 
 -- a guest's name: 1 to 64 of these bytes
 abbrev pub is_name : List ℕ → Bool

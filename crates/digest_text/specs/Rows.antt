@@ -55,7 +55,12 @@ after_row so_far row =
     else if not (rises so_far row.line.digest) then Err causes.Order
     else if not (is_kept (sampling_of so_far row.head) row.line.digest) then Err causes.Sample
     else if nat_lt 1 row.head.sample && is_none (less (left_before so_far row.head) row.line.copies) then Err causes.Total
-    else Ok (record { head = row.head; sampling = sampling_of so_far row.head; digest = row.line.digest; left = less (left_before so_far row.head) row.line.copies })
+    else Ok (record {
+      head = row.head;
+      sampling = sampling_of so_far row.head;
+      digest = row.line.digest;
+      left = less (left_before so_far row.head) row.line.copies;
+    })
 
 -- a row, and what the lines say so far with it
 abbrev pub with_row : Option SoFar → Option Row → Result (SoFar × Row) Cause
@@ -79,7 +84,8 @@ is_all (Some left) = left == 0
 -- What comes at the end, after line n: where each content is kept, all pages must be told of.
 abbrev pub ended : {X : Type 0} → ℕ → Option SoFar → Result (List X) LineFault
 ended n None = Ok []
-ended n (Some so_far) = if so_far.head.sample == 1 && not (is_all so_far.left) then Err (record { line = n; cause = causes.Total }) else Ok []
+ended n (Some so_far) =
+    if so_far.head.sample == 1 && not (is_all so_far.left) then Err (record { line = n; cause = causes.Total }) else Ok []
 
 -- what comes after the last line feed, behind line n: a line that is cut off, or nothing
 abbrev pub cut_off : {X : Type 0} → ℕ → Option SoFar → List ℕ → Result (List X) LineFault

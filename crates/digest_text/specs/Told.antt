@@ -35,7 +35,8 @@ pub record IsFirstRow (rows left : Result (List Row) LineFault) (head : Option D
 
 -- A line that is told is the first that was to be told. At the end there was none, and at a fault it was the first one; then, and
 -- where a read fails, what is to be told stays.
-abbrev pub IsNext : Result (List Row) LineFault → Option (Result (List Row) LineFault) → Option DigestHead → Result (Option DigestLine) ReadFault → Type 0
+abbrev pub IsNext : Result (List Row) LineFault → Option (Result (List Row) LineFault) → Option DigestHead
+    → Result (Option DigestLine) ReadFault → Type 0
 IsNext rows None head result = ⊥
 IsNext rows (Some left) head (Ok (Some line)) = IsFirstRow rows left head line
 IsNext rows (Some left) head (Ok None) = (rows ≡ Ok []) × (left ≡ rows)

@@ -44,7 +44,8 @@ pub(crate) fn read_digests<S: PageSource, P: Progress, A: Allocator + Clone>(
 ) -> Result<Vec<u128, A>, DigestFault<S::Fault>>
     requires within { from + count ≤ length (S.pages source.now) }
     requires fits { from + count < 2 ^ 32 }
-    ensures { IfOk result (λ digests. AreRead (S.is_steady source.now) (take count (drop from (S.pages source.now))) sampling digests.items) }
+    ensures { IfOk result (λ digests.
+        AreRead (S.is_steady source.now) (take count (drop from (S.pages source.now))) sampling digests.items) }
 {
     let mut pages = new_run(alloc.clone()?)?;
     let mut digests = Vec::new(alloc.clone()?);

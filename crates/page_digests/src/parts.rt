@@ -30,7 +30,8 @@ pub(crate) fn read_all<
     let alloc = workers.alloc;
     let part = move |n: usize| -> Result<Vec<u128, A>, DigestFault<S::Fault>>
         requires { size * n < length (S.pages source.now) }
-        ensures { IfOk result (λ digests. AreRead (S.is_steady source.entry.now) (part_of (S.pages source.entry.now) size n) sampling.entry.now digests.items) }
+        ensures { IfOk result (λ digests.
+            AreRead (S.is_steady source.entry.now) (part_of (S.pages source.entry.now) size n) sampling.entry.now digests.items) }
     { read_part(alloc, sampling, source, progress, size, n) };
     let parts = count.div_ceil(size) as usize;
     let lists = thread::map_indices(workers.rt, alloc.clone()?, parts, &part)?;
@@ -51,7 +52,8 @@ fn read_part<S: PageSource, P: Progress, A: Allocator + Clone>(
     part: usize,
 ) -> Result<Vec<u128, A>, DigestFault<S::Fault>>
     requires { size * part < length (S.pages source.now) }
-    ensures { IfOk result (λ digests. AreRead (S.is_steady source.now) (part_of (S.pages source.now) size part) sampling.now digests.items) }
+    ensures { IfOk result (λ digests.
+        AreRead (S.is_steady source.now) (part_of (S.pages source.now) size part) sampling.now digests.items) }
 {
     let count = source.count();
     let from = (size as usize * part) as u32;
