@@ -1,5 +1,5 @@
 -- Pages by their numbers, with room for a fixed number of them.
-use Rattle.std.specs.Prelude.{ℕ, List, [], ◌∷◌, ◌++◌, slice_index_or, slice_set, refl}
+use Rattle.std.specs.Prelude.{ℕ, List, [], ◌∷◌, ◌++◌, length, take, slice_index_or, slice_set, refl}
 use Rattle.std.specs.Coded.{Coded, code_by, coded×, coded_ℕ, coded_list}
 
 pub record PageList : Type 0 where
@@ -27,3 +27,7 @@ with_page list number page = record { pages = slice_set list.pages number page; 
 -- the list with one more page
 abbrev pub with_more : PageList → List ℕ → PageList
 with_more list page = record { pages = list.pages ++ page ∷ []; room = list.room }
+
+-- the pages in the first of these rooms, of which each may have a page
+abbrev pub first_rooms : List (List ℕ) → ℕ → PageList
+first_rooms rooms len = record { pages = take len rooms; room = length rooms }

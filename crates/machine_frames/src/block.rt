@@ -75,7 +75,7 @@ impl<A: Allocator> Block<A> {
 }
 
 // Each byte of a page fits in 8 bits.
-fn bytes_fit(bytes: &[u8])
+pub(crate) fn bytes_fit(bytes: &[u8])
     ensures { All (λ b. b < 256) bytes.now }
 {
     let _all = bytes.len();

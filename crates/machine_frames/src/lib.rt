@@ -1,16 +1,22 @@
 //! Machine memory: frames of 4,096 bytes, numbered by machine page numbers (MPNs) below a fixed total.
 #![tactic(auto)]
 
-ghost use Rattle.std.specs.Prelude.{◌≡◌, ◌+◌, ◌≤◌, ◌<◌, ◌↔◌, ◌⊎◌, length, None, Some, IsNone};
+ghost use Rattle.std.specs.Prelude.{◌≡◌, ◌≢◌, ◌+◌, ◌≤◌, ◌<◌, ◌↔◌, ◌⊎◌, length, None, Some, IsNone};
 ghost use Rattle.std.specs.Prelude.{IfNone, IfSome, IfOk, IfErr, slice_set, option_map};
 ghost use Rattle.page_model.specs.Pages.{blank, written};
 ghost use Rattle.machine_frames.specs.FrameMap.{frame, IsTaken, used, no_frames, IsPage};
 
 mod block;
 mod blocks;
+mod pages;
+mod region;
+mod rooms;
+mod storage;
 
-use blocks::Blocks;
 use page_model::{MAX_FRAMES, PAGE_BYTES, Page};
+use pages::Pages;
+use region::Memory;
+pub use region::Region;
 use std::alloc::{AllocError, Allocator, Global};
 use std::marker::Model;
 use thiserror::Error;
@@ -21,6 +27,9 @@ pub enum FramesFault {
     /// The number of frames is 0 or above 1,048,576.
     #[error("ask for 1 to 1,048,576 frames")]
     Frames,
+    /// The region has room for another number of pages.
+    #[error("give a region of 4,096 bytes for each frame")]
+    Region,
     /// The memory for the frames was refused.
     #[error("the frames' memory was refused: free some, or ask for fewer frames")]
     OutOfMemory,
@@ -44,7 +53,7 @@ impl From<AllocError> for FramesFault {
 #[derive(Drop)]
 pub struct Frames<A: Allocator = Global> {
     // The page of each frame that was ever taken, by MPN, and room for the pages of all others.
-    pages: Blocks<A>,
+    pages: Pages<A>,
     // The frames that were given back.
     free: Vec<u32, A>,
 }
@@ -73,7 +82,29 @@ impl<A: Allocator> Frames<A> {
             return Err(FramesFault::Frames);
         }
         let free = Vec::with_capacity(alloc.clone()?, count as usize)?;
-        let pages = Blocks::new(alloc, count)?;
+        let pages = Pages::new(alloc, count)?;
+        Ok(Frames { pages, free })
+    }
+
+    /// Makes `count` frames in a region with room for as many pages, all of them free. Frame n is the n-th page of it.
+    ///
+    /// A frame is written whole when it is taken, before anything reads it, so what a free frame holds doesn't matter.
+    pub fn in_region(alloc: A, count: u32, region: Region) -> Result<Frames<A>, FramesFault>
+        ensures ok { IfOk result (λ frames. frames ≡ no_frames count) }
+        ensures in_range { IfOk result (λ _. (1 ≤ count) × (count ≤ MAX_FRAMES) × (region.pages ≡ count)) }
+        ensures fault { IfErr result (λ fault. fault ≡ FramesFault.Frames ↔ ((count ≡ 0) ⊎ (MAX_FRAMES < count))) }
+        ensures region { IfErr result (λ fault. fault ≡ FramesFault.Region
+            ↔ ((1 ≤ count) × (count ≤ MAX_FRAMES) × (region.pages ≢ count))) }
+    {
+        if count == 0 || count > MAX_FRAMES {
+            return Err(FramesFault::Frames);
+        }
+        let memory = Memory::new(region);
+        if memory.slots.len() != count as usize {
+            return Err(FramesFault::Region);
+        }
+        let free = Vec::with_capacity(alloc, count as usize)?;
+        let pages = Pages::in_memory(memory);
         Ok(Frames { pages, free })
     }
 

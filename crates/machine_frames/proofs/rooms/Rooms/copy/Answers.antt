@@ -1,0 +1,10 @@
+use Rattle.std.proofs.Common.{arith}
+use Rattle.core.specs.Mem.Slots.{slots_items}
+use Rattle.machine_frames.proofs.FirstRooms.{rewritten}
+use Rattle.machine_frames.proofs.rooms.Rooms.copy.Goals as goal
+
+pub returns : goal.returns
+returns c =
+    let i = c.self.inside in
+    rw (c.put.ensures.items, ← c.page-page.ensures.value)
+    (rewritten (slots_items i.memory.slots) i.len c.args.self.now c.self.view_is (omega (arith, c.self.invariant.0, i.memory.slots.ok.0)) c.args.to c.requires.to_page c.page-page.result.now)
