@@ -3,10 +3,11 @@ pub mod Applying
 pub mod Hashing
 pub mod Kept
 pub mod Lending
-pub mod Pmap
+pub mod Made
 pub mod Noted
-pub mod Ties
-pub mod View
+pub mod Pmap
+pub mod Refusals
 pub mod Shown
 pub mod Stays
-pub mod Refusals
+pub mod Ties
+pub mod View

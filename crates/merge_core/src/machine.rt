@@ -13,6 +13,7 @@ ghost use Rattle.merge_core.specs.Applying.{Applies};
 ghost use Rattle.merge_core.specs.Hashing.{AreWorkers, IsHashFor, page_hash, page_hashes};
 ghost use Rattle.merge_core.specs.Lending.{Lends, StoresPage, TakesBack};
 ghost use Rattle.merge_core.specs.Refusals.{AreLimits, NoCoreFor};
+ghost use Rattle.merge_core.specs.Made.{IsNew};
 ghost use Rattle.merge_core.specs.Shown.{state_of, FramesOfPages, TableOfPages};
 ghost use Rattle.merge_core.specs.Stays.{frame_at};
 
@@ -24,7 +25,7 @@ use crate::held::{Held, PageEntry};
 use crate::lending::{lend, take_back};
 use crate::lent::{Lent, Returned};
 use crate::look::{bytes_at, find};
-use crate::make::new_held;
+use crate::make::{new_frames, new_held};
 use crate::offer::propose;
 use crate::serve::{load, release, store, store_bytes};
 use crate::tally::report;
@@ -89,12 +90,24 @@ impl<H: PageHash + Drop, A: Allocator + Clone> Core<H, A> {
 
     /// Makes a machine of a shape, which is known to be within the limits. Otherwise the same as [`new`](Core::new).
     pub fn with_shape(alloc: A, shape: &MachineShape<'_>, hash: H) -> Result<Core<H, A>, AllocError>
-        ensures empty { IfOk result (λ core. state_of core ≡ empty_state shape.now.frames (shapes shape.now.salts shape.now.pages)) }
-        ensures guests { IfOk result (λ core. length (state_of core).guests ≡ length shape.now.pages) }
-        ensures frames { IfOk result (λ core. core.frames ≡ no_frames shape.now.frames) }
-        ensures table { IfOk result (λ core. core.table ≡ empty_table shape.now.frames) }
+        ensures { IfOk result (λ core. IsNew shape.now core) }
     {
-        let held = new_held(alloc, shape, hash)?;
+        let frames = new_frames(alloc.clone()?, shape)?;
+        Core::with_frames(alloc, shape, hash, frames)
+    }
+
+    /// Makes a machine of a shape with these frames, all of them free. The caller may have made them in a region of its own
+    /// ([`Frames::in_region`]). All other memory of the machine is allocated here.
+    pub fn with_frames(
+        alloc: A,
+        shape: &MachineShape<'_>,
+        hash: H,
+        frames: Frames<A>,
+    ) -> Result<Core<H, A>, AllocError>
+        requires { frames ≡ no_frames shape.now.frames }
+        ensures { IfOk result (λ core. IsNew shape.now core) }
+    {
+        let held = new_held(alloc, shape, hash, frames)?;
         Ok(Core {
             entries: 0,
             held,

@@ -44,12 +44,14 @@ fn new_guests<A: Allocator + Clone>(
     Ok(guests)
 }
 
-/// Makes the parts of a core with no page mapped, and with all the room that they ever need.
+/// Makes the parts of a core with these frames, no page mapped, and with all the room that they ever need.
 pub fn new_held<H: PageHash + Drop, A: Allocator + Clone>(
     alloc: A,
     shape: &MachineShape<'_>,
     hash: H,
+    frames: Frames<A>,
 ) -> Result<Held<H, A>, AllocError>
+    requires { frames ≡ no_frames shape.now.frames }
     ensures whole { IfOk result (λ held. Whole H.hash_of held) }
     ensures pmap { IfOk result (λ held. pmap_of held ≡ empty_pmap (shapes shape.now.salts shape.now.pages)) }
     ensures guests { IfOk result (λ held. length (pmap_of held) ≡ length shape.now.pages) }
@@ -60,15 +62,25 @@ pub fn new_held<H: PageHash + Drop, A: Allocator + Clone>(
     let guests = new_guests(alloc.clone()?, shape.salts(), shape.pages())?;
     let notes = Notes::new(alloc.clone()?, total)?;
     let table = Table::new(alloc.clone()?, total)?;
-    match Frames::new(alloc, total) {
+    Ok(Held {
+        hash,
+        frames,
+        table,
+        guests,
+        notes,
+        hints: 0,
+    })
+}
+
+/// Makes the frames of a machine, all of them free.
+pub fn new_frames<A: Allocator + Clone>(
+    alloc: A,
+    shape: &MachineShape<'_>,
+) -> Result<Frames<A>, AllocError>
+    ensures { IfOk result (λ frames. frames ≡ no_frames shape.now.frames) }
+{
+    match Frames::new(alloc, shape.frames()) {
         Err(_) => Err(AllocError),
-        Ok(frames) => Ok(Held {
-            hash,
-            frames,
-            table,
-            guests,
-            notes,
-            hints: 0,
-        }),
+        Ok(frames) => Ok(frames),
     }
 }

@@ -8,20 +8,20 @@ use Rattle.share_table.specs.declared.entries.HintFrame.{HintFrame}
 use Rattle.merge_core.proofs.Empty.{empty_ties, empty_few, empty_len}
 use Rattle.merge_core.proofs.make.new_held.Goals as goal
 
-pub returns-in-Ok-clause-whole : goal.returns-in-Ok-clause-whole
-returns-in-Ok-clause-whole g c =
+pub returns-clause-whole : goal.returns-clause-whole
+returns-clause-whole g c =
     let total : ℕ = c.args.shape.now.frames in
     let salts = c.args.shape.now.salts in
     let pages = c.args.shape.now.pages in
     let limits = c.frames-total.ensures.limits in
     record {
-      ties = rw (c.in_ok-guests.ensures, c.in-Ok.ensures.ok, c.in_ok-table.ensures, c.in_ok-notes.ensures, c.salts.ensures.salts, c.pages.ensures.pages, c.frames-total.ensures.frames) (empty_ties g.H.HashFunction.hash_of total (shapes salts pages));
+      ties = rw (c.in_ok-guests.ensures, c.requires, c.in_ok-table.ensures, c.in_ok-notes.ensures, c.salts.ensures.salts, c.pages.ensures.pages, c.frames-total.ensures.frames) (empty_ties g.H.HashFunction.hash_of total (shapes salts pages));
       few = rw (c.in_ok-guests.ensures, c.salts.ensures.salts, c.pages.ensures.pages) (empty_few salts pages limits.1.2 limits.1.1 limits.2.1);
-      total = rw (c.in-Ok.ensures.ok, c.frames-total.ensures.frames) (omega (arith, length-replicate {A = Option (List ℕ)} total None, limits.0));
+      total = rw c.requires (omega (arith, length-replicate {A = Option (List ℕ)} total None, limits.0));
       hints = rw c.in_ok-table.ensures (sym (maps.len-empty nat_cmp HintFrame));
     }
 
-pub returns-in-Ok-clause-guests : goal.returns-in-Ok-clause-guests
-returns-in-Ok-clause-guests g c =
+pub returns-clause-guests : goal.returns-clause-guests
+returns-clause-guests g c =
     let limits = c.frames-total.ensures.limits in
     rw (c.in_ok-guests.ensures, c.salts.ensures.salts, c.pages.ensures.pages) (empty_len c.args.shape.now.salts c.args.shape.now.pages limits.1.2)
