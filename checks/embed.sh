@@ -54,12 +54,15 @@ else
     else
         echo 'left out: valgrind and the address sanitizer'
     fi
-    for source in examples/three_share checks/embed/calls checks/embed/whole_pages checks/embed/refused_memory checks/embed/journal; do
+    for source in examples/three_share examples/lend checks/embed/calls checks/embed/whole_pages checks/embed/region checks/embed/refused_memory \
+        checks/embed/journal; do
         compile "$source"
     done
     run three_share "$(cat "$top/checks/embed/three_share.out")"
     run calls ok
     run whole_pages ok
+    run region ok
+    run lend "$(cat "$top/checks/embed/lend.out")"
     run refused_memory ok
     if [ -n "${FULL:-}" ]; then
         # shellcheck disable=SC2086

@@ -13,8 +13,8 @@
  *     pageshare_free(&machine);
  *
  * No call has a condition on its numbers: a wrong one is answered by a status above 0, and then nothing has changed. A status
- * is the first cause that holds, in the order of the numbers; only making a machine checks PAGESHARE_ERROR_IN_USE first, and then
- * PAGESHARE_ERROR_HASH.
+ * is the first cause that holds, in the order of the numbers; only making a machine checks PAGESHARE_ERROR_IN_USE first, then
+ * PAGESHARE_ERROR_HASH, and PAGESHARE_ERROR_REGION before PAGESHARE_ERROR_MEMORY.
  *
  * What the caller owes, and nothing checks:
  *
@@ -28,6 +28,9 @@
  * - A count of elements makes less than 2^63 bytes.
  * - malloc, realloc and free are one allocator's, may be called on any thread, and align a block to 16 bytes. No call is made
  *   from a signal handler, nor in the child of a fork of a process with threads.
+ *
+ * - A region (pageshare_make_with) is the library's until the machine is freed: nobody else writes to it, but that the memory of
+ *   free frames may be given back to the system while no call runs.
  *
  * pageshare_make takes all memory that a machine needs; no other call asks for any.
  */
@@ -69,6 +72,7 @@ enum pageshare_status {
     PAGESHARE_ERROR_CROSSES = 10,   /* the last byte would stand past the page's end */
     PAGESHARE_ERROR_NO_PAGE = 11,   /* there is no such page (of a request it is a verdict) */
     PAGESHARE_ERROR_UNMAPPED = 12,  /* the page has no frame (of a request it is a verdict) */
+    PAGESHARE_ERROR_REGION = 13,    /* the region has too little room for the frames, or isn't aligned to 4,096 (checked after 3) */
     PAGESHARE_ERROR_HASH = 14       /* there is no such hash */
 };
 
@@ -134,6 +138,50 @@ enum pageshare_hash_kind {
 uint32_t pageshare_make_hashed(struct pageshare *machine, uint32_t frames, const uint32_t *pages, size_t guests,
                                const uint32_t *salts, size_t salts_count, uint32_t hash);
 
+/* Memory of the caller's for frames: room for `pages` pages of 4,096 bytes, one after the other, from `at` on. */
+struct pageshare_region {
+    void *at;
+    size_t pages;
+};
+
+/*
+ * The same with frames in the caller's region, which has room for exactly as many pages and is aligned to 4,096 bytes: frame n is
+ * the 4,096 bytes at 4096 n of it. Answers PAGESHARE_ERROR_REGION besides. pageshare_make_with is easier to call.
+ */
+uint32_t pageshare_make_in(struct pageshare *machine, uint32_t frames, const uint32_t *pages, size_t guests,
+                           const uint32_t *salts, size_t salts_count, uint32_t hash, struct pageshare_region region);
+
+/* What a machine is made of. */
+struct pageshare_config {
+    uint32_t frames;
+    const uint32_t *pages; /* the pages of each guest */
+    const uint32_t *salts; /* the salt of each guest */
+    size_t guests;
+    uint32_t hash;       /* an enum pageshare_hash_kind */
+    void *region;        /* memory for the frames, as of pageshare_make_in, or NULL: the library takes it itself */
+    size_t region_bytes; /* at least 4,096 for each frame; the library uses no more than that */
+};
+
+/*
+ * Makes a machine of this description. From then on, and until it is freed, the library alone writes to the region's frames, and
+ * the caller reads only those that pages have (it may map them for guests to read). The library never reads a free frame before it
+ * has written it whole, so the caller may give a free frame's memory back to the system, as by MADV_REMOVE, while no call runs.
+ * After pageshare_free, and after a status above 0, the library doesn't touch the region again.
+ */
+static inline uint32_t pageshare_make_with(struct pageshare *machine, const struct pageshare_config *config) {
+    struct pageshare_region region;
+    if (config->region == NULL) {
+        return pageshare_make_hashed(machine, config->frames, config->pages, config->guests, config->salts, config->guests,
+                                     config->hash);
+    }
+    region.at = config->region;
+    region.pages = config->region_bytes / PAGESHARE_PAGE_BYTES;
+    if (region.pages > config->frames) region.pages = config->frames;
+    if ((uintptr_t)config->region % PAGESHARE_PAGE_BYTES != 0) region.pages = 0;
+    return pageshare_make_in(machine, config->frames, config->pages, config->guests, config->salts, config->guests, config->hash,
+                             region);
+}
+
 /* Frees the machine. Answers PAGESHARE_OK or PAGESHARE_ERROR_NO_MACHINE; the handle holds none afterwards. */
 uint32_t pageshare_free(struct pageshare *machine);
 
@@ -187,6 +235,24 @@ struct pageshare_answer pageshare_lend(struct pageshare *machine, uint32_t guest
 struct pageshare_answer pageshare_take_back(struct pageshare *machine, uint32_t guest, uint32_t ppn,
                                             uint8_t room[PAGESHARE_PAGE_BYTES]);
 
+/* A page that is to be lent, and its bytes. */
+struct pageshare_lending {
+    uint32_t guest;
+    uint32_t ppn;
+    const uint8_t *page; /* 4,096 bytes */
+};
+
+/*
+ * Lends `count` pages, one after the other in this order; answers[i] is the answer for pages[i]. Answers PAGESHARE_OK, or
+ * PAGESHARE_ERROR_NO_MACHINE, and then writes no answer.
+ */
+static inline uint32_t pageshare_lend_many(struct pageshare *machine, const struct pageshare_lending *pages, size_t count,
+                                           struct pageshare_answer *answers) {
+    if (!machine->private_live) return PAGESHARE_ERROR_NO_MACHINE;
+    for (size_t i = 0; i < count; i++) answers[i] = pageshare_lend(machine, pages[i].guest, pages[i].ppn, pages[i].page);
+    return PAGESHARE_OK;
+}
+
 /* Gets the machine's totals, this request among the entries. totals stays as it is unless the verdict is TOTALS. */
 struct pageshare_answer pageshare_count(struct pageshare *machine, uint32_t guest, struct pageshare_totals *totals);
 
@@ -207,6 +273,17 @@ struct pageshare_page_name {
  * a page makes its hash unknown again. Answers PAGESHARE_OK or PAGESHARE_ERROR_NO_MACHINE.
  */
 uint32_t pageshare_hash(struct pageshare *machine, const struct pageshare_page_name *pages, size_t count);
+
+/*
+ * Proposes `count` pages, one after the other in this order, with their hashes computed ahead as by pageshare_hash; answers[i] is
+ * the answer for pages[i]. Answers PAGESHARE_OK, or PAGESHARE_ERROR_NO_MACHINE, and then writes no answer.
+ */
+static inline uint32_t pageshare_propose_many(struct pageshare *machine, const struct pageshare_page_name *pages, size_t count,
+                                              struct pageshare_answer *answers) {
+    if (pageshare_hash(machine, pages, count) != PAGESHARE_OK) return PAGESHARE_ERROR_NO_MACHINE;
+    for (size_t i = 0; i < count; i++) answers[i] = pageshare_propose(machine, pages[i].guest, pages[i].ppn);
+    return PAGESHARE_OK;
+}
 
 /* Gets the machine's totals. Answers 0 or 6. */
 uint32_t pageshare_report(struct pageshare *machine, struct pageshare_totals *totals);

@@ -1,18 +1,33 @@
--- Why a machine is made or not.
-use Rattle.std.specs.Prelude.{◌≡◌, ◌≤◌, ◌<◌, ◌⊎◌, ℕ, List, Option, None, IsSome}
-use Rattle.pageshare_c.specs.declared.hashed_core.HashedCore.{HashedCore}
+-- Why a machine is made or not, and what the handle holds afterwards.
+use Rattle.std.specs.Prelude.{◌≡◌, ◌≢◌, ◌≤◌, ◌<◌, ◌⊎◌, ℕ, List, Option, Some, None, IsSome}
+use Rattle.std.specs.Option.{option_map}
+use Rattle.page_model.specs.Limits.{shapes}
+use Rattle.page_model.specs.Replay.{empty_state}
 use Rattle.merge_core.specs.Refusals.{AreLimits, NoCoreFor}
 use Rattle.merge_core.specs.declared.CoreFault.TheVariants.{Frames, Guests, Pages}
+use Rattle.pageshare_c.specs.Hashed.{hash_number}
+use Rattle.pageshare_c.specs.Outcomes.{seen}
+use Rattle.pageshare_c.specs.declared.hashed_core.HashedCore.{HashedCore}
 
--- what each status says about the frames, pages and salts, the number of the hash, and what the handle held
-pub record Makes (frames : ℕ) (pages salts : List ℕ) (hash : ℕ) (held : Option HashedCore) (status : ℕ) : Type 0 where
-  pub made : status ≡ 0 → AreLimits frames pages salts × (held ≡ None)
+-- the caller gave a region for the frames, and it has room for another number of them
+abbrev pub IsUnfit : Option ℕ → ℕ → Type 0
+IsUnfit None frames = ⊥
+IsUnfit (Some pages) frames = pages ≢ frames
+
+-- What a call that makes a machine does, by its status: of these frames, pages and salts, with the hash of this number, in a
+-- region of so many pages, if the caller gave one. The handle held old before, and holds new.
+pub record Makes (frames : ℕ) (pages salts : List ℕ) (hash : ℕ) (region : Option ℕ) (old new : Option HashedCore) (status : ℕ) : Type 0 where
+  pub made : status ≡ 0 → AreLimits frames pages salts × ¬ IsUnfit region frames × (old ≡ None)
+  pub empty : status ≡ 0 → seen new ≡ Some (empty_state frames (shapes salts pages))
+  pub named : status ≡ 0 → option_map hash_number new ≡ Some hash
+  pub kept : status ≢ 0 → new ≡ old
   pub frames_fault : status ≡ 1 → NoCoreFor frames pages salts Frames
   pub guests_fault : status ≡ 2 → NoCoreFor frames pages salts Guests
   pub pages_fault : status ≡ 3 → NoCoreFor frames pages salts Pages
-  pub memory_fault : status ≡ 4 → AreLimits frames pages salts
-  pub in_use : IsSome held → status ≡ 5
-  pub unused : status ≡ 5 → IsSome held
+  pub memory_fault : status ≡ 4 → AreLimits frames pages salts × ¬ IsUnfit region frames
+  pub in_use : IsSome old → status ≡ 5
+  pub unused : status ≡ 5 → IsSome old
+  pub region_fault : status ≡ 13 → AreLimits frames pages salts × IsUnfit region frames
   pub hash_fault : status ≡ 14 → 1 < hash
-  pub no_hash : held ≡ None → 1 < hash → status ≡ 14
-  pub known : (status ≤ 5) ⊎ (status ≡ 14)
+  pub no_hash : old ≡ None → 1 < hash → status ≡ 14
+  pub known : (status ≤ 5) ⊎ ((status ≡ 13) ⊎ (status ≡ 14))

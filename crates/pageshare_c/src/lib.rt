@@ -40,6 +40,7 @@ pub use answer::{Answer, NO_FRAME, Refusal, Totals};
 use answer::{refuse, status_of};
 pub use hashed_core::HashedCore;
 pub use machine::Machine;
+pub use machine_frames::Region;
 use make::{SHA256, make};
 use page_model::Request;
 use serve::{load_request, serve, serve_count, serve_load, store_request};
@@ -60,12 +61,9 @@ pub extern "C" fn pageshare_make(
     pages: &[u32],
     salts: &[u32],
 ) -> u32
-    ensures made { result ≡ 0 → seen machine.new.slot.core ≡ Some (empty_state frames (shapes salts.now pages.now)) }
-    ensures kept { result ≢ 0 → machine.new.slot.core ≡ machine.old.slot.core }
-    ensures hash { result ≡ 0 → option_map hash_number machine.new.slot.core ≡ Some SHA256 }
-    ensures cause { Makes frames pages.now salts.now SHA256 machine.old.slot.core result }
+    ensures { Makes frames pages.now salts.now SHA256 None machine.old.slot.core machine.new.slot.core result }
 {
-    make(alloc, machine, frames, pages, salts, SHA256)
+    make(alloc, machine, frames, pages, salts, SHA256, None)
 }
 
 /// Does the same with a hash of the caller's choice: 0 is SHA-256, as `pageshare_make` has it, and 1 is the fast one. The
@@ -79,12 +77,28 @@ pub extern "C" fn pageshare_make_hashed(
     salts: &[u32],
     hash: u32,
 ) -> u32
-    ensures made { result ≡ 0 → seen machine.new.slot.core ≡ Some (empty_state frames (shapes salts.now pages.now)) }
-    ensures hash { result ≡ 0 → option_map hash_number machine.new.slot.core ≡ Some hash }
-    ensures kept { result ≢ 0 → machine.new.slot.core ≡ machine.old.slot.core }
-    ensures cause { Makes frames pages.now salts.now hash machine.old.slot.core result }
+    ensures { Makes frames pages.now salts.now hash None machine.old.slot.core machine.new.slot.core result }
 {
-    make(alloc, machine, frames, pages, salts, hash)
+    make(alloc, machine, frames, pages, salts, hash, None)
+}
+
+/// Does the same with frames in the caller's region, which has room for exactly as many pages: frame n is the n-th page of it.
+/// The status is 13, checked after 3, if it has room for another number.
+///
+/// The region is the library's for good, unless the status is above 0. A machine that was freed doesn't use it again.
+#[unsafe(no_mangle)]
+pub extern "C" fn pageshare_make_in(
+    alloc: Global,
+    machine: &mut Machine,
+    frames: u32,
+    pages: &[u32],
+    salts: &[u32],
+    hash: u32,
+    region: Region,
+) -> u32
+    ensures { Makes frames pages.now salts.now hash (Some region.pages) machine.old.slot.core machine.new.slot.core result }
+{
+    make(alloc, machine, frames, pages, salts, hash, Some(region))
 }
 
 /// Frees the machine. The status is 6 if the handle holds none.

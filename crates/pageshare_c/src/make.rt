@@ -1,19 +1,21 @@
 //! A new machine for a handle.
-ghost use Rattle.std.specs.Prelude.{◌≡◌, ◌≢◌, ◌≤◌, Some, IfOk, MatchResult};
+ghost use Rattle.std.specs.Prelude.{◌≡◌, ◌≤◌, ◌<◌, ◌↔◌, None, Some, IfOk, IfErr};
 ghost use Rattle.std.specs.Option.{option_map};
 ghost use Rattle.page_model.specs.Limits.{shapes};
 ghost use Rattle.page_model.specs.Replay.{empty_state};
-ghost use Rattle.merge_core.specs.Refusals.{AreLimits, NoCoreFor};
+ghost use Rattle.page_model.specs.declared.limits.TheConstants.{MAX_FRAMES};
+ghost use Rattle.machine_frames.specs.FrameMap.{no_frames};
 ghost use Rattle.merge_core.specs.Shown.{state_of};
 ghost use Rattle.pageshare_c.specs.Hashed.{hash_number, shown_in};
-ghost use Rattle.pageshare_c.specs.Outcomes.{seen};
-ghost use Rattle.pageshare_c.specs.Made.{Makes};
+ghost use Rattle.pageshare_c.specs.Made.{IsUnfit, Makes};
 
 use crate::hashed_core::HashedCore;
 use crate::machine::Machine;
-use merge_core::{Core, CoreFault};
+use machine_frames::{Frames, FramesFault, Region};
+use merge_core::Core;
 use page_digest::{FoldHash, Sha256Hash};
-use std::alloc::Global;
+use page_model::{MachineShape, ShapeFault};
+use std::alloc::{AllocError, Global};
 
 /// The number by which C names SHA-256.
 pub const SHA256: u32 = 0;
@@ -21,7 +23,7 @@ pub const SHA256: u32 = 0;
 /// The number by which C names the fast hash.
 pub const FOLD: u32 = 1;
 
-/// Makes a machine, and returns the status.
+/// Makes a machine, whose frames are in the region if there is one, and returns the status.
 pub(crate) fn make(
     alloc: Global,
     machine: &mut Machine,
@@ -29,11 +31,9 @@ pub(crate) fn make(
     pages: &[u32],
     salts: &[u32],
     hash: u32,
+    region: Option<Region>,
 ) -> u32
-    ensures made { result ≡ 0 → seen machine.new.slot.core ≡ Some (empty_state frames (shapes salts.now pages.now)) }
-    ensures hash { result ≡ 0 → option_map hash_number machine.new.slot.core ≡ Some hash }
-    ensures kept { result ≢ 0 → machine.new.slot.core ≡ machine.old.slot.core }
-    ensures cause { Makes frames pages.now salts.now hash machine.old.slot.core result }
+    ensures { Makes frames pages.now salts.now hash (option_map (λ r. r.pages) region) machine.old.slot.core machine.new.slot.core result }
 {
     if machine.is_live() {
         return 5;
@@ -41,11 +41,20 @@ pub(crate) fn make(
     if hash > FOLD {
         return 14;
     }
-    let core = match new_core(alloc, frames, pages, salts, hash) {
-        Err(CoreFault::Frames) => return 1,
-        Err(CoreFault::Guests) => return 2,
-        Err(CoreFault::Pages) => return 3,
-        Err(CoreFault::OutOfMemory) => return 4,
+    let shape = match MachineShape::new(frames, pages, salts) {
+        Err(ShapeFault::Frames) => return 1,
+        Err(ShapeFault::Guests) => return 2,
+        Err(ShapeFault::Pages) => return 3,
+        Ok(shape) => shape,
+    };
+    let free = match new_frames(alloc, shape.frames(), region) {
+        Err(FramesFault::Frames) => return 1,
+        Err(FramesFault::Region) => return 13,
+        Err(FramesFault::OutOfMemory) => return 4,
+        Ok(free) => free,
+    };
+    let core = match new_core(alloc, &shape, hash, free) {
+        Err(_) => return 4,
         Ok(core) => core,
     };
     match Box::new(alloc, core) {
@@ -57,27 +66,40 @@ pub(crate) fn make(
     }
 }
 
-/// Makes a core of the hash with this number.
+/// Makes this many frames, in the region if there is one.
+fn new_frames(alloc: Global, frames: u32, region: Option<Region>) -> Result<Frames, FramesFault>
+    requires { (1 ≤ frames) × (frames ≤ MAX_FRAMES) }
+    ensures ok { IfOk result (λ free. free ≡ no_frames frames) }
+    ensures fits { IfOk result (λ _. ¬ IsUnfit (option_map (λ r. r.pages) region) frames) }
+    ensures in_range { IfErr result (λ fault. ¬ (fault ≡ FramesFault.Frames)) }
+    ensures region { IfErr result (λ fault. fault ≡ FramesFault.Region ↔ IsUnfit (option_map (λ r. r.pages) region) frames) }
+{
+    match region {
+        None => match Frames::new(alloc, frames) {
+            Err(_) => Err(FramesFault::OutOfMemory),
+            Ok(free) => Ok(free),
+        },
+        Some(region) => Frames::in_region(alloc, frames, region),
+    }
+}
+
+/// Makes a core of the hash with this number, with these frames.
 fn new_core(
     alloc: Global,
-    frames: u32,
-    pages: &[u32],
-    salts: &[u32],
+    shape: &MachineShape<'_>,
     hash: u32,
-) -> Result<HashedCore, CoreFault>
-    requires { hash ≤ 1 }
-    ensures empty { IfOk result (λ core. state_of (shown_in core) ≡ empty_state frames (shapes salts.now pages.now)) }
+    frames: Frames,
+) -> Result<HashedCore, AllocError>
+    requires hash { hash ≤ 1 }
+    requires frames { frames ≡ no_frames shape.now.frames }
+    ensures empty { IfOk result
+        (λ core. state_of (shown_in core) ≡ empty_state shape.now.frames (shapes shape.now.salts shape.now.pages)) }
     ensures hash { IfOk result (λ core. hash_number core ≡ hash) }
-    ensures fault { MatchResult result (λ _. AreLimits frames pages.now salts.now) (λ fault. NoCoreFor frames pages.now salts.now fault) }
 {
     if hash == SHA256 {
-        return match Core::new(alloc, frames, pages, salts, Sha256Hash) {
-            Err(fault) => Err(fault),
-            Ok(core) => Ok(HashedCore::Sha256(core)),
-        };
+        let core = Core::with_frames(alloc, shape, Sha256Hash, frames)?;
+        return Ok(HashedCore::Sha256(core));
     }
-    match Core::new(alloc, frames, pages, salts, FoldHash) {
-        Err(fault) => Err(fault),
-        Ok(core) => Ok(HashedCore::Fold(core)),
-    }
+    let core = Core::with_frames(alloc, shape, FoldHash, frames)?;
+    Ok(HashedCore::Fold(core))
 }
