@@ -3,7 +3,7 @@ ghost use Rattle.std.specs.Prelude.{◌≡◌, ◌≤◌, ◌<◌, All, length, 
 ghost use Rattle.merge_core.specs.Shown.{state_of};
 ghost use Rattle.merge_machine.specs.Kept.{Keeps};
 ghost use Rattle.merge_machine.specs.Machines.{opening, IsReplayOf};
-ghost use Rattle.page_model.specs.declared.limits.TheConstants.{MAX_ENTRIES};
+ghost use Rattle.page_model.specs.declared.limits.TheConstants.{MAX_ENTRIES, MAX_GUESTS};
 
 use crate::ahead::{Ahead, look_ahead};
 use crate::meet_each::meet_each;
@@ -48,7 +48,7 @@ pub struct Merger<H: PageHash, A: Allocator = Global> {
     pub ghost replayed: { IsReplayOf H.hash_of (state_of core) journal.items },
     pub ghost members: { All (λ e. e.guest < length ends.items) journal.items },
     pub ghost guests: { length (state_of core).guests ≡ length ends.items },
-    pub ghost few: { length ends.items ≤ 64 },
+    pub ghost few: { length ends.items ≤ MAX_GUESTS },
     pub ghost counted: { core.entries ≡ length journal.items },
     pub ghost within: { length journal.items ≤ limit },
     ghost room: { (limit ≤ vec_capacity journal) × (limit ≤ MAX_ENTRIES) },

@@ -5,7 +5,7 @@ ghost use Rattle.merge_machine.specs.Rounds.{has_open};
 ghost use Rattle.merge_machine.specs.Taking.{AllAnswered, Done};
 ghost use Rattle.merge_core.specs.Hashing.{AreWorkers};
 ghost use Rattle.merge_machine.specs.declared.limits.TheConstants.{MAX_ROUND};
-ghost use Rattle.page_model.specs.declared.limits.TheConstants.{MAX_ENTRIES};
+ghost use Rattle.page_model.specs.declared.limits.TheConstants.{MAX_ENTRIES, MAX_GUESTS};
 
 use crate::merger::{JournalFull, Merger};
 use crate::serve_taken::serve_taken;
@@ -92,7 +92,7 @@ pub(crate) fn take_and_serve<
     most: u32,
 ) -> u32
     requires workers { AreWorkers workers.now.count }
-    requires few { length ends.old.items ≤ 64 }
+    requires few { length ends.old.items ≤ MAX_GUESTS }
     requires room { length journal.old.items + most ≤ vec_capacity journal.old }
     requires most { most ≤ MAX_ROUND }
     requires guests { length (state_of core.old).guests ≡ length ends.old.items }

@@ -2,6 +2,7 @@
 ghost use Rattle.std.specs.Prelude.{◌≡◌, ◌+◌, ◌<◌, ◌≤◌, length, replicate, vec_capacity};
 ghost use Rattle.merge_machine.specs.Taking.{AreExhausted, Took, TookSo, Visits};
 ghost use Rattle.merge_machine.specs.declared.limits.TheConstants.{MAX_ROUND};
+ghost use Rattle.page_model.specs.declared.limits.TheConstants.{MAX_GUESTS};
 
 use page_model::Entry;
 use share_rings::MergerEnd;
@@ -14,7 +15,7 @@ pub(crate) fn take_requests<A: Allocator>(
     journal: &mut Vec<Entry, A>,
     most: usize,
 )
-    requires few { length ends.old.items ≤ 64 }
+    requires few { length ends.old.items ≤ MAX_GUESTS }
     requires room { length journal.old.items + most ≤ vec_capacity journal.old }
     requires most { most ≤ MAX_ROUND }
     ensures took { Took most ends.old.items ends.new.items journal.old.items journal.new.items }
@@ -39,7 +40,7 @@ fn take_turn<A: Allocator>(
     owed: &mut [u32; 64],
     full: usize,
 )
-    requires few { length ends.old.items ≤ 64 }
+    requires few { length ends.old.items ≤ MAX_GUESTS }
     requires within { length journal.old.items ≤ full }
     requires room { full ≤ vec_capacity journal.old }
     ensures took { TookSo ends.old.items ends.new.items journal.old.items journal.new.items owed.old owed.new }

@@ -1,6 +1,7 @@
 //! The hashes of pages: one by one, four at once, and as listed frames by one, two and four workers.
 //!
 //! Two frames are listed in turn, which stay in the processor's cache, so the times are those of the hash itself.
+ghost use Rattle.page_model.specs.declared.limits.TheConstants.{MAX_WORKERS};
 ghost use Rattle.std.specs.Prelude.{◌<◌, ◌≤◌};
 
 use crate::pages::{Listed, four_at_once, list_pages, one_by_one};
@@ -62,7 +63,7 @@ fn nanos_by<R: Clock + Threads + Wait + Sync>(
     workers: u32,
     count: u32,
 ) -> io::Result<Result<u128, HashFault>>
-    requires { (1 ≤ workers) × (workers ≤ 64) }
+    requires { (1 ≤ workers) × (workers ≤ MAX_WORKERS) }
 {
     let Some(Listed { frames, pairs }) = list_pages(alloc, count) else {
         return Ok(Err(HashFault::OutOfMemory));

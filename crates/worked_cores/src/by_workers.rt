@@ -1,7 +1,7 @@
 //! Hashes computed ahead by several workers.
 ghost use Rattle.std.specs.Prelude.{◌≡◌, ◌<◌, ◌≤◌, length};
 ghost use Rattle.page_digest.specs.Hashes.{sha256_hash};
-ghost use Rattle.merge_core.specs.Hashing.{page_hash};
+ghost use Rattle.merge_core.specs.Hashing.{AreWorkers, page_hash};
 ghost use Rattle.merge_core.specs.Shown.{state_of};
 
 use crate::asks::{Ask, core_of, first_pages, numbers, serve, store_each};
@@ -28,7 +28,7 @@ fn propose_ahead<R: Threads + Wait + Sync, B: Allocator + Clone + Send>(
     workers: u32,
     core: &mut Core<Sha256Hash>,
 ) -> Result<(bool, Answer), HashFault>
-    requires workers { (1 ≤ workers) × (workers ≤ 64) }
+    requires workers { AreWorkers workers }
     requires guest { 0 < length (state_of core.old).guests }
     requires room { core.old.entries < 4294967295 }
 {
