@@ -1,4 +1,4 @@
-.PHONY: test build demo commands estimate no-thread embed fuzz soak hints bench
+.PHONY: test build demo commands estimate no-thread embed guests fuzz soak hints bench
 
 # The gate: every proof from nothing, the tests, the edits that must be refused, and the proved program on worked texts. It leaves
 # the times of all steps at out/gate.tsv, whose dearest checks/gate.py prints.
@@ -61,6 +61,11 @@ bench: out/pageshare out/store_bench out/thread_bench
 # program for is left out, and told.
 embed: out/libpageshare.a
 	checks/embed.sh out/libpageshare.a
+
+# Outside the gate: guests under KVM whose memory the library shares (docs/MONITOR.md), for SECONDS (30) each, and with KSM=1 under
+# the kernel's KSM as well. What this machine has no KVM or userfaultfd for is left out, and told.
+guests: out/libpageshare.a out/pageshare
+	checks/guests.py out/libpageshare.a $(or $(SECONDS),30)
 
 # The proved library, and the kit's three calls of malloc, realloc and free.
 out/libpageshare.a: $(SOURCES)

@@ -1,0 +1,206 @@
+#!/usr/bin/env python3
+"""Builds monitor/ and runs guests under KVM whose memory the library shares.
+
+    checks/guests.py [LIBRARY [SECONDS]]
+
+LIBRARY is libpageshare.a, by default out/libpageshare.a (`make embed`); a fleet and its stress run for SECONDS each, by default 30.
+All that is built goes to out/monitor. In turn: windows under threads in place of guests, and the same under the address and the
+thread sanitizer; two guests of a few instructions; a fleet of three guests; a fleet under stress, two processors a guest; a journal of
+100,000 requests, replayed by `out/pageshare replay` to the same verdicts and report. What the machine has no KVM, no userfaultfd or no
+compiler for is left out, and so said.
+
+With KSM=1 in the environment (as root) the same guests run under the kernel's KSM too, at its own settings and faster ones, and
+without sharing, and a table of all is printed. KSM's settings are put back when this program ends, however it ends. CC names another
+compiler than cc, and CFLAGS more words for it.
+
+The status is 1 where a guest saw a wrong word or did not run, or something else failed.
+"""
+import json
+import os
+import pathlib
+import shutil
+import subprocess
+import sys
+
+TOP = pathlib.Path(__file__).resolve().parent.parent
+SOURCES, OUT = TOP / "monitor", TOP / "out/monitor"
+CC = os.environ.get("CC", "cc")
+FLAGS = "-std=c11 -O2 -g -Wall -Wextra -Wconversion -Werror -pthread".split() + os.environ.get("CFLAGS", "").split()
+GUEST_FLAGS = (
+    "-std=c11 -O2 -Wall -Wextra -Wconversion -Werror -ffreestanding -nostdlib -static -fno-pic -no-pie -fno-stack-protector "
+    "-fcf-protection=none -mgeneral-regs-only -mno-red-zone -Wl,-Ttext-segment=0x200000,--build-id=none,-e,begin"
+).split()
+WINDOW = ["window", "lender", "journal"]
+PROGRAMS = {"threads": WINDOW, "tiny": WINDOW + ["vm"], "fleet": WINDOW + ["vm", "idle", "count", "figures"]}
+REQUESTS = 100_000
+KSM = pathlib.Path("/sys/kernel/mm/ksm")
+
+
+def run(words, **more):
+    print("$ " + " ".join(str(word).replace(f"{TOP}/", "") for word in words), flush=True)
+    return subprocess.run(words, **more)
+
+
+def must(words, **more):
+    if run(words, **more).returncode != 0:
+        sys.exit("failed")
+
+
+def build(name, library, more=(), suffix=""):
+    """Builds a program; answers its path."""
+    path = OUT / (name + suffix)
+    sources = [SOURCES / f"{part}.c" for part in [name, *PROGRAMS[name]]]
+    words = [CC, *FLAGS, *more, f"-I{TOP / 'include'}", "-o", path, *sources, library]
+    if subprocess.run(words).returncode != 0:
+        sys.exit(f"{name} does not compile")
+    return path
+
+
+def build_guest():
+    path = OUT / "guest"
+    if subprocess.run([CC, *GUEST_FLAGS, "-o", path, SOURCES / "guest.c"]).returncode != 0:
+        sys.exit("the guest does not compile")
+    return path
+
+
+def can_open(path):
+    try:
+        os.close(os.open(path, os.O_RDWR | os.O_CLOEXEC))
+        return True
+    except OSError:
+        return False
+
+
+def has_sanitizer(name):
+    """Whether a program with this sanitizer can be built and runs."""
+    path = OUT / "probe"
+    words = [CC, f"-fsanitize={name}", "-x", "c", "-o", path, "-"]
+    built = subprocess.run(words, input=b"int main(void) { return 0; }", capture_output=True).returncode == 0
+    return built and subprocess.run([path], capture_output=True).returncode == 0
+
+
+def windows(library):
+    """Windows without KVM: plain, and under each sanitizer that the machine has."""
+    must([build("threads", library), "5"])
+    for name in ["address,undefined", "thread"]:
+        if has_sanitizer(name):
+            must([build("threads", library, [f"-fsanitize={name}"], "_" + name.split(",")[0]), "5"])
+        else:
+            print(f"left out: the {name} sanitizer")
+
+
+def journal(fleet, guest):
+    """A fleet's journal through the proved replay."""
+    text, program = OUT / "fleet.journal", TOP / "out/pageshare"
+    must([fleet, "--seconds", "60", "--mib", "5", "--round", "50", "--requests", str(REQUESTS), "--journal", text, guest])
+    if not program.exists():
+        print("left out: the replay of that journal, since there is no out/pageshare (make build)")
+        return
+    replayed = run([program, "replay", text], capture_output=True).stdout
+    if replayed != (OUT / "fleet.journal.replay").read_bytes():
+        (OUT / "fleet.journal.differs").write_bytes(replayed)
+        sys.exit("the replay differs: out/monitor/fleet.journal.differs, and out/monitor/fleet.journal.replay is wanted")
+    lines = replayed.decode("ascii").splitlines()
+    print(f"replayed: {len(lines) - 1:,} verdicts as the monitor got them, and {lines[-1]}")
+
+
+class Settings:
+    """KSM's settings. A process of its own puts them back when this one's end of a pipe is closed, whatever closed it."""
+
+    def __init__(self):
+        names = ["sleep_millisecs", "pages_to_scan", "run"]
+        self.before = [(name, (KSM / name).read_text()) for name in names]
+        ours, self.pipe = os.pipe()
+        self.keeper = os.fork()
+        if self.keeper == 0:
+            os.close(self.pipe)
+            os.setsid()
+            os.read(ours, 1)
+            (KSM / "run").write_text("2")  # parts what was merged
+            for name, value in self.before:
+                (KSM / name).write_text(value)
+            os._exit(0)
+        os.close(ours)
+
+    def set(self, sleep, pages):
+        (KSM / "run").write_text("2")
+        (KSM / "sleep_millisecs").write_text(str(sleep))
+        (KSM / "pages_to_scan").write_text(str(pages))
+        (KSM / "run").write_text("1")
+
+    def off(self):
+        (KSM / "run").write_text("2")
+
+    def put_back(self):
+        os.close(self.pipe)
+        os.waitpid(self.keeper, 0)
+
+
+def ksmd():
+    for path in pathlib.Path("/proc").glob("[0-9]*/comm"):
+        if path.read_text().strip() == "ksmd":
+            return path.parent.name
+    return ""
+
+
+def row(name, of):
+    share = 100 * of["saved"] / of["bound"]
+    return (
+        f"| {name} | {of['mib_before']:.0f}, {of['mib_settled']:.1f}, {of['mib_end']:.1f} | {of['saved']:,} of {of['bound']:,} ({share:.1f} %) "
+        f"| {of['settled_s']:.0f} | {of['processor_s']:.1f} ({of['rounds']}) | {of['ksmd_s']:.2f} | {of['round_ms']:.0f} | {of['write_cycles']:,.0f} |"
+    )
+
+
+def compare(fleet, guest, seconds):
+    """The same guests under the library, KSM and nothing: one table."""
+    ways = [("plain", "plain", None), ("lend", "lend", None), ("KSM 20 ms x 100", "ksm", (20, 100)), ("KSM 20 ms x 1000", "ksm", (20, 1000))]
+    rows = []
+    settings = Settings()
+    try:
+        for name, way, speed in ways:
+            settings.set(*speed) if speed else settings.off()
+            path = OUT / f"{way}.json"
+            must([fleet, "--seconds", str(seconds), "--way", way, "--json", path, guest], env={**os.environ, "KSMD": ksmd()})
+            rows.append(row(name, json.loads(path.read_text())))
+    finally:
+        settings.put_back()
+    print("| | MiB before, settled, end | saved of the bound | settled, s | processor s (rounds) | ksmd s | ms a round | cycles a seldom write |")
+    print("|" + "---|" * 8)
+    print("\n".join(rows))
+
+
+def with_guests(library, seconds):
+    fleet, guest = build("fleet", library), build_guest()
+    must([build("tiny", library)])
+    must([fleet, "--seconds", str(seconds), "--json", OUT / "fleet.json", "--svg", OUT / "fleet.svg", guest])
+    must([fleet, "--seconds", str(seconds), "--processors", "2", "--round", "20", "--rest", "2", "--mib", "64", guest])
+    journal(fleet, guest)
+    if os.environ.get("KSM") == "1":
+        if os.access(KSM / "run", os.W_OK) and os.geteuid() == 0:
+            compare(fleet, guest, seconds)
+        else:
+            print("left out: KSM, which takes root and a kernel that has it")
+
+
+def main():
+    library = pathlib.Path(sys.argv[1] if len(sys.argv) > 1 else TOP / "out/libpageshare.a")
+    seconds = int(sys.argv[2]) if len(sys.argv) > 2 else 30
+    if not library.exists():
+        sys.exit(f"there is no library {library}")
+    if shutil.which(CC) is None:
+        print("left out: all, since there is no C compiler")
+        return
+    OUT.mkdir(parents=True, exist_ok=True)
+    if not can_open("/dev/userfaultfd") and os.geteuid() != 0:
+        print("left out: all, since userfaultfd is not allowed here")
+        return
+    windows(library)
+    if can_open("/dev/kvm"):
+        with_guests(library, seconds)
+    else:
+        print("left out: guests, since there is no /dev/kvm")
+    print("ok")
+
+
+if __name__ == "__main__":
+    main()

@@ -1,0 +1,47 @@
+/* What a fleet's run came to: a sample each second, a table, JSON, a line on a terminal, and a picture. */
+#ifndef MONITOR_FIGURES_H
+#define MONITOR_FIGURES_H
+
+#include "count.h"
+#include "pageshare.h"
+#include "window.h"
+#include <stdbool.h>
+#include <stddef.h>
+#include <stdint.h>
+#include <stdio.h>
+
+struct sample {
+    double at;   /* seconds since the guests began */
+    double held; /* bytes that the system holds for the guests' pages */
+    uint64_t rounds;
+    uint64_t saved; /* pages that share a frame with others, less those frames */
+    double processor, helper; /* processor seconds of this process, and of the kernel's ksmd */
+    struct pageshare_totals totals;
+    struct lender_counts counts;
+};
+
+struct figures {
+    const char *name; /* of the way of sharing */
+    size_t count, most;
+    struct sample *samples;
+    struct counted bound;  /* of all pages that the guests have at the end */
+    uint64_t wrong;        /* words that the guests found wrong */
+    double round_ms;       /* of a guest's round, mean of the second half of the run */
+    double write_cycles;   /* of a write to a seldom written page, the same */
+    double scan, settle;   /* processor seconds for looks and lends; seconds until 2 % above the least memory */
+    double table_bytes;    /* page tables of this process */
+    int64_t requests;      /* of the journal; 0 for none */
+};
+
+bool figures_make(struct figures *figures, size_t most);
+/* Room for the next sample, or NULL. */
+struct sample *figures_next(struct figures *figures);
+
+/* Draws a line anew on a terminal: what the last sample shows. */
+void figures_watch(const struct figures *figures, FILE *to);
+void figures_print(struct figures *figures, FILE *to);
+/* Answer false, with errno, where the file can't be written. */
+bool figures_json(struct figures *figures, const char *path);
+bool figures_svg(const struct figures *figures, const char *path);
+
+#endif

@@ -1,0 +1,70 @@
+/* A small virtual machine monitor over KVM: some processors, one memory slot, and ports that the guest writes bytes to. */
+#ifndef MONITOR_VM_H
+#define MONITOR_VM_H
+
+#include <pthread.h>
+#include <stdatomic.h>
+#include <stdbool.h>
+#include <stddef.h>
+#include <stdint.h>
+
+enum { VM_PROCESSORS = 4 };
+
+/* How a processor stands. */
+enum vm_end { VM_RUNS, VM_STOPPED, VM_HALTED, VM_FAILED };
+
+struct kvm_run;
+struct vm;
+
+struct processor {
+    struct vm *vm;
+    unsigned number;
+    int fd;
+    struct kvm_run *run;
+    pthread_t thread;
+    bool has_thread;
+    atomic_int end; /* an enum vm_end */
+};
+
+struct vm {
+    unsigned number;
+    uint8_t *ram; /* the guest's memory from its address 0 on */
+    size_t bytes;
+    /* Told of each byte that a processor writes to a port, on the processor's thread; false halts the processor. */
+    bool (*wrote)(struct processor *processor, uint16_t port, uint8_t byte);
+    void *of; /* the caller's */
+
+    int kvm, fd;
+    size_t run_bytes;
+    unsigned count;
+    struct processor processors[VM_PROCESSORS];
+    atomic_bool stop;
+};
+
+/*
+ * Makes a machine of 1 to VM_PROCESSORS processors whose memory is `ram`. `logged`: vm_written will be called. Answers false, having
+ * told why; then vm_free frees what was made. `number`, `wrote` and `of` are the caller's to set.
+ */
+bool vm_make(struct vm *vm, uint8_t *ram, size_t bytes, unsigned processors, bool logged);
+void vm_free(struct vm *vm);
+
+/* Sets a processor to real mode at an address below 64 KiB, all segments at 0. */
+bool vm_set_real(struct vm *vm, uint16_t at);
+
+/*
+ * Loads the program of guest.c, and sets all processors to its beginning: user mode of 64-bit mode, all memory mapped to itself
+ * in pages of 4 KiB. `rest` is the hundredths of a second that a processor rests between two rounds.
+ */
+bool vm_set_guest(struct vm *vm, const char *program, unsigned rest);
+
+/* Starts a thread for each processor. */
+bool vm_start(struct vm *vm);
+/* Waits until all processors have halted by themselves. */
+void vm_join(struct vm *vm);
+/* Stops all processors, and waits for their threads. */
+void vm_stop(struct vm *vm);
+
+/* The pages written since the last call, or since vm_start: a bit for each, in words of 64. */
+bool vm_written(struct vm *vm, uint64_t *bits);
+
+#endif
