@@ -5,7 +5,7 @@
 
 LIBRARY is libpageshare.a, by default out/libpageshare.a (`make embed`); a fleet and its stress run for SECONDS each, by default 30.
 All that is built goes to out/monitor. In turn: windows under threads in place of guests, and the same under the address and the
-thread sanitizer; two guests of a few instructions; a fleet of three guests; a fleet under stress, two processors a guest; a journal of
+thread sanitizer; pages taken back when the system has no mapping to spare; two guests of a few instructions; a fleet of three guests; a fleet under stress, two processors a guest; a journal of
 100,000 requests, replayed by `out/pageshare replay` to the same verdicts and report. What the machine has no KVM, no userfaultfd or no
 compiler for is left out, and so said.
 
@@ -31,7 +31,7 @@ GUEST_FLAGS = (
     "-fcf-protection=none -mgeneral-regs-only -mno-red-zone -Wl,-Ttext-segment=0x200000,--build-id=none,-e,begin"
 ).split()
 WINDOW = ["window", "lender", "journal"]
-PROGRAMS = {"threads": WINDOW, "tiny": WINDOW + ["vm"], "fleet": WINDOW + ["vm", "idle", "count", "figures"]}
+PROGRAMS = {"threads": WINDOW, "crowded": WINDOW, "tiny": WINDOW + ["vm"], "fleet": WINDOW + ["vm", "idle", "count", "figures"]}
 REQUESTS = 100_000
 KSM = pathlib.Path("/sys/kernel/mm/ksm")
 
@@ -87,6 +87,7 @@ def windows(library):
             must([build("threads", library, [f"-fsanitize={name}"], "_" + name.split(",")[0]), "5"])
         else:
             print(f"left out: the {name} sanitizer")
+    must([build("crowded", library)])
 
 
 def journal(fleet, guest):

@@ -208,15 +208,19 @@ static void fetch(struct lender *lender, struct window *window, uint32_t first, 
     }
 }
 
-/* Takes back also the lent pages that stand in one mapping with each other before and behind these: that needs no mapping more. */
+/*
+ * Widens pages to be mapped anew to whole mappings of the system, since to cut one in two takes one more: the lent pages that stand in
+ * one mapping before and behind these are taken out of the machine, too, and then all private pages around are mapped with them.
+ */
 static void widen(struct lender *lender, struct window *window, uint32_t *first, uint32_t *count) {
-    uint32_t low = *first, end = *first + *count;
+    uint32_t low = *first, end = *first + *count, high = end;
     while (low > 0 && is_lent(window, low - 1) && (low == *first || joins_before(window, low))) low--;
-    uint32_t high = end;
     while (high < window->pages && is_lent(window, high) && (high == end || joins_before(window, high))) high++;
-    if (low < *first) fetch(lender, window, low, *first - low);
-    if (high > end) fetch(lender, window, end, high - end);
+    fetch(lender, window, low, *first - low);
+    fetch(lender, window, end, high - end);
     lender->counts.widened += high - low - *count;
+    while (low > 0 && !is_lent(window, low - 1)) low--;
+    while (high < window->pages && !is_lent(window, high)) high++;
     *first = low;
     *count = high - low;
 }
