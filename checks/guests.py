@@ -160,7 +160,7 @@ def compare(fleet, guest, seconds):
     try:
         for name, way, speed in ways:
             settings.set(*speed) if speed else settings.off()
-            path = OUT / f"{way}.json"
+            path = OUT / f"way{len(rows)}.json"
             must([fleet, "--seconds", str(seconds), "--way", way, "--json", path, guest], env={**os.environ, "KSMD": ksmd()})
             rows.append(row(name, json.loads(path.read_text())))
     finally:

@@ -1,6 +1,7 @@
 /*
- * A guest's pages are lent while the system has mappings to spare, and written to when it has none: a page that is taken back then
- * brings with it the run that it stands in, and nothing is lost. Prints "crowded: ok" (status 0) or what isn't so (status 1).
+ * Memory that the caller has mapped becomes a guest's window. Its pages are lent while the system has mappings to spare, and written
+ * to when it has none: a page that is taken back then brings with it the run that it stands in. Pages that are kept aren't lent; and
+ * when the lender is freed the caller has its memory back. Prints "crowded: ok" (status 0) or what isn't so (status 1).
  */
 #define _GNU_SOURCE
 #include "trouble.h"
@@ -9,6 +10,7 @@
 #include <stdlib.h>
 #include <string.h>
 #include <sys/mman.h>
+#include <unistd.h>
 
 enum { PAGES = 256, FILLERS = 200000, MIDDLE = 100 };
 
@@ -51,11 +53,14 @@ static size_t crowd(void) {
     return count;
 }
 
-static void run(struct lender *lender) {
-    uint8_t *ram = window_at(lender, 0);
-    for (uint32_t i = 0; i < PAGES; i++) memset(ram + (size_t)i * PAGE, byte_of(i), PAGE);
-    for (uint32_t lent = 0; lent < PAGES; lent += LEND_MOST) check(window_lend(lender, 0, lent, LEND_MOST) == LEND_MOST, "all pages are lent");
-    check(counts_of(lender).mappings < 8, "they stand in a few mappings");
+static void check_bytes(const uint8_t *ram) {
+    for (uint32_t i = 0; i < PAGES * PAGE; i++)
+        check(ram[i] == (i == MIDDLE * PAGE ? 0 : byte_of(i / PAGE)), "a byte is as it was written");
+}
+
+/* Writes to a lent page when the system has no mapping to spare. */
+static void write_crowded(struct lender *lender, uint8_t *ram) {
+    check(counts_of(lender).mappings < 8, "the lent pages stand in a few mappings");
     size_t count = crowd();
     check(count < FILLERS - 1, "the system allows no more mappings");
     ram[(size_t)MIDDLE * PAGE] = 0;
@@ -64,21 +69,38 @@ static void run(struct lender *lender) {
     check(counts.widened > 0, "the page brought its run with it");
     check(window_lend(lender, 0, MIDDLE, 1) <= 0, "no page is lent now");
     for (size_t i = 0; i < count; i++) munmap(fillers[i], PAGE);
-    check(window_lend(lender, 0, MIDDLE, 1) == 1, "a page is lent again");
-    for (uint32_t i = 0; i < PAGES * PAGE; i++)
-        check(ram[i] == (i == MIDDLE * PAGE ? 0 : byte_of(i / PAGE)), "a byte is as it was written");
+}
+
+static void run(struct lender *lender, uint8_t *ram) {
+    for (uint32_t i = 0; i < PAGES; i++) memset(ram + (size_t)i * PAGE, byte_of(i), PAGE);
+    for (uint32_t at = 0; at < PAGES; at += LEND_MOST) check(window_lend(lender, 0, at, LEND_MOST) == LEND_MOST, "all pages are lent");
+    write_crowded(lender, ram);
+    check(window_lend(lender, 0, MIDDLE, 2) == 2, "pages are lent again");
+    window_keep(lender, 0, MIDDLE, 1, true);
+    check(window_frame(lender, 0, MIDDLE) == PAGESHARE_NO_FRAME && window_frame(lender, 0, MIDDLE + 1) != PAGESHARE_NO_FRAME, "one is taken back");
+    check(window_lend(lender, 0, MIDDLE, 1) == 0, "a page that is kept isn't lent");
+    window_keep(lender, 0, MIDDLE, 1, false);
+    check(window_lend(lender, 0, MIDDLE, 1) == 1, "until it is kept no longer");
+    check_bytes(ram);
 }
 
 int main(void) {
     const uint32_t pages[] = {PAGES}, salts[] = {0};
-    struct lender_config config = {.frames = 2 * PAGES, .pages = pages, .salts = salts, .guests = 1, .hash = PAGESHARE_FOLD, .tell = tell};
-    struct lender *lender = lender_make(&config);
+    int fd = memfd_create("caller", MFD_CLOEXEC);
+    if (fd < 0 || ftruncate(fd, PAGES * PAGE) < 0) return trouble("memfd_create") ? 0 : 1;
+    uint8_t *ram = mmap(NULL, PAGES * PAGE, PROT_READ | PROT_WRITE, MAP_SHARED | MAP_NORESERVE, fd, 0);
+    struct guest_memory memory = {fd, ram};
+    struct lender_config config = {.frames = 2 * PAGES, .pages = pages, .salts = salts, .guests = 1, .hash = PAGESHARE_FOLD, .memory = &memory, .tell = tell};
+    struct lender *lender = ram != MAP_FAILED ? lender_make(&config) : NULL;
     if (lender == NULL) {
         fputs("a lender can't be made\n", stderr);
         return 1;
     }
-    run(lender);
+    check(window_at(lender, 0) == ram, "the caller's memory is the window");
+    run(lender, ram);
     lender_free(lender);
+    check_bytes(ram);
+    memset(ram, 0, PAGES * PAGE);
     puts(wrong == 0 ? "crowded: ok" : "crowded: WRONG");
     return wrong == 0 ? 0 : 1;
 }

@@ -27,16 +27,13 @@ static double most_held(const struct figures *figures) {
     return most;
 }
 
-/* The first sample whose memory is at most 2 % above the least. */
+/* The first sample that has 98 % of the most pages saved at once; the last one where nothing was saved. */
 static const struct sample *settled(const struct figures *figures) {
-    double least = most_held(figures);
+    uint64_t most = 0;
     for (size_t i = 0; i < figures->count; i++)
-        if (figures->samples[i].at > 1 && figures->samples[i].held > 0 && figures->samples[i].held < least) least = figures->samples[i].held;
-    bool filled = false;
-    for (size_t i = 0; i < figures->count; i++) {
-        filled = filled || figures->samples[i].held >= 0.98 * most_held(figures);
-        if (filled && figures->samples[i].held <= 1.02 * least) return &figures->samples[i];
-    }
+        if (figures->samples[i].saved > most) most = figures->samples[i].saved;
+    for (size_t i = 0; i < figures->count; i++)
+        if (most > 0 && figures->samples[i].saved * 100 >= most * 98) return &figures->samples[i];
     return last(figures);
 }
 
@@ -74,7 +71,8 @@ void figures_print(struct figures *figures, FILE *to) {
             then->at, now->held / MIB);
     fprintf(to, "pages saved of the bound  %" PRIu64 " of %zu (%.1f %%); %zu pages, %zu distinct\n", now->saved, can_be_saved(figures),
             100 * ratio((double)now->saved, (double)can_be_saved(figures)), figures->bound.pages, figures->bound.distinct);
-    fprintf(to, "rounds                    %" PRIu64 ", %.1f ms each; %" PRIu64 " wrong\n", now->rounds, figures->round_ms, figures->wrong);
+    fprintf(to, "rounds                    %" PRIu64 ", %.1f ms of a processor each (in %.1f ms); %" PRIu64 " wrong\n", now->rounds, figures->round_ms,
+            figures->round_wall_ms, figures->wrong);
     fprintf(to, "a seldom write            %.0f cycles\n", figures->write_cycles);
     fprintf(to, "processor s               %.1f, and %.2f of ksmd\n", now->processor, now->helper);
     fprintf(to, "page tables, KiB          %.0f\n", figures->table_bytes / 1024);
@@ -98,6 +96,7 @@ bool figures_json(struct figures *figures, const char *path) {
             most_held(figures) / MIB, then->held / MIB, then->at, now->held / MIB);
     fprintf(file, " \"saved\": %" PRIu64 ", \"bound\": %zu, \"pages\": %zu, \"distinct\": %zu, \"rounds\": %" PRIu64 ", \"round_ms\": %.2f,\n",
             now->saved, can_be_saved(figures), figures->bound.pages, figures->bound.distinct, now->rounds, figures->round_ms);
+    fprintf(file, " \"round_wall_ms\": %.2f,\n", figures->round_wall_ms);
     fprintf(file, " \"wrong\": %" PRIu64 ", \"write_cycles\": %.0f, \"processor_s\": %.2f, \"ksmd_s\": %.2f, \"table_bytes\": %.0f,\n", figures->wrong,
             figures->write_cycles, now->processor, now->helper, figures->table_bytes);
     fprintf(file, " \"lends\": %" PRIu64 ", \"lend_us\": %.2f, \"map_us\": %.2f, \"takes\": %" PRIu64 ", \"take_us\": %.2f, \"take_most_us\": %.0f,\n",

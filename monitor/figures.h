@@ -26,9 +26,9 @@ struct figures {
     struct sample *samples;
     struct counted bound;  /* of all pages that the guests have at the end */
     uint64_t wrong;        /* words that the guests found wrong */
-    double round_ms;       /* of a guest's round, mean of the second half of the run */
+    double round_ms, round_wall_ms; /* of a guest's round in the second half of the run, mean: processor time, and time */
     double write_cycles;   /* of a write to a seldom written page, the same */
-    double scan, settle;   /* processor seconds for looks and lends; seconds until 2 % above the least memory */
+    double scan;           /* processor seconds for looks and lends */
     double table_bytes;    /* page tables of this process */
     int64_t requests;      /* of the journal; 0 for none */
 };

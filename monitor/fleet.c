@@ -5,7 +5,7 @@
  *           [--idle look|log] [--slice PAGES] [--journal FILE [--requests N]] [--json FILE] [--svg FILE] [--watch] PROGRAM
  *
  * PROGRAM is the guest of guest.c, which checks its memory. Pages that weren't written lately are lent (`lend`), at most so many of a
- * guest every 10 ms, or left to the kernel's KSM (`ksm`), or nothing is done (`plain`). Prints a table at the end. The status is 0 where
+ * guest every 10 ms (0: they are looked at alone), or left to the kernel's KSM (`ksm`), or nothing is done (`plain`). Prints a table at the end. The status is 0 where
  * every processor ran to the end and saw no wrong word, 1 where not, 2 for a bad command line. With --journal, what was asked of the
  * machine is written to FILE, and to FILE.replay the lines that `pageshare replay` must print; when so many requests are written, and
  * after 10 s at least, the run ends.
@@ -38,8 +38,8 @@ static const char *const WAYS[] = {"lend", "plain", "ksm"};
 struct voice {
     char line[128];
     size_t length;
-    uint64_t rounds, wrong, cycles, kilocycles; /* the last two are sums, from half time on; halves: of so many rounds */
-    uint64_t halves, last_ns;
+    uint64_t rounds, wrong, last_ns, spent_ns; /* the last two at the last round's end; spent: of processor time */
+    uint64_t late, cycles, kilocycles, cost_ns; /* rounds from half time on, and sums over these */
 };
 
 struct guest {
@@ -77,17 +77,20 @@ static void tell(void *of, const char *what, int cause) {
     if (atomic_fetch_add(&fleet->told, 1) < TOLD_MOST) fprintf(stderr, "lender: %s: %s\n", what, strerror(cause));
 }
 
-/* A line of a processor. Called with the guest's lock. */
+/* A line of a processor, on its thread. Called with the guest's lock. */
 static void hear_line(struct guest *guest, unsigned processor) {
     struct voice *voice = &guest->voices[processor];
     uint64_t cycles, kilocycles;
     if (sscanf(voice->line, "ok %" SCNu64 " %" SCNu64, &cycles, &kilocycles) == 2) {
+        uint64_t spent = clock_ns(CLOCK_THREAD_CPUTIME_ID), cost = spent - voice->spent_ns;
         voice->rounds++;
+        voice->spent_ns = spent;
         voice->last_ns = now_ns();
         if (voice->last_ns - guest->fleet->began_ns < guest->fleet->seconds * 500000000ull) return;
+        voice->late++;
         voice->cycles += cycles;
         voice->kilocycles += kilocycles;
-        voice->halves++;
+        voice->cost_ns += cost;
     } else if (strcmp(voice->line, "ready") != 0) {
         fprintf(stderr, "guest %u, processor %u: %s\n", guest->vm.number, processor, voice->line);
         voice->wrong++;
@@ -157,6 +160,7 @@ static void look(struct fleet *fleet, struct guest *guest) {
     }
     if (fleet->by_log && !vm_written(&guest->vm, guest->written)) return;
     idle_look(&guest->idle, guest->shown, guest->ram, fleet->by_log ? guest->written : NULL);
+    if (fleet->slice == 0) guest->idle.next = guest->idle.pages;
 }
 
 /* Looks when it is time, and lends what is idle, a slice at a time. */
@@ -266,7 +270,7 @@ static void run(struct fleet *fleet) {
 /* Whether every processor runs and saw nothing wrong; says which doesn't, and adds up what they said. */
 static bool judge(struct fleet *fleet, double khz) {
     struct figures *figures = &fleet->figures;
-    uint64_t cycles = 0, kilocycles = 0, halves = 0;
+    uint64_t cycles = 0, kilocycles = 0, cost_ns = 0, late = 0;
     bool right = true;
     for (unsigned i = 0; i < fleet->guests * fleet->processors; i++) {
         struct guest *guest = &fleet->guest[i / fleet->processors];
@@ -280,11 +284,14 @@ static bool judge(struct fleet *fleet, double khz) {
         figures->wrong += voice->wrong;
         cycles += voice->cycles;
         kilocycles += voice->kilocycles;
-        halves += voice->halves;
+        cost_ns += voice->cost_ns;
+        late += voice->late;
         pthread_mutex_unlock(&guest->lock);
     }
-    if (halves > 0) figures->write_cycles = (double)cycles / (double)halves;
-    if (halves > 0 && khz > 0) figures->round_ms = 1000 * (double)kilocycles / (double)halves / khz;
+    if (late == 0) return right;
+    figures->write_cycles = (double)cycles / (double)late;
+    figures->round_ms = 1e-6 * (double)cost_ns / (double)late;
+    if (khz > 0) figures->round_wall_ms = 1000 * (double)kilocycles / (double)late / khz;
     return right;
 }
 
@@ -390,7 +397,7 @@ static bool set_option(struct fleet *fleet, int option) {
     case 'p': return number(optarg, 1, VM_PROCESSORS, &fleet->processors);
     case 'r': return number(optarg, 0, 255, &fleet->rest);
     case 'o': return number(optarg, 1, 60000, &fleet->round_ms);
-    case 'l': return number(optarg, 1, 65536, &fleet->slice);
+    case 'l': return number(optarg, 0, 65536, &fleet->slice);
     case 'q': right = number(optarg, 1000, 400000, &found), fleet->requests = found; return right;
     case 'w': right = word(optarg, WAYS, 3, &found), fleet->way = (enum way)found; return right;
     case 'i': right = word(optarg, idles, 2, &found), fleet->by_log = found == 1; return right;

@@ -53,9 +53,11 @@ static void make_faults(struct lender *lender) {
 static bool make_window(struct lender *lender, uint32_t guest) {
     struct window *window = &lender->windows[guest];
     uint32_t pages = lender->told.pages[guest];
-    *window = (struct window){.guest = guest, .pages = pages, .fd = memory_file("guest", bytes_of(pages))};
+    bool ours = lender->told.memory == NULL;
+    *window = (struct window){.guest = guest, .pages = pages, .is_ours = ours};
+    window->fd = ours ? memory_file("guest", bytes_of(pages)) : lender->told.memory[guest].fd;
     if (window->fd < 0) return false;
-    window->at = map_file(window->fd, bytes_of(pages));
+    window->at = ours ? map_file(window->fd, bytes_of(pages)) : lender->told.memory[guest].at;
     window->slots = calloc(pages, sizeof *window->slots);
     if (window->at == NULL || window->slots == NULL) return false;
     for (uint32_t i = 0; i < pages; i++) window->slots[i].frame = PAGESHARE_NO_FRAME;
@@ -126,18 +128,23 @@ static void unmap(uint8_t *at, size_t bytes) {
     if (at != NULL) munmap(at, bytes);
 }
 
+static void free_window(struct lender *lender, struct window *window) {
+    if (window->is_ours) {
+        unmap(window->at, bytes_of(window->pages));
+        close_file(window->fd);
+    } else if (window->slots != NULL) {
+        window_take_back(lender, window, 0, window->pages);
+    }
+    free(window->slots);
+}
+
 void lender_free(struct lender *lender) {
     uint64_t one = 1;
     if (lender->has_thread) {
         while (write(lender->stop, &one, sizeof one) < 0 && errno == EINTR) {}
         pthread_join(lender->thread, NULL);
     }
-    for (size_t i = 0; i < lender->told.guests; i++) {
-        struct window *window = &lender->windows[i];
-        unmap(window->at, bytes_of(window->pages));
-        close_file(window->fd);
-        free(window->slots);
-    }
+    for (size_t i = 0; i < lender->told.guests; i++) free_window(lender, &lender->windows[i]);
     close_file(lender->faults);
     close_file(lender->stop);
     pageshare_free(&lender->machine);

@@ -22,12 +22,14 @@ struct slot {
     uint32_t frame; /* of a lent page, else PAGESHARE_NO_FRAME */
     uint8_t shown;  /* an enum shown */
     bool taken;     /* it was taken back since the last look */
+    bool kept;      /* it may not be lent */
 };
 
 struct window {
     uint32_t guest, pages;
     int fd;      /* the guest's own memory */
     uint8_t *at; /* what the guest sees */
+    bool is_ours; /* the lender made both */
     struct slot *slots;
 };
 
@@ -64,6 +66,9 @@ bool window_watch(const struct lender *lender, const struct window *window, uint
 
 /* Gives the memory of free frames back. Called with the lock, while no window shows a free frame. */
 void frames_trim(struct lender *lender);
+
+/* Takes all lent pages of a run back. Called with the lock. */
+void window_take_back(struct lender *lender, struct window *window, uint32_t first, uint32_t count);
 
 /* The thread that takes pages back, of a lender, until `stop` is written to. */
 void *take_back_thread(void *of);

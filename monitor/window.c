@@ -238,6 +238,13 @@ static void take_back(struct lender *lender, struct window *window, uint32_t fir
     while (!window_watch(lender, window, first, count)) wait_for_memory(lender, "a page's memory can't be watched");
 }
 
+void window_take_back(struct lender *lender, struct window *window, uint32_t first, uint32_t count) {
+    for (uint32_t at = first, length = 1; at < first + count; at += length) {
+        length = run_length(window, at, first + count - at);
+        if (is_lent(window, at)) take_back(lender, window, at, length);
+    }
+}
+
 /* Maps the frames of pages that were lent just now, and guards them. Answers how many; the rest stays private. */
 static uint32_t map_lent(struct lender *lender, struct window *window, uint32_t first, uint32_t count) {
     uint32_t mapped = 0;
@@ -300,7 +307,7 @@ ssize_t window_lend(struct lender *lender, uint32_t guest, uint32_t first, uint3
     while (atomic_load(&lender->waiting) > 0) sched_yield();
     pthread_mutex_lock(&lender->lock);
     uint64_t begun = now_ns();
-    while (length < count && length < LEND_MOST && !is_lent(window, first + length)) length++;
+    while (length < count && length < LEND_MOST && !is_lent(window, first + length) && !window->slots[first + length].kept) length++;
     if (length > 0 && lender->counts.mappings + 2 * length > lender->mappings_most) lender->counts.no_mapping++;
     else if (length > 0) lent = lend_locked(lender, window, first, length);
     if (lent > 0) lender->counts.lent += (uint64_t)lent;
@@ -309,6 +316,14 @@ ssize_t window_lend(struct lender *lender, uint32_t guest, uint32_t first, uint3
     pthread_mutex_unlock(&lender->lock);
     errno = cause;
     return lent;
+}
+
+void window_keep(struct lender *lender, uint32_t guest, uint32_t first, uint32_t count, bool kept) {
+    struct window *window = &lender->windows[guest];
+    pthread_mutex_lock(&lender->lock);
+    if (kept) window_take_back(lender, window, first, count);
+    for (uint32_t i = first; i < first + count; i++) window->slots[i].kept = kept;
+    pthread_mutex_unlock(&lender->lock);
 }
 
 static struct window *window_of(struct lender *lender, uint64_t address) {

@@ -25,11 +25,18 @@ enum { PAGE = PAGESHARE_PAGE_BYTES, LEND_MOST = 64 };
 /* A machine, the file that holds its frames, a window for each guest, and the thread that takes pages back. */
 struct lender;
 
+/* Memory of a guest that the caller has mapped already: a memory file (memfd), shared, from its beginning on. */
+struct guest_memory {
+    int fd;
+    uint8_t *at;
+};
+
 struct lender_config {
     uint32_t frames;
     const uint32_t *pages, *salts; /* of each guest */
     size_t guests;
     uint32_t hash;           /* an enum pageshare_hash_kind */
+    const struct guest_memory *memory; /* of each guest, to become its window; NULL: the lender makes memory for all */
     struct journal *journal; /* what is asked of the machine is written to it until it is full; NULL for none */
     /*
      * Told of trouble, with the cause as an errno, from any thread and perhaps with the lender's lock held: so it calls nothing
@@ -55,7 +62,7 @@ struct lender_counts {
 
 /* Answers NULL, having told why. The tables of a guest's window are zeros: nothing is lent, no page has memory. */
 struct lender *lender_make(const struct lender_config *config);
-/* No guest's processor may run, and no other call. */
+/* No guest's processor may run, and no other call. Memory that was the caller's is as if nothing had been lent. */
 void lender_free(struct lender *lender);
 
 /* The address of a guest's window: what the guest sees, and what a device's emulation reads and writes. */
@@ -72,10 +79,16 @@ enum { PAGE_LENT = 1, PAGE_HELD = 2, PAGE_TAKEN = 4 };
 bool window_look(struct lender *lender, uint32_t guest, uint8_t *room);
 
 /*
- * Lends the private pages of a run, up to the first that is lent already and at most LEND_MOST. Each should have memory of its
- * own. Answers how many were lent, or -1, with errno, where the system refused to guard them: then nothing has changed.
+ * Lends the private pages of a run, up to the first that is lent or kept and at most LEND_MOST. The run lies in the window, and
+ * each page should have memory of its own. Answers how many were lent, or -1, with errno, where the system refused to guard them: then nothing has changed.
  */
 ssize_t window_lend(struct lender *lender, uint32_t guest, uint32_t first, uint32_t count);
+
+/*
+ * Keeps the pages of a run private, for a device that pins them, or no longer. Those that are lent are taken back first, so the
+ * device may pin them when this call has returned.
+ */
+void window_keep(struct lender *lender, uint32_t guest, uint32_t first, uint32_t count, bool kept);
 
 /* Gives the memory of free frames back to the system; to be called once a second or so. */
 void lender_trim(struct lender *lender);
