@@ -5,9 +5,9 @@
 
 LIBRARY is libpageshare.a, by default out/libpageshare.a (`make embed`); a fleet and its stress run for SECONDS each, by default 30.
 All that is built goes to out/monitor. In turn: windows under threads in place of guests, and the same under the address and the
-thread sanitizer; pages taken back when the system has no mapping to spare; two guests of a few instructions; a fleet of three guests; a fleet under stress, two processors a guest; a journal of
-100,000 requests, replayed by `out/pageshare replay` to the same verdicts and report. What the machine has no KVM, no userfaultfd or no
-compiler for is left out, and so said.
+thread sanitizer; pages taken back when the system has no mapping to spare; two guests of a few instructions; a fleet of three guests;
+a fleet under stress, two processors a guest; a journal of 100,000 requests, replayed by `out/pageshare replay` to the same verdicts
+and report. What the machine has no KVM, no userfaultfd or no compiler for is left out, and so said.
 
 With KSM=1 in the environment (as root) the same guests run under the kernel's KSM too, at its own settings and faster ones, and
 without sharing, and a table of all is printed. KSM's settings are put back when this program ends, however it ends. CC names another
@@ -147,14 +147,16 @@ def ksmd():
 def row(name, of):
     share = 100 * of["saved"] / of["bound"]
     return (
-        f"| {name} | {of['mib_before']:.0f}, {of['mib_settled']:.1f}, {of['mib_end']:.1f} | {of['saved']:,} of {of['bound']:,} ({share:.1f} %) "
-        f"| {of['settled_s']:.0f} | {of['processor_s']:.1f} ({of['rounds']}) | {of['ksmd_s']:.2f} | {of['round_ms']:.0f} | {of['write_cycles']:,.0f} |"
+        f"| {name} | {of['mib_before']:.0f}, {of['mib_settled']:.1f}, {of['mib_end']:.1f} "
+        f"| {of['saved']:,} of {of['bound']:,} ({share:.1f} %) | {of['settled_s']:.0f} "
+        f"| {of['processor_s']:.1f} ({of['rounds']}) | {of['ksmd_s']:.2f} | {of['round_ms']:.0f} | {of['write_cycles']:,.0f} |"
     )
 
 
 def compare(fleet, guest, seconds):
     """The same guests under the library, KSM and nothing: one table."""
-    ways = [("plain", "plain", None), ("lend", "lend", None), ("KSM 20 ms x 100", "ksm", (20, 100)), ("KSM 20 ms x 1000", "ksm", (20, 1000))]
+    ways = [("plain", "plain", None), ("lend", "lend", None)]
+    ways += [(f"KSM {sleep} ms x {pages}", "ksm", (sleep, pages)) for sleep, pages in [(20, 100), (20, 1000)]]
     rows = []
     settings = Settings()
     try:
@@ -165,8 +167,9 @@ def compare(fleet, guest, seconds):
             rows.append(row(name, json.loads(path.read_text())))
     finally:
         settings.put_back()
-    print("| | MiB before, settled, end | saved of the bound | settled, s | processor s (rounds) | ksmd s | ms a round | cycles a seldom write |")
-    print("|" + "---|" * 8)
+    heads = ["", "MiB before, settled, end", "saved of the bound", "settled, s", "processor s (rounds)", "ksmd s", "ms a round"]
+    print("| " + " | ".join([*heads, "cycles a seldom write"]) + " |")
+    print("|" + "---|" * (len(heads) + 1))
     print("\n".join(rows))
 
 

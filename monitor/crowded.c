@@ -1,7 +1,7 @@
 /*
- * Memory that the caller has mapped becomes a guest's window. Its pages are lent while the system has mappings to spare, and written
- * to when it has none: a page that is taken back then brings with it the run that it stands in. Pages that are kept aren't lent; and
- * when the lender is freed the caller has its memory back. Prints "crowded: ok" (status 0) or what isn't so (status 1).
+ * Memory that the caller has mapped becomes a guest's window. Its pages are lent while the system has mappings to spare, and
+ * written to when it has none: a page that is taken back then brings with it the run that it stands in. Pages that are kept aren't
+ * lent; and when the lender is freed the caller has its memory back. Prints "crowded: ok" (status 0) or what isn't so (status 1).
  */
 #define _GNU_SOURCE
 #include "trouble.h"
@@ -73,11 +73,13 @@ static void write_crowded(struct lender *lender, uint8_t *ram) {
 
 static void run(struct lender *lender, uint8_t *ram) {
     for (uint32_t i = 0; i < PAGES; i++) memset(ram + (size_t)i * PAGE, byte_of(i), PAGE);
-    for (uint32_t at = 0; at < PAGES; at += LEND_MOST) check(window_lend(lender, 0, at, LEND_MOST) == LEND_MOST, "all pages are lent");
+    for (uint32_t at = 0; at < PAGES; at += LEND_MOST)
+        check(window_lend(lender, 0, at, LEND_MOST) == LEND_MOST, "all pages are lent");
     write_crowded(lender, ram);
     check(window_lend(lender, 0, MIDDLE, 2) == 2, "pages are lent again");
     window_keep(lender, 0, MIDDLE, 1, true);
-    check(window_frame(lender, 0, MIDDLE) == PAGESHARE_NO_FRAME && window_frame(lender, 0, MIDDLE + 1) != PAGESHARE_NO_FRAME, "one is taken back");
+    check(window_frame(lender, 0, MIDDLE) == PAGESHARE_NO_FRAME && window_frame(lender, 0, MIDDLE + 1) != PAGESHARE_NO_FRAME,
+          "one is taken back");
     check(window_lend(lender, 0, MIDDLE, 1) == 0, "a page that is kept isn't lent");
     window_keep(lender, 0, MIDDLE, 1, false);
     check(window_lend(lender, 0, MIDDLE, 1) == 1, "until it is kept no longer");
@@ -90,7 +92,8 @@ int main(void) {
     if (fd < 0 || ftruncate(fd, PAGES * PAGE) < 0) return trouble("memfd_create") ? 0 : 1;
     uint8_t *ram = mmap(NULL, PAGES * PAGE, PROT_READ | PROT_WRITE, MAP_SHARED | MAP_NORESERVE, fd, 0);
     struct guest_memory memory = {fd, ram};
-    struct lender_config config = {.frames = 2 * PAGES, .pages = pages, .salts = salts, .guests = 1, .hash = PAGESHARE_FOLD, .memory = &memory, .tell = tell};
+    struct lender_config config = {
+        .frames = 2 * PAGES, .pages = pages, .salts = salts, .guests = 1, .hash = PAGESHARE_FOLD, .memory = &memory, .tell = tell};
     struct lender *lender = ram != MAP_FAILED ? lender_make(&config) : NULL;
     if (lender == NULL) {
         fputs("a lender can't be made\n", stderr);

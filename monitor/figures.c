@@ -43,10 +43,12 @@ void figures_watch(const struct figures *figures, FILE *to) {
     const struct sample *now = last(figures);
     const struct sample *before = figures->count > 1 ? now - 1 : now;
     double passed = now->at - before->at;
-    fprintf(to, "\r\033[K%5.0f s  %.1f MiB held  %zu pages lent, %" PRIu32 " shared  %.1f MiB reclaimed  %.0f lends/s  %.0f take-backs/s  %" PRIu64 " rounds",
+    fprintf(to,
+            "\r\033[K%5.0f s  %.1f MiB held  %zu pages lent, %" PRIu32
+            " shared  %.1f MiB reclaimed  %.0f lends/s  %.0f take-backs/s  %" PRIu64 " rounds",
             now->at, now->held / MIB, now->counts.lent_now, now->totals.shared, (double)now->saved * PAGE / MIB,
-            ratio((double)(now->counts.lent - before->counts.lent), passed), ratio((double)(now->counts.taken - before->counts.taken), passed),
-            now->rounds);
+            ratio((double)(now->counts.lent - before->counts.lent), passed),
+            ratio((double)(now->counts.taken - before->counts.taken), passed), now->rounds);
     fflush(to);
 }
 
@@ -56,23 +58,29 @@ static void print_lending(const struct figures *figures, FILE *to) {
     double lends = (double)counts->lent, takes = (double)counts->taken;
     fprintf(to, "lends                     %" PRIu64 ", %.1f us each, %.1f of it mapping\n", counts->lent,
             1e-3 * ratio((double)counts->lend_ns, lends), 1e-3 * ratio((double)counts->map_ns, lends));
-    fprintf(to, "take-backs                %" PRIu64 ", %.1f us each, at most %.0f us; %" PRIu64 " stale, %" PRIu64 " overtook a lend\n",
-            counts->taken, 1e-3 * ratio((double)counts->take_ns, takes), 1e-3 * (double)counts->take_most_ns, counts->stale, counts->overtook);
-    fprintf(to, "at the end                %zu pages lent in %" PRIu32 " frames, %zu mappings\n", counts->lent_now, now->totals.frames, counts->mappings);
+    fprintf(to,
+            "take-backs                %" PRIu64 ", %.1f us each, at most %.0f us; %" PRIu64 " stale, %" PRIu64
+            " overtook a lend\n",
+            counts->taken, 1e-3 * ratio((double)counts->take_ns, takes), 1e-3 * (double)counts->take_most_ns, counts->stale,
+            counts->overtook);
+    fprintf(to, "at the end                %zu pages lent in %" PRIu32 " frames, %zu mappings\n", counts->lent_now,
+            now->totals.frames, counts->mappings);
     fprintf(to, "refused, waited           %" PRIu64 " no frame, %" PRIu64 " no mapping; %" PRIu64 " widened, %" PRIu64 " waits\n",
             counts->no_frame, counts->no_mapping, counts->widened, counts->waits);
-    fprintf(to, "processor s of it         %.2f looks and lends, %.2f take-backs\n", figures->scan, 1e-9 * (double)counts->thread_ns);
+    fprintf(to, "processor s of it         %.2f looks and lends, %.2f take-backs\n", figures->scan,
+            1e-9 * (double)counts->thread_ns);
 }
 
 void figures_print(struct figures *figures, FILE *to) {
     const struct sample *now = last(figures), *then = settled(figures);
     fprintf(to, "way                       %s\n", figures->name);
-    fprintf(to, "MiB                       %.1f before, %.1f settled at %.0f s, %.1f at the end\n", most_held(figures) / MIB, then->held / MIB,
-            then->at, now->held / MIB);
-    fprintf(to, "pages saved of the bound  %" PRIu64 " of %zu (%.1f %%); %zu pages, %zu distinct\n", now->saved, can_be_saved(figures),
-            100 * ratio((double)now->saved, (double)can_be_saved(figures)), figures->bound.pages, figures->bound.distinct);
-    fprintf(to, "rounds                    %" PRIu64 ", %.1f ms of a processor each (in %.1f ms); %" PRIu64 " wrong\n", now->rounds, figures->round_ms,
-            figures->round_wall_ms, figures->wrong);
+    fprintf(to, "MiB                       %.1f before, %.1f settled at %.0f s, %.1f at the end\n", most_held(figures) / MIB,
+            then->held / MIB, then->at, now->held / MIB);
+    fprintf(to, "pages saved of the bound  %" PRIu64 " of %zu (%.1f %%); %zu pages, %zu distinct\n", now->saved,
+            can_be_saved(figures), 100 * ratio((double)now->saved, (double)can_be_saved(figures)), figures->bound.pages,
+            figures->bound.distinct);
+    fprintf(to, "rounds                    %" PRIu64 ", %.1f ms of a processor each (in %.1f ms); %" PRIu64 " wrong\n", now->rounds,
+            figures->round_ms, figures->round_wall_ms, figures->wrong);
     fprintf(to, "a seldom write            %.0f cycles\n", figures->write_cycles);
     fprintf(to, "processor s               %.1f, and %.2f of ksmd\n", now->processor, now->helper);
     fprintf(to, "page tables, KiB          %.0f\n", figures->table_bytes / 1024);
@@ -92,17 +100,25 @@ bool figures_json(struct figures *figures, const char *path) {
     const struct lender_counts *counts = &now->counts;
     FILE *file = fopen(path, "w");
     if (file == NULL) return false;
-    fprintf(file, "{\"way\": \"%s\", \"mib_before\": %.1f, \"mib_settled\": %.1f, \"settled_s\": %.0f, \"mib_end\": %.1f,\n", figures->name,
-            most_held(figures) / MIB, then->held / MIB, then->at, now->held / MIB);
-    fprintf(file, " \"saved\": %" PRIu64 ", \"bound\": %zu, \"pages\": %zu, \"distinct\": %zu, \"rounds\": %" PRIu64 ", \"round_ms\": %.2f,\n",
+    fprintf(file, "{\"way\": \"%s\", \"mib_before\": %.1f, \"mib_settled\": %.1f, \"settled_s\": %.0f, \"mib_end\": %.1f,\n",
+            figures->name, most_held(figures) / MIB, then->held / MIB, then->at, now->held / MIB);
+    fprintf(file,
+            " \"saved\": %" PRIu64 ", \"bound\": %zu, \"pages\": %zu, \"distinct\": %zu, \"rounds\": %" PRIu64
+            ", \"round_ms\": %.2f,\n",
             now->saved, can_be_saved(figures), figures->bound.pages, figures->bound.distinct, now->rounds, figures->round_ms);
     fprintf(file, " \"round_wall_ms\": %.2f,\n", figures->round_wall_ms);
-    fprintf(file, " \"wrong\": %" PRIu64 ", \"write_cycles\": %.0f, \"processor_s\": %.2f, \"ksmd_s\": %.2f, \"table_bytes\": %.0f,\n", figures->wrong,
-            figures->write_cycles, now->processor, now->helper, figures->table_bytes);
-    fprintf(file, " \"lends\": %" PRIu64 ", \"lend_us\": %.2f, \"map_us\": %.2f, \"takes\": %" PRIu64 ", \"take_us\": %.2f, \"take_most_us\": %.0f,\n",
-            counts->lent, 1e-3 * ratio((double)counts->lend_ns, (double)counts->lent), 1e-3 * ratio((double)counts->map_ns, (double)counts->lent),
-            counts->taken, 1e-3 * ratio((double)counts->take_ns, (double)counts->taken), 1e-3 * (double)counts->take_most_ns);
-    fprintf(file, " \"lent\": %zu, \"frames\": %" PRIu32 ", \"shared\": %" PRIu32 ", \"mappings\": %zu, \"scan_s\": %.2f, \"requests\": %" PRId64 ",\n",
+    fprintf(file,
+            " \"wrong\": %" PRIu64 ", \"write_cycles\": %.0f, \"processor_s\": %.2f, \"ksmd_s\": %.2f, \"table_bytes\": %.0f,\n",
+            figures->wrong, figures->write_cycles, now->processor, now->helper, figures->table_bytes);
+    fprintf(file,
+            " \"lends\": %" PRIu64 ", \"lend_us\": %.2f, \"map_us\": %.2f, \"takes\": %" PRIu64
+            ", \"take_us\": %.2f, \"take_most_us\": %.0f,\n",
+            counts->lent, 1e-3 * ratio((double)counts->lend_ns, (double)counts->lent),
+            1e-3 * ratio((double)counts->map_ns, (double)counts->lent), counts->taken,
+            1e-3 * ratio((double)counts->take_ns, (double)counts->taken), 1e-3 * (double)counts->take_most_ns);
+    fprintf(file,
+            " \"lent\": %zu, \"frames\": %" PRIu32 ", \"shared\": %" PRIu32
+            ", \"mappings\": %zu, \"scan_s\": %.2f, \"requests\": %" PRId64 ",\n",
             counts->lent_now, now->totals.frames, now->totals.shared, counts->mappings, figures->scan, figures->requests);
     fprintf(file, " \"samples\": [");
     for (size_t i = 0; i < figures->count; i++)
@@ -128,11 +144,12 @@ static void draw_axes(const struct figures *figures, FILE *file, double most) {
     double seconds = last(figures)->at, step = nice_step(most / MIB, 6), second = nice_step(seconds, 8);
     for (double mib = 0; mib * MIB <= most; mib += step) {
         double y = y_of(mib * MIB, most);
-        fprintf(file, "<path d=\"M%d %.1fH%d\" stroke=\"#ddd\"/><text x=\"%d\" y=\"%.1f\" text-anchor=\"end\">%.0f</text>\n", LEFT, y, WIDTH - RIGHT,
-                LEFT - 6, y + 4, mib);
+        fprintf(file, "<path d=\"M%d %.1fH%d\" stroke=\"#ddd\"/><text x=\"%d\" y=\"%.1f\" text-anchor=\"end\">%.0f</text>\n", LEFT,
+                y, WIDTH - RIGHT, LEFT - 6, y + 4, mib);
     }
     for (double at = 0; at <= seconds; at += second)
-        fprintf(file, "<text x=\"%.1f\" y=\"%d\" text-anchor=\"middle\">%.0f</text>\n", x_of(figures, at), HEIGHT - BOTTOM + 18, at);
+        fprintf(file, "<text x=\"%.1f\" y=\"%d\" text-anchor=\"middle\">%.0f</text>\n", x_of(figures, at), HEIGHT - BOTTOM + 18,
+                at);
     fprintf(file, "<text x=\"%d\" y=\"%d\" text-anchor=\"end\">seconds</text>\n", WIDTH - RIGHT, HEIGHT - 6);
 }
 
@@ -140,15 +157,21 @@ bool figures_svg(const struct figures *figures, const char *path) {
     double most = most_held(figures), bound = (double)figures->bound.distinct * PAGE;
     FILE *file = fopen(path, "w");
     if (file == NULL) return false;
-    fprintf(file, "<svg xmlns=\"http://www.w3.org/2000/svg\" width=\"%d\" height=\"%d\" font-family=\"sans-serif\" font-size=\"12\">\n", WIDTH, HEIGHT);
-    fprintf(file, "<rect width=\"%d\" height=\"%d\" fill=\"white\"/>\n<text x=\"%d\" y=\"20\" font-size=\"14\">MiB held for the guests' pages (%s)</text>\n",
-            WIDTH, HEIGHT, LEFT, figures->name);
+    fprintf(file,
+            "<svg xmlns=\"http://www.w3.org/2000/svg\" width=\"%d\" height=\"%d\" font-family=\"sans-serif\" font-size=\"12\">\n",
+            WIDTH, HEIGHT);
+    fprintf(
+        file,
+        "<rect width=\"%d\" height=\"%d\" fill=\"white\"/>\n<text x=\"%d\" y=\"20\" font-size=\"14\">MiB held for the guests' pages (%s)</text>\n",
+        WIDTH, HEIGHT, LEFT, figures->name);
     draw_axes(figures, file, most);
-    fprintf(file, "<path d=\"M%d %.1fH%d\" stroke=\"#c0392b\" stroke-dasharray=\"6 4\"/>\n", LEFT, y_of(bound, most), WIDTH - RIGHT);
-    fprintf(file, "<text x=\"%d\" y=\"%.1f\" text-anchor=\"end\" fill=\"#c0392b\">distinct pages at the end: %.1f MiB</text>\n", WIDTH - RIGHT,
-            y_of(bound, most) + 16, bound / MIB);
+    fprintf(file, "<path d=\"M%d %.1fH%d\" stroke=\"#c0392b\" stroke-dasharray=\"6 4\"/>\n", LEFT, y_of(bound, most),
+            WIDTH - RIGHT);
+    fprintf(file, "<text x=\"%d\" y=\"%.1f\" text-anchor=\"end\" fill=\"#c0392b\">distinct pages at the end: %.1f MiB</text>\n",
+            WIDTH - RIGHT, y_of(bound, most) + 16, bound / MIB);
     fprintf(file, "<path fill=\"none\" stroke=\"#1f5fa8\" stroke-width=\"2\" d=\"");
     for (size_t i = 0; i < figures->count; i++)
-        fprintf(file, "%c%.1f %.1f", i == 0 ? 'M' : 'L', x_of(figures, figures->samples[i].at), y_of(figures->samples[i].held, most));
+        fprintf(file, "%c%.1f %.1f", i == 0 ? 'M' : 'L', x_of(figures, figures->samples[i].at),
+                y_of(figures->samples[i].held, most));
     return closed(file, fputs("\"/>\n</svg>\n", file));
 }

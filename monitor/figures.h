@@ -14,7 +14,7 @@ struct sample {
     double at;   /* seconds since the guests began */
     double held; /* bytes that the system holds for the guests' pages */
     uint64_t rounds;
-    uint64_t saved; /* pages that share a frame with others, less those frames */
+    uint64_t saved;           /* pages that share a frame with others, less those frames */
     double processor, helper; /* processor seconds of this process, and of the kernel's ksmd */
     struct pageshare_totals totals;
     struct lender_counts counts;
@@ -24,13 +24,13 @@ struct figures {
     const char *name; /* of the way of sharing */
     size_t count, most;
     struct sample *samples;
-    struct counted bound;  /* of all pages that the guests have at the end */
-    uint64_t wrong;        /* words that the guests found wrong */
+    struct counted bound;           /* of all pages that the guests have at the end */
+    uint64_t wrong;                 /* words that the guests found wrong */
     double round_ms, round_wall_ms; /* of a guest's round in the second half of the run, mean: processor time, and time */
-    double write_cycles;   /* of a write to a seldom written page, the same */
-    double scan;           /* processor seconds for looks and lends */
-    double table_bytes;    /* page tables of this process */
-    int64_t requests;      /* of the journal; 0 for none */
+    double write_cycles;            /* of a write to a seldom written page, the same */
+    double scan;                    /* processor seconds for looks and lends */
+    double table_bytes;             /* page tables of this process */
+    int64_t requests;               /* of the journal; 0 for none */
 };
 
 bool figures_make(struct figures *figures, size_t most);

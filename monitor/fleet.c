@@ -4,11 +4,11 @@
  *     fleet [--guests N] [--mib N] [--seconds N] [--processors N] [--rest HUNDREDTHS] [--round MILLISECONDS] [--way lend|plain|ksm]
  *           [--idle look|log] [--slice PAGES] [--journal FILE [--requests N]] [--json FILE] [--svg FILE] [--watch] PROGRAM
  *
- * PROGRAM is the guest of guest.c, which checks its memory. Pages that weren't written lately are lent (`lend`), at most so many of a
- * guest every 10 ms (0: they are looked at alone), or left to the kernel's KSM (`ksm`), or nothing is done (`plain`). Prints a table at the end. The status is 0 where
- * every processor ran to the end and saw no wrong word, 1 where not, 2 for a bad command line. With --journal, what was asked of the
- * machine is written to FILE, and to FILE.replay the lines that `pageshare replay` must print; when so many requests are written, and
- * after 10 s at least, the run ends.
+ * PROGRAM is the guest of guest.c, which checks its memory. Pages that weren't written lately are lent (`lend`), at most so many of
+ * a guest every 10 ms (0: they are looked at alone), or left to the kernel's KSM (`ksm`), or nothing is done (`plain`). Prints a
+ * table at the end. The status is 0 where every processor ran to the end and saw no wrong word, 1 where not, 2 for a bad command
+ * line. With --journal, what was asked of the machine is written to FILE, and to FILE.replay the lines that `pageshare replay` must
+ * print; when so many requests are written, and after 10 s at least, the run ends.
  */
 #define _GNU_SOURCE
 #include "count.h"
@@ -38,7 +38,7 @@ static const char *const WAYS[] = {"lend", "plain", "ksm"};
 struct voice {
     char line[128];
     size_t length;
-    uint64_t rounds, wrong, last_ns, spent_ns; /* the last two at the last round's end; spent: of processor time */
+    uint64_t rounds, wrong, last_ns, spent_ns;  /* the last two at the last round's end; spent: of processor time */
     uint64_t late, cycles, kilocycles, cost_ns; /* rounds from half time on, and sums over these */
 };
 
@@ -115,7 +115,8 @@ static bool wrote(struct processor *processor, uint16_t port, uint8_t byte) {
     if (port == PORT_TEXT + processor->number) hear(vm->of, processor->number, (char)byte);
     if (port != PORT_REST) return true;
     struct timespec left = {byte / 100, byte % 100 * 10000000L};
-    while (!atomic_load(&vm->stop) && nanosleep(&left, &left) < 0 && errno == EINTR) {}
+    while (!atomic_load(&vm->stop) && nanosleep(&left, &left) < 0 && errno == EINTR) {
+    }
     return true;
 }
 
@@ -236,7 +237,8 @@ static bool make_guest(struct fleet *fleet, unsigned number) {
     guest->lock = (pthread_mutex_t)PTHREAD_MUTEX_INITIALIZER;
     guest->shown = calloc(pages, 1);
     guest->written = calloc((pages + 63) / 64, sizeof *guest->written);
-    if (guest->shown == NULL || guest->written == NULL || !idle_make(&guest->idle, pages)) return trouble("memory for a guest's looks");
+    if (guest->shown == NULL || guest->written == NULL || !idle_make(&guest->idle, pages))
+        return trouble("memory for a guest's looks");
     guest->ram = fleet->way == WAY_LEND ? window_at(fleet->lender, number) : plain_memory(fleet);
     if (guest->ram == NULL) return trouble("memory for a guest");
     guest->vm.number = number;
@@ -303,7 +305,8 @@ static bool count_bound(struct fleet *fleet) {
     if (list == NULL) return trouble("memory for a count");
     for (unsigned i = 0; i < fleet->guests; i++) {
         struct guest *guest = &fleet->guest[i];
-        bool told = fleet->way == WAY_LEND ? window_look(fleet->lender, i, guest->shown) : mincore(guest->ram, (size_t)pages * PAGE, guest->shown) == 0;
+        bool told = fleet->way == WAY_LEND ? window_look(fleet->lender, i, guest->shown)
+                                           : mincore(guest->ram, (size_t)pages * PAGE, guest->shown) == 0;
         if (!told) trouble("mincore");
         for (uint32_t page = 0; told && page < pages; page++) {
             uint8_t has = fleet->way == WAY_LEND ? PAGE_LENT | PAGE_HELD : 1;
@@ -410,10 +413,11 @@ static bool set_option(struct fleet *fleet, int option) {
 }
 
 static bool read_options(struct fleet *fleet, int count, char **words) {
-    static const struct option options[] = {
-        {"guests", 1, NULL, 'g'},  {"mib", 1, NULL, 'm'},      {"seconds", 1, NULL, 's'}, {"processors", 1, NULL, 'p'}, {"rest", 1, NULL, 'r'},
-        {"round", 1, NULL, 'o'},   {"requests", 1, NULL, 'q'}, {"way", 1, NULL, 'w'},     {"idle", 1, NULL, 'i'},       {"journal", 1, NULL, 'j'},
-        {"json", 1, NULL, 'J'},    {"svg", 1, NULL, 'S'},      {"watch", 0, NULL, 'W'},   {"slice", 1, NULL, 'l'},      {NULL, 0, NULL, 0}};
+    static const struct option options[] = {{"guests", 1, NULL, 'g'},     {"mib", 1, NULL, 'm'},   {"seconds", 1, NULL, 's'},
+                                            {"processors", 1, NULL, 'p'}, {"rest", 1, NULL, 'r'},  {"round", 1, NULL, 'o'},
+                                            {"requests", 1, NULL, 'q'},   {"way", 1, NULL, 'w'},   {"idle", 1, NULL, 'i'},
+                                            {"journal", 1, NULL, 'j'},    {"json", 1, NULL, 'J'},  {"svg", 1, NULL, 'S'},
+                                            {"watch", 0, NULL, 'W'},      {"slice", 1, NULL, 'l'}, {NULL, 0, NULL, 0}};
     int option;
     while ((option = getopt_long(count, words, "", options, NULL)) != -1)
         if (!set_option(fleet, option)) return false;
@@ -423,7 +427,8 @@ static bool read_options(struct fleet *fleet, int count, char **words) {
 }
 
 int main(int count, char **words) {
-    static struct fleet fleet = {.guests = 3, .mib = 128, .seconds = 30, .processors = 1, .rest = 50, .round_ms = 1000, .slice = 512, .requests = 100000};
+    static struct fleet fleet = {
+        .guests = 3, .mib = 128, .seconds = 30, .processors = 1, .rest = 50, .round_ms = 1000, .slice = 512, .requests = 100000};
     for (unsigned i = 0; i < GUESTS; i++) fleet.guest[i].vm.kvm = fleet.guest[i].vm.fd = -1;
     if (!read_options(&fleet, count, words)) {
         fputs("fleet: bad command line; fleet.c has its form at its head\n", stderr);

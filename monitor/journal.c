@@ -20,10 +20,10 @@ struct journal {
     atomic_bool ended; /* another thread may ask */
 };
 
-static const char *const WORDS[] = {
-    [PAGESHARE_VERDICT_NO_PAGE] = "no-page",   [PAGESHARE_VERDICT_UNMAPPED] = "unmapped", [PAGESHARE_VERDICT_ALREADY] = "already",
-    [PAGESHARE_VERDICT_PAIRED] = "paired",     [PAGESHARE_VERDICT_HINTED] = "hinted",     [PAGESHARE_VERDICT_KEPT] = "kept",
-    [PAGESHARE_VERDICT_REPLACED] = "replaced", [PAGESHARE_VERDICT_INELIGIBLE] = "ineligible"};
+static const char *const WORDS[] = {[PAGESHARE_VERDICT_NO_PAGE] = "no-page",   [PAGESHARE_VERDICT_UNMAPPED] = "unmapped",
+                                    [PAGESHARE_VERDICT_ALREADY] = "already",   [PAGESHARE_VERDICT_PAIRED] = "paired",
+                                    [PAGESHARE_VERDICT_HINTED] = "hinted",     [PAGESHARE_VERDICT_KEPT] = "kept",
+                                    [PAGESHARE_VERDICT_REPLACED] = "replaced", [PAGESHARE_VERDICT_INELIGIBLE] = "ineligible"};
 
 struct journal *journal_open(const char *path, uint32_t most) {
     char *beside;
@@ -91,8 +91,7 @@ void journal_lend(struct journal *journal, uint32_t guest, uint32_t ppn, const u
     asked(journal, fprintf(journal->text, "%" PRIu32 " propose %" PRIu32 "\n", guest, ppn));
     if (answer.verdict == PAGESHARE_VERDICT_JOINED)
         wrote(journal, fprintf(journal->replay, "%" PRIu32 " joined %" PRIu32 "\n", guest, answer.count));
-    else
-        wrote(journal, fprintf(journal->replay, "%" PRIu32 " %s\n", guest, WORDS[answer.verdict]));
+    else wrote(journal, fprintf(journal->replay, "%" PRIu32 " %s\n", guest, WORDS[answer.verdict]));
 }
 
 void journal_load(struct journal *journal, uint32_t guest, uint32_t ppn, uint32_t at, const uint8_t bytes[PAGESHARE_MAX_ACCESS]) {

@@ -141,7 +141,8 @@ static void free_window(struct lender *lender, struct window *window) {
 void lender_free(struct lender *lender) {
     uint64_t one = 1;
     if (lender->has_thread) {
-        while (write(lender->stop, &one, sizeof one) < 0 && errno == EINTR) {}
+        while (write(lender->stop, &one, sizeof one) < 0 && errno == EINTR) {
+        }
         pthread_join(lender->thread, NULL);
     }
     for (size_t i = 0; i < lender->told.guests; i++) free_window(lender, &lender->windows[i]);

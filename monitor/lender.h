@@ -27,8 +27,8 @@ struct slot {
 
 struct window {
     uint32_t guest, pages;
-    int fd;      /* the guest's own memory */
-    uint8_t *at; /* what the guest sees */
+    int fd;       /* the guest's own memory */
+    uint8_t *at;  /* what the guest sees */
     bool is_ours; /* the lender made both */
     struct slot *slots;
 };

@@ -112,7 +112,8 @@ static uint64_t end(uint64_t *writes) {
 
 int main(int count, char **words) {
     const uint32_t pages[GUESTS] = {PAGES, PAGES}, salts[GUESTS] = {0};
-    struct lender_config config = {.frames = FRAMES, .pages = pages, .salts = salts, .guests = GUESTS, .hash = PAGESHARE_FOLD, .tell = tell};
+    struct lender_config config = {
+        .frames = FRAMES, .pages = pages, .salts = salts, .guests = GUESTS, .hash = PAGESHARE_FOLD, .tell = tell};
     struct pageshare_totals totals;
     struct lender_counts counts;
     uint64_t writes = 0;
@@ -121,8 +122,8 @@ int main(int count, char **words) {
     bool right = start() && lend(count > 1 ? (unsigned)strtoul(words[1], NULL, 10) : 5);
     right = end(&writes) == 0 && right;
     lender_report(lender, &totals, &counts);
-    printf("%" PRIu64 " writes, %" PRIu64 " lends, %" PRIu64 " take-backs, %" PRIu64 " stale, %" PRIu64 " overtook a lend\n", writes, counts.lent,
-           counts.taken, counts.stale, counts.overtook);
+    printf("%" PRIu64 " writes, %" PRIu64 " lends, %" PRIu64 " take-backs, %" PRIu64 " stale, %" PRIu64 " overtook a lend\n",
+           writes, counts.lent, counts.taken, counts.stale, counts.overtook);
     right = right && counts.lent > 0 && counts.taken > 0;
     lender_free(lender);
     puts(right ? "threads: ok" : "threads: WRONG");

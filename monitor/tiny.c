@@ -81,7 +81,8 @@ static bool has(uint32_t mapped, uint32_t shared, uint32_t frames, uint64_t take
     struct pageshare_totals totals;
     struct lender_counts counts;
     lender_report(lender, &totals, &counts);
-    return totals.mapped == mapped && counts.lent_now == mapped && totals.shared == shared && totals.frames == frames && counts.taken == taken;
+    return totals.mapped == mapped && counts.lent_now == mapped && totals.shared == shared && totals.frames == frames &&
+           counts.taken == taken;
 }
 
 static void check_lent(void) {
@@ -116,7 +117,8 @@ static void check_taken(void) {
 
 int main(void) {
     const uint32_t pages[GUESTS] = {PAGES, PAGES}, salts[GUESTS] = {0};
-    struct lender_config config = {.frames = FRAMES, .pages = pages, .salts = salts, .guests = GUESTS, .hash = PAGESHARE_FOLD, .tell = tell};
+    struct lender_config config = {
+        .frames = FRAMES, .pages = pages, .salts = salts, .guests = GUESTS, .hash = PAGESHARE_FOLD, .tell = tell};
     lender = lender_make(&config);
     if (lender == NULL) return 1;
     bool made = true;

@@ -89,16 +89,18 @@ bool vm_set_real(struct vm *vm, uint16_t at) {
 static bool set_user(struct processor *processor, uint64_t entry) {
     struct kvm_sregs system;
     if (ioctl(processor->fd, KVM_GET_SREGS, &system) < 0) return trouble("KVM_GET_SREGS");
-    struct kvm_segment code = {.limit = 0xffffffff, .selector = USER_CODE_SELECTOR, .type = 11, .present = 1, .dpl = 3, .s = 1, .l = 1, .g = 1};
-    struct kvm_segment data = {.limit = 0xffffffff, .selector = USER_DATA_SELECTOR, .type = 3, .present = 1, .dpl = 3, .db = 1, .s = 1, .g = 1};
+    struct kvm_segment code = {
+        .limit = 0xffffffff, .selector = USER_CODE_SELECTOR, .type = 11, .present = 1, .dpl = 3, .s = 1, .l = 1, .g = 1};
+    struct kvm_segment data = {
+        .limit = 0xffffffff, .selector = USER_DATA_SELECTOR, .type = 3, .present = 1, .dpl = 3, .db = 1, .s = 1, .g = 1};
     system.cs = code;
     system.ds = system.es = system.ss = system.fs = system.gs = data;
     system.gdt.base = GUEST_GDT;
     system.gdt.limit = USER_DATA_SELECTOR | 7;
     system.cr3 = GUEST_TABLES;
-    system.cr4 = 1u << 5;                         /* physical address extension */
+    system.cr4 = 1u << 5;                           /* physical address extension */
     system.cr0 = 1u << 31 | 1u << 16 | 1u << 4 | 1; /* paging, write protection, the extension type, protection */
-    system.efer = 1u << 10 | 1u << 8;             /* long mode, active and enabled */
+    system.efer = 1u << 10 | 1u << 8;               /* long mode, active and enabled */
     struct kvm_regs regs = {.rip = entry, .rflags = FLAGS | IOPL_3, .rdi = processor->number};
     regs.rsp = GUEST_STACKS + (uint64_t)(processor->number + 1) * GUEST_STACK_BYTES - 8;
     return set_registers(processor, &system, &regs);
@@ -181,7 +183,8 @@ static bool serve_port(struct processor *processor) {
 }
 
 static enum vm_end failed(const struct processor *processor, const char *what) {
-    fprintf(stderr, "guest %u, processor %u: %s, exit %u\n", processor->vm->number, processor->number, what, processor->run->exit_reason);
+    fprintf(stderr, "guest %u, processor %u: %s, exit %u\n", processor->vm->number, processor->number, what,
+            processor->run->exit_reason);
     return VM_FAILED;
 }
 
@@ -195,10 +198,8 @@ static enum vm_end run(struct processor *processor) {
         case KVM_EXIT_IO:
             if (!serve_port(processor)) return VM_HALTED;
             break;
-        case KVM_EXIT_HLT:
-            return VM_HALTED;
-        default:
-            return failed(processor, "it can't go on");
+        case KVM_EXIT_HLT: return VM_HALTED;
+        default: return failed(processor, "it can't go on");
         }
     }
     return VM_STOPPED;

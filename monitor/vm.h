@@ -42,8 +42,8 @@ struct vm {
 };
 
 /*
- * Makes a machine of 1 to VM_PROCESSORS processors whose memory is `ram`. `logged`: vm_written will be called. Answers false, having
- * told why; then vm_free frees what was made. `number`, `wrote` and `of` are the caller's to set.
+ * Makes a machine of 1 to VM_PROCESSORS processors whose memory is `ram`. `logged`: vm_written will be called. Answers false,
+ * having told why; then vm_free frees what was made. `number`, `wrote` and `of` are the caller's to set.
  */
 bool vm_make(struct vm *vm, uint8_t *ram, size_t bytes, unsigned processors, bool logged);
 void vm_free(struct vm *vm);

@@ -44,17 +44,12 @@ static bool map_run(const struct lender *lender, const struct window *window, ui
     int fd = NO_FD, kind = MAP_FIXED | MAP_NORESERVE;
     uint32_t from = 0;
     switch (window->slots[first].shown) {
-    case SHOWN_OWN:
-        fd = window->fd, from = first, kind |= MAP_SHARED;
-        break;
-    case SHOWN_FRAME:
-        fd = lender->frames_fd, from = window->slots[first].frame, kind |= MAP_PRIVATE;
-        break;
-    case SHOWN_ZEROS:
-        kind |= MAP_PRIVATE | MAP_ANONYMOUS;
-        break;
+    case SHOWN_OWN: fd = window->fd, from = first, kind |= MAP_SHARED; break;
+    case SHOWN_FRAME: fd = lender->frames_fd, from = window->slots[first].frame, kind |= MAP_PRIVATE; break;
+    case SHOWN_ZEROS: kind |= MAP_PRIVATE | MAP_ANONYMOUS; break;
     }
-    return mmap(window->at + bytes_of(first), bytes_of(count), PROT_READ | PROT_WRITE, kind, fd, (off_t)bytes_of(from)) != MAP_FAILED;
+    return mmap(window->at + bytes_of(first), bytes_of(count), PROT_READ | PROT_WRITE, kind, fd, (off_t)bytes_of(from)) !=
+           MAP_FAILED;
 }
 
 static struct uffdio_range range_of(const struct window *window, uint32_t first, uint32_t count) {
@@ -67,7 +62,8 @@ bool window_watch(const struct lender *lender, const struct window *window, uint
 }
 
 static bool set_guard(const struct lender *lender, const struct window *window, uint32_t first, uint32_t count, bool guarded) {
-    struct uffdio_writeprotect protect = {.range = range_of(window, first, count), .mode = guarded ? UFFDIO_WRITEPROTECT_MODE_WP : 0};
+    struct uffdio_writeprotect protect = {.range = range_of(window, first, count),
+                                          .mode = guarded ? UFFDIO_WRITEPROTECT_MODE_WP : 0};
     int status;
     do status = ioctl(lender->faults, UFFDIO_WRITEPROTECT, &protect);
     while (status < 0 && errno == EAGAIN);
@@ -103,7 +99,7 @@ static void wait_for_memory(struct lender *lender, const char *what) {
 /* Notes what the window is to show of a page from now on. */
 static void note(struct lender *lender, struct window *window, uint32_t ppn, enum shown shown, uint32_t frame) {
     lender->counts.mappings -= seams(window, ppn, 1);
-    window->slots[ppn].shown = shown;
+    window->slots[ppn].shown = (uint8_t)shown;
     window->slots[ppn].frame = frame;
     lender->counts.mappings += seams(window, ppn, 1);
     if (shown == SHOWN_OWN) lender->counts.lent_now--;
@@ -129,16 +125,13 @@ static void count_asked(struct lender *lender, uint32_t requests) {
 static bool is_lend(const struct lender *lender, struct pageshare_answer answer) {
     if (answer.status != PAGESHARE_OK) return false;
     switch (answer.verdict) {
-    case PAGESHARE_VERDICT_NO_FRAME:
-        return answer.frame == PAGESHARE_NO_FRAME;
+    case PAGESHARE_VERDICT_NO_FRAME: return answer.frame == PAGESHARE_NO_FRAME;
     case PAGESHARE_VERDICT_JOINED:
     case PAGESHARE_VERDICT_PAIRED:
     case PAGESHARE_VERDICT_HINTED:
     case PAGESHARE_VERDICT_REPLACED:
-    case PAGESHARE_VERDICT_INELIGIBLE:
-        return answer.frame < lender->told.frames;
-    default:
-        return false;
+    case PAGESHARE_VERDICT_INELIGIBLE: return answer.frame < lender->told.frames;
+    default: return false;
     }
 }
 
@@ -192,10 +185,11 @@ static void release(struct lender *lender, struct window *window, uint32_t ppn, 
 
 /* Writes a page into the guest's own memory, which the window doesn't show at this place. */
 static void put_own(struct lender *lender, const struct window *window, uint32_t ppn, const uint8_t *bytes) {
-    ssize_t written = 0;
-    for (size_t done = 0; done < PAGE; done += written > 0 ? (size_t)written : 0) {
-        written = pwrite(window->fd, bytes + done, PAGE - done, (off_t)(bytes_of(ppn) + done));
-        if (written < 0 && errno != EINTR) wait_for_memory(lender, "no memory for a page that is to be taken back");
+    size_t done = 0;
+    while (done < PAGE) {
+        ssize_t written = pwrite(window->fd, bytes + done, PAGE - done, (off_t)(bytes_of(ppn) + done));
+        if (written > 0) done += (size_t)written;
+        else if (written == 0 || errno != EINTR) wait_for_memory(lender, "no memory for a page that is to be taken back");
     }
 }
 
@@ -209,8 +203,8 @@ static void fetch(struct lender *lender, struct window *window, uint32_t first, 
 }
 
 /*
- * Widens pages to be mapped anew to whole mappings of the system, since to cut one in two takes one more: the lent pages that stand in
- * one mapping before and behind these are taken out of the machine, too, and then all private pages around are mapped with them.
+ * Widens pages to be mapped anew to whole mappings of the system, since to cut one in two takes one more: the lent pages that stand
+ * in one mapping before and behind these are taken out of the machine, too, and then all private pages around are mapped with them.
  */
 static void widen(struct lender *lender, struct window *window, uint32_t *first, uint32_t *count) {
     uint32_t low = *first, end = *first + *count, high = end;
@@ -225,17 +219,22 @@ static void widen(struct lender *lender, struct window *window, uint32_t *first,
     *count = high - low;
 }
 
-/*
- * Makes lent pages private. Their bytes stand in the guest's own memory before the window maps it. Until then the window shows
- * their frames, which stay as they are, free or not, since the lock is held: no frame may be taken or trimmed meanwhile.
- */
-static void take_back(struct lender *lender, struct window *window, uint32_t first, uint32_t count) {
-    fetch(lender, window, first, count);
+/* Shows the guest's own memory of these pages, which have left the machine. */
+static void show_own(struct lender *lender, struct window *window, uint32_t first, uint32_t count) {
     while (!map_run(lender, window, first, count)) {
         wait_for_memory(lender, "no mapping for a page that is to be taken back");
         widen(lender, window, &first, &count);
     }
     while (!window_watch(lender, window, first, count)) wait_for_memory(lender, "a page's memory can't be watched");
+}
+
+/*
+ * Makes lent pages private. Their bytes stand in the guest's own memory before the window shows it. Until then the window shows
+ * their frames, which stay as they are, free or not, since the lock is held: no frame may be taken or trimmed meanwhile.
+ */
+static void take_back(struct lender *lender, struct window *window, uint32_t first, uint32_t count) {
+    fetch(lender, window, first, count);
+    show_own(lender, window, first, count);
 }
 
 void window_take_back(struct lender *lender, struct window *window, uint32_t first, uint32_t count) {
@@ -245,41 +244,46 @@ void window_take_back(struct lender *lender, struct window *window, uint32_t fir
     }
 }
 
-/* Maps the frames of pages that were lent just now, and guards them. Answers how many; the rest stays private. */
-static uint32_t map_lent(struct lender *lender, struct window *window, uint32_t first, uint32_t count) {
-    uint32_t mapped = 0;
-    while (mapped < count) {
-        uint32_t length = run_length(window, first + mapped, count - mapped);
-        if (!map_run(lender, window, first + mapped, length)) {
-            tell(lender, "no mapping for a page that is to be lent");
-            take_back(lender, window, first + mapped, count - mapped);
-            break;
-        }
-        mapped += length;
+/* Shows the frames of pages that were lent just now, and guards them. Answers how many; of the rest the window shows own memory. */
+static uint32_t show_lent(struct lender *lender, struct window *window, uint32_t first, uint32_t count) {
+    uint32_t mapped = 0, length = 0;
+    for (; mapped < count; mapped += length) {
+        length = run_length(window, first + mapped, count - mapped);
+        if (map_run(lender, window, first + mapped, length)) continue;
+        tell(lender, "no mapping for a page that is to be lent");
+        break;
     }
     while (mapped > 0 && !guard(lender, window, first, mapped)) wait_for_memory(lender, "lent pages can't be guarded");
     return mapped;
 }
 
 /*
- * A write between a page's mapping and its guard went to a private copy of the frame, or of zeros. So once it is guarded the window must show
- * what was lent; where it shows another text, that is the page's, and the page is private again.
+ * A write between a page's mapping and its guard went to a private copy of the frame, or of zeros. So once pages are guarded, the
+ * window must show what was lent. Where it shows another text, that is the page's, and the page is private again. All pages are
+ * looked at before one is mapped, since that may bring others with it.
  */
-static void keep_overtaking(struct lender *lender, struct window *window, uint32_t ppn) {
+static void keep_overtaking(struct lender *lender, struct window *window, uint32_t first, uint32_t count) {
     uint8_t room[PAGE];
-    const uint8_t *seen = window->at + bytes_of(ppn);
-    if (memcmp(seen, lender->frames_at + bytes_of(window->slots[ppn].frame), PAGE) == 0) return;
-    release(lender, window, ppn, room);
-    put_own(lender, window, ppn, seen);
-    while (!map_run(lender, window, ppn, 1)) wait_for_memory(lender, "no mapping for a page that was written meanwhile");
-    while (!window_watch(lender, window, ppn, 1)) wait_for_memory(lender, "a page's memory can't be watched");
-    lender->counts.overtook++;
+    uint64_t before = lender->counts.overtook;
+    for (uint32_t ppn = first; ppn < first + count; ppn++) {
+        const uint8_t *seen = window->at + bytes_of(ppn);
+        if (memcmp(seen, lender->frames_at + bytes_of(window->slots[ppn].frame), PAGE) == 0) continue;
+        release(lender, window, ppn, room);
+        put_own(lender, window, ppn, seen);
+        lender->counts.overtook++;
+    }
+    if (lender->counts.overtook == before) return;
+    for (uint32_t at = first, length = 1; at < first + count; at += length) {
+        length = run_length(window, at, first + count - at);
+        if (!is_lent(window, at)) show_own(lender, window, at, length);
+    }
 }
 
 /* Gives back the own memory of those pages that are lent. */
 static void give_back(const struct lender *lender, const struct window *window, uint32_t first, uint32_t count) {
     for (uint32_t at = first, end = first; at < first + count; at = end) {
-        for (end = at; end < first + count && is_lent(window, end); end++) {}
+        for (end = at; end < first + count && is_lent(window, end); end++) {
+        }
         if (end == at) end++;
         else if (!punch(window->fd, at, end - at)) tell(lender, "the memory of lent pages was not given back");
     }
@@ -291,13 +295,14 @@ static ssize_t lend_locked(struct lender *lender, struct window *window, uint32_
     if (!guard(lender, window, first, count)) return -1;
     uint32_t lent = lend_run(lender, window, first, count);
     uint64_t begun = now_ns();
-    uint32_t mapped = lent > 0 ? map_lent(lender, window, first, lent) : 0;
-    for (uint32_t i = 0; i < mapped; i++) keep_overtaking(lender, window, first + i);
+    uint32_t mapped = lent > 0 ? show_lent(lender, window, first, lent) : 0;
+    keep_overtaking(lender, window, first, mapped);
+    if (mapped < lent) window_take_back(lender, window, first + mapped, lent - mapped);
     give_back(lender, window, first, mapped);
     if (mapped < count && !set_guard(lender, window, first + mapped, count - mapped, false))
         tell(lender, "pages that stay private are still guarded"); /* the first write to each is then let through as a stale one */
     lender->counts.map_ns += now_ns() - begun;
-    return (ssize_t)(lender->counts.lent_now - before);
+    return lender->counts.lent_now > before ? (ssize_t)(lender->counts.lent_now - before) : 0;
 }
 
 ssize_t window_lend(struct lender *lender, uint32_t guest, uint32_t first, uint32_t count) {
@@ -307,7 +312,8 @@ ssize_t window_lend(struct lender *lender, uint32_t guest, uint32_t first, uint3
     while (atomic_load(&lender->waiting) > 0) sched_yield();
     pthread_mutex_lock(&lender->lock);
     uint64_t begun = now_ns();
-    while (length < count && length < LEND_MOST && !is_lent(window, first + length) && !window->slots[first + length].kept) length++;
+    while (length < count && length < LEND_MOST && !is_lent(window, first + length) && !window->slots[first + length].kept)
+        length++;
     if (length > 0 && lender->counts.mappings + 2 * length > lender->mappings_most) lender->counts.no_mapping++;
     else if (length > 0) lent = lend_locked(lender, window, first, length);
     if (lent > 0) lender->counts.lent += (uint64_t)lent;

@@ -35,9 +35,9 @@ struct lender_config {
     uint32_t frames;
     const uint32_t *pages, *salts; /* of each guest */
     size_t guests;
-    uint32_t hash;           /* an enum pageshare_hash_kind */
+    uint32_t hash;                     /* an enum pageshare_hash_kind */
     const struct guest_memory *memory; /* of each guest, to become its window; NULL: the lender makes memory for all */
-    struct journal *journal; /* what is asked of the machine is written to it until it is full; NULL for none */
+    struct journal *journal;           /* what is asked of the machine is written to it until it is full; NULL for none */
     /*
      * Told of trouble, with the cause as an errno, from any thread and perhaps with the lender's lock held: so it calls nothing
      * of the lender. Where memory is missing the lender waits, tells and tries again. It ends the process (abort) only where the
@@ -51,12 +51,12 @@ struct lender_config {
 struct lender_counts {
     uint64_t lent, lend_ns, map_ns; /* map_ns: of lend_ns, for mapping, guarding and giving back */
     uint64_t taken, take_ns, take_most_ns;
-    uint64_t stale;    /* writes that waited for a page which was private when its turn came */
-    uint64_t overtook; /* pages written between their mapping and their guard, which stay private */
+    uint64_t stale;                /* writes that waited for a page which was private when its turn came */
+    uint64_t overtook;             /* pages written between their mapping and their guard, which stay private */
     uint64_t no_frame, no_mapping; /* lends refused: no frame was free; the system's limit of mappings was near */
-    uint64_t widened;  /* pages taken back with another one, since the system had no mapping to spare */
-    uint64_t waits;    /* how often memory was missing */
-    uint64_t thread_ns; /* processor time of the thread that takes back */
+    uint64_t widened;              /* pages taken back with another one, since the system had no mapping to spare */
+    uint64_t waits;                /* how often memory was missing */
+    uint64_t thread_ns;            /* processor time of the thread that takes back */
     size_t lent_now, mappings;
 };
 
@@ -80,7 +80,8 @@ bool window_look(struct lender *lender, uint32_t guest, uint8_t *room);
 
 /*
  * Lends the private pages of a run, up to the first that is lent or kept and at most LEND_MOST. The run lies in the window, and
- * each page should have memory of its own. Answers how many were lent, or -1, with errno, where the system refused to guard them: then nothing has changed.
+ * each page should have memory of its own. Answers how many were lent, or -1, with errno, where the system refused to guard them:
+ * then nothing has changed.
  */
 ssize_t window_lend(struct lender *lender, uint32_t guest, uint32_t first, uint32_t count);
 
