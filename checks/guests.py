@@ -93,7 +93,7 @@ def windows(library):
 def journal(fleet, guest):
     """A fleet's journal through the proved replay."""
     text, program = OUT / "fleet.journal", TOP / "out/pageshare"
-    must([fleet, "--seconds", "60", "--mib", "5", "--round", "50", "--requests", str(REQUESTS), "--journal", text, guest])
+    must([fleet, "--seconds", "60", "--guests", "2", "--mib", "6", "--round", "50", "--requests", str(REQUESTS), "--journal", text, guest])
     if not program.exists():
         print("left out: the replay of that journal, since there is no out/pageshare (make build)")
         return
