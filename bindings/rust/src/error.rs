@@ -12,6 +12,8 @@ pub enum MakeError {
     Guests,
     /// A guest with no page, or more than 1,048,576 pages in total.
     Pages,
+    /// The region has room for fewer frames.
+    Region,
     /// The memory was refused.
     OutOfMemory,
     /// A status that this wrapper does not know: it is of another version than the library.
@@ -25,6 +27,7 @@ impl MakeError {
             2 => MakeError::Guests,
             3 => MakeError::Pages,
             4 => MakeError::OutOfMemory,
+            13 => MakeError::Region,
             _ => MakeError::Unknown(status),
         }
     }
@@ -38,6 +41,7 @@ impl fmt::Display for MakeError {
             MakeError::Pages => {
                 f.write_str("each guest has a page, and all together at most 1,048,576")
             }
+            MakeError::Region => f.write_str("the region has room for each frame"),
             MakeError::OutOfMemory => f.write_str("out of memory"),
             MakeError::Unknown(status) => write!(f, "unknown status {status}"),
         }

@@ -44,7 +44,24 @@ pub(crate) struct PageName {
     pub(crate) ppn: u32,
 }
 
+/// Memory for frames: where it begins, and how many fit.
+#[repr(C)]
+pub(crate) struct Region {
+    pub(crate) at: *mut c_void,
+    pub(crate) pages: usize,
+}
+
 extern "C" {
+    pub(crate) fn pageshare_make_in(
+        machine: *mut Handle,
+        frames: u32,
+        pages: *const u32,
+        guests: usize,
+        salts: *const u32,
+        salts_count: usize,
+        hash: u32,
+        region: Region,
+    ) -> u32;
     pub(crate) fn pageshare_make_hashed(
         machine: *mut Handle,
         frames: u32,

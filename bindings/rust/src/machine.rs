@@ -1,6 +1,7 @@
 //! The machine.
 use crate::error::{MakeError, NoSuchPage, RequestError};
 use crate::ffi::{self, Handle, PageName, Totals};
+use crate::region::Region;
 use crate::verdict::{
     LendVerdict, LoadVerdict, ProposeVerdict, ReleaseVerdict, Report, ReturnVerdict, StoreVerdict,
 };
@@ -71,6 +72,88 @@ pub struct Machine {
     /// In a cell, since calls that only read write it too, and leave it as it was. No reference to it outlives a call, and no
     /// other thread has one.
     handle: UnsafeCell<Handle>,
+    /// The frames' memory, if the caller chose it. It is dropped after the machine was freed.
+    region: Option<Region>,
+}
+
+/// A machine that is to be made, from [`Machine::builder`].
+#[derive(Debug)]
+#[must_use = "a builder makes a machine by `build`"]
+pub struct Builder<'a> {
+    frames: u32,
+    guests: &'a [Guest],
+    hash: HashKind,
+    region: Option<Region>,
+}
+
+impl Builder<'_> {
+    /// Finds equal pages by this hash.
+    pub fn hash(mut self, hash: HashKind) -> Self {
+        self.hash = hash;
+        self
+    }
+
+    /// Puts the frames into this region.
+    pub fn region(mut self, region: Region) -> Self {
+        self.region = Some(region);
+        self
+    }
+
+    /// Makes the machine.
+    ///
+    /// # Errors
+    ///
+    /// The first of the causes of [`MakeError`], in their order.
+    pub fn build(self) -> Result<Machine, MakeError> {
+        let mut pages = [0; TOO_MANY_GUESTS];
+        let mut salts = [0; TOO_MANY_GUESTS];
+        let count = self.guests.len().min(TOO_MANY_GUESTS);
+        for (guest, (pages, salt)) in self.guests.iter().zip(pages.iter_mut().zip(&mut salts)) {
+            *pages = guest.pages;
+            *salt = guest.salt;
+        }
+        let machine = Machine {
+            handle: UnsafeCell::new(Handle::NONE),
+            region: self.region,
+        };
+        let (handle, hash) = (machine.handle.get(), self.hash.number());
+        let (pages, salts) = (pages.as_ptr(), salts.as_ptr());
+        // SAFETY: the handle holds no machine, and both lists have at least `count` numbers. A region is mapped for as many frames
+        // as it says, nobody else writes to it, and it outlives the machine.
+        let status = unsafe {
+            match &machine.region {
+                None => ffi::pageshare_make_hashed(
+                    handle,
+                    self.frames,
+                    pages,
+                    count,
+                    salts,
+                    count,
+                    hash,
+                ),
+                Some(region) => {
+                    let rooms = ffi::Region {
+                        at: region.address(),
+                        pages: region.frames().min(self.frames) as usize,
+                    };
+                    ffi::pageshare_make_in(
+                        handle,
+                        self.frames,
+                        pages,
+                        count,
+                        salts,
+                        count,
+                        hash,
+                        rooms,
+                    )
+                }
+            }
+        };
+        match status {
+            0 => Ok(machine),
+            _ => Err(MakeError::of(status)),
+        }
+    }
 }
 
 // SAFETY: the library's handle may go to another thread, with the machine that it holds, which nobody else has.
@@ -83,7 +166,7 @@ impl Machine {
     ///
     /// The first of the causes of [`MakeError`], in their order.
     pub fn new(frames: u32, guests: &[Guest]) -> Result<Machine, MakeError> {
-        Machine::with_hash(frames, guests, HashKind::Sha256)
+        Machine::builder(frames, guests).build()
     }
 
     /// The same with a hash of the caller's choice.
@@ -92,32 +175,23 @@ impl Machine {
     ///
     /// The first of the causes of [`MakeError`], in their order.
     pub fn with_hash(frames: u32, guests: &[Guest], hash: HashKind) -> Result<Machine, MakeError> {
-        let mut pages = [0; TOO_MANY_GUESTS];
-        let mut salts = [0; TOO_MANY_GUESTS];
-        let count = guests.len().min(TOO_MANY_GUESTS);
-        for (guest, (pages, salt)) in guests.iter().zip(pages.iter_mut().zip(&mut salts)) {
-            *pages = guest.pages;
-            *salt = guest.salt;
+        Machine::builder(frames, guests).hash(hash).build()
+    }
+
+    /// Begins a machine with so many frames for the pages of these guests. By default it finds equal pages by SHA-256, and its
+    /// frames are in memory of the library's.
+    pub fn builder(frames: u32, guests: &[Guest]) -> Builder<'_> {
+        Builder {
+            frames,
+            guests,
+            hash: HashKind::default(),
+            region: None,
         }
-        let machine = Machine {
-            handle: UnsafeCell::new(Handle::NONE),
-        };
-        // SAFETY: the handle holds no machine, and both lists have at least `count` numbers.
-        let status = unsafe {
-            ffi::pageshare_make_hashed(
-                machine.handle.get(),
-                frames,
-                pages.as_ptr(),
-                count,
-                salts.as_ptr(),
-                count,
-                hash.number(),
-            )
-        };
-        match status {
-            0 => Ok(machine),
-            _ => Err(MakeError::of(status)),
-        }
+    }
+
+    /// The region that the machine's frames are in, if it was made with one.
+    pub fn region(&self) -> Option<&Region> {
+        self.region.as_ref()
     }
 
     /// Proposes a page for sharing.

@@ -1,7 +1,8 @@
 //! Each call on its happy path, and each error where it is due.
 use pageshare::{
     Guest, HashKind, LendVerdict, Lent, LoadVerdict, Machine, MakeError, NoSuchPage,
-    ProposeVerdict, ReleaseVerdict, Report, RequestError, ReturnVerdict, StoreVerdict, PAGE_BYTES,
+    ProposeVerdict, Region, ReleaseVerdict, Report, RequestError, ReturnVerdict, StoreVerdict,
+    PAGE_BYTES,
 };
 
 fn machine(frames: u32, shapes: &[(u32, u32)]) -> Result<Machine, MakeError> {
@@ -193,6 +194,35 @@ fn goes_to_another_thread() -> Result<(), Box<dyn std::error::Error>> {
         (m.load(0, 0, 0, &mut room)?, room),
         (LoadVerdict::Bytes, *b"AB")
     );
+    Ok(())
+}
+
+#[test]
+fn frames_in_a_region() -> Result<(), Box<dyn std::error::Error>> {
+    let guests = [Guest { pages: 3, salt: 9 }];
+    let small = Machine::builder(3, &guests).region(Region::new(2)?).build();
+    assert_eq!(small.err(), Some(MakeError::Region));
+    assert_eq!(
+        Region::new(0).map_err(|error| error.kind()).err(),
+        Some(std::io::ErrorKind::InvalidInput)
+    );
+    let mut m = Machine::builder(3, &guests)
+        .hash(HashKind::Fold)
+        .region(Region::new(4)?)
+        .build()?;
+    let (ones, twos) = ([1; PAGE_BYTES], [2; PAGE_BYTES]);
+    for (ppn, page) in [(0, &ones), (1, &twos), (2, &ones)] {
+        let _lent = m.lend(0, ppn, page)?;
+    }
+    let file = m.region().ok_or("no region")?.open_read_only()?;
+    for (ppn, page) in [(0, &ones), (1, &twos), (2, &ones)] {
+        let frame = m.frame(0, ppn)?.ok_or("no frame")?;
+        let mut room = [0xee; PAGE_BYTES];
+        std::os::unix::fs::FileExt::read_exact_at(&file, &mut room, u64::from(frame) * 4096)?;
+        assert_eq!(&room, page);
+    }
+    assert_eq!(m.frame(0, 0)?, m.frame(0, 2)?);
+    assert!(std::io::Write::write(&mut &file, b"x").is_err());
     Ok(())
 }
 

@@ -1,0 +1,109 @@
+//! Memory for frames that can be mapped.
+use crate::machine::PAGE_BYTES;
+use std::ffi::{c_char, c_int, c_uint, c_void};
+use std::fmt;
+use std::fs::File;
+use std::io;
+use std::os::fd::{AsRawFd, FromRawFd};
+
+/// Memory for the frames of one machine, in a memory file of its own (Linux). Frame n is the 4,096 bytes at 4096 n of the file.
+///
+/// A machine that was made with a region ([`Builder::region`](crate::Builder::region)) keeps it, and frees it when it is dropped.
+pub struct Region {
+    file: File,
+    at: *mut c_void,
+    frames: u32,
+}
+
+// SAFETY: the mapping is this region's alone, and may be used and undone by any thread.
+unsafe impl Send for Region {}
+
+const MFD_CLOEXEC: c_uint = 1;
+const PROT_READ_WRITE: c_int = 3;
+const MAP_SHARED: c_int = 1;
+
+extern "C" {
+    fn memfd_create(name: *const c_char, flags: c_uint) -> c_int;
+    fn mmap(
+        at: *mut c_void,
+        bytes: usize,
+        rights: c_int,
+        flags: c_int,
+        file: c_int,
+        from: i64,
+    ) -> *mut c_void;
+    fn munmap(at: *mut c_void, bytes: usize) -> c_int;
+}
+
+impl Region {
+    /// Makes a region for so many frames. The system gives memory for a frame when it is first written.
+    ///
+    /// # Errors
+    ///
+    /// What the system says, and [`io::ErrorKind::InvalidInput`] for no frame.
+    pub fn new(frames: u32) -> io::Result<Region> {
+        if frames == 0 {
+            return Err(io::Error::new(
+                io::ErrorKind::InvalidInput,
+                "a region has room for a frame",
+            ));
+        }
+        // SAFETY: the name ends with a zero byte.
+        let number = unsafe { memfd_create(b"frames\0".as_ptr().cast(), MFD_CLOEXEC) };
+        if number < 0 {
+            return Err(io::Error::last_os_error());
+        }
+        // SAFETY: the number is of a file that was opened just now, and nobody else has it.
+        let file = unsafe { File::from_raw_fd(number) };
+        let bytes = frames as usize * PAGE_BYTES;
+        file.set_len(bytes as u64)?;
+        // SAFETY: a new mapping, at a place that the system chooses.
+        let at = unsafe {
+            mmap(
+                std::ptr::null_mut(),
+                bytes,
+                PROT_READ_WRITE,
+                MAP_SHARED,
+                file.as_raw_fd(),
+                0,
+            )
+        };
+        if at as isize == -1 {
+            return Err(io::Error::last_os_error());
+        }
+        Ok(Region { file, at, frames })
+    }
+
+    /// How many frames there is room for.
+    pub fn frames(&self) -> u32 {
+        self.frames
+    }
+
+    /// Opens the file for reading alone, so that frames can be read, or mapped for guests to read.
+    ///
+    /// # Errors
+    ///
+    /// What the system says.
+    pub fn open_read_only(&self) -> io::Result<File> {
+        File::open(format!("/proc/self/fd/{}", self.file.as_raw_fd()))
+    }
+
+    pub(crate) fn address(&self) -> *mut c_void {
+        self.at
+    }
+}
+
+impl Drop for Region {
+    fn drop(&mut self) {
+        // SAFETY: the mapping is this region's, and no machine uses it any more: a machine frees itself before its region.
+        unsafe { munmap(self.at, self.frames as usize * PAGE_BYTES) };
+    }
+}
+
+impl fmt::Debug for Region {
+    fn fmt(&self, f: &mut fmt::Formatter<'_>) -> fmt::Result {
+        f.debug_struct("Region")
+            .field("frames", &self.frames)
+            .finish_non_exhaustive()
+    }
+}
