@@ -130,6 +130,7 @@ fn uses_two(rt: &impl Abort, heap: &Refusing) -> bool {
         }
         Err(FramesFault::OutOfMemory) => false,
         Err(FramesFault::Frames) => panic!(rt; "two frames are not too many"),
+        Err(FramesFault::Region) => panic!(rt; "no region was given"),
     }
 }
 
