@@ -5,16 +5,20 @@ use page_model::{Entry, Page};
 use std::marker::Model;
 
 /// The most pages that are foreseen: together with the proposed one, as many as are hashed at once.
-pub const FORECASTS: usize = 3;
+pub const FORECASTS: usize = 7;
 
-/// Pages that are foreseen, at most three. Earlier ones stay until others replace them.
+/// Pages that are foreseen, at most seven. Earlier ones stay until others replace them.
 ///
-/// A contract sees a list of three `Foreseen`.
+/// A contract sees a list of seven `Foreseen`.
 #[derive(Drop)]
 pub struct Forecasts<H: PageHash> {
     first: Forecast<H>,
     second: Forecast<H>,
     third: Forecast<H>,
+    fourth: Forecast<H>,
+    fifth: Forecast<H>,
+    sixth: Forecast<H>,
+    seventh: Forecast<H>,
 }
 
 impl<H: PageHash> Model for Forecasts<H> {
@@ -23,28 +27,32 @@ impl<H: PageHash> Model for Forecasts<H> {
 
     ghost Value = { List Foreseen };
 
-    ghost view = { λ f. f.first ∷ f.second ∷ f.third ∷ [] };
+    ghost view = { λ f. f.first ∷ f.second ∷ f.third ∷ f.fourth ∷ f.fifth ∷ f.sixth ∷ f.seventh ∷ [] };
 }
 
 impl<H: PageHash> Forecasts<H> {
-    ghost use Rattle.std.specs.Prelude.{◌≡◌, ◌<◌, [], ◌∷◌, None, IfSome, is_some, map, slice_set};
+    ghost use Rattle.std.specs.Prelude.{◌≡◌, ◌<◌, ◌∷◌, ◌++◌, None, IfSome, is_some, map, take, drop, replicate, slice_set};
     ghost use Rattle.std.specs.Option.{option_map};
     ghost use Rattle.page_forecasts.specs.Forecasts.{expected, hashed, known_hash, left_by};
     ghost use Rattle.page_forecasts.specs.declared.forecasts.TheConstants.{FORECASTS};
 
-    /// Makes forecasts with nothing foreseen: three pages of zeros, and no hash.
+    /// Makes forecasts with nothing foreseen: seven pages of zeros, and no hash.
     pub fn new() -> Forecasts<H>
-        ensures { result ≡ expected 0 None ∷ expected 0 None ∷ expected 0 None ∷ [] }
+        ensures { result ≡ replicate FORECASTS (expected 0 None) }
     {
         Forecasts {
             first: Forecast::new(),
             second: Forecast::new(),
             third: Forecast::new(),
+            fourth: Forecast::new(),
+            fifth: Forecast::new(),
+            sixth: Forecast::new(),
+            seventh: Forecast::new(),
         }
     }
 
-    /// Foresees a page, at place 0, 1 or 2: what it will hold once the requests `before` its proposal are served. It has this
-    /// salt, and now these bytes, or none if it is unmapped. That a store may find no frame isn't foreseen.
+    /// Foresees a page, at a place from 0 to 6: what it will hold once the requests `before` its proposal are served. It has
+    /// this salt, and now these bytes, or none if it is unmapped. That a store may find no frame isn't foreseen.
     ///
     /// Returns whether the page will be mapped then. Its hash isn't computed yet.
     pub fn foresee(
@@ -64,7 +72,11 @@ impl<H: PageHash> Forecasts<H> {
         match place {
             0 => self.first.foresee(salt, bytes, before, guest, ppn),
             1 => self.second.foresee(salt, bytes, before, guest, ppn),
-            _ => self.third.foresee(salt, bytes, before, guest, ppn),
+            2 => self.third.foresee(salt, bytes, before, guest, ppn),
+            3 => self.fourth.foresee(salt, bytes, before, guest, ppn),
+            4 => self.fifth.foresee(salt, bytes, before, guest, ppn),
+            5 => self.sixth.foresee(salt, bytes, before, guest, ppn),
+            _ => self.seventh.foresee(salt, bytes, before, guest, ppn),
         }
     }
 
@@ -79,18 +91,31 @@ impl<H: PageHash> Forecasts<H> {
         if let Some(code) = self.second.hash_of(salt, bytes) {
             return Some(code);
         }
-        self.third.hash_of(salt, bytes)
+        if let Some(code) = self.third.hash_of(salt, bytes) {
+            return Some(code);
+        }
+        if let Some(code) = self.fourth.hash_of(salt, bytes) {
+            return Some(code);
+        }
+        if let Some(code) = self.fifth.hash_of(salt, bytes) {
+            return Some(code);
+        }
+        if let Some(code) = self.sixth.hash_of(salt, bytes) {
+            return Some(code);
+        }
+        self.seventh.hash_of(salt, bytes)
     }
 
-    /// Returns the hash of a page, computed together with the hashes of the foreseen pages, which are kept.
-    pub fn hash_beside(&mut self, hash: &H, salt: u32, bytes: &Page) -> u64
+    /// Returns the hash of a page, computed together with the hashes of the first three foreseen pages, which are kept.
+    pub fn hash_beside_three(&mut self, hash: &H, salt: u32, bytes: &Page) -> u64
         ensures page { result ≡ H.hash_of salt bytes.now }
-        ensures kept { self.new ≡ map (hashed H.hash_of) self.old }
+        ensures kept { self.new ≡ map (hashed H.hash_of) (take 3 self.old) ++ drop 3 self.old }
     {
         let Forecasts {
             first,
             second,
             third,
+            ..
         } = self;
         let salts = [salt, first.salt(), second.salt(), third.salt()];
         let codes = hash.hash_four(salts, bytes, first.bytes(), second.bytes(), third.bytes());
@@ -98,5 +123,58 @@ impl<H: PageHash> Forecasts<H> {
         second.learn(codes[2]);
         third.learn(codes[3]);
         codes[0]
+    }
+
+    /// Returns the hash of a page, computed together with the hashes of all seven foreseen pages, which are kept.
+    pub fn hash_beside_seven(&mut self, hash: &H, salt: u32, bytes: &Page) -> u64
+        ensures page { result ≡ H.hash_of salt bytes.now }
+        ensures kept { self.new ≡ map (hashed H.hash_of) self.old }
+    {
+        let codes = self.hash_eight(hash, salt, bytes);
+        self.first.learn(codes[1]);
+        self.second.learn(codes[2]);
+        self.third.learn(codes[3]);
+        self.fourth.learn(codes[4]);
+        self.fifth.learn(codes[5]);
+        self.sixth.learn(codes[6]);
+        self.seventh.learn(codes[7]);
+        codes[0]
+    }
+
+    /// Returns the hashes of a page and of the seven foreseen pages.
+    fn hash_eight(&self, hash: &H, salt: u32, bytes: &Page) -> [u64; 8]
+        ensures { result ≡ H.hash_of salt bytes.now ∷ map (λ f. H.hash_of f.salt f.bytes) self.now }
+    {
+        let Forecasts {
+            first,
+            second,
+            third,
+            fourth,
+            fifth,
+            sixth,
+            seventh,
+        } = self;
+        hash.hash_eight(
+            [
+                salt,
+                first.salt(),
+                second.salt(),
+                third.salt(),
+                fourth.salt(),
+                fifth.salt(),
+                sixth.salt(),
+                seventh.salt(),
+            ],
+            [
+                bytes,
+                first.bytes(),
+                second.bytes(),
+                third.bytes(),
+                fourth.bytes(),
+                fifth.bytes(),
+                sixth.bytes(),
+                seventh.bytes(),
+            ],
+        )
     }
 }
