@@ -18,6 +18,7 @@ use Rattle.merge_core.specs.Stays.{frame_at, Change, Keeps, TakesFree, JoinsAnot
 use Rattle.merge_core.specs.View.{pmap_of, guests_of}
 use Rattle.merge_core.specs.declared.held.Held.{Held}
 use Rattle.merge_core.specs.declared.lent.Lent.{Lent}
+use Rattle.merge_core.specs.declared.lent.SaltedHash.{SaltedHash}
 use Rattle.merge_core.proofs.Arms.{matched_joined, proposed_matched, joined_outcome}
 use Rattle.page_lending.proofs.Written.{all_written}
 use Rattle.merge_core.proofs.Matches.{some_any}
@@ -199,3 +200,8 @@ apart_from pmap a b salt m x y here theirs p q = none (sym (frame_is pmap a b sa
 pub over_zeros : (page : List ℕ) → length page ≡ 4096 → written blank 0 page ≡ page
 unfolding blank
 over_zeros page size = all_written (replicate 4096 0) page (omega (arith, length-replicate {A = ℕ} 4096 0, size))
+
+-- a hash that was made under a page's salt is the page's
+pub known_under : (hash : ℕ → List ℕ → ℕ) (page : List ℕ) (salt : ℕ) (known : Option SaltedHash) (code : Option ℕ) → IfSome code (λ h. known ≡ Some (record { salt = salt; hash = h })) → IfSome known (λ k. k.hash ≡ hash k.salt page) → IfSome code (λ h. h ≡ hash salt page)
+known_under hash page salt known None e k = record {}
+known_under hash page salt known (Some h) e k = rw e at k

@@ -51,6 +51,12 @@ pages_read frames (g ∷ gs) zero d h =
     ap Some n
 pages_read frames (g ∷ gs) (suc i) d h = pages_read frames gs i d (omega arith)
 
+-- a guest's salt
+pub salt_read : {A : Type 0} (frames : FrameMap) (gs : List (GuestPages A)) (i : ℕ) (d : GuestPages A) → i < length gs → Some (get_or gs i d).salt ≡ option_map (λ (g : Guest). g.salt) (slice_get (guests_in frames (pmap_in gs)) i)
+salt_read frames [] i d h = absurd (omega arith)
+salt_read frames (g ∷ gs) zero d h = refl
+salt_read frames (g ∷ gs) (suc i) d h = salt_read frames gs i d (omega arith)
+
 pub pages_few : {A : Type 0} (gs : List (GuestPages A)) (i : ℕ) (d : GuestPages A) → i < length gs → vec_len (get_or gs i d).pages ≤ page_total (pmap_in gs)
 pages_few [] i d h = absurd (omega arith)
 pages_few (g ∷ gs) zero d h = omega (arith, g.pages.ok.0, length-map g.pages.items slot_of, sum_by-cons (λ (y : GuestOf ℕ). length y.slots) (guest_of g) (pmap_in gs))

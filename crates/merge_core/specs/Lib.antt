@@ -1,4 +1,3 @@
-pub mod Ahead
 pub mod Applying
 pub mod Hashing
 pub mod Kept

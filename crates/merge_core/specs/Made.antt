@@ -1,5 +1,5 @@
 -- A machine before its first request.
-use Rattle.std.specs.Prelude.{◌≡◌, ℕ, length}
+use Rattle.std.specs.Prelude.{◌≡◌, length}
 use Rattle.page_model.specs.Limits.{shapes}
 use Rattle.page_model.specs.Parts.{MachineParts}
 use Rattle.page_model.specs.Replay.{empty_state}

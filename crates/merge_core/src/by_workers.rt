@@ -76,7 +76,7 @@ fn unknown_frame<H: PageHash, A: Allocator>(
 }
 
 /// Whether the hash of a page's frame is known.
-fn is_known<H: PageHash, A: Allocator>(held: &Held<H, A>, _salt: u32, mpn: u32) -> bool
+pub fn is_known<H: PageHash, A: Allocator>(held: &Held<H, A>, _salt: u32, mpn: u32) -> bool
     requires whole { Whole H.hash_of held.now }
     requires paged { IsPaged (pmap_of held.now) _salt mpn }
 {
@@ -84,7 +84,7 @@ fn is_known<H: PageHash, A: Allocator>(held: &Held<H, A>, _salt: u32, mpn: u32) 
 }
 
 /// Notes the hashes of these frames.
-fn note_frames<H: PageHash, A: Allocator>(
+pub fn note_frames<H: PageHash, A: Allocator>(
     held: &mut Held<H, A>,
     pairs: &[(u32, u32)],
     hashes: &[u64],
@@ -101,7 +101,7 @@ fn note_frames<H: PageHash, A: Allocator>(
 }
 
 /// Notes the hash of a page's frame.
-fn note_frame<H: PageHash, A: Allocator>(held: &mut Held<H, A>, salt: u32, mpn: u32, code: u64)
+pub fn note_frame<H: PageHash, A: Allocator>(held: &mut Held<H, A>, salt: u32, mpn: u32, code: u64)
     requires whole { Whole H.hash_of held.old }
     requires paged { IsPaged (pmap_of held.old) salt mpn }
     requires code { code ≡ H.hash_of salt (bytes_in held.old.frames mpn) }
@@ -161,7 +161,7 @@ fn hash_page<H: PageHash, A: Allocator>(
 }
 
 /// Returns the hash of a page's frame.
-fn hash_paged<H: PageHash, A: Allocator>(held: &mut Held<H, A>, salt: u32, mpn: u32) -> u64
+pub fn hash_paged<H: PageHash, A: Allocator>(held: &mut Held<H, A>, salt: u32, mpn: u32) -> u64
     requires whole { Whole H.hash_of held.old }
     requires paged { IsPaged (pmap_of held.old) salt mpn }
     ensures kept { OnlyNotes H.hash_of held.old held.new }

@@ -1,13 +1,15 @@
-//! The hash of a proposed page, computed together with those of pages that the next requests propose: four pages at once.
+//! The hash of a proposed page, computed together with those of pages that the next requests propose: eight or four
+//! pages at once.
 ghost use Rattle.std.specs.Prelude.{◌≡◌, ◌<◌, All, IfSome};
-ghost use Rattle.merge_core.specs.Ahead.{IsPrivate, hash_in};
 ghost use Rattle.merge_core.specs.Hashing.{IsPaged};
 ghost use Rattle.merge_core.specs.Kept.{OnlyNotes};
+ghost use Rattle.merge_core.specs.Pmap.{bytes_in};
 ghost use Rattle.merge_core.specs.View.{pmap_of, Whole};
 ghost use Rattle.page_forecasts.specs.declared.forecasts.TheConstants.{FORECASTS};
 
-use crate::ahead::{PrivatePage, note, note_four, unhashed};
-use crate::held::{Held, Place};
+use crate::ahead::{LANES, note_at_once, unhashed};
+use crate::by_workers::note_frame;
+use crate::held::Held;
 use crate::look::{bytes_at, find, frame_of};
 use arrayvec::ArrayVec;
 use page_digest::PageHash;
@@ -17,6 +19,15 @@ use std::alloc::Allocator;
 
 /// How many of the next requests are considered.
 const REACH: usize = 64;
+
+/// A private page that is proposed, and its frame.
+#[derive(Clone, Copy)]
+struct Proposal {
+    guest: u8,
+    ppn: u32,
+    salt: u32,
+    mpn: u32,
+}
 
 /// Notes the hash of a proposed private page if it isn't known: the one that was foreseen, or one computed together with
 /// those of other pages that the next requests propose. If they propose none that needs a hash, it notes nothing.
@@ -30,99 +41,113 @@ pub fn foresee<H: PageHash, A: Allocator>(
     requires whole { Whole H.hash_of held.old }
     ensures kept { OnlyNotes H.hash_of held.old held.new }
 {
-    let Some(private) = unhashed(held, guest as usize, ppn as usize) else {
+    let Some((salt, mpn)) = unhashed(held, guest as usize, ppn as usize) else {
         return;
     };
-    if let Some(code) = hash_foreseen(held, forecasts, private) {
-        note(held, private, code);
+    if let Some(code) = hash_foreseen(held, forecasts, salt, mpn) {
+        note_frame(held, salt, mpn, code);
         return;
     }
-    hash_together(held, forecasts, private, &next[..next.len().min(REACH)]);
+    let first = Proposal {
+        guest,
+        ppn,
+        salt,
+        mpn,
+    };
+    hash_together(held, forecasts, first, &next[..next.len().min(REACH)]);
 }
 
-/// Computes and notes the hash of a private page together with those of pages that these requests propose: of three whose
-/// bytes they leave as they are, if there are three, or else of pages as these requests will leave them.
+/// Computes and notes the hash of a proposed page together with those of pages that these requests propose: of seven or
+/// three whose bytes they leave as they are, if there are as many, or else of pages as these requests will leave them.
 fn hash_together<H: PageHash, A: Allocator>(
     held: &mut Held<H, A>,
     forecasts: &mut Forecasts<H>,
-    private: PrivatePage,
+    first: Proposal,
     next: &[Entry],
 )
     requires whole { Whole H.hash_of held.old }
-    requires private { IsPrivate (pmap_of held.old) private }
+    requires paged { IsPaged (pmap_of held.old) first.salt first.mpn }
     ensures kept { OnlyNotes H.hash_of held.old held.new }
 {
-    if let Ok(four) = at_rest(held, private, next).into_inner() {
-        note_four(held, four);
+    let pairs = at_rest(held, first, next);
+    if note_at_once(held, pairs.as_slice()) > 0 {
         return;
     }
-    if gather(held, forecasts, private, next) > 0 {
-        let code = hash_beside(held, forecasts, private);
-        note(held, private, code);
+    let count = gather(held, forecasts, first, next);
+    if count > 0 {
+        let code = hash_beside(held, forecasts, first, count);
+        note_frame(held, first.salt, first.mpn, code);
     }
 }
 
-/// Returns the hash of a private page, if what it holds was foreseen.
+/// Returns the hash of a page's frame, if what it holds was foreseen.
 fn hash_foreseen<H: PageHash, A: Allocator>(
     held: &Held<H, A>,
     forecasts: &Forecasts<H>,
-    private: PrivatePage,
+    salt: u32,
+    mpn: u32,
 ) -> Option<u64>
     requires whole { Whole H.hash_of held.now }
-    requires private { IsPrivate (pmap_of held.now) private }
-    ensures { IfSome result (λ code. code ≡ hash_in H.hash_of held.now.frames private) }
+    requires paged { IsPaged (pmap_of held.now) salt mpn }
+    ensures { IfSome result (λ code. code ≡ H.hash_of salt (bytes_in held.now.frames mpn)) }
 {
-    forecasts.hash_of(private.page.salt, bytes_at(&held.frames, private.mpn))
+    forecasts.hash_of(salt, paged_bytes(held, salt, mpn))
 }
 
-/// Returns the hash of a private page, computed together with those of all that is foreseen.
+/// Returns the hash of a proposed page, computed together with those of the pages that are foreseen: of all if they are as
+/// many as can be, and otherwise of the first three.
 fn hash_beside<H: PageHash, A: Allocator>(
     held: &Held<H, A>,
     forecasts: &mut Forecasts<H>,
-    private: PrivatePage,
+    first: Proposal,
+    count: usize,
 ) -> u64
     requires whole { Whole H.hash_of held.now }
-    requires private { IsPrivate (pmap_of held.now) private }
-    ensures { result ≡ hash_in H.hash_of held.now.frames private }
+    requires paged { IsPaged (pmap_of held.now) first.salt first.mpn }
+    ensures { result ≡ H.hash_of first.salt (bytes_in held.now.frames first.mpn) }
 {
-    let bytes = bytes_at(&held.frames, private.mpn);
-    forecasts.hash_beside(&held.hash, private.page.salt, bytes)
+    let bytes = paged_bytes(held, first.salt, first.mpn);
+    if count < FORECASTS {
+        forecasts.hash_beside_three(&held.hash, first.salt, bytes)
+    } else {
+        forecasts.hash_beside_seven(&held.hash, first.salt, bytes)
+    }
 }
 
-/// Returns a private page and others that these requests propose, at most four in all. Each of the others needs a hash,
-/// and when it is proposed it will still hold what it holds now.
+/// Returns the salts and frames of a proposed page and of others that these requests propose, at most eight in all. Each of
+/// the others needs a hash, and when it is proposed it will still hold what it holds now.
 fn at_rest<H: PageHash, A: Allocator>(
     held: &Held<H, A>,
-    private: PrivatePage,
+    first: Proposal,
     next: &[Entry],
-) -> ArrayVec<PrivatePage, 4>
+) -> ArrayVec<(u32, u32), LANES>
     requires whole { Whole H.hash_of held.now }
-    requires private { IsPrivate (pmap_of held.now) private }
-    ensures { All (IsPrivate (pmap_of held.now)) result.items }
+    requires paged { IsPaged (pmap_of held.now) first.salt first.mpn }
+    ensures { All (λ pair. IsPaged (pmap_of held.now) pair.0 pair.1) result.items }
 {
-    let mut pages = ArrayVec::new();
-    pages.push(private);
+    let mut pairs = ArrayVec::new();
+    pairs.push((first.salt, first.mpn));
     for i in 0..next.len() {
-        if pages.is_full() {
-            return pages;
+        if pairs.is_full() {
+            return pairs;
         }
-        if let Some(other) = resting(held, private.page, &next[..i], &next[i]) {
-            pages.push(other);
+        if let Some(pair) = resting(held, first, &next[..i], &next[i]) {
+            pairs.push(pair);
         }
     }
-    pages
+    pairs
 }
 
-/// Returns the page that a request proposes, if it isn't the first page, needs a hash, and the requests before neither
-/// propose nor change it.
+/// Returns the salt and frame of the page that a request proposes, if it isn't the first page, needs a hash, and the
+/// requests before neither propose nor change it.
 fn resting<H: PageHash, A: Allocator>(
     held: &Held<H, A>,
-    first: Place,
+    first: Proposal,
     before: &[Entry],
     entry: &Entry,
-) -> Option<PrivatePage>
+) -> Option<(u32, u32)>
     requires whole { Whole H.hash_of held.now }
-    ensures { IfSome result (IsPrivate (pmap_of held.now)) }
+    ensures { IfSome result (λ pair. IsPaged (pmap_of held.now) pair.0 pair.1) }
 {
     let ppn = proposed_anew(first, before, entry)?;
     if is_changed(before, entry.guest, ppn) {
@@ -131,11 +156,11 @@ fn resting<H: PageHash, A: Allocator>(
     unhashed(held, entry.guest as usize, ppn as usize)
 }
 
-/// Foresees pages that these requests propose, at most the number that are hashed with this one. Returns how many.
+/// Foresees pages that these requests propose, at most as many as are hashed with this one. Returns how many.
 fn gather<H: PageHash, A: Allocator>(
     held: &Held<H, A>,
     forecasts: &mut Forecasts<H>,
-    private: PrivatePage,
+    first: Proposal,
     next: &[Entry],
 ) -> usize
     requires whole { Whole H.hash_of held.now }
@@ -145,7 +170,7 @@ fn gather<H: PageHash, A: Allocator>(
         if count >= FORECASTS {
             return count;
         }
-        if let Some(ppn) = proposed_anew(private.page, &next[..i], &next[i]) {
+        if let Some(ppn) = proposed_anew(first, &next[..i], &next[i]) {
             if foresee_page(held, forecasts, count, &next[..i], next[i].guest, ppn) {
                 count += 1;
             }
@@ -186,17 +211,18 @@ fn foresee_page<H: PageHash, A: Allocator>(
 fn paged_bytes<H: PageHash, A: Allocator>(held: &Held<H, A>, _salt: u32, mpn: u32) -> &Page
     requires whole { Whole H.hash_of held.now }
     requires paged { IsPaged (pmap_of held.now) _salt mpn }
+    ensures { result.now ≡ bytes_in held.now.frames mpn }
 {
     bytes_at(&held.frames, mpn)
 }
 
 /// Returns the number of the page that a request proposes, if it isn't the first page and isn't proposed before.
-fn proposed_anew(first: Place, before: &[Entry], entry: &Entry) -> Option<u32> {
+fn proposed_anew(first: Proposal, before: &[Entry], entry: &Entry) -> Option<u32> {
     let ppn = match entry.request {
         Request::Propose(ppn) => ppn,
         _ => return None,
     };
-    if first.guest == entry.guest as usize && first.ppn == ppn as usize {
+    if first.guest == entry.guest && first.ppn == ppn {
         return None;
     }
     if is_proposed(before, entry.guest, ppn) {

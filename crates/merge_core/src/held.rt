@@ -13,7 +13,7 @@ pub enum PageEntry {
 }
 
 /// A page's guest, its number, and its guest's salt.
-#[derive(Clone, Copy, Default)]
+#[derive(Clone, Copy)]
 pub struct Place {
     pub guest: usize,
     pub ppn: usize,

@@ -1,6 +1,6 @@
 //! Whole pages: how they are lent and taken back.
 ghost use Rattle.std.specs.Prelude.{◌≡◌, ◌==◌, if◌then◌else◌, false, length, None, Some, Ok, IfSome};
-ghost use Rattle.page_model.specs.Pages.{page_at, with_slot};
+ghost use Rattle.page_model.specs.Pages.{page_at, with_slot, written};
 ghost use Rattle.page_model.specs.Pages as s;
 ghost use Rattle.page_model.specs.Steps.{proposed, released, at_page};
 ghost use Rattle.page_model.specs.Stored.{text_at};
@@ -15,7 +15,7 @@ ghost use Rattle.merge_core.specs.View.{pmap_of, guests_of, notes_of, Whole};
 
 use crate::hashing::{hash_frame, learn};
 use crate::held::{Held, PageEntry, Place};
-use crate::lent::{Lent, Returned};
+use crate::lent::{Lent, Returned, SaltedHash};
 use crate::look::{bytes_at, find};
 use crate::moves::{is_full, join, keep, leave, map_copy, map_zeroed, peers_of, write};
 use crate::offer::{has_content, propose_private};
@@ -24,14 +24,17 @@ use page_digest::PageHash;
 use page_model::{Page, Verdict};
 use std::alloc::Allocator;
 
-/// Lends a page: stores it whole, and proposes it. Returns the verdict of its stores if they were refused.
+/// Lends a page: stores it whole, and proposes it. Returns the verdict of its stores if they were refused. Its hash is computed
+/// unless the caller knows it under the guest's salt.
 pub fn lend<H: PageHash, A: Allocator>(
     held: &mut Held<H, A>,
     guest: usize,
     ppn: u32,
     bytes: &Page,
+    known: Option<SaltedHash>,
 ) -> Result<Lent, Verdict>
     requires whole { Whole H.hash_of held.old }
+    requires known { IfSome known (λ k. k.hash ≡ H.hash_of k.salt bytes.now) }
     ensures whole { Whole H.hash_of held.new }
     ensures lends { LendsPage H.hash_of guest ppn bytes.now result held.old held.new }
 {
@@ -40,10 +43,26 @@ pub fn lend<H: PageHash, A: Allocator>(
         return Err(Verdict::NoPage);
     };
     let page = Place { guest, ppn, salt };
+    let known = under_salt(known, salt);
     match entry {
-        PageEntry::Unmapped => lend_unmapped(held, page, bytes),
-        PageEntry::Private(mpn, hint) => Ok(lend_private(held, page, mpn, hint, bytes)),
-        PageEntry::Shared(mpn) => lend_shared(held, page, mpn, bytes),
+        PageEntry::Unmapped => lend_unmapped(held, page, bytes, known),
+        PageEntry::Private(mpn, hint) => Ok(lend_private(held, page, mpn, hint, bytes, known)),
+        PageEntry::Shared(mpn) => lend_shared(held, page, mpn, bytes, known),
+    }
+}
+
+/// Returns the hash if it was computed under this salt.
+fn under_salt(known: Option<SaltedHash>, salt: u32) -> Option<u64>
+    ensures { IfSome result (λ code. known ≡ Some (record { salt = salt; hash = code })) }
+{
+    match known {
+        None => None,
+        Some(known) => {
+            if known.salt == salt {
+                return Some(known.hash);
+            }
+            None
+        }
     }
 }
 
@@ -52,16 +71,18 @@ fn lend_unmapped<H: PageHash, A: Allocator>(
     held: &mut Held<H, A>,
     page: Place,
     bytes: &Page,
+    known: Option<u64>,
 ) -> Result<Lent, Verdict>
     requires whole { Whole H.hash_of held.old }
     requires page { page_at (pmap_of held.old) page.guest page.ppn ≡ Some (page.salt, s.Unmapped) }
+    requires known { IfSome known (λ code. code ≡ H.hash_of page.salt bytes.now) }
     ensures whole { Whole H.hash_of held.new }
     ensures lends { LendsPage H.hash_of page.guest page.ppn bytes.now result held.old held.new }
 {
     if is_full(held) {
         return Err(Verdict::NoFrame);
     }
-    Ok(lend_new(held, page, bytes))
+    Ok(lend_new(held, page, bytes, known))
 }
 
 /// Lends a private page, which keeps its frame until it is proposed.
@@ -71,13 +92,15 @@ fn lend_private<H: PageHash, A: Allocator>(
     mpn: u32,
     hint: Option<u32>,
     bytes: &Page,
+    known: Option<u64>,
 ) -> Lent
     requires whole { Whole H.hash_of held.old }
     requires page { page_at (pmap_of held.old) page.guest page.ppn ≡ Some (page.salt, s.Private mpn hint) }
+    requires known { IfSome known (λ code. code ≡ H.hash_of page.salt bytes.now) }
     ensures whole { Whole H.hash_of held.new }
     ensures lends { LendsPage H.hash_of page.guest page.ppn bytes.now (Ok result) held.old held.new }
 {
-    write(held, page, mpn, hint, 0, bytes);
+    write_whole(held, page, mpn, hint, bytes, known);
     propose_own(held, page, mpn, hint)
 }
 
@@ -87,9 +110,11 @@ fn lend_shared<H: PageHash, A: Allocator>(
     page: Place,
     mpn: u32,
     bytes: &Page,
+    known: Option<u64>,
 ) -> Result<Lent, Verdict>
     requires whole { Whole H.hash_of held.old }
     requires page { page_at (pmap_of held.old) page.guest page.ppn ≡ Some (page.salt, s.Shared mpn) }
+    requires known { IfSome known (λ code. code ≡ H.hash_of page.salt bytes.now) }
     ensures whole { Whole H.hash_of held.new }
     ensures lends { LendsPage H.hash_of page.guest page.ppn bytes.now result held.old held.new }
 {
@@ -97,7 +122,7 @@ fn lend_shared<H: PageHash, A: Allocator>(
     let count = peers_of(held, page, mpn, code);
     if count == 1 {
         keep(held, page, mpn, code);
-        write(held, page, mpn, None, 0, bytes);
+        write_whole(held, page, mpn, None, bytes, known);
         return Ok(propose_own(held, page, mpn, None));
     }
     if is_full(held) {
@@ -105,12 +130,38 @@ fn lend_shared<H: PageHash, A: Allocator>(
     }
     leave(held, page, mpn, code, count);
     let copy = map_copy(held, page, mpn);
-    write(held, page, copy, None, 0, bytes);
+    write_whole(held, page, copy, None, bytes, known);
     let verdict = propose_private(held, page, copy, None);
     Ok(Lent {
         verdict,
         freed: None,
     })
+}
+
+/// Writes a whole page to a private page's frame, and notes its hash if that is known.
+fn write_whole<H: PageHash, A: Allocator>(
+    held: &mut Held<H, A>,
+    page: Place,
+    mpn: u32,
+    hint: Option<u32>,
+    bytes: &Page,
+    known: Option<u64>,
+)
+    requires whole { Whole H.hash_of held.old }
+    requires page { page_at (pmap_of held.old) page.guest page.ppn ≡ Some (page.salt, s.Private mpn hint) }
+    requires known { IfSome known (λ code. code ≡ H.hash_of page.salt bytes.now) }
+    ensures whole { Whole H.hash_of held.new }
+    ensures total { length held.new.frames ≡ length held.old.frames }
+    ensures pmap { pmap_of held.new ≡ pmap_of held.old }
+    ensures bytes { bytes_in held.new.frames mpn ≡ written (bytes_in held.old.frames mpn) 0 bytes.now }
+    ensures guests { guests_of held.new
+        ≡ with_slot (guests_of held.old) page.guest page.ppn (s.Private (written (bytes_in held.old.frames mpn) 0 bytes.now) hint) }
+{
+    let _own = held.frames.bytes(mpn); // it has a page's length, so nothing of it is left
+    write(held, page, mpn, hint, 0, bytes);
+    if let Some(code) = known {
+        learn(held, mpn, page.salt, code);
+    }
 }
 
 /// Proposes a page that was written to its own frame.
@@ -145,10 +196,16 @@ fn has_joined(verdict: &Verdict) -> bool
 }
 
 /// Lends a page that has no frame. If it joins others, no frame is written for it.
-fn lend_new<H: PageHash, A: Allocator>(held: &mut Held<H, A>, page: Place, bytes: &Page) -> Lent
+fn lend_new<H: PageHash, A: Allocator>(
+    held: &mut Held<H, A>,
+    page: Place,
+    bytes: &Page,
+    known: Option<u64>,
+) -> Lent
     requires whole { Whole H.hash_of held.old }
     requires page { page_at (pmap_of held.old) page.guest page.ppn ≡ Some (page.salt, s.Unmapped) }
     requires room { (fm.used held.old.frames == length held.old.frames) ≡ false }
+    requires known { IfSome known (λ code. code ≡ H.hash_of page.salt bytes.now) }
     ensures whole { Whole H.hash_of held.new }
     ensures total { length held.new.frames ≡ length held.old.frames }
     ensures stay { LendKeeps held.old.frames page.guest page.ppn Mapped result.verdict (pmap_of held.old) (pmap_of held.new) }
@@ -157,7 +214,7 @@ fn lend_new<H: PageHash, A: Allocator>(held: &mut Held<H, A>, page: Place, bytes
         page.guest page.ppn page.salt (s.Private bytes.now None) }
     ensures freed { result.freed ≡ None }
 {
-    let code = held.hash.hash(page.salt, bytes);
+    let code = hash_bytes(held, page.salt, bytes, known);
     if let Some(theirs) = shared_as(held, page.salt, bytes, code) {
         let peers = join(held, page, theirs, code);
         return Lent {
@@ -169,6 +226,22 @@ fn lend_new<H: PageHash, A: Allocator>(held: &mut Held<H, A>, page: Place, bytes
     Lent {
         verdict,
         freed: None,
+    }
+}
+
+/// Returns the hash of a page's bytes, computed unless it is known.
+fn hash_bytes<H: PageHash, A: Allocator>(
+    held: &Held<H, A>,
+    salt: u32,
+    bytes: &Page,
+    known: Option<u64>,
+) -> u64
+    requires known { IfSome known (λ code. code ≡ H.hash_of salt bytes.now) }
+    ensures { result ≡ H.hash_of salt bytes.now }
+{
+    match known {
+        Some(code) => code,
+        None => held.hash.hash(salt, bytes),
     }
 }
 

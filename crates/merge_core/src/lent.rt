@@ -10,6 +10,13 @@ pub struct Lent {
     pub freed: Option<u32>,
 }
 
+/// The hash of a page's bytes under a salt, for a page that is to be lent ([`Core::lend_hashed`](crate::Core::lend_hashed)).
+#[derive(Clone, Copy, Debug, PartialEq, Eq)]
+pub struct SaltedHash {
+    pub salt: u32,
+    pub hash: u64,
+}
+
 /// What became of a page that was to be taken back.
 #[derive(Clone, Copy, Debug, PartialEq, Eq)]
 pub enum Returned {

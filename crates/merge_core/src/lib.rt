@@ -22,5 +22,5 @@ mod serve;
 mod tally;
 
 pub use fault::CoreFault;
-pub use lent::{Lent, Returned};
+pub use lent::{Lent, Returned, SaltedHash};
 pub use machine::{Core, PAGES_A_WORKER};

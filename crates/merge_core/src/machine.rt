@@ -2,6 +2,7 @@
 ghost use Rattle.std.specs.Prelude.{◌≡◌, ◌+◌, ◌<◌, ◌≤◌, length, slice_get, is_some, Some, IsSome, IfOk, IfSome, MatchResult};
 ghost use Rattle.std.specs.Option.{option_map};
 ghost use Rattle.page_lending.specs.declared.pieces.TheConstants.{STORES_A_PAGE};
+ghost use Rattle.page_digest.specs.Hashes.{four_hashes};
 ghost use Rattle.page_model.specs.Limits.{shapes};
 ghost use Rattle.page_model.specs.Pages.{page_at, totals, is_mapped};
 ghost use Rattle.page_model.specs.Replay.{empty_state};
@@ -23,7 +24,7 @@ use crate::fault::CoreFault;
 use crate::forecast::foresee;
 use crate::held::{Held, PageEntry};
 use crate::lending::{lend, take_back};
-use crate::lent::{Lent, Returned};
+use crate::lent::{Lent, Returned, SaltedHash};
 use crate::look::{bytes_at, find};
 use crate::make::{new_frames, new_held};
 use crate::offer::propose;
@@ -159,8 +160,29 @@ impl<H: PageHash, A: Allocator> Core<H, A> {
         requires room { self.old.entries + STORES_A_PAGE < 4294967295 }
         ensures { Lends H.hash_of guest ppn page.now result self.old self.new }
     {
+        self.lend_known(guest, ppn, page, None)
+    }
+
+    /// Lends a page as [`lend`](Core::lend) does, for a caller who knows the hash of its bytes under a salt (see
+    /// [`hash_four`](Core::hash_four)). If that is the guest's salt, the page isn't hashed; otherwise the hash is ignored.
+    pub fn lend_hashed(&mut self, guest: u8, ppn: u32, page: &Page, known: SaltedHash) -> Lent
+        requires guest { guest < length (state_of self.old).guests }
+        requires room { self.old.entries + STORES_A_PAGE < 4294967295 }
+        requires hash { known.hash ≡ H.hash_of known.salt page.now }
+        ensures { Lends H.hash_of guest ppn page.now result self.old self.new }
+    {
+        self.lend_known(guest, ppn, page, Some(known))
+    }
+
+    /// Lends a page, whose hash under a salt may be known.
+    fn lend_known(&mut self, guest: u8, ppn: u32, page: &Page, known: Option<SaltedHash>) -> Lent
+        requires guest { guest < length (state_of self.old).guests }
+        requires room { self.old.entries + STORES_A_PAGE < 4294967295 }
+        requires known { IfSome known (λ k. k.hash ≡ H.hash_of k.salt page.now) }
+        ensures { Lends H.hash_of guest ppn page.now result self.old self.new }
+    {
         self.entries += STORES_A_PAGE; // counted even if they are refused
-        match lend(&mut self.held, guest as usize, ppn, page) {
+        match lend(&mut self.held, guest as usize, ppn, page, known) {
             Ok(lent) => {
                 self.entries += 1;
                 lent
@@ -185,9 +207,9 @@ impl<H: PageHash, A: Allocator> Core<H, A> {
 
     /// Serves one request of a guest as [`apply`](Core::apply) does, for a caller who knows which requests come `next`.
     ///
-    /// If the request proposes a page whose hash isn't known, that hash is computed together with those of up to three pages
-    /// that the next 64 requests propose, as they will be after the stores and releases before their proposals: four at once.
-    /// If other requests come instead, the answers are the same.
+    /// If the request proposes a page whose hash isn't known, that hash is computed together with those of up to seven pages
+    /// that the next 64 requests propose, as they will be after the stores and releases before their proposals: eight or four
+    /// at once. If other requests come instead, the answers are the same.
     pub fn apply_ahead(&mut self, guest: u8, request: &Request, next: &[Entry]) -> Verdict
         requires guest { guest < length (state_of self.old).guests }
         requires room { self.old.entries < 4294967295 }
@@ -201,15 +223,8 @@ impl<H: PageHash, A: Allocator> Core<H, A> {
     fn foresee(&mut self, guest: u8, request: &Request, next: &[Entry])
         ensures { self.new ≡ self.old }
     {
-        match request {
-            Request::Propose(ppn) => {
-                foresee(&mut self.held, &mut self.forecasts, guest, *ppn, next);
-            }
-            Request::Store(_) => {}
-            Request::Load(_) => {}
-            Request::Release(_) => {}
-            Request::Count => {}
-            Request::Close => {}
+        if let Request::Propose(ppn) = request {
+            foresee(&mut self.held, &mut self.forecasts, guest, *ppn, next);
         }
     }
 
@@ -232,13 +247,8 @@ impl<H: PageHash, A: Allocator> Core<H, A> {
         requires { IsHashFor H.hash_of (state_of self.old).guests guest request.now hash }
         ensures { self.new ≡ self.old }
     {
-        match request {
-            Request::Propose(ppn) => self.note_hash(guest, *ppn, hash),
-            Request::Store(_) => {}
-            Request::Load(_) => {}
-            Request::Release(_) => {}
-            Request::Count => {}
-            Request::Close => {}
+        if let Request::Propose(ppn) = request {
+            self.note_hash(guest, *ppn, hash);
         }
     }
 
@@ -252,12 +262,20 @@ impl<H: PageHash, A: Allocator> Core<H, A> {
 
     /// Computes the hashes of these pages, each named by its guest and number, and notes them for later proposals.
     ///
-    /// Only private pages whose hash isn't known are hashed, four at once; pages that don't exist are skipped. Nothing that
-    /// the core shows changes, and a noted hash is forgotten at the next store to its page. It allocates no memory.
+    /// Only private pages whose hash isn't known are hashed, eight or four at once; pages that don't exist are skipped. Nothing
+    /// that the core shows changes, and a noted hash is forgotten at the next store to its page. It allocates no memory.
     pub fn note_hashes(&mut self, pages: &[(u8, u32)])
         ensures { self.new ≡ self.old }
     {
         note_hashes(&mut self.held, pages);
+    }
+
+    /// Returns the hashes of four pages' bytes, each under the salt at its place: four at once, if the hash can. Pages that are
+    /// to be lent are hashed where they are, for [`lend_hashed`](Core::lend_hashed).
+    pub fn hash_four(&self, salts: [u32; 4], a: &Page, b: &Page, c: &Page, d: &Page) -> [u64; 4]
+        ensures { result ≡ four_hashes H.hash_of salts a.now b.now c.now d.now }
+    {
+        self.held.hash.hash_four(salts, a, b, c, d)
     }
 
     /// Restarts the count of requests at 0, for a machine that serves more than the count can hold.
@@ -300,6 +318,14 @@ impl<H: PageHash, A: Allocator> Core<H, A> {
         ensures { result ≡ length (state_of self.now).guests }
     {
         self.held.guests.len() as u8
+    }
+
+    /// Returns the salt of a guest.
+    pub fn salt(&self, guest: u8) -> u32
+        requires { guest < length (state_of self.now).guests }
+        ensures { Some result ≡ option_map (λ g. g.salt) (slice_get (state_of self.now).guests guest) }
+    {
+        self.held.guests[guest as usize].salt
     }
 
     /// Returns how many pages a guest has.

@@ -13,11 +13,11 @@ returns-in-Some-clause-step g c =
     let held = c.args.held.now in
     let a : ℕ = c.args.page.guest in
     let b : ℕ = c.args.page.ppn in
-    let f : SharedFrame = record { mpn = c.in-Some.theirs; count = count_at held.table c.hash-code.result } in
+    let f : SharedFrame = record { mpn = c.in-Some.theirs; count = count_at held.table c.hash_bytes-code.result } in
     let found = rw c.in-Some.is at c.shared_as.ensures.found in
     let salt = rw c.in-Some.is at c.shared_as.ensures.salt in
     let bytes = rw c.in-Some.is at c.shared_as.ensures.bytes in
-    let any = rw (salt, bytes) at (same_any g.H.HashFunction.hash_of (pmap_of held) held.frames (notes_of held) held.table.shared c.hash-code.result f c.requires.whole.ties.shares found) in
+    let any = rw (salt, bytes) at (same_any g.H.HashFunction.hash_of (pmap_of held) held.frames (notes_of held) held.table.shared c.hash_bytes-code.result f c.requires.whole.ties.shares found) in
     joins_fresh g.H.HashFunction.hash_of (guests_of held) a b c.args.page.salt c.args.bytes.now c.join-peers.result
     (guests_of c.join-peers.new.held) (page_in_is held.frames (pmap_of held) a b c.args.page.salt Unmapped c.requires.page) any
     (rw bytes at c.join-peers.ensures.guests) (rw bytes at c.join-peers.ensures.count)
@@ -28,9 +28,9 @@ returns-in-Some-clause-stay g c =
     let a : ℕ = c.args.page.guest in
     let b : ℕ = c.args.page.ppn in
     let t = c.requires.whole.ties in
-    let f : SharedFrame = record { mpn = c.in-Some.theirs; count = count_at held.table c.hash-code.result } in
+    let f : SharedFrame = record { mpn = c.in-Some.theirs; count = count_at held.table c.hash_bytes-code.result } in
     let found = rw c.in-Some.is at c.shared_as.ensures.found in
-    let o = t.owned c.in-Some.theirs (t.shares.well c.hash-code.result f found).taken in
+    let o = t.owned c.in-Some.theirs (t.shares.well c.hash_bytes-code.result f found).taken in
     let theirs = frame_is (pmap_of held) o.guest o.ppn o.salt o.slot o.at ∙ o.frame in
     let one = one_moves (pmap_of held) a b c.args.page.salt Unmapped (Shared c.in-Some.theirs) c.requires.page in
     rw c.join-peers.ensures.pmap (record {

@@ -20,15 +20,15 @@ returns-then-count-eq1-clause-lends g c =
     let page : List ℕ = c.args.bytes.now in
     let old : List ℕ = bytes_in held.frames c.args.mpn in
     let p = rw (c.hash_frame-code.ensures.shown, c.hash_frame-code.ensures.kept.frames) at c.peers_of-count.ensures.peers in
-    let bytes : bytes_in c.write.new.held.frames c.args.mpn ≡ written old 0 page = rw (c.keep.ensures.frames, c.hash_frame-code.ensures.kept.frames) at c.write.ensures.bytes in
-    let guests : guests_of c.write.new.held ≡ with_slot (guests_of held) a b (Private (written old 0 page) None) =
-    (rw (c.keep.ensures.guests, c.keep.ensures.frames, c.hash_frame-code.ensures.shown, c.hash_frame-code.ensures.kept.frames) at c.write.ensures.guests) ∙ again (guests_of held) a b _ _ in
+    let bytes : bytes_in c.write_whole.new.held.frames c.args.mpn ≡ written old 0 page = rw (c.keep.ensures.frames, c.hash_frame-code.ensures.kept.frames) at c.write_whole.ensures.bytes in
+    let guests : guests_of c.write_whole.new.held ≡ with_slot (guests_of held) a b (Private (written old 0 page) None) =
+    (rw (c.keep.ensures.guests, c.keep.ensures.frames, c.hash_frame-code.ensures.shown, c.hash_frame-code.ensures.kept.frames) at c.write_whole.ensures.guests) ∙ again (guests_of held) a b _ _ in
     let step = rw (bytes, guests) at c.propose_own.ensures.step in
     let offer = is_offer g.H.HashFunction.hash_of _ _ a b salt _ c.propose_own.result.verdict step in
     let first = all_stay held.frames a b v.Taken (pmap_of held) (with_slot (pmap_of held) a b (Private c.args.mpn None)) refl (one_keeps (pmap_of held) a b salt (Shared c.args.mpn) (Private c.args.mpn None) c.requires.page refl) in
-    let second = rw (c.write.ensures.pmap, c.keep.ensures.pmap, c.hash_frame-code.ensures.kept.pmap) at c.propose_own.ensures.served.stay in
+    let second = rw (c.write_whole.ensures.pmap, c.keep.ensures.pmap, c.hash_frame-code.ensures.kept.pmap) at c.propose_own.ensures.served.stay in
     let own = frame_is (pmap_of held) a b salt (Shared c.args.mpn) c.requires.page in
-    let total = rw (c.keep.ensures.frames, c.hash_frame-code.ensures.kept.frames) at c.write.ensures.total in
+    let total = rw (c.keep.ensures.frames, c.hash_frame-code.ensures.kept.frames) at c.write_whole.ensures.total in
     lends_done g.H.HashFunction.hash_of a b salt page held c.propose_own.new.held (Shared old) (page_in_is held.frames (pmap_of held) a b salt (Shared c.args.mpn) c.requires.page) (written old 0 page) None v.Taken c.propose_own.result
     (stored_taken _ (guests_of held) a b 0 page salt old (sym p ∙ c.if-count-eq1.true)) refl (c.propose_own.ensures.served.total ∙ total) step
     (then_offered held.frames _ a b v.Taken c.propose_own.result.verdict (pmap_of held) _ _ offer first second)
@@ -58,16 +58,16 @@ returns-clause-lends g c =
     let copy = c.map_copy-copy.result in
     let p = rw (c.hash_frame-code.ensures.shown, c.hash_frame-code.ensures.kept.frames) at c.peers_of-count.ensures.peers in
     let room = rw (c.if-is_full.false, c.hash_frame-code.ensures.shown, c.hash_frame-code.ensures.kept.frames) at c.is_full.ensures.full in
-    let bytes : bytes_in c.write-2.new.held.frames copy ≡ written old 0 page = rw (c.map_copy-copy.ensures.bytes, c.leave.ensures.frames, c.hash_frame-code.ensures.kept.frames) at c.write-2.ensures.bytes in
-    let guests : guests_of c.write-2.new.held ≡ with_slot (guests_of held) a b (Private (written old 0 page) None) =
-    (rw (c.map_copy-copy.ensures.guests, c.map_copy-copy.ensures.bytes, c.leave.ensures.guests, c.leave.ensures.frames, c.hash_frame-code.ensures.shown, c.hash_frame-code.ensures.kept.frames) at c.write-2.ensures.guests)
+    let bytes : bytes_in c.write_whole-2.new.held.frames copy ≡ written old 0 page = rw (c.map_copy-copy.ensures.bytes, c.leave.ensures.frames, c.hash_frame-code.ensures.kept.frames) at c.write_whole-2.ensures.bytes in
+    let guests : guests_of c.write_whole-2.new.held ≡ with_slot (guests_of held) a b (Private (written old 0 page) None) =
+    (rw (c.map_copy-copy.ensures.guests, c.map_copy-copy.ensures.bytes, c.leave.ensures.guests, c.leave.ensures.frames, c.hash_frame-code.ensures.shown, c.hash_frame-code.ensures.kept.frames) at c.write_whole-2.ensures.guests)
     ∙ again (with_slot (guests_of held) a b Unmapped) a b _ _ ∙ again (guests_of held) a b _ _ in
     let step = rw (bytes, guests) at c.propose_private-verdict.ensures.step in
     let offer = is_offer g.H.HashFunction.hash_of _ _ a b salt _ c.propose_private-verdict.result step in
     let free = rw (c.leave.ensures.frames, c.hash_frame-code.ensures.kept.frames) at c.map_copy-copy.ensures.free in
     let first = takes_free held.frames a b copy v.Copied (pmap_of held) (with_slot (with_slot (pmap_of held) a b Unmapped) a b (Private copy None)) refl free (moved_twice (pmap_of held) a b salt (Shared c.args.mpn) Unmapped (Private copy None) c.requires.page) in
-    let second = rw (c.write-2.ensures.pmap, c.map_copy-copy.ensures.pmap, c.leave.ensures.pmap, c.hash_frame-code.ensures.kept.pmap) at c.propose_private-verdict.ensures.served.stay in
-    let total = rw (c.map_copy-copy.ensures.total, c.leave.ensures.frames, c.hash_frame-code.ensures.kept.frames) at c.write-2.ensures.total in
+    let second = rw (c.write_whole-2.ensures.pmap, c.map_copy-copy.ensures.pmap, c.leave.ensures.pmap, c.hash_frame-code.ensures.kept.pmap) at c.propose_private-verdict.ensures.served.stay in
+    let total = rw (c.map_copy-copy.ensures.total, c.leave.ensures.frames, c.hash_frame-code.ensures.kept.frames) at c.write_whole-2.ensures.total in
     lends_done g.H.HashFunction.hash_of a b salt page held c.propose_private-verdict.new.held (Shared old) (page_in_is held.frames (pmap_of held) a b salt (Shared c.args.mpn) c.requires.page) (written old 0 page) None v.Copied (record { verdict = c.propose_private-verdict.result; freed = None })
     (stored_copied _ (guests_of held) a b 0 page salt old (λ e. c.if-count-eq1.false (p ∙ e)) (sym room)) refl (c.propose_private-verdict.ensures.served.total ∙ total) step
     (then_offered held.frames _ a b v.Copied c.propose_private-verdict.result (pmap_of held) _ _ offer first second) refl (record {})
