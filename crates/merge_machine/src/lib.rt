@@ -1,7 +1,7 @@
 //! A machine over its guests' rings, while it runs: its merger takes the guests' requests into one journal, applies them
 //! to the core and answers each.
 //!
-//! [`Machine::new`] makes a [`Merger`] and one port for each guest. Each [`Merger::step`] serves one request of one guest.
+//! [`open_machine`] makes a [`Merger`] and one port for each guest. Each [`Merger::step`] serves one request of one guest.
 //! `merge_settle` says what is known once all guests have ended, and `merge_run` runs a thread for each guest.
 #![tactic(auto)]
 
@@ -20,5 +20,5 @@ mod workers;
 
 pub use config::{CheckedConfig, Config, Fault};
 pub use limits::{MAX_ROUND, max_round_law};
-pub use machine::Machine;
+pub use machine::{open_checked_machine, open_machine};
 pub use merger::{JournalFull, Merger, Step};

@@ -13,49 +13,44 @@ use page_digest::PageHash;
 use share_rings::{MergerEnd, Port, open_pair};
 use std::alloc::{AllocError, Allocator};
 
-/// Makes machines.
-pub struct Machine;
-
-impl Machine {
-    /// Makes a machine before its first request: its merger, and a list of ports in which item i is guest i's.
-    ///
-    /// All memory of the machine is allocated here.
-    pub fn new<H: PageHash + Drop, A: Allocator + Copy>(
-        alloc: A,
-        config: &Config<A>,
-        hash: H,
-    ) -> Result<(Merger<H, A>, Vec<Port<A>, A>), Fault>
-        ensures machine { IfOk result (λ (merger, ports). IsFreshMachine (numbers_of config.now) merger ports.items) }
-        ensures fault { MatchResult result (λ _. IsMachine config.now) (λ fault. NoMachineFor config.now fault) }
-    {
-        let checked = config.check()?;
-        match Machine::open(alloc, &checked, hash) {
-            Err(_) => Err(Fault::OutOfMemory),
-            Ok(machine) => Ok(machine),
-        }
+/// Makes a machine before its first request: its merger, and a list of ports in which item i is guest i's.
+///
+/// All memory of the machine is allocated here.
+pub fn open_machine<H: PageHash + Drop, A: Allocator + Copy>(
+    alloc: A,
+    config: &Config<A>,
+    hash: H,
+) -> Result<(Merger<H, A>, Vec<Port<A>, A>), Fault>
+    ensures machine { IfOk result (λ (merger, ports). IsFreshMachine (numbers_of config.now) merger ports.items) }
+    ensures fault { MatchResult result (λ _. IsMachine config.now) (λ fault. NoMachineFor config.now fault) }
+{
+    let checked = config.check()?;
+    match open_checked_machine(alloc, &checked, hash) {
+        Err(_) => Err(Fault::OutOfMemory),
+        Ok(machine) => Ok(machine),
     }
+}
 
-    /// Makes a machine as [`new`](Machine::new) does, for a configuration whose limits were checked (see [`Config::check`]).
-    pub fn open<H: PageHash + Drop, A: Allocator + Copy>(
-        alloc: A,
-        config: &CheckedConfig<'_>,
-        hash: H,
-    ) -> Result<(Merger<H, A>, Vec<Port<A>, A>), AllocError>
-        ensures { IfOk result (λ (merger, ports). IsFreshMachine config.now merger ports.items) }
-    {
-        let shape = config.shape();
-        let limit = config.journal();
-        let core = Core::with_shape(alloc, shape, hash)?;
-        let (ends, ports) = new_pairs(alloc, shape.pages().len(), config.ring())?;
-        let journal = Vec::with_capacity(alloc, limit as usize)?;
-        let merger = Merger {
-            ends,
-            journal,
-            core,
-            limit,
-        };
-        Ok((merger, ports))
-    }
+/// Makes a machine as [`open_machine`] does, for a configuration whose limits were checked (see [`Config::check`]).
+pub fn open_checked_machine<H: PageHash + Drop, A: Allocator + Copy>(
+    alloc: A,
+    config: &CheckedConfig<'_>,
+    hash: H,
+) -> Result<(Merger<H, A>, Vec<Port<A>, A>), AllocError>
+    ensures { IfOk result (λ (merger, ports). IsFreshMachine config.now merger ports.items) }
+{
+    let shape = config.shape();
+    let limit = config.journal();
+    let core = Core::with_shape(alloc, shape, hash)?;
+    let (ends, ports) = new_pairs(alloc, shape.pages().len(), config.ring())?;
+    let journal = Vec::with_capacity(alloc, limit as usize)?;
+    let merger = Merger {
+        ends,
+        journal,
+        core,
+        limit,
+    };
+    Ok((merger, ports))
 }
 
 /// Makes a pair of rings of this capacity for each guest.

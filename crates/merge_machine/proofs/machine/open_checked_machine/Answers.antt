@@ -3,7 +3,7 @@ use Rattle.merge_core.specs.Shown.{state_of}
 use Rattle.merge_machine.specs.Fresh.{IsFreshEnd, IsFreshPort}
 use Rattle.merge_machine.specs.Machines.{opening}
 use Rattle.merge_machine.proofs.Fresh.{keeps_nothing, replay_of_nothing, opens_empty, is_opening}
-use Rattle.merge_machine.proofs.machine.Machine.open.Goals as goal
+use Rattle.merge_machine.proofs.machine.open_checked_machine.Goals as goal
 
 pub invariant_of-merger : goal.invariant_of-merger
 invariant_of-merger g c =
