@@ -8,3 +8,4 @@ pub mod Spelled
 pub mod Asked
 pub mod Heads
 pub mod Rereads
+pub mod Entered

@@ -2,6 +2,7 @@ pub mod Words
 pub mod Cursor
 pub mod Headers
 pub mod Requests
+pub mod Asked
 pub mod Texts
 pub mod Views
 pub mod Printed

@@ -1,5 +1,5 @@
 -- The lines after a text's head: a request of a guest, or the end.
-use Rattle.std.specs.Prelude.{◌≡◌, ℕ, ◌+◌, ◌<◌, ◌==◌, ◌||◌, nat_lt, Bool, true, false, if◌then◌else◌, List, length, Option, Some, None, Result, Ok, Err, IfOk, slice_get, codes}
+use Rattle.std.specs.Prelude.{◌≡◌, ℕ, ◌+◌, ◌==◌, ◌||◌, nat_lt, Bool, true, false, if◌then◌else◌, List, length, Option, Some, None, Result, Ok, Err, IfOk, slice_get, codes}
 use Rattle.std.specs.Str.{bytes_eq}
 use Rattle.page_model.specs.Closing.{is_close}
 use Rattle.page_model.specs.declared.request.Entry.{Entry}
@@ -127,8 +127,3 @@ IsPlain asked = IfOk asked (λ request. is_close request ≡ false)
 abbrev pub IsEnd : {X : Type 0} → Line X → Type 0
 IsEnd (Enters x) = ⊥
 IsEnd (Ends count) = Unit {0}
-
--- the entry's guest is one of the first n
-abbrev pub IsBelow : ℕ → Line Entry → Type 0
-IsBelow n (Enters entry) = entry.guest < n
-IsBelow n (Ends count) = Unit {0}

@@ -14,6 +14,7 @@ pub mod print;
 mod reader;
 pub mod request;
 pub mod room;
+mod said;
 pub mod version;
 pub mod word;
 pub mod writer;

@@ -129,46 +129,57 @@ pub(crate) fn push_digits<A: Allocator>(out: &mut String<A>, bytes: &[u8]) -> Re
     }
 }
 
-/// Appends the bytes of a load: at most 134 bytes.
+/// Appends the bytes of a load, after a space: at most 135 bytes.
 fn push_loaded<A: Allocator>(out: &mut String<A>, bytes: &[u8]) -> Result<(), AllocError>
     requires { length bytes.now ≤ MAX_ACCESS_BYTES }
-    ensures bytes { OnOk result (string_bytes out.new ≡ string_bytes out.old ++ (codes "bytes " ++ encode_lower bytes.now)) }
-    ensures len { OnOk result (string_len out.new ≤ string_len out.old + 134) }
+    ensures bytes { OnOk result (string_bytes out.new ≡ string_bytes out.old ++ (codes " bytes " ++ encode_lower bytes.now)) }
+    ensures len { OnOk result (string_len out.new ≤ string_len out.old + 135) }
     ensures capacity { string_capacity out.old ≤ string_capacity out.new }
-    ensures full { OnErr result (string_capacity out.old < string_len out.old + 134) }
+    ensures full { OnErr result (string_capacity out.old < string_len out.old + 135) }
 {
-    out.push_str("bytes ")?;
+    out.push_str(" bytes ")?;
     push_digits(out, bytes)
 }
 
-/// Appends the words of a verdict: at most 134 bytes.
+/// Appends the counts that a guest asked for, after a space: at most 118 bytes.
+fn push_counts<A: Allocator>(out: &mut String<A>, report: &Report) -> Result<(), AllocError>
+    ensures bytes { OnOk result (string_bytes out.new ≡ string_bytes out.old ++ (codes " totals " ++ report_words report.now)) }
+    ensures len { OnOk result (string_len out.new ≤ string_len out.old + 118) }
+    ensures capacity { string_capacity out.old ≤ string_capacity out.new }
+    ensures full { OnErr result (string_capacity out.old < string_len out.old + 118) }
+{
+    out.push_str(" totals ")?;
+    push_report(out, report)
+}
+
+/// Appends a space and the words of a verdict: at most 135 bytes.
 #[tactic(auto, unfolding(crate::specs::Printed::verdict_words))]
 fn push_words<A: Allocator>(out: &mut String<A>, verdict: &Verdict) -> Result<(), AllocError>
-    ensures bytes { OnOk result (string_bytes out.new ≡ string_bytes out.old ++ verdict_words verdict.now) }
-    ensures len { OnOk result (string_len out.new ≤ string_len out.old + 134) }
+    ensures bytes { OnOk result (string_bytes out.new ≡ string_bytes out.old ++ (codes " " ++ verdict_words verdict.now)) }
+    ensures len { OnOk result (string_len out.new ≤ string_len out.old + 135) }
     ensures capacity { string_capacity out.old ≤ string_capacity out.new }
-    ensures full { OnErr result (string_capacity out.old < string_len out.old + 134) }
+    ensures full { OnErr result (string_capacity out.old < string_len out.old + 135) }
 {
     match verdict {
-        Verdict::NoPage => out.push_str("no-page"),
-        Verdict::Unmapped => out.push_str("unmapped"),
-        Verdict::Already => out.push_str("already"),
-        Verdict::Joined(n) => push_counted(out, "joined ", *n),
-        Verdict::Paired => out.push_str("paired"),
-        Verdict::Hinted => out.push_str("hinted"),
-        Verdict::Kept => out.push_str("kept"),
-        Verdict::Replaced => out.push_str("replaced"),
-        Verdict::Ineligible => out.push_str("ineligible"),
-        Verdict::Mapped => out.push_str("mapped"),
-        Verdict::Stored => out.push_str("stored"),
-        Verdict::Copied => out.push_str("copied"),
-        Verdict::Taken => out.push_str("taken"),
-        Verdict::NoFrame => out.push_str("no-frame"),
+        Verdict::NoPage => out.push_str(" no-page"),
+        Verdict::Unmapped => out.push_str(" unmapped"),
+        Verdict::Already => out.push_str(" already"),
+        Verdict::Joined(n) => push_counted(out, " joined ", *n),
+        Verdict::Paired => out.push_str(" paired"),
+        Verdict::Hinted => out.push_str(" hinted"),
+        Verdict::Kept => out.push_str(" kept"),
+        Verdict::Replaced => out.push_str(" replaced"),
+        Verdict::Ineligible => out.push_str(" ineligible"),
+        Verdict::Mapped => out.push_str(" mapped"),
+        Verdict::Stored => out.push_str(" stored"),
+        Verdict::Copied => out.push_str(" copied"),
+        Verdict::Taken => out.push_str(" taken"),
+        Verdict::NoFrame => out.push_str(" no-frame"),
         Verdict::Bytes(bytes) => push_loaded(out, bytes.as_slice()),
-        Verdict::Released(true) => out.push_str("released freed"),
-        Verdict::Released(false) => out.push_str("released held"),
-        Verdict::Totals(report) => push_totals(out, "totals ", report),
-        Verdict::Closed => out.push_str("closed"),
+        Verdict::Released(true) => out.push_str(" released freed"),
+        Verdict::Released(false) => out.push_str(" released held"),
+        Verdict::Totals(report) => push_counts(out, report),
+        Verdict::Closed => out.push_str(" closed"),
     }
 }
 
@@ -184,7 +195,6 @@ pub fn push_verdict<A: Allocator>(
     ensures full { OnErr result (string_capacity out.old < string_len out.old + 145) }
 {
     push_number(out, u32::from(guest))?;
-    out.push_str(" ")?;
     push_words(out, verdict)
 }
 

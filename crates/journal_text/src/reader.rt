@@ -65,10 +65,13 @@ fn entries<A: Allocator>(
         match read_line(closed, line) {
             Err(cause) => return Err(TextFault::Line(n, cause)),
             Ok(Line::Ends(count)) => return ended(n, found, count, more.is_empty()),
-            Ok(Line::Enters(entry)) => {
-                note(closed, &entry);
-                found.push(entry)?;
-            }
+            Ok(Line::Enters(said)) => match said.entry() {
+                Err(cause) => return Err(TextFault::Line(n, cause)),
+                Ok(entry) => {
+                    note(closed, &entry);
+                    found.push(entry)?;
+                }
+            },
         }
         rest = more;
         n += 1;

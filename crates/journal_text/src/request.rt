@@ -1,17 +1,18 @@
 //! The lines after a text's head: a request of a guest, or the end.
-ghost use Rattle.std.specs.Prelude.{◌≡◌, ◌+◌, ◌/◌, ◌<◌, ◌≤◌, ◌^◌, ℕ, List, Option, Some};
-ghost use Rattle.std.specs.Prelude.{None, Ok, Err, false, codes, length, IsTrue, slice_get, IfOk, OnOk};
+ghost use Rattle.std.specs.Prelude.{◌≡◌, ◌+◌, ◌<◌, ◌≤◌, ◌^◌, ℕ, List, Option, Some, None, Ok, Err};
+ghost use Rattle.std.specs.Prelude.{false, codes, length, slice_get, IfOk, OnOk};
 ghost use Rattle.std.specs.Str.{bytes_eq};
-ghost use Rattle.journal_text.specs.Words.{spelled, is_bytes_word};
-ghost use Rattle.journal_text.specs.Requests.{stored, loaded, propose_at, store_at, load_at, release_at, bare_at, named};
-ghost use Rattle.journal_text.specs.Requests.{asked_at, may_ask, end_at, entry_at, line_of, IsBelow, IsEnd, IsPlain};
+ghost use Rattle.journal_text.specs.Requests.{propose_at, store_at, load_at, release_at, bare_at, named};
+ghost use Rattle.journal_text.specs.Requests.{asked_at, may_ask, end_at, entry_at, line_of, IsEnd, IsPlain};
+ghost use Rattle.journal_text.specs.Asked.{asked_of, all_entered, IsSpelled, IsNoClose, IsSaidBelow};
 ghost use Rattle.journal_text.specs.Texts.{ended};
 ghost use Rattle.journal_text.specs.Cursor.{left, left_length, seen};
+ghost use Rattle.page_model.specs.declared.request.Request.TheVariants as requests;
 ghost use Rattle.page_model.specs.declared.limits.TheConstants.{MAX_GUESTS};
 
 use crate::fault::{Cause, TextFault};
-use crate::word::{Left, is_bytes, next_number, nothing, number, word};
-use page_model::{Entry, Request, RequestFault};
+use crate::said::{Asked, Said, SaidBy};
+use crate::word::{Left, is_bytes, long_word, next_number, nothing, number, word};
 
 /// What a line after a text's head says.
 #[derive(Drop)]
@@ -22,109 +23,77 @@ pub enum Line<T> {
     Ends(u32),
 }
 
-/// A request that a line asks for, or what is wrong with its numbers.
-pub type Asked = Result<Request, Cause>;
-
-/// Makes the store of the bytes that a word spells.
-fn stored(ppn: u32, at: u32, word: &[u8]) -> Asked
-    requires { IsTrue (is_bytes_word word.now) }
-    ensures value { result ≡ stored ppn at (spelled word.now) }
-    ensures plain { IsPlain result }
-{
-    if word.len() > 128 {
-        return Err(Cause::Length);
-    }
-    let mut room = [0; 64];
-    let bytes = &mut room[..word.len() / 2];
-    unpack(word, bytes);
-    match Request::store(ppn, at, bytes) {
-        Ok(request) => Ok(request),
-        Err(RequestFault::Length) => Err(Cause::Length),
-        Err(RequestFault::Crosses) => Err(Cause::Crosses),
-    }
-}
-
-/// Writes the bytes that a word spells.
-fn unpack(word: &[u8], bytes: &mut [u8])
-    requires word { IsTrue (is_bytes_word word.now) }
-    requires room { length bytes.old ≡ length word.now / 2 }
-    ensures { bytes.new ≡ spelled word.now }
-{
-    let _ = hex::decode_to_slice(word, bytes);
-}
-
-fn loaded(ppn: u32, at: u32, len: u32) -> Asked
-    ensures value { result ≡ loaded ppn at len }
-    ensures plain { IsPlain result }
-{
-    match Request::load(ppn, at, len) {
-        Ok(request) => Ok(request),
-        Err(RequestFault::Length) => Err(Cause::Length),
-        Err(RequestFault::Crosses) => Err(Cause::Crosses),
-    }
-}
-
 #[tactic(auto, unfolding(crate::specs::Requests::propose_at))]
-fn propose(rest: Left<'_>) -> Result<Asked, Cause>
-    ensures value { result ≡ propose_at (left rest.entry) }
-    ensures plain { IfOk result IsPlain }
+fn propose(rest: Left<'_>) -> Result<Said<'_>, Cause>
+    ensures value { seen asked_of result ≡ propose_at (left rest.entry) }
+    ensures spelled { IfOk result (λ said. IsSpelled said × IsNoClose said) }
 {
     let (ppn, rest) = next_number(rest)?;
     nothing(rest)?;
-    Ok(Ok(Request::Propose(ppn)))
+    Ok(Said::Propose(ppn))
 }
 
 #[tactic(auto, unfolding(crate::specs::Requests::store_at, crate::specs::Words::bytes_in))]
-fn store(rest: Left<'_>) -> Result<Asked, Cause>
-    ensures value { result ≡ store_at (left rest.entry) }
-    ensures plain { IfOk result IsPlain }
+fn store(rest: Left<'_>) -> Result<Said<'_>, Cause>
+    ensures value { seen asked_of result ≡ store_at (left rest.entry) }
+    ensures spelled { IfOk result (λ said. IsSpelled said × IsNoClose said) }
 {
     let (ppn, rest) = next_number(rest)?;
     let (at, rest) = next_number(rest)?;
-    let (bytes, rest) = word(rest)?;
+    let (bytes, rest) = long_word(rest)?;
     if !is_bytes(bytes) {
         return Err(Cause::Form);
     }
     nothing(rest)?;
-    Ok(stored(ppn, at, bytes))
+    Ok(Said::Store(ppn, at, bytes))
 }
 
 #[tactic(auto, unfolding(crate::specs::Requests::load_at))]
-fn load(rest: Left<'_>) -> Result<Asked, Cause>
-    ensures value { result ≡ load_at (left rest.entry) }
-    ensures plain { IfOk result IsPlain }
+fn load(rest: Left<'_>) -> Result<Said<'_>, Cause>
+    ensures value { seen asked_of result ≡ load_at (left rest.entry) }
+    ensures spelled { IfOk result (λ said. IsSpelled said × IsNoClose said) }
 {
     let (ppn, rest) = next_number(rest)?;
     let (at, rest) = next_number(rest)?;
     let (len, rest) = next_number(rest)?;
     nothing(rest)?;
-    Ok(loaded(ppn, at, len))
+    Ok(Said::Load(ppn, at, len))
 }
 
 #[tactic(auto, unfolding(crate::specs::Requests::release_at))]
-fn release(rest: Left<'_>) -> Result<Asked, Cause>
-    ensures value { result ≡ release_at (left rest.entry) }
-    ensures plain { IfOk result IsPlain }
+fn release(rest: Left<'_>) -> Result<Said<'_>, Cause>
+    ensures value { seen asked_of result ≡ release_at (left rest.entry) }
+    ensures spelled { IfOk result (λ said. IsSpelled said × IsNoClose said) }
 {
     let (ppn, rest) = next_number(rest)?;
     nothing(rest)?;
-    Ok(Ok(Request::Release(ppn)))
+    Ok(Said::Release(ppn))
 }
 
 #[tactic(auto, unfolding(crate::specs::Requests::bare_at))]
-fn bare(request: Request, rest: Left<'_>) -> Result<Asked, Cause>
-    ensures value { result ≡ bare_at request (left rest.entry) }
-    ensures same { IfOk result (λ asked. asked ≡ Ok request) }
+fn count(rest: Left<'_>) -> Result<Said<'_>, Cause>
+    ensures value { seen asked_of result ≡ bare_at requests.Count (left rest.entry) }
+    ensures spelled { IfOk result (λ said. IsSpelled said × IsNoClose said) }
 {
     nothing(rest)?;
-    Ok(Ok(request))
+    Ok(Said::Count)
 }
 
-/// Reads a request, from the word that names it and the words after.
+#[tactic(auto, unfolding(crate::specs::Requests::bare_at))]
+fn close(rest: Left<'_>) -> Result<Said<'_>, Cause>
+    ensures value { seen asked_of result ≡ bare_at requests.Close (left rest.entry) }
+    ensures spelled { IfOk result IsSpelled }
+{
+    nothing(rest)?;
+    Ok(Said::Close)
+}
+
+/// Reads what a line asks for, from the word that names it and the words after.
 #[tactic(auto, unfolding(crate::specs::Requests::named))]
-pub fn named(name: &[u8], rest: Left<'_>) -> Result<Asked, Cause>
-    ensures value { result ≡ named name.now (left rest.entry) }
-    ensures plain { bytes_eq name.now (codes "close") ≡ false → IfOk result IsPlain }
+fn said_by<'a>(name: &[u8], rest: Left<'a>) -> Result<Said<'a>, Cause>
+    ensures value { seen asked_of result ≡ named name.now (left rest.entry) }
+    ensures spelled { IfOk result IsSpelled }
+    ensures plain { bytes_eq name.now (codes "close") ≡ false → IfOk result IsNoClose }
     ensures length { OnOk result (4 ≤ length name.now) }
 {
     if name == b"propose".as_slice() {
@@ -136,21 +105,32 @@ pub fn named(name: &[u8], rest: Left<'_>) -> Result<Asked, Cause>
     } else if name == b"release".as_slice() {
         release(rest)
     } else if name == b"count".as_slice() {
-        bare(Request::Count, rest)
+        count(rest)
     } else if name == b"close".as_slice() {
-        bare(Request::Close, rest)
+        close(rest)
     } else {
         Err(Cause::Form)
     }
 }
 
+/// Reads a request, from the word that names it and the words after.
+pub fn named(name: &[u8], rest: Left<'_>) -> Result<Asked, Cause>
+    ensures value { result ≡ named name.now (left rest.entry) }
+    ensures plain { bytes_eq name.now (codes "close") ≡ false → IfOk result IsPlain }
+    ensures length { OnOk result (4 ≤ length name.now) }
+{
+    let said = said_by(name, rest)?;
+    Ok(said.request())
+}
+
 #[tactic(auto, unfolding(crate::specs::Requests::asked_at))]
-fn asked(rest: Left<'_>) -> Result<Asked, Cause>
-    ensures value { result ≡ asked_at (left rest.entry) }
+fn next_said(rest: Left<'_>) -> Result<Said<'_>, Cause>
+    ensures value { seen asked_of result ≡ asked_at (left rest.entry) }
+    ensures spelled { IfOk result IsSpelled }
     ensures length { OnOk result (5 ≤ left_length (left rest.entry)) }
 {
     let (name, rest) = word(rest)?;
-    named(name, rest)
+    said_by(name, rest)
 }
 
 /// Checks that a guest may ask; `closed` says of each guest whether it has closed.
@@ -178,28 +158,28 @@ pub fn end<T>(rest: Left<'_>) -> Result<Line<T>, Cause>
 }
 
 #[tactic(auto, unfolding(crate::specs::Requests::entry_at))]
-fn entry(closed: &[bool], first: &[u8], rest: Left<'_>) -> Result<Line<Entry>, Cause>
+fn entry<'a>(closed: &[bool], first: &[u8], rest: Left<'a>) -> Result<Line<SaidBy<'a>>, Cause>
     requires { length closed.now ≤ MAX_GUESTS }
-    ensures value { result ≡ entry_at closed.now first.now (left rest.entry) }
-    ensures below { IfOk result (λ l. IsBelow (length closed.now) l) }
+    ensures value { all_entered result ≡ entry_at closed.now first.now (left rest.entry) }
+    ensures below { IfOk result (λ l. IsSaidBelow (length closed.now) l) }
     ensures length { OnOk result (6 ≤ length first.now + left_length (left rest.entry)) }
 {
     let guest = number(first)?;
-    let asked = asked(rest)?;
+    let said = next_said(rest)?;
     may_ask(closed, guest)?;
-    let request = asked?;
-    Ok(Line::Enters(Entry {
+    Ok(Line::Enters(SaidBy {
         guest: guest as u8,
-        request,
+        said,
     }))
 }
 
-/// Reads a line; `closed` says of each guest whether it has closed.
-#[tactic(auto, unfolding(crate::specs::Requests::line_of))]
-pub fn read_line(closed: &[bool], line: &[u8]) -> Result<Line<Entry>, Cause>
+/// Reads a line; `closed` says of each guest whether it has closed. What is wrong with a request's numbers shows only when its
+/// entry is made.
+#[tactic(auto, using(crate::proofs::Entered::end_entered), unfolding(crate::specs::Requests::line_of))]
+pub(crate) fn read_line<'a>(closed: &[bool], line: &'a [u8]) -> Result<Line<SaidBy<'a>>, Cause>
     requires { length closed.now ≤ MAX_GUESTS }
-    ensures value { result ≡ line_of closed.now line.now }
-    ensures below { IfOk result (λ l. IsBelow (length closed.now) l) }
+    ensures value { all_entered result ≡ line_of closed.now line.now }
+    ensures below { IfOk result (λ l. IsSaidBelow (length closed.now) l) }
     ensures length { OnOk result (5 ≤ length line.now) }
 {
     let (first, rest) = word(Some(line))?;

@@ -1,5 +1,6 @@
 //! The words of a line.
-ghost use Rattle.std.specs.Prelude.{◌≡◌, ◌+◌, ◌-◌, ◌<◌, ◌≤◌, ◌^◌, ℕ, List, Option, Some, None, length, IfOk, IfSome, OnOk};
+ghost use Rattle.std.specs.Prelude.{◌≡◌, ◌+◌, ◌-◌, ◌*◌, ◌<◌, ◌≤◌, ◌^◌, ℕ, List, Option, Some, None, false};
+ghost use Rattle.std.specs.Prelude.{length, IfOk, IfSome, IsTrue, OnOk};
 ghost use Rattle.journal_text.specs.Words.{word_at, nothing_at, number_to, number, bytes_in};
 ghost use Rattle.journal_text.specs.Words.{number_at, is_bytes_word, is_lower_digit, is_space, behind_space};
 ghost use Rattle.std.specs.List.{before_first};
@@ -21,16 +22,18 @@ pub fn cut<'a>(byte: u8, bytes: &'a [u8]) -> Option<(&'a [u8], &'a [u8])>
     }
 }
 
-/// Returns the first word of some bytes, and what is left after it.
+/// Returns the first word of some bytes, and what is left after it. Most words are short, so it looks at byte after byte.
 pub fn first_word<'a>(bytes: &'a [u8]) -> (&'a [u8], Left<'a>)
     ensures word { result.0.now ≡ before_first is_space bytes.now }
     ensures rest { left result.1 ≡ behind_space bytes.now }
     ensures length { length result.0.now + left_length (left result.1) ≡ length bytes.now }
 {
-    match cut(b' ', bytes) {
-        Some((first, behind)) => (first, Some(behind)),
-        None => (bytes, None),
+    for at in 0..bytes.len() {
+        if bytes[at] == b' ' {
+            return (&bytes[..at], Some(&bytes[at + 1..]));
+        }
     }
+    (bytes, None)
 }
 
 /// Returns the next word, and what is left after it.
@@ -45,6 +48,29 @@ pub fn word<'a>(rest: Left<'a>) -> Result<(&'a [u8], Left<'a>), Cause>
     }
 }
 
+fn long_first_word<'a>(bytes: &'a [u8]) -> (&'a [u8], Left<'a>)
+    ensures word { result.0.now ≡ before_first is_space bytes.now }
+    ensures rest { left result.1 ≡ behind_space bytes.now }
+    ensures length { length result.0.now + left_length (left result.1) ≡ length bytes.now }
+{
+    match cut(b' ', bytes) {
+        Some((first, behind)) => (first, Some(behind)),
+        None => (bytes, None),
+    }
+}
+
+/// Returns the next word as [`word`] does, and is quicker where that is long.
+#[tactic(auto, unfolding(crate::specs::Words::word_at))]
+pub(crate) fn long_word<'a>(rest: Left<'a>) -> Result<(&'a [u8], Left<'a>), Cause>
+    ensures value { seen (λ x. (x.0.now, left x.1)) result ≡ word_at (left rest.entry) }
+    ensures length { IfOk result (λ x. length x.0.now + left_length (left x.1) + 1 ≡ left_length (left rest.entry)) }
+{
+    match rest {
+        Some(bytes) => Ok(long_first_word(bytes)),
+        None => Err(Cause::Form),
+    }
+}
+
 /// Checks that no word is left.
 pub fn nothing(rest: Left<'_>) -> Result<(), Cause>
     ensures { result ≡ nothing_at (left rest.entry) }
@@ -53,6 +79,17 @@ pub fn nothing(rest: Left<'_>) -> Result<(), Cause>
         Some(_) => Err(Cause::Form),
         None => Ok(()),
     }
+}
+
+/// Whether one more digit makes a number greater than `most`. For most numbers the first comparison tells, whatever the digit.
+#[inline(always)]
+fn is_past(most: u64, n: u64, digit: u64) -> bool
+    requires most { 9 ≤ most }
+    requires digit { digit ≤ 9 }
+    ensures past { IsTrue result → most < 10 * n + digit }
+    ensures fits { result ≡ false → 10 * n + digit ≤ most }
+{
+    n > (most - 9) / 10 && n > (most - digit) / 10
 }
 
 /// Returns the number that a word spells, at most `most`.
@@ -72,7 +109,7 @@ pub fn number_to(most: u64, word: &[u8]) -> Result<u64, Cause>
             return Err(Cause::Form);
         }
         let digit = u64::from(*c - b'0');
-        if n > (most - digit) / 10 {
+        if is_past(most, n, digit) {
             return Err(Cause::Form);
         }
         n = 10 * n + digit;
@@ -105,12 +142,11 @@ pub fn is_bytes(word: &[u8]) -> bool
     if word.is_empty() || word.len() % 2 == 1 {
         return false;
     }
+    let mut all = true;
     for c in word {
-        if !is_lower_digit(*c) {
-            return false;
-        }
+        all &= is_lower_digit(*c);
     }
-    true
+    all
 }
 
 fn is_lower_digit(c: u8) -> bool

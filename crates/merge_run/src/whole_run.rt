@@ -25,7 +25,7 @@ use crate::run_fault::RunFault;
 use crate::task::{DoneTask, Task};
 use crate::task_list::{count_requests, has_room, into_lists, new_tasks};
 use crate::threads::{join_all, start_all};
-use merge_machine::{Config, JournalFull, Machine, Merger};
+use merge_machine::{Config, JournalFull, Merger, open_checked_machine};
 use merge_settle::settle;
 use page_digest::PageHash;
 use page_model::{Request, Verdict};
@@ -106,7 +106,7 @@ pub fn run_observed<
     if !has_room(config.journal, &scripts) {
         return Err(RunFault::Stopped(JournalFull));
     }
-    let (merger, ports) = Machine::open(alloc, &checked, hash)?;
+    let (merger, ports) = open_checked_machine(alloc, &checked, hash)?;
     let requests = count_requests(&scripts);
     let tasks = new_tasks(alloc, ports, scripts)?;
     gate.starting(requests);

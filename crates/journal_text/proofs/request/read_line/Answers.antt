@@ -1,13 +1,14 @@
 use Rattle.std.proofs.Common.{ℕ, Result, Ok, Err}
 use Rattle.std.specs.Prelude.{IfOk}
-use Rattle.page_model.specs.declared.request.Entry.{Entry}
 use Rattle.journal_text.specs.declared.fault.Cause.{Cause}
 use Rattle.journal_text.specs.declared.request.Line.{Line}
 use Rattle.journal_text.specs.declared.request.Line.TheVariants.{Enters, Ends}
-use Rattle.journal_text.specs.Requests.{IsBelow, IsEnd}
+use Rattle.journal_text.specs.declared.said.SaidBy.{SaidBy}
+use Rattle.journal_text.specs.Requests.{IsEnd}
+use Rattle.journal_text.specs.Asked.{IsSaidBelow}
 use Rattle.journal_text.proofs.request.read_line.Goals as goal
 
-end_below : (n : ℕ) (r : Result (Line Entry) Cause) → IfOk r IsEnd → IfOk r (λ l. IsBelow n l)
+end_below : (n : ℕ) (r : Result (Line SaidBy) Cause) → IfOk r IsEnd → IfOk r (λ l. IsSaidBelow n l)
 end_below n (Ok (Enters e)) h = absurd h
 end_below n (Ok (Ends count)) h = tt
 end_below n (Err cause) h = tt

@@ -2,8 +2,8 @@ use Rattle.std.proofs.Common.{◌+◌, ◌-◌, ◌*◌, ◌<◌, suc, length, d
 use Rattle.journal_text.proofs.Values.{too_large, value_at}
 use Rattle.journal_text.proofs.word.number_to.Goals as goal
 
-pub returns-then-n-most-clause-value : goal.returns-then-n-most-clause-value
-returns-then-n-most-clause-value c =
+pub returns-then-is_past-clause-value : goal.returns-then-is_past-clause-value
+returns-then-is_past-clause-value c =
     let n = c.loop-c.n in
     let i = c.loop-c.c-index in
     let word = c.args.word.now in

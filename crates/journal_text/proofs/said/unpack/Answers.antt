@@ -3,7 +3,7 @@ use Rattle.hex.specs.Hex.{decode_sized}
 use Rattle.hex.proofs.HexLemmas.{decode_sized-twice}
 use Rattle.journal_text.specs.Words.{spelled}
 use Rattle.journal_text.proofs.Bytes.{spelled_is}
-use Rattle.journal_text.proofs.request.unpack.Goals as goal
+use Rattle.journal_text.proofs.said.unpack.Goals as goal
 
 pub returns : goal.returns
 returns c =
