@@ -1,6 +1,6 @@
 //! Pages that are hashed together with a proposed one, as the requests in sight will leave them.
 use crate::asks::{Ask, Line, core_of, request_of, store_all};
-use crate::hashes::{Calls, Fours};
+use crate::hashes::{Calls, Lanes};
 use merge_core::Core;
 use page_digest::PageHash;
 use page_model::Entry;
@@ -69,13 +69,13 @@ fn serve_first<H: PageHash, A: Allocator>(
     serve_entries(rt, core, &entries_of(rt, alloc, lines), &lines[..1]);
 }
 
-/// Returns how many pages are hashed alone, and how many as one of four at once, when these lines are served on a new
-/// machine of two guests with eight pages each.
-fn hashed(rt: &impl Abort, alloc: Global, lines: &[Line]) -> (u32, u32) {
+/// Returns how many pages are hashed alone, by fours and by eights when these lines are served on a new machine of two guests
+/// with eight pages each.
+fn hashed(rt: &impl Abort, alloc: Global, lines: &[Line]) -> (u32, u32, u32) {
     let calls = Calls::new();
-    let mut core = core_of(rt, alloc, 16, &[8, 8], Fours(&calls));
+    let mut core = core_of(rt, alloc, 16, &[8, 8], Lanes(&calls));
     serve_ahead(rt, alloc, &mut core, lines);
-    calls.both()
+    calls.counts()
 }
 
 /// Each page is stored to and then proposed, with two guests in turn: four are hashed at once, then the last one alone.
@@ -94,7 +94,7 @@ fn stored_and_proposed(rt: HostRuntime) {
         (0, Ask::Store(2, b'E'), Answer::Mapped),
         (0, Ask::Propose(2), Answer::Hinted),
     ];
-    assert_eq!(rt; hashed(&rt, rt.alloc(), &lines), (1, 4));
+    assert_eq!(rt; hashed(&rt, rt.alloc(), &lines), (1, 4, 0));
 }
 
 /// Pages at rest are hashed four at once, before those that are stored to first.
@@ -112,7 +112,57 @@ fn at_rest(rt: HostRuntime) {
         (0, Ask::Propose(2), Answer::Hinted),
         (0, Ask::Propose(3), Answer::Hinted),
     ];
-    assert_eq!(rt; hashed(&rt, rt.alloc(), &lines), (1, 4));
+    assert_eq!(rt; hashed(&rt, rt.alloc(), &lines), (1, 4, 0));
+}
+
+fn stored(ppn: u32) -> Line {
+    (0, Ask::Store(ppn, ppn.to_be_bytes()[3]), Answer::Mapped)
+}
+
+fn proposed(ppn: u32) -> Line {
+    (0, Ask::Propose(ppn), Answer::Hinted)
+}
+
+/// Returns lines by which each of these pages is proposed just after it was stored to.
+fn lines_in_turn(rt: &impl Abort, alloc: Global, pages: u32) -> Vec<Line> {
+    let mut lines = Vec::new(alloc);
+    for ppn in 0..pages {
+        lines.push(stored(ppn)).expect(rt, "memory for a line");
+        lines.push(proposed(ppn)).expect(rt, "memory for a line");
+    }
+    lines
+}
+
+/// Returns lines by which all of these pages are stored to, and then all proposed.
+fn lines_at_rest(rt: &impl Abort, alloc: Global, pages: u32) -> Vec<Line> {
+    let mut lines = Vec::new(alloc);
+    for ppn in 0..pages {
+        lines.push(stored(ppn)).expect(rt, "memory for a line");
+    }
+    for ppn in 0..pages {
+        lines.push(proposed(ppn)).expect(rt, "memory for a line");
+    }
+    lines
+}
+
+/// Eight pages are hashed at once; of seven, four at once, and the others in a second four, whose last page is one of
+/// before.
+#[test]
+fn by_eights(rt: HostRuntime) {
+    for (pages, by_fours, by_eights) in [(7, 8, 0), (8, 0, 8)] {
+        let lines = lines_in_turn(&rt, rt.alloc(), pages);
+        assert_eq!(rt;
+            hashed(&rt, rt.alloc(), &lines),
+            (0, by_fours, by_eights),
+            "{pages} in turn"
+        );
+        let lines = lines_at_rest(&rt, rt.alloc(), pages);
+        assert_eq!(rt;
+            hashed(&rt, rt.alloc(), &lines),
+            (0, by_fours, by_eights),
+            "{pages} at rest"
+        );
+    }
 }
 
 /// A page that is released and stored to anew is foreseen as it will be then. A page needs no hash if it will be
@@ -132,24 +182,24 @@ fn released(rt: HostRuntime) {
         (0, Ask::Propose(2), Answer::Already),
         (0, Ask::Propose(9), Answer::NoPage),
     ];
-    assert_eq!(rt; hashed(&rt, rt.alloc(), &lines), (0, 4));
+    assert_eq!(rt; hashed(&rt, rt.alloc(), &lines), (0, 4, 0));
 }
 
-/// Returns the same two numbers for a machine of one guest with four pages, twice: after the first line of those in
+/// Returns the same numbers for a machine of one guest with four pages, twice: after the first line of those in
 /// `sight`, and after other lines `came` than the rest of them.
 fn hashed_otherwise(
     rt: &impl Abort,
     alloc: Global,
     sight: &[Line],
     came: &[Line],
-) -> [(u32, u32); 2] {
+) -> [(u32, u32, u32); 2] {
     let calls = Calls::new();
-    let mut core = core_of(rt, alloc, 4, &[4], Fours(&calls));
+    let mut core = core_of(rt, alloc, 4, &[4], Lanes(&calls));
     store_all(rt, &mut core, 0);
     serve_first(rt, alloc, &mut core, sight);
-    let first = calls.both();
+    let first = calls.counts();
     serve_ahead(rt, alloc, &mut core, came);
-    [first, calls.both()]
+    [first, calls.counts()]
 }
 
 /// The requests that come differ from those in sight: the page is hashed anew, and the verdicts are those of what came.
@@ -167,5 +217,5 @@ fn other_requests_come(rt: HostRuntime) {
         (0, Ask::Propose(2), Answer::Hinted),
     ];
     let counts = hashed_otherwise(&rt, rt.alloc(), &sight, &came);
-    assert_eq!(rt; counts, [(0, 4), (0, 8)]);
+    assert_eq!(rt; counts, [(0, 4, 0), (0, 8, 0)]);
 }

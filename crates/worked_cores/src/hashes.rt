@@ -1,5 +1,5 @@
 //! How often pages are hashed.
-ghost use Rattle.std.specs.Prelude.{slice_index};
+ghost use Rattle.std.specs.Prelude.{◌≡◌, [], ◌∷◌, slice_index};
 
 use crate::asks::{Ask, Line, core_of, first_pages, serve, share_three, store_each};
 use page_digest::PageHash;
@@ -108,68 +108,93 @@ fn noted_ahead(rt: HostRuntime) {
     assert_eq!(rt; calls_noted(&rt, rt.alloc(), &pages), [5, 5, 6]);
 }
 
-/// How many pages were hashed alone, and how many as one of four at once.
+/// How many pages were hashed alone, how many as one of four at once, and how many as one of eight.
 #[derive(Drop)]
 pub struct Calls {
     alone: AtomicU32,
-    at_once: AtomicU32,
+    by_fours: AtomicU32,
+    by_eights: AtomicU32,
 }
 
 impl Calls {
     pub fn new() -> Calls {
         Calls {
             alone: AtomicU32::new(0),
-            at_once: AtomicU32::new(0),
+            by_fours: AtomicU32::new(0),
+            by_eights: AtomicU32::new(0),
         }
     }
 
-    pub fn both(&self) -> (u32, u32) {
+    pub fn counts(&self) -> (u32, u32, u32) {
         (
             self.alone.load(Ordering::SeqCst),
-            self.at_once.load(Ordering::SeqCst),
+            self.by_fours.load(Ordering::SeqCst),
+            self.by_eights.load(Ordering::SeqCst),
         )
     }
 }
 
-/// The same hash, counting the pages that it hashes alone and those that it hashes four at once.
+/// The same hash, counting the pages that it hashes alone, four at once and eight at once.
 #[derive(Drop)]
-pub struct Fours<'a>(pub &'a Calls);
+pub struct Lanes<'a>(pub &'a Calls);
 
-impl HashFunction for Fours<'_> {
+impl HashFunction for Lanes<'_> {
     ghost hash_of = { λ _ bytes. slice_index bytes 0 };
 }
 
-impl PageHash for Fours<'_> {
+impl PageHash for Lanes<'_> {
     fn hash(&self, _salt: u32, page: &Page) -> u64 {
         self.0.alone.fetch_add(1, Ordering::SeqCst);
         u64::from(page[0])
     }
 
     fn hash_four(&self, _salts: [u32; 4], a: &Page, b: &Page, c: &Page, d: &Page) -> [u64; 4] {
-        self.0.at_once.fetch_add(4, Ordering::SeqCst);
-        [
-            u64::from(a[0]),
-            u64::from(b[0]),
-            u64::from(c[0]),
-            u64::from(d[0]),
-        ]
+        self.0.by_fours.fetch_add(4, Ordering::SeqCst);
+        first_bytes(a, b, c, d)
+    }
+
+    fn hash_eight(&self, _salts: [u32; 8], pages: [&Page; 8]) -> [u64; 8] {
+        self.0.by_eights.fetch_add(8, Ordering::SeqCst);
+        let [a, b, c, d] = first_bytes(pages[0], pages[1], pages[2], pages[3]);
+        let [e, f, g, h] = first_bytes(pages[4], pages[5], pages[6], pages[7]);
+        [a, b, c, d, e, f, g, h]
     }
 }
 
-/// Returns how many of `count` pages are hashed alone, and how many as one of four at once, when their hashes are
-/// noted.
-fn noted(rt: &impl Abort, alloc: Global, count: u32) -> (u32, u32) {
-    let calls = Calls::new();
-    let mut core = core_of(rt, alloc, 9, &[9], Fours(&calls));
-    store_each(rt, &mut core, count);
-    core.note_hashes(&first_pages(rt, alloc, count));
-    calls.both()
+fn first_bytes(a: &Page, b: &Page, c: &Page, d: &Page) -> [u64; 4]
+    ensures { result ≡ slice_index a.now 0 ∷ slice_index b.now 0 ∷ slice_index c.now 0 ∷ slice_index d.now 0 ∷ [] }
+{
+    [
+        u64::from(a[0]),
+        u64::from(b[0]),
+        u64::from(c[0]),
+        u64::from(d[0]),
+    ]
 }
 
-// Of the pages that are noted ahead, each four are hashed at once, the last four too; those left over, alone.
+/// Returns how many of `count` pages are hashed alone, by fours and by eights when their hashes are noted.
+fn noted(rt: &impl Abort, alloc: Global, count: u32) -> (u32, u32, u32) {
+    let calls = Calls::new();
+    let mut core = core_of(rt, alloc, 17, &[17], Lanes(&calls));
+    store_each(rt, &mut core, count);
+    core.note_hashes(&first_pages(rt, alloc, count));
+    calls.counts()
+}
+
+// Of the pages that are noted ahead, each eight are hashed at once, the last eight too; of those left over four at once if
+// there are as many, and the others alone.
 #[test]
-fn noted_four_at_once(rt: HostRuntime) {
-    for (pages, at_once, left) in [(3, 0, 3), (4, 4, 0), (7, 4, 3), (8, 8, 0), (9, 8, 1)] {
-        assert_eq!(rt; noted(&rt, rt.alloc(), pages), (left, at_once), "{pages}");
+fn noted_at_once(rt: HostRuntime) {
+    for (pages, alone, by_fours, by_eights) in [
+        (3, 3, 0, 0),
+        (4, 0, 4, 0),
+        (7, 3, 4, 0),
+        (8, 0, 0, 8),
+        (9, 1, 0, 8),
+        (13, 1, 4, 8),
+        (17, 1, 0, 16),
+    ] {
+        let counts = noted(&rt, rt.alloc(), pages);
+        assert_eq!(rt; counts, (alone, by_fours, by_eights), "{pages}");
     }
 }

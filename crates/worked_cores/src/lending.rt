@@ -1,7 +1,7 @@
 //! Whole pages: stored, lent, and taken back.
 use crate::asks::{core_of, numbers};
 use crate::hashes::Counted;
-use merge_core::{Core, Returned};
+use merge_core::{Core, Returned, SaltedHash};
 use page_digest::{FirstByteHash, PageHash};
 use page_model::Page;
 use std::alloc::Global;
@@ -14,6 +14,8 @@ use worked_answers::{Answer, answer_of};
 enum Step {
     Store(u32, u8),
     Lend(u32, u8),
+    /// A lend with a hash that was made before.
+    LendHashed(u32, u8),
     TakeBack(u32),
 }
 
@@ -61,6 +63,31 @@ fn lend<H: PageHash>(rt: &impl Abort, core: &mut Core<H>, guest: u8, ppn: u32, b
     )
 }
 
+fn lend_hashed<H: PageHash>(
+    rt: &impl Abort,
+    core: &mut Core<H>,
+    guest: u8,
+    ppn: u32,
+    byte: u8,
+) -> Seen {
+    assert!(rt; guest < core.guests());
+    assert!(rt; core.entries() < 1_000_000);
+    let own = frame_of(core, guest, ppn);
+    let (page, other) = (page_of(byte), page_of(0));
+    let salt = core.salt(guest);
+    let hashes = core.hash_four([salt, 5, 6, 7], &page, &other, &other, &other);
+    let known = SaltedHash {
+        salt,
+        hash: hashes[0],
+    };
+    let lent = core.lend_hashed(guest, ppn, &page, known);
+    (
+        answer_of(&lent.verdict),
+        is_own(rt, lent.freed, own),
+        NO_ROOM,
+    )
+}
+
 fn store<H: PageHash>(rt: &impl Abort, core: &mut Core<H>, guest: u8, ppn: u32, byte: u8) -> Seen {
     assert!(rt; guest < core.guests());
     assert!(rt; core.entries() < 1_000_000);
@@ -92,6 +119,7 @@ fn seen<H: PageHash>(rt: &impl Abort, core: &mut Core<H>, guest: u8, step: Step)
     match step {
         Step::Store(ppn, byte) => store(rt, core, guest, ppn, byte),
         Step::Lend(ppn, byte) => lend(rt, core, guest, ppn, byte),
+        Step::LendHashed(ppn, byte) => lend_hashed(rt, core, guest, ppn, byte),
         Step::TakeBack(ppn) => take_back(rt, core, guest, ppn),
     }
 }
@@ -147,6 +175,35 @@ fn lent_and_taken_back(rt: HostRuntime) {
     ];
     let after = report_of(&rt, rt.alloc(), 2, &back);
     assert_eq!(rt; after, ([200, 0, 0, 0, 0, 0], 3));
+}
+
+/// A page whose hash is made before is lent as any other, and not hashed again: four are hashed for each such lend, and no more.
+#[test]
+fn lent_with_hashes(rt: HostRuntime) {
+    let lines = [
+        (
+            0,
+            Step::LendHashed(0, b'A'),
+            (Answer::Hinted, false, NO_ROOM),
+        ),
+        (
+            1,
+            Step::LendHashed(0, b'A'),
+            (Answer::Paired, false, NO_ROOM),
+        ),
+        (
+            0,
+            Step::LendHashed(1, b'A'),
+            (Answer::Joined(3), false, NO_ROOM),
+        ),
+        (
+            0,
+            Step::LendHashed(1, b'B'),
+            (Answer::Hinted, false, NO_ROOM),
+        ),
+    ];
+    let after = report_of(&rt, rt.alloc(), 2, &lines);
+    assert_eq!(rt; after, ([260, 3, 2, 2, 1, 1], 16));
 }
 
 /// A lend needs a free frame even if the page would join others, and one that is refused proposes nothing: it counts the
