@@ -1,7 +1,7 @@
 /*
- * Times calls of the C library: of two guests with 512 pages each, all mapped; and of whole pages, of two guests with 512 pages
- * each of which none is mapped. Prints the nanoseconds of one call, the least of several runs, since other programs only ever add
- * to it.
+ * Times calls of the C library: of two guests with 512 pages each, all mapped; of whole pages, of two guests with 512 pages each of
+ * which none is mapped; and lends of 16,384 pages, of which every other one equals the one before. Prints the nanoseconds of one
+ * call, and of these lends the pages lent a second, in the best of several runs, since other programs only ever add to it.
  *
  *     cc -O2 -Iinclude benches/embed.c out/libpageshare.a -o out/embed/bench && out/embed/bench
  */
@@ -104,6 +104,51 @@ static void time_whole_pages(struct pageshare *m, const char *hash) {
            joins, back, stored, copied);
 }
 
+enum { MANY = 16384, MANY_RUNS = 15 };
+
+/* The pages lent a second, one by one or by pageshare_lend_many, to a machine that has none of them. */
+static double rate(uint32_t hash, bool in_lists, const struct pageshare_lending *lendings, struct pageshare_answer *answers) {
+    const uint32_t pages[] = {MANY}, salts[] = {0};
+    double least = 1e18;
+    struct pageshare machine = PAGESHARE_NONE;
+    if (pageshare_make_hashed(&machine, MANY, pages, 1, salts, 1, hash) != PAGESHARE_OK) exit(1);
+    for (int run = 0; run < MANY_RUNS; run++) {
+        double start = now();
+        if (in_lists) {
+            if (pageshare_lend_many(&machine, lendings, MANY, answers) != PAGESHARE_OK) exit(1);
+        } else {
+            for (uint32_t i = 0; i < MANY; i++) answers[i] = pageshare_lend(&machine, 0, i, lendings[i].page);
+        }
+        least = less(least, now() - start);
+        for (uint32_t i = 0; i < MANY; i++)
+            if (answers[i].status != 0 || pageshare_release(&machine, 0, i).status != 0) exit(1);
+        if (pageshare_restart_count(&machine) != PAGESHARE_OK) exit(1);
+    }
+    if (pageshare_free(&machine) != PAGESHARE_OK) exit(1);
+    return MANY / least * 1e9;
+}
+
+/* Every other page equals the one before. */
+static void time_many(void) {
+    uint8_t *bytes = calloc(MANY, PAGESHARE_PAGE_BYTES);
+    struct pageshare_lending *lendings = calloc(MANY, sizeof *lendings);
+    struct pageshare_answer *answers = calloc(MANY, sizeof *answers);
+    if (bytes == NULL || lendings == NULL || answers == NULL) exit(1);
+    for (uint32_t i = 0; i < MANY; i++) {
+        uint8_t *page = bytes + (size_t)i * PAGESHARE_PAGE_BYTES;
+        uint32_t content = i / 2;
+        memcpy(page, &content, sizeof content);
+        page[PAGESHARE_PAGE_BYTES - 1] = 1;
+        lendings[i] = (struct pageshare_lending){0, i, page};
+    }
+    for (uint32_t hash = PAGESHARE_SHA256; hash <= PAGESHARE_FOLD; hash++)
+        printf("%s: %.0f pages lent a second one by one, %.0f in lists, half of them equal\n", hash == PAGESHARE_FOLD ? "fold" : "SHA-256",
+               rate(hash, false, lendings, answers), rate(hash, true, lendings, answers));
+    free(bytes);
+    free(lendings);
+    free(answers);
+}
+
 static void time_calls(const char *name, uint32_t (*calls)(struct pageshare *), struct pageshare *machine) {
     double least = 1e18;
     for (int run = 0; run < RUNS; run++) {
@@ -128,5 +173,6 @@ int main(void) {
         time_whole_pages(&machine, hash == PAGESHARE_FOLD ? "fold" : "SHA-256");
         if (pageshare_free(&machine) != PAGESHARE_OK) return 1;
     }
+    time_many();
     return 0;
 }

@@ -1,8 +1,9 @@
 #!/usr/bin/env python3
 """Replays random journals three times over: by `pageshare replay`, by calls of the C library, and by the Rust wrapper. All
-lines that the three write must be equal. Then as many in which whole pages are stored, lent and taken back: by C, by Rust, and
-as the stores, proposals and releases that these calls stand for by `pageshare replay`. What is taken back must be what was
-stored last.
+lines that the three write must be equal. Then as many in which whole pages are stored, lent and taken back: by C and by Rust, one
+call after the other; by C and by Rust with the frames in a region, of which what is free is punched out after each call, and with
+lends that follow on each other as one list; and as the stores, proposals and releases that these calls stand for by `pageshare
+replay`. What is taken back must be what was stored last.
 
     checks/embed.py [COUNT [SEED]]
 
@@ -26,6 +27,12 @@ PROGRAMS = {
     "Rust": [TOP / "out/embed/cargo/release/examples/journal"],
 }
 
+# the same, with frames in a region
+IN_REGION = {
+    "C, in a region": [*PROGRAMS["C"], "region"],
+    "Rust, in a region": [*PROGRAMS["Rust"], "region"],
+}
+
 SALTED = "pageshare journal 2\nframes 1\npages 1\nsalts 1\nend 0\n"
 
 
@@ -34,17 +41,27 @@ def replay(words, text):
     return done.stdout if done.returncode == 0 else f"status {done.returncode}: {done.stdout}{done.stderr}"
 
 
-def whole_request(rng, pages):
+def whole_request(rng, pages, kinds=(10, 45, 25, 20)):
     """A request of a whole page, or one of the others."""
     guest = rng.randrange(len(pages))
     ppn = rng.randrange(pages[guest] + (rng.random() < 0.05))
-    kind = rng.choices(["store-page", "lend", "take-back", ""], [10, 45, 25, 20])[0]
+    kind = rng.choices(["store-page", "lend", "take-back", ""], kinds)[0]
     if kind in ("", "take-back"):
         return f"{guest} take-back {ppn}" if kind else request(rng, pages)
     page = bytearray([rng.choice(b"\x00AB")] * 4096)
     if rng.random() < 0.2:
         page[rng.choice([0, 64, 4095])] = 67
     return f"{guest} {kind} {ppn} {page.hex()}"
+
+
+def whole_requests(rng, pages):
+    """Requests of whole pages, among them lists of lends."""
+    lines = []
+    for _ in range(rng.choice([5, 15, 30])):
+        lines.append(whole_request(rng, pages))
+        if rng.random() < 0.2:
+            lines += [whole_request(rng, pages, (0, 1, 0, 0)) for _ in range(rng.randint(3, 9))]
+    return lines
 
 
 def meant_by(line, verdict):
@@ -102,11 +119,11 @@ def whole_pages_differ(rng, verdicts):
     """What is wrong with one journal of whole pages, if anything, with its text."""
     frames, pages, salts = shape(rng)
     head = header("journal", True, frames, pages, salts)
-    lines = [whole_request(rng, pages) for _ in range(rng.choice([10, 30, 60]))]
+    lines = whole_requests(rng, pages)
     text = text_of(head, lines)
-    written = {name: replay(PROGRAMS[name], text) for name in ("C", "Rust")}
-    if written["C"] != written["Rust"] or "report" not in written["C"]:
-        return f"C and Rust differ: {written['C'][:200]} .. {written['Rust'][:200]}", text
+    written = {name: replay(words, text) for name, words in [*PROGRAMS.items(), *IN_REGION.items()] if name != "pageshare replay"}
+    if len(set(written.values())) != 1 or "report" not in written["C"]:
+        return f"C and Rust differ: {[lines[:200] for lines in written.values()]}", text
     told, report = split_written(lines, written["C"])
     groups, last = [], Pages()
     for line, (verdict, took) in zip(lines, told):

@@ -62,6 +62,9 @@ else
     run calls ok
     run whole_pages ok
     run region ok
+    # (natively: under valgrind it would take minutes)
+    [ "$("$built/region" 1048576)" = ok ] || fail 'region 1048576 failed'
+    echo 'region 1048576: as it should be'
     run lend "$(cat "$top/checks/embed/lend.out")"
     run refused_memory ok
     if [ -n "${FULL:-}" ]; then

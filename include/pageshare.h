@@ -23,14 +23,14 @@
  * - One call at a time works on a handle. It may go to another thread, or be used by several in turn, where a lock, a thread's
  *   start or end, or the like orders their calls. Different handles have nothing to do with each other.
  * - Each pointer is not null, also where its count is 0, is aligned for its type, and points to as many elements as are named
- *   beside it, for as long as the call runs. What a call writes to (the handle, room, totals, mpn, at) overlaps no other
- *   argument of it, and nobody else reads or writes it meanwhile; what it only reads, nobody writes meanwhile.
+ *   beside it, for as long as the call runs. What a call writes to (the handle, room, totals, mpn, at, answers) overlaps no
+ *   other argument of it, and nobody else reads or writes it meanwhile; what it only reads, nobody writes meanwhile.
  * - A count of elements makes less than 2^63 bytes.
  * - malloc, realloc and free are one allocator's, may be called on any thread, and align a block to 16 bytes. No call is made
  *   from a signal handler, nor in the child of a fork of a process with threads.
  *
  * - A region (pageshare_make_with) is the library's until the machine is freed: nobody else writes to it, but that the memory of
- *   free frames may be given back to the system while no call runs.
+ *   free frames may be given back to the system while no call runs. No page that is stored or lent lies in it.
  *
  * pageshare_make takes all memory that a machine needs; no other call asks for any.
  */
@@ -242,14 +242,27 @@ struct pageshare_lending {
     const uint8_t *page; /* 4,096 bytes */
 };
 
+/* How many pages pageshare_lend_four lends. */
+#define PAGESHARE_GROUP 4
+
 /*
- * Lends `count` pages, one after the other in this order; answers[i] is the answer for pages[i]. Answers PAGESHARE_OK, or
- * PAGESHARE_ERROR_NO_MACHINE, and then writes no answer.
+ * Lends four pages, one after the other in this order, as four calls of pageshare_lend do: answers[i] is the answer for pages[i].
+ * With SHA-256 the four hashes are computed together, which takes less than half the time; the pages stay where they are, and one
+ * page may be named twice. Answers PAGESHARE_OK, or PAGESHARE_ERROR_NO_MACHINE, and then writes no answer.
+ */
+uint32_t pageshare_lend_four(struct pageshare *machine, const struct pageshare_lending pages[PAGESHARE_GROUP],
+                             struct pageshare_answer answers[PAGESHARE_GROUP]);
+
+/*
+ * Lends `count` pages, one after the other in this order, in groups of four and then one by one; answers[i] is the answer for
+ * pages[i]. Answers PAGESHARE_OK, or PAGESHARE_ERROR_NO_MACHINE, and then writes no answer.
  */
 static inline uint32_t pageshare_lend_many(struct pageshare *machine, const struct pageshare_lending *pages, size_t count,
                                            struct pageshare_answer *answers) {
+    size_t grouped = count - count % PAGESHARE_GROUP;
     if (!machine->private_live) return PAGESHARE_ERROR_NO_MACHINE;
-    for (size_t i = 0; i < count; i++) answers[i] = pageshare_lend(machine, pages[i].guest, pages[i].ppn, pages[i].page);
+    for (size_t i = 0; i < grouped; i += PAGESHARE_GROUP) pageshare_lend_four(machine, pages + i, answers + i);
+    for (size_t i = grouped; i < count; i++) answers[i] = pageshare_lend(machine, pages[i].guest, pages[i].ppn, pages[i].page);
     return PAGESHARE_OK;
 }
 

@@ -3,12 +3,18 @@
  * checks/embed.py, whose journals are well formed and have no close, which C doesn't ask. Three words are of this program alone:
  * `store-page PPN BYTES`, `lend PPN BYTES` and `take-back PPN`, with the 4,096 bytes of a page; what is taken back is written
  * behind its verdict. Stops with status 2 at a text that it does not know.
+ *
+ * With the word `region` behind it, the frames are in a memory file, of which each frame that is free is punched out after each
+ * call; and lends that follow on each other are one list. What is written is the same.
  */
+#define _GNU_SOURCE
 #include "pageshare.h"
 #include <inttypes.h>
 #include <stdio.h>
 #include <stdlib.h>
 #include <string.h>
+#include <sys/mman.h>
+#include <unistd.h>
 
 static const char *const VERDICTS[] = {
     NULL,     "no-page", "unmapped", "already", "joined",   "paired", "hinted",   "kept",   "replaced", "ineligible",
@@ -77,6 +83,70 @@ static void print_answer(uint32_t guest, struct pageshare_answer answer, const u
     putchar('\n');
 }
 
+/* The machine, and the region of its frames, if it has one. */
+struct told {
+    struct pageshare machine;
+    uint32_t frames, pages[64], salts[64];
+    size_t guests;
+    uint8_t *region;
+};
+
+static size_t region_bytes(const struct told *t) {
+    return (size_t)t->frames * PAGESHARE_PAGE_BYTES;
+}
+
+static void make(struct told *t, bool in_region) {
+    struct pageshare_config config = {t->frames, t->pages, t->salts, t->guests, PAGESHARE_SHA256, NULL, 0};
+    if (in_region) {
+        int file = memfd_create("frames", MFD_CLOEXEC);
+        if (file < 0 || ftruncate(file, (off_t)region_bytes(t)) != 0) stop("no memory file");
+        void *at = mmap(NULL, region_bytes(t), PROT_READ | PROT_WRITE, MAP_SHARED, file, 0);
+        if (at == MAP_FAILED || close(file) != 0) stop("no mapping");
+        config.region = t->region = at;
+        config.region_bytes = region_bytes(t);
+    }
+    if (pageshare_make_with(&t->machine, &config) != PAGESHARE_OK) stop("no machine");
+}
+
+/* Gives the memory of each frame that no page has back to the system. */
+static void punch(struct told *t) {
+    bool *taken = calloc(t->frames, sizeof *taken);
+    if (taken == NULL) stop("out of memory");
+    for (uint32_t guest = 0; guest < t->guests; guest++)
+        for (uint32_t ppn = 0; ppn < t->pages[guest]; ppn++) {
+            uint32_t mpn;
+            if (pageshare_frame(&t->machine, guest, ppn, &mpn) == PAGESHARE_OK) taken[mpn] = true;
+        }
+    for (uint32_t mpn = 0; mpn < t->frames; mpn++)
+        if (!taken[mpn] && madvise(t->region + (size_t)mpn * PAGESHARE_PAGE_BYTES, PAGESHARE_PAGE_BYTES, MADV_REMOVE) != 0)
+            stop("not punched");
+    free(taken);
+}
+
+enum { MOST_LENT = 16 };
+
+/* Lends that wait for the end of their list. */
+static struct pageshare_lending waiting[MOST_LENT];
+static uint8_t waiting_pages[MOST_LENT][PAGESHARE_PAGE_BYTES];
+static size_t waiting_count = 0;
+
+static void lend_waiting(struct told *t) {
+    struct pageshare_answer answers[MOST_LENT];
+    if (waiting_count == 0) return;
+    if (pageshare_lend_many(&t->machine, waiting, waiting_count, answers) != PAGESHARE_OK) stop("no machine");
+    for (size_t i = 0; i < waiting_count; i++) print_answer(waiting[i].guest, answers[i], NULL, NULL);
+    waiting_count = 0;
+    punch(t);
+}
+
+static void wait_to_lend(struct told *t, uint32_t guest, char **line) {
+    if (waiting_count == MOST_LENT) lend_waiting(t);
+    uint8_t *page = waiting_pages[waiting_count];
+    waiting[waiting_count] = (struct pageshare_lending){guest, number(line), page};
+    if (bytes(line, page, PAGESHARE_PAGE_BYTES) != PAGESHARE_PAGE_BYTES) stop("not a whole page");
+    waiting_count++;
+}
+
 /* Serves a request of a whole page, if this is one. */
 static bool serve_whole(struct pageshare *machine, uint32_t guest, const char *word, char **line) {
     static uint8_t page[PAGESHARE_PAGE_BYTES];
@@ -94,14 +164,11 @@ static bool serve_whole(struct pageshare *machine, uint32_t guest, const char *w
     return true;
 }
 
-static void serve(struct pageshare *machine, uint32_t guest, char **line) {
+static void serve(struct pageshare *machine, uint32_t guest, const char *word, char **line) {
     struct pageshare_answer answer;
     struct pageshare_totals totals;
     uint8_t room[64];
-    const char *word = strtok_r(NULL, " ", line);
-    if (word == NULL) {
-        stop("a request is missing");
-    } else if (serve_whole(machine, guest, word, line)) {
+    if (serve_whole(machine, guest, word, line)) {
         return;
     } else if (strcmp(word, "propose") == 0) {
         answer = pageshare_propose(machine, guest, number(line));
@@ -122,35 +189,48 @@ static void serve(struct pageshare *machine, uint32_t guest, char **line) {
     print_answer(guest, answer, room, &totals);
 }
 
-int main(void) {
-    struct pageshare machine = PAGESHARE_NONE;
+/* Serves the line of a request, or puts it off where it lends a page to a machine in a region. */
+static void serve_line(struct told *t, uint32_t guest, char **line) {
+    const char *word = strtok_r(NULL, " ", line);
+    if (word == NULL) stop("a request is missing");
+    if (t->region != NULL && strcmp(word, "lend") == 0) {
+        wait_to_lend(t, guest, line);
+        return;
+    }
+    lend_waiting(t);
+    serve(&t->machine, guest, word, line);
+    if (t->region != NULL) punch(t);
+}
+
+int main(int count, char **words) {
+    static struct told told = {.machine = PAGESHARE_NONE};
     struct pageshare_totals totals;
     static char text[65536];
-    uint32_t frames = 0, pages[64] = {0}, salts[64] = {0};
-    size_t guests = 0;
-    bool made = false;
+    bool made = false, in_region = count > 1 && strcmp(words[1], "region") == 0;
     while (fgets(text, sizeof text, stdin) != NULL) {
         char *line = text;
         text[strcspn(text, "\n")] = 0;
         const char *word = strtok_r(text, " ", &line);
         if (word == NULL || strcmp(word, "pageshare") == 0) continue;
         if (strcmp(word, "frames") == 0) {
-            frames = number(&line);
+            told.frames = number(&line);
         } else if (strcmp(word, "pages") == 0) {
-            guests = numbers(&line, pages);
+            told.guests = numbers(&line, told.pages);
         } else if (strcmp(word, "salts") == 0) {
-            if (numbers(&line, salts) != guests) stop("not as many salts as guests");
+            if (numbers(&line, told.salts) != told.guests) stop("not as many salts as guests");
         } else {
-            if (!made && pageshare_make(&machine, frames, pages, guests, salts, guests) != PAGESHARE_OK) stop("no machine");
+            if (!made) make(&told, in_region);
             made = true;
             if (strcmp(word, "end") == 0) break;
-            serve(&machine, (uint32_t)strtoul(word, NULL, 10), &line);
+            serve_line(&told, (uint32_t)strtoul(word, NULL, 10), &line);
         }
     }
-    if (pageshare_report(&machine, &totals) != PAGESHARE_OK) stop("no machine");
+    if (made) lend_waiting(&told);
+    if (pageshare_report(&told.machine, &totals) != PAGESHARE_OK) stop("no machine");
     printf("report");
     print_totals(&totals);
     putchar('\n');
-    pageshare_free(&machine);
+    pageshare_free(&told.machine);
+    if (told.region != NULL && munmap(told.region, region_bytes(&told)) != 0) stop("no mapping");
     return 0;
 }

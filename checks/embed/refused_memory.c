@@ -1,6 +1,6 @@
 /*
- * Refuses each allocation of pageshare_make in turn: the status is 4, nothing stays allocated, and the handle still serves.
- * Once a machine is made, no call asks for memory. Its rattle_alloc, rattle_realloc and rattle_dealloc take the place of
+ * Refuses each allocation of pageshare_make in turn, and of pageshare_make_with with a region: the status is 4, nothing stays
+ * allocated, and the handle still serves. Once a machine is made, no call asks for memory. Its rattle_alloc, rattle_realloc and rattle_dealloc take the place of
  * the library's own, which call malloc, realloc and free. Prints "ok", or what failed.
  */
 #include "pageshare.h"
@@ -58,13 +58,24 @@ static bool looks(struct pageshare *machine) {
     return pageshare_restart_count(machine) == PAGESHARE_OK;
 }
 
+/* Whether pages are lent in a group, with no memory to be had; the last is taken back. */
+static bool lends_list(struct pageshare *machine, uint8_t *page) {
+    const struct pageshare_lending pages[] = {{0, 0, page}, {0, 0, page}, {0, 9, page}, {0, 0, page}, {9, 0, page}};
+    struct pageshare_answer answers[5];
+    if (pageshare_lend_many(machine, pages, 5, answers) != PAGESHARE_OK) return false;
+    if (answers[0].verdict != PAGESHARE_VERDICT_HINTED || answers[1].verdict != PAGESHARE_VERDICT_KEPT) return false;
+    if (answers[2].verdict != PAGESHARE_VERDICT_NO_PAGE || answers[3].verdict != PAGESHARE_VERDICT_KEPT) return false;
+    return answers[4].status == PAGESHARE_ERROR_NO_GUEST && pageshare_take_back(machine, 0, 0, page).verdict == PAGESHARE_VERDICT_RELEASED;
+}
+
 /* Whether whole pages are stored, lent and taken back with no memory to be had. */
 static bool lends(struct pageshare *machine) {
     static uint8_t page[PAGESHARE_PAGE_BYTES];
     memset(page, 0x42, sizeof page);
     if (pageshare_lend(machine, 0, 0, page).verdict != PAGESHARE_VERDICT_HINTED) return false;
     if (pageshare_store_page(machine, 0, 0, page).verdict != PAGESHARE_VERDICT_STORED) return false;
-    return pageshare_take_back(machine, 0, 0, page).verdict == PAGESHARE_VERDICT_RELEASED && page[0] == 0x42;
+    if (pageshare_take_back(machine, 0, 0, page).verdict != PAGESHARE_VERDICT_RELEASED || page[0] != 0x42) return false;
+    return lends_list(machine, page);
 }
 
 /* Whether the machine serves with no memory to be had. */
@@ -89,21 +100,29 @@ static int fail(long allowed, const char *what) {
     return 1;
 }
 
-int main(void) {
-    const uint32_t pages[] = {2, 1}, salts[] = {0, 0};
+/* Makes the machine with one more block each time, until it is made. In a region of three pages, if there is one. */
+static int refuse_each(uint8_t *region) {
+    static const uint32_t pages[] = {2, 1}, salts[] = {0, 0};
+    const struct pageshare_config config = {3, pages, salts, 2, PAGESHARE_SHA256, region, 3 * PAGESHARE_PAGE_BYTES};
     struct pageshare machine = PAGESHARE_NONE;
     for (long allowed = 0; allowed < 1000; allowed++) {
         left = allowed;
-        uint32_t status = pageshare_make(&machine, 3, pages, 2, salts, 2);
+        uint32_t status = pageshare_make_with(&machine, &config);
         if (status == PAGESHARE_OK) {
-            if (allowed < 5 || left != 0) return fail(allowed, "made too early");
+            if (allowed < (region == NULL ? 5 : 4) || left != 0) return fail(allowed, "made too early");
             if (!serves(&machine)) return fail(allowed, "it does not serve without more memory");
             if (pageshare_free(&machine) != PAGESHARE_OK || held != 0) return fail(allowed, "not all was freed");
-            puts("ok");
             return 0;
         }
         if (status != PAGESHARE_ERROR_MEMORY) return fail(allowed, "another status than 4");
         if (held != 0) return fail(allowed, "blocks stay allocated");
     }
     return fail(1000, "no machine");
+}
+
+int main(void) {
+    static _Alignas(PAGESHARE_PAGE_BYTES) uint8_t region[3 * PAGESHARE_PAGE_BYTES];
+    if (refuse_each(NULL) != 0 || refuse_each(region) != 0) return 1;
+    puts("ok");
+    return 0;
 }

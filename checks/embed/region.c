@@ -4,6 +4,8 @@
  * Each frame of machines of several sizes is filled and found at its place in the region. The region's end and what it held before
  * stay as they are where no frame is written. Free frames are punched out of the region (a memfd) under random lends and
  * take-backs, and each page comes back as it was lent.
+ *
+ * With a number behind it: the places of a machine of so many frames alone, of which few are held at a time.
  */
 #define _GNU_SOURCE
 #include "check.h"
@@ -68,6 +70,39 @@ static void check_places(uint32_t frames) {
     CHECK(pageshare_free(&machine) == PAGESHARE_OK && munmap(region, ((size_t)frames + 1) * PAGE) == 0 && close(file) == 0);
 }
 
+/*
+ * The same for a large machine, of which no frame is held for long: each is checked as it is filled, and then punched out. (This
+ * gives up what its page holds, which is never looked at again.)
+ */
+static void check_many_places(uint32_t frames) {
+    int file;
+    uint8_t page[PAGE], *region = map_file(frames, &file);
+    bool *seen = calloc(frames, sizeof *seen);
+    CHECK(region != NULL && seen != NULL);
+    if (region == NULL || seen == NULL) return;
+    const uint32_t pages[] = {frames}, salts[] = {7};
+    struct pageshare machine = PAGESHARE_NONE;
+    struct pageshare_config config = config_of(frames, pages, salts, 1, region, (size_t)frames * PAGE);
+    uint32_t wrong = 0, filled = 0;
+    CHECK(pageshare_make_with(&machine, &config) == PAGESHARE_OK);
+    for (uint32_t ppn = 0; ppn < frames; ppn++) {
+        fill(page, ppn + 1);
+        if (ppn % 1000000 == 0) CHECK(pageshare_restart_count(&machine) == PAGESHARE_OK);
+        struct pageshare_answer answer = pageshare_store_page(&machine, 0, ppn, page);
+        if (answer.verdict != PAGESHARE_VERDICT_MAPPED || answer.frame >= frames || seen[answer.frame]) {
+            wrong++;
+            continue;
+        }
+        uint8_t *frame = region + (size_t)answer.frame * PAGE;
+        seen[answer.frame] = true;
+        filled++;
+        wrong += !holds(frame, ppn + 1) || madvise(frame, PAGE, MADV_REMOVE) != 0;
+    }
+    CHECK(wrong == 0 && filled == frames);
+    CHECK(pageshare_free(&machine) == PAGESHARE_OK && munmap(region, (size_t)frames * PAGE) == 0 && close(file) == 0);
+    free(seen);
+}
+
 /* The statuses of a region that doesn't fit, in their order, with the handle as it was. */
 static void check_statuses(void) {
     static _Alignas(4096) uint8_t region[3 * PAGE];
@@ -97,13 +132,16 @@ static void check_lists(void) {
     uint8_t first[PAGE], second[PAGE];
     const uint32_t pages[] = {2, 1}, salts[] = {0, 0};
     struct pageshare machine = PAGESHARE_NONE;
-    struct pageshare_answer answers[3];
+    struct pageshare_answer answers[3], unasked[PAGESHARE_GROUP];
     const struct pageshare_lending lendings[] = {{0, 0, first}, {0, 1, second}, {1, 0, first}};
+    const struct pageshare_lending group[] = {{0, 0, first}, {0, 1, second}, {1, 0, first}, {0, 0, first}};
     const struct pageshare_page_name names[] = {{0, 0}, {0, 1}, {1, 0}};
     fill(first, 1);
     fill(second, 2);
     CHECK(pageshare_lend_many(&machine, lendings, 3, answers) == PAGESHARE_ERROR_NO_MACHINE);
     CHECK(pageshare_propose_many(&machine, names, 3, answers) == PAGESHARE_ERROR_NO_MACHINE);
+    memset(unasked, 0xee, sizeof unasked);
+    CHECK(pageshare_lend_four(&machine, group, unasked) == PAGESHARE_ERROR_NO_MACHINE && unasked[0].status == 0xeeeeeeee);
     CHECK(pageshare_make(&machine, 3, pages, 2, salts, 2) == PAGESHARE_OK);
     CHECK(pageshare_lend_many(&machine, lendings, 3, answers) == PAGESHARE_OK);
     CHECK(answers[0].verdict == PAGESHARE_VERDICT_HINTED && answers[1].verdict == PAGESHARE_VERDICT_HINTED);
@@ -114,6 +152,46 @@ static void check_lists(void) {
     CHECK(answers[0].verdict == PAGESHARE_VERDICT_HINTED && answers[1].verdict == PAGESHARE_VERDICT_HINTED);
     CHECK(answers[2].verdict == PAGESHARE_VERDICT_PAIRED && answers[2].freed != PAGESHARE_NO_FRAME);
     CHECK(pageshare_free(&machine) == PAGESHARE_OK);
+}
+
+/* A machine of three guests, of which the third has a salt of its own, and too few frames for all their pages. */
+static bool make_small(struct pageshare *machine, uint32_t hash) {
+    static const uint32_t pages[] = {4, 4, 4}, salts[] = {0, 0, 9};
+    return pageshare_make_hashed(machine, 4, pages, 3, salts, 3, hash) == PAGESHARE_OK;
+}
+
+/*
+ * Random groups of four, of few pages and contents, do what four lends in their order do, answer by answer: with pages that are
+ * named twice, pages and guests that there aren't, and no frame left; with either hash.
+ */
+static void check_groups(uint32_t hash, unsigned seed) {
+    static uint8_t contents[3][PAGE];
+    struct pageshare grouped = PAGESHARE_NONE, single = PAGESHARE_NONE;
+    struct pageshare_totals left, right;
+    uint32_t differs = 0, refused = 0, full = 0;
+    CHECK(make_small(&grouped, hash) && make_small(&single, hash));
+    for (uint32_t i = 0; i < 3; i++) fill(contents[i], i + 1);
+    srand(seed);
+    for (int round = 0; round < 50; round++) {
+        struct pageshare_lending pages[PAGESHARE_GROUP];
+        struct pageshare_answer answers[PAGESHARE_GROUP];
+        for (int i = 0; i < PAGESHARE_GROUP; i++)
+            pages[i] = (struct pageshare_lending){(uint32_t)(rand() % 20 == 0 ? 300 : rand() % 3), (uint32_t)rand() % 5, contents[rand() % 3]};
+        CHECK(pageshare_lend_four(&grouped, pages, answers) == PAGESHARE_OK);
+        for (int i = 0; i < PAGESHARE_GROUP; i++) {
+            struct pageshare_answer alone = pageshare_lend(&single, pages[i].guest, pages[i].ppn, pages[i].page);
+            differs += memcmp(&alone, &answers[i], sizeof alone) != 0;
+            refused += alone.status == PAGESHARE_ERROR_NO_GUEST;
+            full += alone.verdict == PAGESHARE_VERDICT_NO_FRAME;
+        }
+        uint32_t guest = (uint32_t)rand() % 3, ppn = (uint32_t)rand() % 4;
+        pageshare_release(&grouped, guest, ppn);
+        pageshare_release(&single, guest, ppn);
+        CHECK(pageshare_report(&grouped, &left) == PAGESHARE_OK && pageshare_report(&single, &right) == PAGESHARE_OK);
+        differs += memcmp(&left, &right, sizeof left) != 0;
+    }
+    CHECK(differs == 0 && refused > 0 && full > 0);
+    CHECK(pageshare_free(&grouped) == PAGESHARE_OK && pageshare_free(&single) == PAGESHARE_OK);
 }
 
 enum { FRAMES = 40, PAGES = 64 };
@@ -165,12 +243,20 @@ static void check_punched(unsigned seed) {
     CHECK(pageshare_free(&machine) == PAGESHARE_OK && munmap(region, FRAMES * PAGE) == 0 && close(file) == 0);
 }
 
-int main(void) {
+int main(int count, char **words) {
     const uint32_t sizes[] = {1, 511, 512, 513, 5000};
+    if (count > 1) {
+        check_many_places((uint32_t)strtoul(words[1], NULL, 10));
+        if (failures == 0) printf("ok\n");
+        return failures == 0 ? 0 : 1;
+    }
     for (size_t i = 0; i < sizeof sizes / sizeof *sizes; i++) check_places(sizes[i]);
-    if (getenv("FULL") != NULL) check_places(1048576);
     check_statuses();
     check_lists();
+    for (unsigned seed = 1; seed <= 10; seed++) {
+        check_groups(PAGESHARE_SHA256, seed);
+        check_groups(PAGESHARE_FOLD, seed);
+    }
     for (unsigned seed = 1; seed <= 20; seed++) check_punched(seed);
     if (failures == 0) printf("ok\n");
     return failures == 0 ? 0 : 1;

@@ -3,7 +3,10 @@
 //! For `checks/embed.py`, whose journals are well formed and have no close, which a program that embeds a machine doesn't ask.
 //! Three words are of this program alone: `store-page PPN BYTES`, `lend PPN BYTES` and `take-back PPN`, with the 4,096 bytes of a
 //! page; what is taken back is written behind its verdict.
-use pageshare::{Guest, LoadVerdict, Machine, Page, ReturnVerdict, PAGE_BYTES};
+//!
+//! With the word `region` behind it, the frames are in a region, of which each frame that is free is given back to the system
+//! after each call; and lends that follow on each other are one list. What is written is the same.
+use pageshare::{Guest, Lending, LoadVerdict, Machine, Page, Region, ReturnVerdict, PAGE_BYTES};
 use std::error::Error;
 use std::io::{self, BufWriter, Write};
 use std::str::SplitAsciiWhitespace;
@@ -77,7 +80,43 @@ fn serve(machine: &mut Machine, guest: u32, words: &mut SplitAsciiWhitespace) ->
     })
 }
 
+/// Lends that wait for the end of their list: guests, pages and bytes.
+type Waiting = Vec<(u32, u32, Box<Page>)>;
+
+/// Lends what waits, and writes the verdicts.
+fn lend(machine: &mut Machine, waiting: &mut Waiting, out: &mut impl Write) -> Done<()> {
+    let pages: Vec<Lending<'_>> = waiting
+        .iter()
+        .map(|&(guest, ppn, ref page)| Lending { guest, ppn, page })
+        .collect();
+    for (lending, verdict) in pages.iter().zip(machine.lend_many(&pages)) {
+        writeln!(out, "{} {}", lending.guest, verdict?)?;
+    }
+    waiting.clear();
+    Ok(())
+}
+
+/// Gives back each frame that no page has.
+fn give_back(machine: &mut Machine, frames: u32, guests: &[Guest]) -> Done<()> {
+    let mut free: Vec<bool> = vec![true; usize::try_from(frames)?];
+    for (guest, shape) in (0..).zip(guests) {
+        for ppn in 0..shape.pages {
+            if let Some(frame) = machine.frame(guest, ppn)? {
+                free[usize::try_from(frame)?] = false;
+            }
+        }
+    }
+    for frame in (0..frames)
+        .zip(free)
+        .filter_map(|(frame, free)| free.then_some(frame))
+    {
+        machine.give_back(frame)?;
+    }
+    Ok(())
+}
+
 fn main() -> Done<()> {
+    let in_region = std::env::args().nth(1).as_deref() == Some("region");
     let text = io::read_to_string(io::stdin())?;
     let mut out = BufWriter::new(io::stdout().lock());
     let mut lines = text
@@ -104,16 +143,29 @@ fn main() -> Done<()> {
         .zip(&salts)
         .map(|(&pages, &salt)| Guest { pages, salt })
         .collect();
-    let mut machine = Machine::new(frames, &guests)?;
+    let mut builder = Machine::builder(frames, &guests);
+    if in_region {
+        builder = builder.region(Region::new(frames)?);
+    }
+    let (mut machine, mut waiting) = (builder.build()?, Waiting::new());
     for mut words in lines {
-        match words.next() {
+        let guest = match words.next() {
             None | Some("end") => break,
-            Some(guest) => {
-                let verdict = serve(&mut machine, guest.parse()?, &mut words)?;
-                writeln!(out, "{guest} {verdict}")?;
-            }
+            Some(guest) => guest.parse()?,
+        };
+        if in_region && words.clone().next() == Some("lend") {
+            words.next();
+            waiting.push((guest, number(&mut words)?, page(&mut words)?));
+            continue;
+        }
+        lend(&mut machine, &mut waiting, &mut out)?;
+        let verdict = serve(&mut machine, guest, &mut words)?;
+        writeln!(out, "{guest} {verdict}")?;
+        if in_region {
+            give_back(&mut machine, frames, &guests)?;
         }
     }
+    lend(&mut machine, &mut waiting, &mut out)?;
     writeln!(out, "report {}", machine.report())?;
     Ok(out.flush()?)
 }

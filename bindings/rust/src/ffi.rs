@@ -1,4 +1,5 @@
 //! The functions of `libpageshare.a`, as `include/pageshare.h` declares them. Nothing compares the two.
+use crate::machine::Lending;
 use std::ffi::c_void;
 
 #[repr(C)]
@@ -16,7 +17,7 @@ impl Handle {
 }
 
 #[repr(C)]
-#[derive(Clone, Copy)]
+#[derive(Clone, Copy, Default)]
 pub(crate) struct Answer {
     pub(crate) status: u32,
     pub(crate) verdict: u32,
@@ -102,6 +103,11 @@ extern "C" {
         ppn: u32,
         page: *const [u8; 4096],
     ) -> Answer;
+    pub(crate) fn pageshare_lend_four(
+        machine: *mut Handle,
+        pages: *const Lending<'_>,
+        answers: *mut Answer,
+    ) -> u32;
     pub(crate) fn pageshare_take_back(
         machine: *mut Handle,
         guest: u32,

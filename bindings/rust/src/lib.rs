@@ -32,7 +32,7 @@ mod region;
 mod verdict;
 
 pub use error::{MakeError, NoSuchPage, RequestError};
-pub use machine::{Builder, Guest, HashKind, Machine, Page, MAX_ACCESS, PAGE_BYTES};
+pub use machine::{Builder, Guest, HashKind, Lending, Machine, Page, MAX_ACCESS, PAGE_BYTES};
 pub use region::Region;
 pub use verdict::{
     LendVerdict, Lent, LoadVerdict, ProposeVerdict, ReleaseVerdict, Report, ReturnVerdict,

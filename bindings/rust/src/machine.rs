@@ -1,12 +1,13 @@
 //! The machine.
 use crate::error::{MakeError, NoSuchPage, RequestError};
-use crate::ffi::{self, Handle, PageName, Totals};
+use crate::ffi::{self, Answer, Handle, PageName, Totals};
 use crate::region::Region;
 use crate::verdict::{
     LendVerdict, LoadVerdict, ProposeVerdict, ReleaseVerdict, Report, ReturnVerdict, StoreVerdict,
 };
 use std::cell::UnsafeCell;
 use std::fmt;
+use std::io;
 
 /// The bytes of a page.
 pub const PAGE_BYTES: usize = 4096;
@@ -23,6 +24,9 @@ const TOO_MANY_GUESTS: usize = 65;
 /// How many pages are handed to the library together to be hashed.
 const HASHED_TOGETHER: usize = 64;
 
+/// How many pages are lent together.
+const LENT_TOGETHER: usize = 4;
+
 /// A guest of a new machine.
 #[derive(Clone, Copy, Debug, PartialEq, Eq, Hash)]
 pub struct Guest {
@@ -30,6 +34,18 @@ pub struct Guest {
     pub pages: u32,
     /// Pages of guests with different salts are never shared.
     pub salt: u32,
+}
+
+/// A page that is to be lent ([`Machine::lend_many`]), and its bytes.
+#[repr(C)]
+#[derive(Clone, Copy, Debug)]
+pub struct Lending<'a> {
+    /// The page's guest.
+    pub guest: u32,
+    /// The page's number.
+    pub ppn: u32,
+    /// The bytes, which stay where they are.
+    pub page: &'a Page,
 }
 
 /// The hash by which a machine finds equal pages. They are compared in full before they share a frame, whatever the hash.
@@ -194,6 +210,22 @@ impl Machine {
         self.region.as_ref()
     }
 
+    /// Gives the memory of a frame in the machine's region back to the system. It is for frames that no page has, such as those
+    /// that verdicts call freed: a page that has it would read as zeros from then on.
+    ///
+    /// # Errors
+    ///
+    /// What the system says, and [`io::ErrorKind::InvalidInput`] for a machine with no region, or a frame that is not in it.
+    pub fn give_back(&mut self, frame: u32) -> io::Result<()> {
+        match &self.region {
+            Some(region) => region.give_back(frame),
+            None => Err(io::Error::new(
+                io::ErrorKind::InvalidInput,
+                "the machine has no region",
+            )),
+        }
+    }
+
     /// Proposes a page for sharing.
     ///
     /// # Errors
@@ -290,6 +322,26 @@ impl Machine {
     pub fn lend(&mut self, guest: u32, ppn: u32, page: &Page) -> Result<LendVerdict, RequestError> {
         // SAFETY: as above.
         LendVerdict::of(unsafe { ffi::pageshare_lend(self.handle.get(), guest, ppn, page) })
+    }
+
+    /// Lends these pages, one after the other as [`Machine::lend`] does, and returns the verdict of each. With SHA-256 the hashes of
+    /// four are computed together, which takes less than half the time.
+    pub fn lend_many(&mut self, pages: &[Lending<'_>]) -> Vec<Result<LendVerdict, RequestError>> {
+        let mut verdicts = Vec::with_capacity(pages.len());
+        let mut groups = pages.chunks_exact(LENT_TOGETHER);
+        for group in &mut groups {
+            let mut answers = [Answer::default(); LENT_TOGETHER];
+            // SAFETY: the pages and the answers' room are lent for the call, and are four each. The status is 0, since the handle
+            // holds a machine.
+            let _status = unsafe {
+                ffi::pageshare_lend_four(self.handle.get(), group.as_ptr(), answers.as_mut_ptr())
+            };
+            verdicts.extend(answers.map(LendVerdict::of));
+        }
+        for lending in groups.remainder() {
+            verdicts.push(self.lend(lending.guest, lending.ppn, lending.page));
+        }
+        verdicts
     }
 
     /// Takes a page back: copies it to the room and releases it, which counts as the release alone. The room stays as it is

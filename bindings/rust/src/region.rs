@@ -21,6 +21,7 @@ unsafe impl Send for Region {}
 const MFD_CLOEXEC: c_uint = 1;
 const PROT_READ_WRITE: c_int = 3;
 const MAP_SHARED: c_int = 1;
+const MADV_REMOVE: c_int = 9;
 
 extern "C" {
     fn memfd_create(name: *const c_char, flags: c_uint) -> c_int;
@@ -33,6 +34,7 @@ extern "C" {
         from: i64,
     ) -> *mut c_void;
     fn munmap(at: *mut c_void, bytes: usize) -> c_int;
+    fn madvise(at: *mut c_void, bytes: usize, advice: c_int) -> c_int;
 }
 
 impl Region {
@@ -86,6 +88,29 @@ impl Region {
     /// What the system says.
     pub fn open_read_only(&self) -> io::Result<File> {
         File::open(format!("/proc/self/fd/{}", self.file.as_raw_fd()))
+    }
+
+    /// Gives a frame's memory back to the system. It reads as zeros until it is written again.
+    pub(crate) fn give_back(&self, frame: u32) -> io::Result<()> {
+        if frame >= self.frames {
+            return Err(io::Error::new(
+                io::ErrorKind::InvalidInput,
+                "the region has no such frame",
+            ));
+        }
+        // SAFETY: the frame is within the mapping, and no call of the library runs, which alone reads or writes it.
+        let done = unsafe {
+            madvise(
+                self.at.cast::<u8>().add(frame as usize * PAGE_BYTES).cast(),
+                PAGE_BYTES,
+                MADV_REMOVE,
+            )
+        };
+        if done == 0 {
+            Ok(())
+        } else {
+            Err(io::Error::last_os_error())
+        }
     }
 
     pub(crate) fn address(&self) -> *mut c_void {

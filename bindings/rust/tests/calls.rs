@@ -1,6 +1,6 @@
 //! Each call on its happy path, and each error where it is due.
 use pageshare::{
-    Guest, HashKind, LendVerdict, Lent, LoadVerdict, Machine, MakeError, NoSuchPage,
+    Guest, HashKind, LendVerdict, Lending, Lent, LoadVerdict, Machine, MakeError, NoSuchPage,
     ProposeVerdict, Region, ReleaseVerdict, Report, RequestError, ReturnVerdict, StoreVerdict,
     PAGE_BYTES,
 };
@@ -179,6 +179,36 @@ fn lends_and_takes_back() -> Result<(), Box<dyn std::error::Error>> {
     assert_eq!(m.lend(1, 1, &ones)?, LendVerdict::NoPage);
     assert_eq!(m.lend(2, 0, &ones), Err(RequestError::NoGuest));
     assert_eq!((room, m.report().frames), (ones, 0));
+    Ok(())
+}
+
+#[test]
+fn lends_lists_in_turn() -> Result<(), Box<dyn std::error::Error>> {
+    let (ones, twos) = ([1; PAGE_BYTES], [2; PAGE_BYTES]);
+    let lending = |guest, ppn, page| Lending { guest, ppn, page };
+    let list = [
+        lending(0, 0, &ones),
+        lending(1, 0, &ones),
+        lending(2, 0, &ones),
+        lending(0, 1, &ones),
+        lending(0, 0, &twos),
+        lending(0, 0, &twos),
+        lending(1, 9, &twos),
+    ];
+    for hash in [HashKind::Sha256, HashKind::Fold] {
+        let guests = [Guest { pages: 2, salt: 0 }, Guest { pages: 1, salt: 0 }];
+        let mut together = Machine::with_hash(3, &guests, hash)?;
+        let mut alone = Machine::with_hash(3, &guests, hash)?;
+        let verdicts = together.lend_many(&list);
+        let wanted: Vec<_> = list
+            .iter()
+            .map(|it| alone.lend(it.guest, it.ppn, it.page))
+            .collect();
+        assert_eq!(verdicts, wanted);
+        assert_eq!(together.report(), alone.report());
+        assert_eq!(verdicts[2], Err(RequestError::NoGuest));
+        assert_eq!(verdicts[6], Ok(LendVerdict::NoPage));
+    }
     Ok(())
 }
 

@@ -2,4 +2,5 @@ pub mod Accesses
 pub mod Finds
 pub mod Held
 pub mod Parcels
+pub mod Groups
 mod Tellings

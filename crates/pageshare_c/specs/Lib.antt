@@ -4,6 +4,7 @@ pub mod Found
 pub mod Framed
 pub mod Hashed
 pub mod Held
+pub mod InTurn
 pub mod Kept
 pub mod Made
 pub mod Outcomes

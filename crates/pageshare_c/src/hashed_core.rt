@@ -1,5 +1,6 @@
 //! A core, by the hash that its machine was made with.
 ghost use Rattle.std.specs.Prelude.{◌≡◌, Some, IsSome, Ok, IfOk, IfErr, IsTrue, ◌↔◌};
+ghost use Rattle.page_digest.specs.Hashes.{four_hashes};
 ghost use Rattle.page_model.specs.Pages.{page_at};
 ghost use Rattle.page_model.specs.Stored.{text_at};
 ghost use Rattle.page_model.specs.declared.request.Request.TheVariants.{Release};
@@ -7,7 +8,8 @@ ghost use Rattle.machine_frames.specs.FrameMap.{frame};
 ghost use Rattle.merge_core.specs.Shown.{state_of};
 ghost use Rattle.pageshare_c.specs.Found.{found_in, text_in, text_of};
 ghost use Rattle.pageshare_c.specs.Framed.{frame_freed, frame_left, LeftFree};
-ghost use Rattle.pageshare_c.specs.Hashed.{shown_in};
+ghost use Rattle.pageshare_c.specs.Hashed.{shown_in, hash_in};
+ghost use Rattle.pageshare_c.specs.InTurn.{LendsOne, LendInTurn};
 ghost use Rattle.pageshare_c.specs.Kept.{FramesKept, StoreKept, LendKept, restarted_core};
 ghost use Rattle.pageshare_c.specs.Outcomes.{outcome, state_after, store_outcome, state_stored, lend_outcome, state_lent, seen};
 ghost use Rattle.pageshare_c.specs.Told.{answer_to, store_answer, lend_answer, loaded, counted, counts, taken, value_or};
@@ -15,9 +17,10 @@ ghost use Rattle.pageshare_c.specs.Told.{answer_to, store_answer, lend_answer, l
 use crate::ahead::{PageName, note_hashes};
 use crate::answer::{Answer, Refusal, Totals, totals_of};
 use crate::find::{copy_page, find_frame, put_address};
+use crate::group::{Lending, lend_each, lend_together};
 use crate::serve::{answer, answer_count, answer_load};
-use crate::whole::{lend, store_page, take_back};
-use merge_core::Core;
+use crate::whole::{lend, lend_hashed, salt_of, store_page, take_back};
+use merge_core::{Core, SaltedHash};
 use page_digest::{FoldHash, Sha256Hash};
 use page_model::{Page, Request, RequestFault};
 
@@ -99,6 +102,68 @@ impl HashedCore {
         match self {
             HashedCore::Sha256(core) => lend(core, guest, ppn, page),
             HashedCore::Fold(core) => lend(core, guest, ppn, page),
+        }
+    }
+
+    /// Lends a page, of which a hash is known.
+    pub(crate) fn lend_hashed(
+        &mut self,
+        guest: u32,
+        ppn: u32,
+        page: &Page,
+        known: SaltedHash,
+    ) -> Answer
+        requires hash { known.hash ≡ hash_in self.old known.salt page.now }
+        ensures lends { LendsOne guest ppn page.now result (Some self.old) (Some self.new) }
+        ensures hash { hash_in self.new ≡ hash_in self.old }
+    {
+        match self {
+            HashedCore::Sha256(core) => lend_hashed(core, guest, ppn, page, known),
+            HashedCore::Fold(core) => lend_hashed(core, guest, ppn, page, known),
+        }
+    }
+
+    /// Lends four pages, one after the other. Their hashes are computed together if that is faster.
+    pub(crate) fn lend_four(&mut self, pages: &[Lending<'_>; 4], answers: &mut [Answer; 4])
+        ensures { LendInTurn pages.now answers.new (Some self.old) (Some self.new) }
+    {
+        if self.hashes_together() {
+            lend_together(self, pages, answers);
+        } else {
+            lend_each(self, pages, answers);
+        }
+    }
+
+    /// Whether four hashes together take less time than four, one by one.
+    fn hashes_together(&self) -> bool {
+        match self {
+            HashedCore::Sha256(_) => true,
+            HashedCore::Fold(_) => false,
+        }
+    }
+
+    /// Returns a guest's salt, 0 if there is no such guest.
+    pub(crate) fn salt(&self, guest: u32) -> u32 {
+        match self {
+            HashedCore::Sha256(core) => salt_of(core, guest),
+            HashedCore::Fold(core) => salt_of(core, guest),
+        }
+    }
+
+    /// Returns the hashes of four pages' bytes, each under the salt at its place.
+    pub(crate) fn hash_four(
+        &self,
+        salts: [u32; 4],
+        a: &Page,
+        b: &Page,
+        c: &Page,
+        d: &Page,
+    ) -> [u64; 4]
+        ensures { result ≡ four_hashes (hash_in self.now) salts a.now b.now c.now d.now }
+    {
+        match self {
+            HashedCore::Sha256(core) => core.hash_four(salts, a, b, c, d),
+            HashedCore::Fold(core) => core.hash_four(salts, a, b, c, d),
         }
     }
 

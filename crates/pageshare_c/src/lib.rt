@@ -17,6 +17,7 @@ ghost use Rattle.pageshare_c.specs.Codes.{held_status, status_told};
 ghost use Rattle.pageshare_c.specs.Found.{text_of, frame_found, HoldsText};
 ghost use Rattle.pageshare_c.specs.Framed.{frame_freed, frame_left, LeftFree};
 ghost use Rattle.pageshare_c.specs.Hashed.{hash_number};
+ghost use Rattle.pageshare_c.specs.InTurn.{LendsGroup};
 ghost use Rattle.pageshare_c.specs.Kept.{FramesKept, StoreKept, LendKept, restarted_core};
 ghost use Rattle.pageshare_c.specs.Made.{Makes};
 ghost use Rattle.pageshare_c.specs.declared.make.TheConstants.{SHA256};
@@ -27,6 +28,7 @@ mod ahead;
 mod answer;
 mod find;
 mod framed;
+mod group;
 mod hashed_core;
 mod machine;
 mod make;
@@ -38,6 +40,7 @@ mod whole;
 pub use ahead::PageName;
 pub use answer::{Answer, NO_FRAME, Refusal, Totals};
 use answer::{refuse, status_of};
+pub use group::Lending;
 pub use hashed_core::HashedCore;
 pub use machine::Machine;
 pub use machine_frames::Region;
@@ -235,6 +238,31 @@ pub extern "C" fn pageshare_lend(
             let answer = core.lend(guest, ppn, page);
             machine.put(core);
             answer
+        }
+    }
+}
+
+/// Lends four pages, one after the other in this order, as by four calls of [`pageshare_lend`]: each answer is that of the page at
+/// its place. With SHA-256 their hashes are computed together, from the bytes where they are. One page may be named twice.
+///
+/// The status is 6 if the handle holds no machine, and then the answers stay as they are. Else it is 0, and each answer has its
+/// own.
+#[unsafe(no_mangle)]
+pub extern "C" fn pageshare_lend_four(
+    alloc: Global,
+    machine: &mut Machine,
+    pages: &[Lending<'_>; 4],
+    answers: &mut [Answer; 4],
+) -> u32
+    ensures lends { LendsGroup pages.now answers.old answers.new machine.old.slot.core machine.new.slot.core }
+    ensures status { result ≡ held_status machine.old.slot.core }
+{
+    match machine.take(alloc) {
+        None => 6,
+        Some(mut core) => {
+            core.lend_four(pages, answers);
+            machine.put(core);
+            0
         }
     }
 }

@@ -14,7 +14,7 @@ ghost use Rattle.pageshare_c.specs.Told.{told, taken};
 use crate::answer::{Answer, answer_of, refuse};
 use crate::framed::frame_of;
 use crate::serve::refusal_for;
-use merge_core::{Core, Returned};
+use merge_core::{Core, Returned, SaltedHash};
 use page_digest::PageHash;
 use page_lending::STORES_A_PAGE;
 use page_model::{Page, Verdict};
@@ -56,6 +56,30 @@ pub(crate) fn lend<H: PageHash>(core: &mut Core<H>, guest: u32, ppn: u32, page: 
     answer_of(&lent.verdict, frame_of(core, guest, ppn), lent.freed)
 }
 
+/// Lends a page, of which a hash is known.
+#[tactic(auto, using(crate::proofs::Tellings::no_steps))]
+pub(crate) fn lend_hashed<H: PageHash>(
+    core: &mut Core<H>,
+    guest: u32,
+    ppn: u32,
+    page: &Page,
+    known: SaltedHash,
+) -> Answer
+    requires hash { known.hash ≡ H.hash_of known.salt page.now }
+    ensures answer { result ≡ told (verdict_in (lend_steps H.hash_of (state_of core.old) guest ppn page.now))
+        (frame_at core.new.pmap guest ppn) (left_in H.hash_of core.old guest ppn page.now) }
+    ensures state { state_of core.new ≡ state_in (state_of core.old) (lend_steps H.hash_of (state_of core.old) guest ppn page.now) }
+    ensures frames { CoreLends H.hash_of guest ppn page.now
+        (verdict_in (lend_steps H.hash_of (state_of core.old) guest ppn page.now)) core.old core.new }
+    ensures free { IsFree (left_in H.hash_of core.old guest ppn page.now) core.new }
+{
+    if let Some(refusal) = refusal_for(core, guest, STORES_A_PAGE + 1) {
+        return refuse(refusal);
+    }
+    let lent = core.lend_hashed(guest as u8, ppn, page, known);
+    answer_of(&lent.verdict, frame_of(core, guest, ppn), lent.freed)
+}
+
 /// Takes a page back, and puts its bytes into the room.
 #[tactic(auto, using(crate::proofs::Tellings::not_taken_back))]
 pub(crate) fn take_back<H: PageHash>(
@@ -83,6 +107,14 @@ pub(crate) fn take_back<H: PageHash>(
         frame_of(core, guest, ppn),
         freed_in(returned),
     )
+}
+
+/// Returns a guest's salt, 0 if there is no such guest.
+pub(crate) fn salt_of<H: PageHash>(core: &Core<H>, guest: u32) -> u32 {
+    if guest < u32::from(core.guests()) {
+        return core.salt(guest as u8);
+    }
+    0
 }
 
 /// Returns the verdict of the release.
