@@ -47,11 +47,11 @@ module _ (n : ℕ) (so_far : Option SoFar) where
   piece_step line [] h = absurd (omega arith)
   piece_step line (next ∷ pieces) h = refl
 
-  rows_step : (bytes : List ℕ) → position_or_len is_feed bytes < length bytes
+  pub rows_step : (bytes : List ℕ) → position_or_len is_feed bytes < length bytes
       → rows_after n so_far bytes ≡ (at_line (line_after n) (with_row so_far (row_in (before_first is_feed bytes))) >>= λ x. rows_after (line_after n) (Some x.0) (after_first is_feed bytes) >>= λ rows. Ok (x.1 ∷ rows))
   rows_step bytes h = rw (slice_split_first is_feed bytes 0 h) (piece_step (before_first is_feed bytes) (slice_split is_feed (after_first is_feed bytes)) (omega (arith, length-slice_split is_feed (after_first is_feed bytes))))
 
-  rows_end : rows_after n so_far [] ≡ ended n so_far
+  pub rows_end : rows_after n so_far [] ≡ ended n so_far
   unfolding rows_in
   rows_end = refl
 
@@ -149,7 +149,7 @@ module _ (n : ℕ) (so_far : Option SoFar) where
   next_lacking (Some bytes) (Some same) fault keeps h e = (rw (← keeps, h) (rows_end n so_far ∙ e), rw keeps refl)
 
 -- the first line
-digest_split : (text : List ℕ) → position_or_len is_feed text < length text
+pub digest_split : (text : List ℕ) → position_or_len is_feed text < length text
     → digest_of text ≡ (at_line 1 (check_header (before_first is_feed text)) >>= λ _. rows_after 1 None (after_first is_feed text))
 unfolding digest_of
 digest_split text h = rw (lt-ltb (position_or_len is_feed text) (length text) h) refl

@@ -5,3 +5,5 @@ pub mod Left
 pub mod Noted
 pub mod Names
 pub mod Told
+pub mod Written
+pub mod Reread
