@@ -1,0 +1,91 @@
+//! A line of `/proc/PID/maps`.
+ghost use Rattle.std.specs.Prelude.{◌≡◌, ◌+◌, ◌<◌, ◌≤◌, IfSome, option_map};
+ghost use Rattle.live_memory.specs.Mappings.{is_fileless, is_kept, is_writable, mapping_in, segment_of};
+
+use crate::fields::{behind_spaces, range, word};
+use journal_text::word::number_to;
+use memory_images::Segment;
+
+const VVAR: &[u8] = b"[vvar]";
+
+const VDSO: &[u8] = b"[vdso]";
+
+const VSYSCALL: &[u8] = b"[vsyscall]";
+
+/// What the name of a memfd begins with.
+const MEMFD: &[u8] = b"/memfd:";
+
+/// The name of anonymous memory that is shared.
+const SHARED: &[u8] = b"/dev/zero (deleted)";
+
+/// The name of anonymous memory of large pages.
+const LARGE: &[u8] = b"/anon_hugepage (deleted)";
+
+/// What a line says of a mapping, without its name.
+#[derive(Clone, Copy)]
+pub(crate) struct Mapping {
+    pub(crate) from: u64,
+    pub(crate) to: u64,
+    pub(crate) is_writable: bool,
+    /// The number of the file that is mapped; 0: there is none.
+    pub(crate) inode: u64,
+}
+
+/// Whether the permissions are those of memory that can be written, as in `rw-p`.
+fn is_writable(permissions: &[u8]) -> bool
+    ensures { result ≡ is_writable permissions.now }
+{
+    permissions.len() > 1 && permissions[1] == b'w'
+}
+
+/// Returns what a line says, and the mapping's name.
+#[tactic(auto, unfolding(crate::specs::Mappings::mapping_in))]
+pub(crate) fn read_mapping(line: &[u8]) -> Option<(Mapping, &[u8])>
+    ensures value { option_map (λ x. (x.0, x.1.now)) result ≡ mapping_in line.now }
+    ensures rises { IfSome result (λ x. x.0.from < x.0.to) }
+{
+    let (addresses, rest) = word(line)?;
+    let (from, to) = range(addresses)?;
+    let (permissions, rest) = word(rest)?;
+    let (_offset, rest) = word(rest)?;
+    let (_device, rest) = word(rest)?;
+    let (inode, rest) = word(rest)?;
+    let inode = number_to(u64::MAX, inode).ok()?;
+    let is_writable = is_writable(permissions);
+    let mapping = Mapping {
+        from,
+        to,
+        is_writable,
+        inode,
+    };
+    Some((mapping, behind_spaces(rest)))
+}
+
+/// Whether a mapping's memory is no file's: it has no inode and isn't the system's own, or its name says that it is a memfd,
+/// or anonymous memory that is shared or of large pages.
+fn is_fileless(inode: u64, name: &[u8]) -> bool
+    ensures { result ≡ is_fileless inode name.now }
+{
+    if inode == 0 {
+        return name != VVAR && name != VDSO && name != VSYSCALL;
+    }
+    name.starts_with(MEMFD) || name == SHARED || name == LARGE
+}
+
+/// Whether a mapping's pages are to be read.
+pub(crate) fn is_kept(mapping: Mapping, name: &[u8]) -> bool
+    ensures { result ≡ is_kept mapping name.now }
+{
+    mapping.is_writable && is_fileless(mapping.inode, name)
+}
+
+/// Returns where a mapping's pages lie.
+pub(crate) fn segment_of(mapping: Mapping) -> Segment
+    requires { mapping.from < mapping.to }
+    ensures { result ≡ segment_of mapping }
+{
+    Segment {
+        offset: mapping.from,
+        len: mapping.to - mapping.from,
+    }
+}
