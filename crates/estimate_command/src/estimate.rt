@@ -1,18 +1,16 @@
 //! The command `estimate`.
-ghost use Rattle.std.specs.Prelude.{◌≤◌};
-
-use crate::faults::{Cause, EstimateFault};
-use crate::images::{Images, check_unchanged, open_images};
-use crate::reading::Reading;
+use crate::faults::EstimateFault;
+use crate::images::{Images, check_images, open_images};
 use census_text::{Estimate, guest_lines, json_text, picture_text, table_text};
-use command_terms::{CommandEnd, EstimateWords, ImageCause, MOST_WORKERS, worker_count};
+use command_terms::{CommandEnd, EstimateWords, ImageCause};
+use image_files::{FileCause, Reading, workers_of};
 use page_census::{CensusFault, CensusNumbers, census};
 use page_digest::FoldHash;
 use progress_line::line_where;
 use std::alloc::{AllocError, Global};
 use std::fs::{self, File, Files};
 use std::io::{self, Eprint, Write};
-use std::thread::{self, Threads};
+use std::thread::Threads;
 use std::time::Clock;
 
 /// Counts the pages of the images, writes the picture, and then the table or the JSON object. Returns how that ended: a
@@ -42,7 +40,7 @@ fn estimate<'a, R: Threads + Sync + Files<File = File> + Eprint + Clock, W: Writ
 ) -> Result<(), EstimateFault<'a>> {
     let images = open_images(rt, alloc, words)?;
     let numbers = count(rt, alloc, words, &images, is_terminal)?;
-    check_unchanged(rt, words, &images)?;
+    check_images(rt, words, &images)?;
     let texts = texts_of(alloc, words, &numbers).map_err(|_refused| EstimateFault::of_all(
         words,
         ImageCause::OutOfMemory,
@@ -78,25 +76,8 @@ fn count<'a, R: Threads + Sync + Eprint + Clock>(
             Err(EstimateFault::of_all(words, ImageCause::TooManyPages))
         }
         Err(CensusFault::Read(guest, error)) => {
-            Err(EstimateFault::of(words.image_of(guest), Cause::from(error)))
+            Err(EstimateFault::of(words.image_of(guest), FileCause::from(error)))
         }
-    }
-}
-
-/// Returns how many threads read: as many as asked for, or else one for each processor; one if the system doesn't say.
-fn workers_of(rt: &impl Threads, asked: Option<u32>) -> u32
-    ensures { 1 ≤ result }
-{
-    worker_count(match asked {
-        Some(workers) => workers,
-        None => processors(rt),
-    })
-}
-
-fn processors(rt: &impl Threads) -> u32 {
-    match thread::available_parallelism(rt) {
-        Ok(count) => u32::try_from(count.get()).unwrap_or(MOST_WORKERS),
-        Err(_) => 1,
     }
 }
 
@@ -150,12 +131,12 @@ fn output_text(
     }
 }
 
-fn write_file<R: Files>(rt: &R, path: &str, text: &str) -> Result<(), Cause> {
+fn write_file<R: Files>(rt: &R, path: &str, text: &str) -> Result<(), FileCause> {
     let mut file = fs::create(rt, path)?;
     write_all(&mut file, text)
 }
 
-fn write_all(output: &mut impl Write, text: &str) -> Result<(), Cause> {
+fn write_all(output: &mut impl Write, text: &str) -> Result<(), FileCause> {
     output.write_all(text.as_bytes())?;
     output.flush()?;
     Ok(())

@@ -1,21 +1,8 @@
 //! Why there is no estimate.
 use census_text::PlainName;
 use command_terms::{EstimateWords, ImageCause};
-use memory_images::{FormFault, ImageFault};
-use std::alloc::{AllocError, AllocFailed};
+use image_files::FileCause;
 use std::fmt::{self, Display, Formatter};
-use std::io;
-
-/// What is at fault.
-#[derive(Debug, Drop)]
-pub enum Cause {
-    /// The system refused, for this reason.
-    System(io::Error),
-    /// The file doesn't have a form that can be read.
-    Form(FormFault),
-    /// An image, or all of them, for this cause.
-    Image(ImageCause),
-}
 
 /// A fault of a file, or of the files from this one on.
 #[derive(Debug, Drop)]
@@ -23,12 +10,12 @@ pub struct EstimateFault<'a> {
     pub name: &'a str,
     /// How many more files the fault is about.
     pub others: usize,
-    pub cause: Cause,
+    pub cause: FileCause,
 }
 
 impl<'a> EstimateFault<'a> {
     /// Makes the fault of one file.
-    pub fn of(name: &'a str, cause: Cause) -> EstimateFault<'a> {
+    pub fn of(name: &'a str, cause: FileCause) -> EstimateFault<'a> {
         EstimateFault {
             name,
             others: 0,
@@ -41,17 +28,7 @@ impl<'a> EstimateFault<'a> {
         EstimateFault {
             name: words.image_of(0),
             others: words.others(),
-            cause: Cause::Image(cause),
-        }
-    }
-}
-
-impl Display for Cause {
-    fn fmt<W: fmt::Write>(&self, f: &mut Formatter<W>) -> fmt::Result {
-        match self {
-            Cause::System(error) => write!(f, "{error}"),
-            Cause::Form(form) => write!(f, "{form}"),
-            Cause::Image(cause) => write!(f, "{cause}"),
+            cause: FileCause::Image(cause),
         }
     }
 }
@@ -66,37 +43,5 @@ impl Display for EstimateFault<'_> {
         }
         let cause = &self.cause;
         write!(f, ": {cause}")
-    }
-}
-
-impl From<io::Error> for Cause {
-    fn from(error: io::Error) -> Cause {
-        if error.kind() == io::ErrorKind::OutOfMemory {
-            Cause::Image(ImageCause::OutOfMemory)
-        } else {
-            Cause::System(error)
-        }
-    }
-}
-
-impl From<AllocError> for Cause {
-    fn from(_refused: AllocError) -> Cause {
-        Cause::Image(ImageCause::OutOfMemory)
-    }
-}
-
-impl<T: Drop> From<AllocFailed<T>> for Cause {
-    fn from(_refused: AllocFailed<T>) -> Cause {
-        Cause::Image(ImageCause::OutOfMemory)
-    }
-}
-
-impl From<ImageFault<io::Error>> for Cause {
-    fn from(fault: ImageFault<io::Error>) -> Cause {
-        match fault {
-            ImageFault::OutOfMemory => Cause::Image(ImageCause::OutOfMemory),
-            ImageFault::Read(error) => Cause::from(error),
-            ImageFault::Form(form) => Cause::Form(form),
-        }
     }
 }

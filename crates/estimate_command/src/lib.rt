@@ -4,6 +4,5 @@
 mod estimate;
 mod faults;
 mod images;
-mod reading;
 
 pub use estimate::do_estimate;

@@ -20,7 +20,7 @@ impl<R: ReadAt + Drop, A: Allocator + Clone> Image<R, A> {
         ensures reader { IfOk result (λ image. reader_of image ≡ reader) }
     {
         let segments = whole_file(alloc.clone()?, reader.len())?;
-        image_with(alloc, reader, segments)
+        Image::of_segments(alloc, reader, segments)
     }
 
     /// Makes the image of a file: of an ELF core if it begins as an ELF file, and else of a raw file.
@@ -29,7 +29,30 @@ impl<R: ReadAt + Drop, A: Allocator + Clone> Image<R, A> {
         ensures reader { IfOk result (λ image. reader_of image ≡ reader) }
     {
         let segments = file_segments(alloc.clone()?, &reader)?;
-        image_with(alloc, reader, segments)
+        Image::of_segments(alloc, reader, segments)
+    }
+
+    /// Makes the image of these segments of what is read, unless they have too many pages.
+    pub fn of_segments(
+        alloc: A,
+        reader: R,
+        segments: Vec<Segment, A>,
+    ) -> Result<Image<R, A>, ImageFault<R::Fault>>
+        requires within { AreWithin (length (R.bytes reader)) segments.items }
+        requires fits { length (R.bytes reader) < 2 ^ 64 }
+        ensures told { Tells segments_of result (said.few segments.items) }
+        ensures reader { IfOk result (λ image. reader_of image ≡ reader) }
+    {
+        let Some(count) = count_pages(&segments) else {
+            return Err(ImageFault::Form(FormFault::TooManyPages));
+        };
+        let starts = starts_of(alloc, &segments)?;
+        Ok(Image {
+            reader,
+            segments,
+            starts,
+            count,
+        })
     }
 }
 
@@ -70,29 +93,6 @@ fn whole_file<A: Allocator>(alloc: A, len: u64) -> Result<Vec<Segment, A>, Alloc
     let mut segments = Vec::new(alloc);
     segments.push(Segment { offset: 0, len })?;
     Ok(segments)
-}
-
-/// Makes the image of these segments, unless they have too many pages.
-fn image_with<R: ReadAt + Drop, A: Allocator>(
-    alloc: A,
-    reader: R,
-    segments: Vec<Segment, A>,
-) -> Result<Image<R, A>, ImageFault<R::Fault>>
-    requires within { AreWithin (length (R.bytes reader)) segments.items }
-    requires fits { length (R.bytes reader) < 2 ^ 64 }
-    ensures told { Tells segments_of result (said.few segments.items) }
-    ensures reader { IfOk result (λ image. reader_of image ≡ reader) }
-{
-    let Some(count) = count_pages(&segments) else {
-        return Err(ImageFault::Form(FormFault::TooManyPages));
-    };
-    let starts = starts_of(alloc, &segments)?;
-    Ok(Image {
-        reader,
-        segments,
-        starts,
-        count,
-    })
 }
 
 /// Returns the number of pages of these segments, or `None` if it is more than 4,294,967,295.
