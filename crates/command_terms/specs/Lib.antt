@@ -1,4 +1,5 @@
 pub mod Asked
+pub mod Digests
 pub mod Ends
 pub mod Estimates
 pub mod Failures

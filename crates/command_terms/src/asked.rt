@@ -2,6 +2,7 @@
 ghost use Rattle.std.specs.Prelude.{◌≡◌};
 ghost use Rattle.command_terms.specs.Asked.{is_of_script, input_name};
 
+use crate::digests::DigestWords;
 use crate::estimates::EstimateWords;
 use progress_line::Drawn;
 
@@ -55,4 +56,6 @@ pub enum Asked<'a> {
     Text(Task<'a>),
     /// To tell what sharing would reclaim.
     Estimate(EstimateWords<'a>),
+    /// To write a guest's digest.
+    Digest(DigestWords<'a>),
 }

@@ -4,6 +4,7 @@
 #![tactic(auto)]
 
 mod asked;
+mod digests;
 mod ends;
 mod estimates;
 mod failures;
@@ -11,6 +12,7 @@ mod image_causes;
 mod script_faults;
 
 pub use asked::{Asked, Task, Work};
+pub use digests::{DigestSource, DigestWords, file_name};
 pub use ends::CommandEnd;
 pub use estimates::{EstimateWords, MOST_WORKERS, worker_count};
 pub use failures::{error_line, first_failure};

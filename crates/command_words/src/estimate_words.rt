@@ -1,6 +1,7 @@
 //! The words of the command `estimate`.
 use crate::parts::{described, flag, option, positional};
-use crate::progress_words::{progress_of, progress_option};
+use crate::progress_words::{READING, progress_of, progress_option};
+use crate::worker_words::{workers_of, workers_option};
 use clap::error::ErrorKind;
 use clap::{Arg, ArgMatches, Command, Error, value_parser};
 use command_terms::EstimateWords;
@@ -23,8 +24,6 @@ const ABOUT: &str =
 
 const SALTS: &str =
     "A number for each image: pages are shared only where these are equal [default: 0 for each]";
-
-const READING: &str = "Tell on standard error how much was read; on auto where that is a terminal";
 
 /// The command, as part of the program's.
 pub fn estimate_command<'a>(alloc: Global) -> Result<Command<'a>, AllocError> {
@@ -70,12 +69,6 @@ fn salt_option<'a>(alloc: Global) -> Arg<'a> {
     option(alloc, "salts", "N,N,..", SALTS).value_parser(value_parser!(u32))
 }
 
-fn workers_option<'a>(alloc: Global) -> Arg<'a> {
-    let help = "How many threads read, 1 to 64 [default: the number of processors]";
-    let workers = option(alloc, "workers", "N", help);
-    workers.value_parser(value_parser!(u32).range(1..=64))
-}
-
 /// What the words behind `estimate` ask for. Another number of salts than of images is an error.
 pub fn estimate_words<'a>(
     alloc: Global,
@@ -84,7 +77,7 @@ pub fn estimate_words<'a>(
     let words = EstimateWords {
         images: images_of(alloc, matches)?,
         salts: salts_of(alloc, matches)?,
-        workers: matches.get_one::<u32>("workers"),
+        workers: workers_of(matches),
         raw: matches.get_flag("raw"),
         json: matches.get_flag("json"),
         svg: matches.get_str("svg"),

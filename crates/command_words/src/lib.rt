@@ -4,9 +4,11 @@
 //! hands on an argument or a command of which nothing is told.
 #![tactic(auto)]
 
+mod digest_words;
 mod estimate_words;
 mod parts;
 mod progress_words;
 mod words;
+mod worker_words;
 
 pub use words::asked_of;

@@ -7,6 +7,10 @@ use std::alloc::Global;
 /// When the progress is drawn: the words that `Drawn::of_word` knows.
 const WHEN: [&str; 3] = ["auto", "always", "never"];
 
+/// What it is for where images or digests are read.
+pub const READING: &str =
+    "Tell on standard error how much was read; on auto where that is a terminal";
+
 /// The option, with what it is for.
 pub fn progress_option<'a>(alloc: Global, help: &'a str) -> Arg<'a> {
     let progress = option(alloc, "progress", "WHEN", help);

@@ -1,13 +1,11 @@
 //! The commands, and what the words of a command line ask for.
+use crate::digest_words::{digest_command, digest_words};
 use crate::estimate_words::{estimate_command, estimate_words};
 use crate::parts::{described, flag, positional};
 use crate::progress_words::{progress_of, progress_option};
 use clap::{Arg, ArgMatches, Command, Error};
 use command_terms::{Asked, Task, Work};
 use std::alloc::{AllocError, Global};
-
-/// Version of the program; those of the texts that it reads stand in their first lines.
-const VERSION: &str = "0.1.0";
 
 /// What stands below the help: the format, an example, and where to read on.
 const FORMAT: &str = "\
@@ -88,27 +86,36 @@ fn file_word<'a>(alloc: Global, help: &'a str) -> Arg<'a> {
     positional(alloc, "FILE", help)
 }
 
-fn command<'a>(alloc: Global) -> Result<Command<'a>, AllocError> {
-    whole_command(alloc)
+fn command<'a>(alloc: Global, version: &'a str) -> Result<Command<'a>, AllocError> {
+    whole_command(alloc, version)
         .subcommand(replay_command(alloc)?)?
         .subcommand(serial_command(alloc)?)?
         .subcommand(run_command(alloc)?)?
-        .subcommand(estimate_command(alloc)?)
+        .subcommand(estimate_command(alloc)?)?
+        .subcommand(digest_command(alloc)?)
 }
 
 /// The program's command, so far with none of its own.
-fn whole_command<'a>(alloc: Global) -> Command<'a> {
+fn whole_command<'a>(alloc: Global, version: &'a str) -> Command<'a> {
     let pageshare = described(alloc, "pageshare", ABOUT, FORMAT);
-    pageshare.version(VERSION).subcommand_required(true)
+    pageshare.version(version).subcommand_required(true)
 }
 
-/// What these words ask for; the first is the program's own name.
-pub fn asked_of<'a>(alloc: Global, words: &'a [String]) -> Result<Asked<'a>, Error> {
-    let matches = command(alloc)?.try_get_matches_from(words)?;
-    match matches.subcommand_matches("estimate") {
-        Some(estimate) => Ok(Asked::Estimate(estimate_words(alloc, estimate)?)),
-        None => Ok(Asked::Text(task_of(&matches))),
+/// What these words ask for; the first is the program's own name. `version` is what `--version` shows behind that name: the
+/// program's version, since those of the texts that it reads stand in their first lines.
+pub fn asked_of<'a>(
+    alloc: Global,
+    words: &'a [String],
+    version: &'a str,
+) -> Result<Asked<'a>, Error> {
+    let matches = command(alloc, version)?.try_get_matches_from(words)?;
+    if let Some(estimate) = matches.subcommand_matches("estimate") {
+        return Ok(Asked::Estimate(estimate_words(alloc, estimate)?));
     }
+    if let Some(digest) = matches.subcommand_matches("digest") {
+        return Ok(Asked::Digest(digest_words(alloc, digest)?));
+    }
+    Ok(Asked::Text(task_of(&matches)))
 }
 
 /// What is to be done with a text.

@@ -4,6 +4,8 @@
 #![tactic(auto)]
 
 #[cfg(test)]
+mod digests;
+#[cfg(test)]
 mod lines;
 #[cfg(test)]
 mod words;

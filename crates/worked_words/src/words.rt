@@ -6,6 +6,9 @@ use progress_line::Drawn;
 use std::alloc::{AllocError, Global};
 use std::test::Fail;
 
+/// What the program is said to be: nothing depends on it.
+pub const VERSION: &str = "1.2.3";
+
 fn of_run(is_journal: bool, progress: Drawn) -> Work {
     Work::Run {
         is_journal,
@@ -51,7 +54,7 @@ fn reads_the_words(rt: HostRuntime) -> Result<(), Fail> {
     for (texts, work, file) in asked {
         let given = words(alloc, texts)?;
         let due = Asked::Text(Task { work, file });
-        assert_eq!(rt; asked_of(alloc, &given).ok(), Some(due));
+        assert_eq!(rt; asked_of(alloc, &given, VERSION).ok(), Some(due));
     }
     let mistakes: [(&[&str], ErrorKind); 21] = [
         (&[], ErrorKind::MissingSubcommand),
@@ -99,16 +102,16 @@ fn reads_the_words(rt: HostRuntime) -> Result<(), Fail> {
     ];
     for (texts, kind) in mistakes {
         let given = words(alloc, texts)?;
-        let error = asked_of(alloc, &given).err().ok_or("no error")?;
+        let error = asked_of(alloc, &given, VERSION).err().ok_or("no error")?;
         assert_eq!(rt; error.kind(), kind);
     }
     Ok(())
 }
 
 fn estimate_of<'a>(alloc: Global, words: &'a [String]) -> Result<EstimateWords<'a>, Fail> {
-    match asked_of(alloc, words).map_err(|_| "an error")? {
+    match asked_of(alloc, words, VERSION).map_err(|_| "an error")? {
         Asked::Estimate(asked) => Ok(asked),
-        Asked::Text(_) => Err("a text")?,
+        _ => Err("another command")?,
     }
 }
 
