@@ -1,3 +1,4 @@
 //! The texts of digests.
 mod faults;
 mod sources;
+mod written;

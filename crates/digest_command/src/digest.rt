@@ -1,0 +1,89 @@
+//! The command `digest`.
+use crate::faults::{Cause, Fault};
+use command_terms::{CommandEnd, DigestSource, DigestWords};
+use digest_text::write_digests;
+use image_files::{Reading, check_unchanged, open_image, workers_of};
+use live_memory::open_process;
+use page_census::PageSource;
+use page_digests::{GuestDigests, Sampling, digest_pages};
+use progress_line::line_where;
+use std::alloc::Global;
+use std::fs::{File, Files};
+use std::io::{self, Eprint, Write};
+use std::thread::Threads;
+use std::time::Clock;
+
+/// Digests the image or the process, and writes the digest. Returns how that ended: a fault is reported in a line on standard
+/// error, and then nothing was written to the output unless that is what failed.
+pub fn do_digest<R: Threads + Sync + Files<File = File> + Eprint + Clock, W: Write + Drop>(
+    rt: &R,
+    alloc: Global,
+    words: &DigestWords<'_>,
+    output: W,
+    is_terminal: bool,
+) -> io::Result<CommandEnd> {
+    let done = digest(rt, alloc, words, output, is_terminal);
+    let end = CommandEnd::of(&done);
+    if let Err(fault) = done {
+        eprintln!(rt; "{fault}")?;
+    }
+    Ok(end)
+}
+
+fn digest<'a, R: Threads + Sync + Files<File = File> + Eprint + Clock, W: Write + Drop>(
+    rt: &R,
+    alloc: Global,
+    words: &DigestWords<'a>,
+    mut output: W,
+    is_terminal: bool,
+) -> Result<(), Fault<'a>> {
+    let digests = match words.source {
+        DigestSource::Image(path) => of_image(rt, alloc, words, path, is_terminal),
+        DigestSource::Process(pid) => of_process(rt, alloc, words, pid, is_terminal),
+    }
+    .map_err(|cause| Fault::Source(words.source, cause))?;
+    write_digests(alloc, &words.guest, &digests, &mut output)?;
+    output.flush()?;
+    Ok(())
+}
+
+fn of_image<R: Threads + Sync + Files<File = File> + Eprint + Clock>(
+    rt: &R,
+    alloc: Global,
+    words: &DigestWords<'_>,
+    path: &str,
+    is_terminal: bool,
+) -> Result<GuestDigests<Global>, Cause> {
+    let (image, mark) = open_image(rt, alloc, path, words.raw)?;
+    let digests = digests_of(rt, alloc, words, &image, is_terminal)?;
+    check_unchanged(rt, path, &mark)?;
+    Ok(digests)
+}
+
+fn of_process<R: Threads + Sync + Files<File = File> + Eprint + Clock>(
+    rt: &R,
+    alloc: Global,
+    words: &DigestWords<'_>,
+    pid: u32,
+    is_terminal: bool,
+) -> Result<GuestDigests<Global>, Cause> {
+    let memory = open_process(rt, alloc, pid)?;
+    digests_of(rt, alloc, words, &memory, is_terminal)
+}
+
+/// Digests the pages, and draws how much was read if asked to.
+fn digests_of<R: Threads + Sync + Eprint + Clock, S: PageSource<Fault = io::Error>>(
+    rt: &R,
+    alloc: Global,
+    words: &DigestWords<'_>,
+    source: &S,
+    is_terminal: bool,
+) -> Result<GuestDigests<Global>, Cause> {
+    let line = line_where(rt, words.progress, is_terminal);
+    let reading = Reading::new(line, u64::from(source.count()));
+    let workers = workers_of(rt, words.workers);
+    let sampling = Sampling::new(words.salt, words.sample);
+    let told = digest_pages(rt, alloc, workers, sampling, source, &reading);
+    reading.end();
+    Ok(told?)
+}

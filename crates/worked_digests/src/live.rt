@@ -1,0 +1,3 @@
+//! The memory of processes.
+mod maps;
+mod memory;

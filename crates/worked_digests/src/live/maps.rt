@@ -1,0 +1,75 @@
+//! Lists of a process's mappings, as the system writes them.
+use live_memory::{LiveFault, writable_segments};
+use memory_images::Segment;
+use std::alloc::Global;
+use std::process::Abort;
+use std::test::Fail;
+
+// The mappings that are kept of a text, or the number of the line at fault.
+fn kept(rt: &impl Abort, alloc: Global, maps: &[u8]) -> Result<Vec<Segment>, u64> {
+    match writable_segments(alloc, maps) {
+        Ok(segments) => Ok(segments),
+        Err(LiveFault::Line(line)) => Err(line),
+        Err(_) => panic!(rt; "another fault"),
+    }
+}
+
+const MAPS: &[u8] =
+    b"55934286d000-55934286e000 r--p 00009000 fe:00 247134                     /usr/bin/cat
+55934286e000-55934286f000 rw-p 0000a000 fe:00 247134                     /usr/bin/cat
+559363eb7000-559363ed8000 rw-p 00000000 00:00 0                          [heap]
+7f8ee23d2000-7f8ee23f4000 rw-p 00000000 00:00 0 
+7f8ee2400000-7f8ee2402000 rw-s 00000000 00:01 1026                       /memfd:pc.ram (deleted)
+7f8ee2500000-7f8ee2501000 rw-s 00000000 00:01 2048                       /dev/zero (deleted)
+7f8ee2600000-7f8ee2800000 rw-p 00000000 00:0f 77                         /anon_hugepage (deleted)
+7f8ee2900000-7f8ee2901000 rw-s 00000000 fe:00 320473                     /srv/pages (deleted)
+7f8ee2a00000-7f8ee2a01000 r--p 00000000 00:00 0 
+7f8ee2a01000-7f8ee2a02000 ---p 00000000 00:00 0 
+7f8ee2b00000-7f8ee2b04000 rw-p 00000000 00:00 0                          [anon:arena]
+7f8ee2644000-7f8ee2648000 rw-p 00000000 00:00 0                          [vvar]
+7ffc47500000-7ffc47521000 rw-p 00000000 00:00 0                          [stack]
+ffffffffff600000-ffffffffff601000 --xp 00000000 00:00 0                  [vsyscall]
+";
+
+#[test]
+fn keeps_what_is_no_files(rt: HostRuntime) -> Result<(), Fail> {
+    let told = kept(&rt, rt.alloc(), MAPS).ok().expect(&rt, "segments");
+    let due = [
+        (0x559363eb7000, 0x21000),
+        (0x7f8ee23d2000, 0x22000),
+        (0x7f8ee2400000, 0x2000),
+        (0x7f8ee2500000, 0x1000),
+        (0x7f8ee2600000, 0x200000),
+        (0x7f8ee2b00000, 0x4000),
+        (0x7ffc47500000, 0x21000),
+    ];
+    assert_eq!(rt; told.len(), due.len());
+    for (segment, (offset, len)) in told.iter().zip(due) {
+        assert_eq!(rt; *segment, Segment { offset, len });
+    }
+    assert!(rt; kept(&rt, rt.alloc(), b"").is_ok_and(|told| told.is_empty()));
+    Ok(())
+}
+
+#[test]
+fn lines_of_another_form(rt: HostRuntime) -> Result<(), Fail> {
+    for line in [
+        "\n",
+        "7f8ee23d2000 rw-p 00000000 00:00 0 \n",
+        "7f8ee23d2000-7f8ee23d2000 rw-p 00000000 00:00 0 \n",
+        "7f8ee23d3000-7f8ee23d2000 rw-p 00000000 00:00 0 \n",
+        "7f8ee23d2001-7f8ee23d3000 rw-p 00000000 00:00 0 \n",
+        "7f8ee23d2000-7f8ee23d2fff rw-p 00000000 00:00 0 \n",
+        "7F8ee23d2000-7f8ee23d3000 rw-p 00000000 00:00 0 \n",
+        "-7f8ee23d3000 rw-p 00000000 00:00 0 \n",
+        "10000000000000000-7f8ee23d3000 rw-p 00000000 00:00 0 \n",
+        "7f8ee23d2000-7f8ee23d3000 rw-p 00000000 00:00 x \n",
+        "7f8ee23d2000-7f8ee23d3000 rw-p 00000000 00:00\n",
+        "7f8ee23d2000-7f8ee23d3000 rw-p 00000000 00:00 0 ",
+    ] {
+        let mut text = Vec::from_slice(rt.alloc(), b"1000-2000 rw-p 00000000 00:00 0 \n")?;
+        text.extend_from_slice(line.as_bytes())?;
+        assert!(rt; kept(&rt, rt.alloc(), &text) == Err(2), "{line}");
+    }
+    Ok(())
+}
