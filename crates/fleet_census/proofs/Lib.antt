@@ -1,0 +1,15 @@
+mod Won
+mod Sums
+mod Found
+mod Classed
+mod Lefts
+mod Counts
+mod SomeCopies
+mod Rising
+mod ReadOn
+mod Takes
+mod Gathered
+mod Tallied
+mod Firsts
+mod Opened
+mod Raised

@@ -1,0 +1,12 @@
+pub mod Tournaments
+pub mod Amounts
+pub mod Holders
+pub mod Steps
+pub mod Classes
+pub mod Fleets
+pub mod Faults
+pub mod States
+pub mod Gathers
+pub mod Tallies
+pub mod Openings
+pub mod Merged

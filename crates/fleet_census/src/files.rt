@@ -1,0 +1,43 @@
+//! Files that are read on, one line at a time.
+ghost use Rattle.std.specs.Prelude.{◌≡◌, ◌<◌, ◌≤◌, ℕ, IfOk, length, map};
+ghost use Rattle.digest_text.specs.Told.{told};
+ghost use Rattle.fleet_census.specs.States.{IsOwn, IsReadOn};
+ghost use Rattle.fleet_census.specs.Faults.{fault_of};
+
+use crate::FleetFault;
+use crate::entry::{AT_END, Entry};
+use digest_text::{DigestReader, ReadFault};
+use std::alloc::Allocator;
+use std::io::Read;
+
+/// A fault of a file's reader, with the file's number.
+pub(crate) fn fault_of(file: usize, fault: ReadFault) -> FleetFault
+    ensures { result ≡ fault_of file fault }
+{
+    match fault {
+        ReadFault::OutOfMemory => FleetFault::OutOfMemory,
+        ReadFault::Read(error) => FleetFault::Read(file, error),
+        ReadFault::Line(line) => FleetFault::Line(file, line),
+    }
+}
+
+/// Reads the next line of a file.
+pub(crate) fn read_entry<R: Read + Drop, A: Allocator>(
+    readers: &mut [DigestReader<R, A>],
+    file: usize,
+) -> Result<Entry, FleetFault>
+    requires within { file < length readers.old }
+    requires few { length readers.old ≤ 65536 }
+    ensures own { IfOk result (λ entry. IsOwn file entry) }
+    ensures read { IsReadOn file (map (told R.remaining) readers.old) (map (told R.remaining) readers.new) result }
+{
+    match readers[file].next_line() {
+        Ok(Some(line)) => Ok(Entry {
+            digest: line.digest,
+            copies: line.copies,
+            file: file as u32,
+        }),
+        Ok(None) => Ok(AT_END),
+        Err(fault) => Err(fault_of(file, fault)),
+    }
+}

@@ -1,0 +1,24 @@
+//! Merges the digests of many guests' memory, and counts what sharing would reclaim in all of them.
+#![tactic(auto)]
+
+mod all;
+mod amount;
+mod class;
+mod content;
+mod entry;
+mod fault;
+mod files;
+mod first;
+mod gather;
+mod guest;
+mod open;
+mod take;
+mod tally;
+mod total;
+mod tournament;
+
+pub use amount::Amount;
+pub use class::FleetClass;
+pub use fault::FleetFault;
+pub use guest::FleetGuest;
+pub use total::FleetTotal;

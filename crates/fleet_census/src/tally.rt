@@ -1,0 +1,58 @@
+//! What is counted so far.
+ghost use Rattle.std.specs.Prelude.{◌≡◌, ◌≤◌, ◌<◌, ◌^◌, ◌+◌, ℕ, List, [], All, MatchOption, length, slice_index_or, vec_len};
+ghost use Rattle.digest_text.specs.Fields.{Row};
+ghost use Rattle.fleet_census.specs.Tallies.{AreTallied, IsTallied, NoneBelow, weight_of};
+ghost use Rattle.fleet_census.specs.Fleets.{content_of, holder_of};
+ghost use Rattle.fleet_census.specs.Holders.{AreRising, found};
+
+use crate::class::count_class;
+use crate::content::{Content, Holder};
+use crate::guest::count_guests;
+use crate::{FleetClass, FleetGuest, FleetTotal};
+use std::alloc::Allocator;
+
+/// What is counted of the contents so far.
+#[derive(Drop)]
+pub(crate) struct Tally<A: Allocator> {
+    pub(crate) guests: Vec<FleetGuest, A>,
+    pub(crate) total: FleetTotal,
+    pub(crate) classes: Vec<FleetClass, A>,
+    /// How many pages the contents stand for: each but those of zeros for as many as the sample says.
+    pub(crate) weight: u64,
+}
+
+/// Adds the pages that a content stands for. `None`: these are 2^64 pages or more.
+fn weigh(weight: u64, every: u32, content: &Content) -> Option<u64>
+    ensures { MatchOption result (2 ^ 64 ≤ weight + weight_of every content.now) (λ more. (more ≡ weight + weight_of every content.now)
+        × (more < 2 ^ 64)) }
+{
+    if content.is_zeros() {
+        weight.checked_add(content.copies)
+    } else {
+        weight.checked_add(u64::from(every).checked_mul(content.copies)?)
+    }
+}
+
+impl<A: Allocator> Tally<A> {
+    /// Counts a content, with the files that tell of it; or answers that the pages are too many.
+    pub(crate) fn count(&mut self, every: u32, content: &Content, holders: &[Holder]) -> bool
+        requires holders { All (λ holder. holder.file < vec_len self.old.guests) holders.now }
+        requires classes { vec_len self.old.classes ≡ 65 }
+        ensures guests { vec_len self.new.guests ≡ vec_len self.old.guests }
+        ensures classes { vec_len self.new.classes ≡ 65 }
+        ensures counted { (fleet : List (List Row)) (from at : ℕ) → from ≤ at → 1 ≤ every → vec_len self.old.guests ≡ length fleet
+            → AreTallied fleet every from self.old → NoneBelow fleet from at → content.now ≡ content_of fleet at → 1 ≤ content.now.copies
+            → AreRising holders.now
+            → ((file : ℕ) → file < length fleet → found file holders.now ≡ holder_of file at (slice_index_or fleet file []))
+            → IsTallied fleet every at self.new result }
+    {
+        let Some(weight) = weigh(self.weight, every, content) else {
+            return false;
+        };
+        self.weight = weight;
+        count_guests(&mut self.guests, content, holders);
+        self.total.add(content);
+        count_class(&mut self.classes, content);
+        true
+    }
+}
