@@ -1,12 +1,16 @@
-.PHONY: test build demo commands estimate no-thread embed guests fuzz soak hints bench
+.PHONY: test build demo commands estimate fleet no-thread embed guests fuzz soak hints bench bench-v3
 
 # The gate: every proof from nothing, the tests, the edits that must be refused, and the proved program on worked texts. It leaves
 # the times of all steps at out/gate.tsv, whose dearest checks/gate.py prints.
 test:
 	checks/gate.py run
 
-# The proved program, left at out/pageshare.
-build: out/pageshare
+# The processor level that `make build` and `make embed` build for: x86-64-v2, which runs everywhere, or x86-64-v3 (AVX2).
+CPU = x86-64-v2
+SUFFIX = $(patsubst -v2,,$(patsubst x86-64-%,-%,$(CPU)))
+
+# The proved program, left at out/pageshare, or for x86-64-v3 at out/pageshare-v3.
+build: out/pageshare$(SUFFIX)
 
 SOURCES = $(shell find crates -path '*/out' -prune -o -type f -print) crates.txt
 
@@ -15,12 +19,22 @@ out/pageshare: $(SOURCES)
 	mkdir -p out
 	cp crates/pageshare/out/pageshare $@
 
-# A first look, in about 90 seconds: two guests' scans meet, a thread for each; and what sharing would reclaim of two images.
+# (where the processor lacks what it was built for, a program ends with 127)
+out/pageshare-v3: $(SOURCES)
+	cd crates/pageshare_v3 && { rt run --cpu x86-64-v3 -- --help > /dev/null || [ $$? = 127 ]; }
+	mkdir -p out
+	cp crates/pageshare_v3/out/pageshare_v3 $@
+
+# A first look: two guests' scans meet, a thread for each; and what sharing would reclaim of two images. The program is built once,
+# and run on each case of a folder: a file is its standard input, and NAME.args has its words.
+CASES = out/demo/cases
 demo:
 	@echo 'This build is for a first look and is not the proved one: make build makes that.'
-	@cd crates/pageshare && rt try -- run < ../../examples/scans-meet.script
 	@examples/make_images.py out/demo
-	@cd crates/pageshare && rt try -- estimate $(CURDIR)/out/demo/web.raw $(CURDIR)/out/demo/database.core
+	@rm -rf $(CASES) && mkdir $(CASES)
+	@cp examples/scans-meet.script $(CASES)/run && echo run > $(CASES)/run.args
+	@touch $(CASES)/estimate && printf '%s\n' estimate $(CURDIR)/out/demo/web.raw $(CURDIR)/out/demo/database.core > $(CASES)/estimate.args
+	@cd crates/pageshare && rt try --cases $(CURDIR)/$(CASES)
 
 # Outside the gate: status, standard output and standard error of each command, on texts, ends and words of each kind.
 commands: out/pageshare
@@ -30,12 +44,23 @@ commands: out/pageshare
 estimate: out/pageshare
 	checks/estimate.py $(or $(COUNT),1000) $(SEED)
 
+# Outside the gate: the numbers of fleets by `fleet`, by Dask's distributed engine and by SQL, beside a plain count in Python, and the
+# memory of a live process by `digest` (SEED may be given). What this machine has no packages for is left out, and told.
+fleet: out/pageshare
+	checks/fleet.py $(SEED)
+	checks/live.py
+
 # Outside the gate: where the system refuses to start a thread, a run, a script and a hashing of many pages answer so and end.
 no-thread: out/thread_bench out/store_bench out/pageshare
 	checks/no_thread.sh out
 
 out/%_bench: $(SOURCES)
 	cd crates/$*_bench && rt run > /dev/null
+	mkdir -p out
+	cp crates/$*_bench/out/$*_bench $@
+
+out/%_bench-v3: $(SOURCES)
+	cd crates/$*_bench && { rt run --cpu x86-64-v3 > /dev/null || [ $$? = 127 ]; }
 	mkdir -p out
 	cp crates/$*_bench/out/$*_bench $@
 
@@ -52,18 +77,21 @@ hints: out/pageshare
 	checks/hints.py
 
 # Outside the gate: the proved programs beside plain Rust, in one table; status 1 where a ratio is above its goal. CRATES may name
-# a folder with the sources of the opponents' crates. Nothing else may run meanwhile.
+# a folder with the sources of the opponents' crates. Builds for x86-64-v3 that are in out/ (`make bench-v3` makes them) are timed
+# as well, beside opponents built for it. Nothing else may run meanwhile.
 bench: out/pageshare out/store_bench out/thread_bench
 	checks/bench.py --table out/bench.tsv $(if $(CRATES),--crates $(CRATES))
 	checks/plots.py out/bench.tsv out
+
+bench-v3: out/pageshare-v3 out/store_bench-v3 out/thread_bench-v3 bench
 
 # Outside the gate: the library for C and Rust, left at out/libpageshare.a, with its examples and tests. What this machine has no
 # program for is left out, and told.
 embed: out/libpageshare.a
 	checks/embed.sh out/libpageshare.a
 
-# Outside the gate: guests under KVM whose memory the library shares (docs/MONITOR.md), for SECONDS (30) each, and with KSM=1 under
-# the kernel's KSM as well. What this machine has no KVM or userfaultfd for is left out, and told.
+# Outside the gate: guests under KVM whose memory the library shares (docs/MONITOR.md), for SECONDS (30) each, with KSM=1 under the
+# kernel's KSM as well, and with KERNEL=bzImage Linux as well. What this machine has no KVM or userfaultfd for is left out, and told.
 guests: out/libpageshare.a out/pageshare
 	checks/guests.py out/libpageshare.a $(or $(SECONDS),30)
 

@@ -9,12 +9,15 @@ PROGRAM is by default out/pageshare (`make build`). Nothing is built here. Print
 The cases: each command on the worked texts below examples/, from a file and from standard input; each text at fault in faults.py,
 and each front of a journal and of a script; texts that are too long; inputs that can't be opened or read, outputs that take
 nothing, too little memory, no room for a thread's stack; texts of many requests; words that are no command line, help and the version; estimates of small
-images, and each cause for which there is none; and what a terminal is told.
+images, and each cause for which there is none; digests of small images and of a process beside a count in Python, and each cause
+for which there is none; and what a terminal is told.
 
 A worked text is NAME.journal or NAME.script, and what a command is to write of it stands beside it as NAME.COMMAND: NAME.replay,
 NAME.serial, NAME.run (where each run writes the same) and NAME.run-journal. Which order the guests' requests have in a run's journal
 depends on the threads: in NAME.run-journal they stand guest by guest, and each guest's own must be those.
 """
+import collections
+import hashlib
 import itertools
 import json
 import os
@@ -35,6 +38,8 @@ EXAMPLES = TOP / "examples"
 ROWS = EXAMPLES / "rows"
 # (absolute, since some cases run in other folders)
 PROGRAM = os.path.abspath(sys.argv[1]) if len(sys.argv) > 1 else str(TOP / "out/pageshare")
+# The processor level that the program says it was built for (`make build CPU=x86-64-v3` leaves out/pageshare-v3).
+LEVEL = "x86-64-v3" if PROGRAM.endswith("-v3") else "x86-64-v2"
 SECONDS = 60
 MOST_BYTES = 67_108_864
 # A script of several guests is run so many times, since threads meet differently each time.
@@ -221,7 +226,7 @@ def command_lines():
         expect(f"the words {words}", words, JOURNAL, 2, "", True)
     for words in [["--help"], ["replay", "--help"], ["serial", "--help"], ["run", "--help"]]:
         expect(f"the words {words}", words, "", 0, True, "")
-    expect("the version", ["--version"], "", 0, "pageshare 0.1.0\n", "")
+    expect("the version", ["--version"], "", 0, f"pageshare 0.1.0, built for {LEVEL}\n", "")
 
 
 def told(words, text):
@@ -351,6 +356,100 @@ def estimate_ends(folder):
         case(f"estimate, progress {how} on a terminal", [] if is_right else [f"{status}, {given!r}"])
 
 
+def digest_of(name, data, salt=0, sample=1):
+    """The digest's text that is due of an image's pages, which are filled up with zeros."""
+    pages = [data[at : at + 4096].ljust(4096, b"\0") for at in range(0, len(data), 4096)]
+    front = salt.to_bytes(4, "big") if salt else b""
+    digests = [hashlib.sha256(front + page).hexdigest()[:32] for page in pages]
+    zeros = hashlib.sha256(front + bytes(4096)).hexdigest()[:32]
+    counted = collections.Counter(digest for digest in digests if int(digest[-4:], 16) % sample == 0 or digest == zeros)
+    lines = (f"{name},{salt},{len(pages)},{sample},{digest},{copies}\n" for digest, copies in sorted(counted.items()))
+    return DIGEST_HEADER + "".join(lines)
+
+
+DIGEST_HEADER = "guest,salt,pages,sample,digest,copies\n"
+
+
+def digests(folder):
+    first, large, empty = ROWS / "first.raw", folder / "large.raw", folder / "empty.raw"
+    large.write_bytes(image(0, 700, 30, 40, 300) + b"a")
+    empty.write_bytes(b"")
+    due = digest_of("first.raw", first.read_bytes())
+    case("first.digest", [] if due == (ROWS / "first.digest").read_text() else [f"{due!r} is due"])
+    expect("digest of first.raw", ["digest", "first.raw"], "", 0, due, "", folder=ROWS)
+    expect("digest of a path", ["digest", str(first)], "", 0, due, "")
+    expect("digest of no pages", ["digest", str(empty)], "", 0, DIGEST_HEADER, "")
+    for salt, sample, workers in [(0, 1, 1), (7, 1, 3), (4294967295, 2, 64), (0, 64, 2), (9, 65536, 4)]:
+        words = ["digest", "--name", "web-1", "--salt", str(salt), "--sample", str(sample), "--workers", str(workers), str(large)]
+        expect(f"{words}", words, "", 0, digest_of("web-1", large.read_bytes(), salt, sample), "")
+    elf = folder / "elf.core"
+    elf.write_bytes(core(segment=(4000, 4192)))
+    expect("digest of a core", ["digest", str(elf)], "", 0, digest_of("elf.core", elf.read_bytes()[4000:]), "")
+    expect("digest of a core as raw", ["digest", "--raw", str(elf)], "", 0, digest_of("elf.core", elf.read_bytes()), "")
+
+
+# A process that fills so many pages of its own, private ones and shared ones, and says so. Page n holds the number n.
+OWN_PAGES = 300
+FILLED = f"""
+import mmap, sys
+for flags in [mmap.MAP_PRIVATE, mmap.MAP_SHARED]:
+    own = mmap.mmap(-1, {OWN_PAGES} * 4096, flags=flags | mmap.MAP_ANONYMOUS)
+    for n in range({OWN_PAGES}):
+        own[4096 * n : 4096 * n + 8] = (n + 1).to_bytes(8, "little")
+    globals()[f"own_{{flags}}"] = own
+print("filled", flush=True)
+sys.stdin.read()
+"""
+
+
+def processes():
+    """The pages of a process that waits: each page that it has twice is told of with two copies at least."""
+    child = subprocess.Popen([sys.executable, "-c", FILLED], stdin=subprocess.PIPE, stdout=subprocess.PIPE)
+    with child:
+        child.stdout.readline()
+        done = ran(["digest", "--pid", str(child.pid), "--name", "own"])
+        child.stdin.close()
+        child.wait(SECONDS)
+    lines = [line.split(",") for line in done.stdout.decode().split("\n")[1:-1]]
+    counted = {line[4]: int(line[5]) for line in lines}
+    due = [hashlib.sha256((n + 1).to_bytes(8, "little").ljust(4096, b"\0")).hexdigest()[:32] for n in range(OWN_PAGES)]
+    lacking = [digest for digest in due if counted.get(digest, 0) < 2]
+    is_whole = is_clean(done) and sum(counted.values()) == int(lines[0][2]) and sorted(counted) == [line[4] for line in lines]
+    case("digest of a process", [] if is_whole and not lacking else [f"{done.returncode}, {done.stderr!r}, {len(lacking)} lacking"])
+    expect("digest of a process that has ended", ["digest", "--pid", str(child.pid), "--name", "own"], "", 1, "",
+           f"process {child.pid}: No such file or directory (os error 2)\n")
+
+
+def digest_ends(folder):
+    raw, none = str(folder / "large.raw"), str(folder / "none")
+    missing = "No such file or directory (os error 2)"
+    expect("digest, no such file", ["digest", none], "", 1, "", f"{none}: {missing}\n")
+    expect("digest, a folder", ["digest", "--name", "a", str(folder)], "", 1, "", f"{folder}: Is a directory (os error 21)\n")
+    expect("digest, a device", ["digest", "/dev/zero"], "", 1, "", "/dev/zero: not a regular file\n")
+    broken = folder / "broken.core"
+    for data, cause in IMAGE_FAULTS:
+        broken.write_bytes(data)
+        expect(f"digest, {cause}", ["digest", str(broken)], "", 1, "", f"{broken}: {cause}\n")
+    with open("/dev/full", "wb") as full:
+        fault = "standard output: No space left on device (os error 28)\n"
+        expect("digest, a full device", ["digest", raw], "", 1, None, fault, output=full)
+    sparse = folder / "sparse"
+    with open(sparse, "wb") as file:
+        file.truncate(4096 << 22)
+    little = [(resource.RLIMIT_AS, 24 << 20)]
+    expect("digest, little memory", ["digest", "--workers", "2", str(sparse)], "", 1, "", f"{sparse}: out of memory\n", limits=little)
+    for words in [[], [raw, raw], ["--pid", "1"], ["--pid", "0", "--name", "a"], ["--pid", "1", "--name", "a", raw], ["--salt", "x", raw]]:
+        expect(f"digest {words}", ["digest", *words], "", 2, "", True)
+    for words in [["--name", "a b", raw], ["--name", "", raw], ["--name", "a" * 65, raw], ["--sample", "3", raw], ["--sample", "0", raw]]:
+        expect(f"digest {words}", ["digest", *words], "", 2, "", True)
+    for words in [["--sample", "131072", raw], ["--workers", "65", raw], [str(folder) + "/"], [str(folder / "a b")], ["--json", raw]]:
+        expect(f"digest {words}", ["digest", *words], "", 2, "", True)
+    expect("digest --help", ["digest", "--help"], "", 0, True, "")
+    shown = ran(["digest", "--progress", "always", raw]).stderr.decode()
+    is_drawn = "100 %  4 of 4 MiB" in shown.split("\r")[-1] and shown.endswith("s left\x1b[K\n")
+    case("digest, progress", [] if is_drawn else [f"{shown!r}"])
+
+
 def terminals(folder):
     none = str(folder / "none")
     cases = [
@@ -421,6 +520,9 @@ def main():
         estimates(folder)
         pictures(folder)
         estimate_ends(folder)
+        digests(folder)
+        processes()
+        digest_ends(folder)
         progress_of_runs()
         progress_of_a_long_run()
     print(f"{passed} passed, {failed} failed")

@@ -5,15 +5,19 @@
 //! input, output, memory or a thread was at fault, and 2 for a bad command line.
 #![tactic(auto)]
 
+mod build;
 mod faults;
 mod running;
 mod texts;
 
+pub use build::Build;
 use clap::Error;
 use clap::error::ErrorKind;
 use command_terms::{Asked, CommandEnd};
 use command_words::asked_of;
+use digest_command::do_digest;
 use estimate_command::do_estimate;
+use page_digest::PageHash;
 use std::alloc::Global;
 use std::fs::{File, Files};
 use std::io::{self, Eprint, Print, Read, Write};
@@ -27,11 +31,12 @@ use texts::{do_text, tell_memory};
 /// name.
 ///
 /// `input` and `output` are standard input and standard output. `is_terminal` means that somebody reads standard error,
-/// who is shown what was expected if a text was at fault.
+/// who is shown what was expected if a text was at fault. `build` says what the program was built for.
 pub fn do_command<
     T: Threads + Wait + Sync + Files<File = File> + Print + Eprint + Clock,
     R: Read + Drop,
     W: Write + Drop,
+    H: PageHash + Copy,
 >(
     rt: &T,
     alloc: Global,
@@ -39,10 +44,12 @@ pub fn do_command<
     input: R,
     output: W,
     is_terminal: bool,
+    build: &Build<H>,
 ) -> io::Result<ExitCode> {
-    let end = match asked_of(alloc, words) {
-        Ok(Asked::Text(task)) => do_text(rt, alloc, &task, input, output, is_terminal)?,
+    let end = match asked_of(alloc, words, build.version) {
+        Ok(Asked::Text(task)) => do_text(rt, alloc, &task, input, output, is_terminal, build.hash)?,
         Ok(Asked::Estimate(words)) => do_estimate(rt, alloc, &words, output, is_terminal)?,
+        Ok(Asked::Digest(words)) => do_digest(rt, alloc, &words, output, is_terminal)?,
         Err(error) if error.kind() == ErrorKind::OutOfMemory => tell_memory(rt, is_terminal)?,
         Err(error) => explain(rt, &error)?,
     };

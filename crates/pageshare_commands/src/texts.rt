@@ -5,7 +5,7 @@ use crate::faults::{Ending, tell};
 use crate::running::Running;
 use command_terms::{CommandEnd, Task, Work, first_failure};
 use merge_run::OpenGate;
-use page_digest::Sha256Hash;
+use page_digest::PageHash;
 use progress_line::{DrawnLine, line_where};
 use share_text::{
     Noted, Output, Sink, Source, TextFault, ThreadedFault, replay, serial, threaded,
@@ -18,25 +18,30 @@ use std::sync::Wait;
 use std::thread::Threads;
 use std::time::Clock;
 
-/// Does the work on the text in the file, or if no file is named on that of the input.
-pub fn do_text<T: Threads + Wait + Sync + Files + Eprint + Clock, R: Read + Drop, W: Write + Drop>(
+/// Does the work on the text in the file, or if no file is named on that of the input, on a machine with this hash.
+pub fn do_text<
+    T: Threads + Wait + Sync + Files + Eprint + Clock,
+    R: Read + Drop,
+    W: Write + Drop,
+    H: PageHash + Copy,
+>(
     rt: &T,
     alloc: Global,
     task: &Task<'_>,
     input: R,
     output: W,
     is_terminal: bool,
+    hash: H,
 ) -> io::Result<CommandEnd> {
-    let (work, name) = (task.work, task.input_name());
     let ending = match task.file {
-        None => done_of(rt, alloc, work, name, input, output, is_terminal),
+        None => done_of(rt, alloc, task, input, output, is_terminal, hash),
         Some(path) => match fs::open(rt, path) {
-            Ok(file) => done_of(rt, alloc, work, name, file, output, is_terminal),
+            Ok(file) => done_of(rt, alloc, task, file, output, is_terminal, hash),
             // A file that can't be opened is an input that can't be read.
             Err(error) => Ending {
-                is_of_script: work.is_of_script(),
+                is_of_script: task.work.is_of_script(),
                 done: Err(ThreadedFault::Text(TextFault::Read)),
-                failure: Some((name, error)),
+                failure: Some((task.input_name(), error)),
             },
         },
     };
@@ -53,38 +58,40 @@ pub fn tell_memory(rt: &impl Eprint, is_terminal: bool) -> io::Result<CommandEnd
     tell(rt, is_terminal, &ending)
 }
 
-/// Does the work on a reader's text; `name` names the reader if it fails.
-fn done_of<'a, T: Threads + Wait + Sync + Eprint + Clock, R: Read + Drop, W: Write + Drop>(
+/// Does the work on a reader's text; the task's input names the reader if it fails.
+fn done_of<
+    'a,
+    T: Threads + Wait + Sync + Eprint + Clock,
+    R: Read + Drop,
+    W: Write + Drop,
+    H: PageHash + Copy,
+>(
     rt: &T,
     alloc: Global,
-    work: Work,
-    name: &'a str,
+    task: &Task<'a>,
     reader: R,
     writer: W,
     is_terminal: bool,
+    hash: H,
 ) -> Ending<'a> {
     let mut input = Noted::new(reader);
     let mut output = Noted::new(writer);
-    let done = match work {
-        Work::Replay => {
-            replay(alloc, &mut input, &mut output, Sha256Hash).map_err(ThreadedFault::Text)
-        }
-        Work::Serial => {
-            serial(alloc, &mut input, &mut output, Sha256Hash).map_err(ThreadedFault::Text)
-        }
+    let done = match task.work {
+        Work::Replay => replay(alloc, &mut input, &mut output, hash).map_err(ThreadedFault::Text),
+        Work::Serial => serial(alloc, &mut input, &mut output, hash).map_err(ThreadedFault::Text),
         Work::Run {
             is_journal,
             progress,
         } => {
             let form = form_of(is_journal);
             let line = line_where(rt, progress, is_terminal);
-            run(rt, alloc, &mut input, &mut output, form, line)
+            run(rt, alloc, &mut input, &mut output, form, line, hash)
         }
     };
     Ending {
-        is_of_script: work.is_of_script(),
+        is_of_script: task.work.is_of_script(),
         done,
-        failure: first_failure(name, input.error(), output.error()),
+        failure: first_failure(task.input_name(), input.error(), output.error()),
     }
 }
 
@@ -97,22 +104,23 @@ fn form_of(is_journal: bool) -> Output {
 }
 
 /// Runs a script, and draws the line meanwhile if there is one.
-fn run<T: Threads + Wait + Sync + Eprint + Clock, R: Source, W: Sink>(
+fn run<T: Threads + Wait + Sync + Eprint + Clock, R: Source, W: Sink, H: PageHash + Copy>(
     rt: &T,
     alloc: Global,
     reader: &mut R,
     writer: &mut W,
     form: Output,
     line: Option<DrawnLine<'_, T>>,
+    hash: H,
 ) -> Result<(), ThreadedFault>
     requires reader { R.has_failed reader.old ≡ false }
     requires writer { W.has_failed writer.old ≡ false }
 {
     let Some(line) = line else {
-        return threaded(rt, alloc, reader, writer, Sha256Hash, &OpenGate, form);
+        return threaded(rt, alloc, reader, writer, hash, &OpenGate, form);
     };
     let running = Running::new(line);
-    let done = threaded_viewed(rt, alloc, reader, writer, Sha256Hash, &running, form);
+    let done = threaded_viewed(rt, alloc, reader, writer, hash, &running, form);
     running.end();
     done
 }
