@@ -1,0 +1,440 @@
+#!/usr/bin/env python3
+"""Compares the numbers of fleets, told in three ways, with a plain count (checks/plain_fleet.py).
+
+    checks/fleet.py [SEED [PROGRAM]]
+
+The ways: `pageshare fleet`, fleet/fleet_dask.py by a scheduler and two workers as processes of their own on the loopback, and
+fleet/fleet.sql in SQLite. PROGRAM is by default out/pageshare (`make build`); where it has no `digest` or `fleet`, or where Dask's
+packages aren't at hand, the cases of these are left out, and the output says so. Nothing is built here.
+
+The cases, which follow from SEED, by default 1: random fleets with several salts, samples and digests without lines; 200 digests
+at once, whole and sampled; broken digests, each with its first line at fault; that at least 90 of 100 true numbers of 200 random
+fleets lie within two standard errors of what one content in 16 tells; the example fleet's digests beside its images; random
+images through `digest` and `fleet` beside `estimate`; and the memory that `fleet` takes for 5 million lines. Prints what went
+wrong, and at the end `N passed, M failed` (status 0 where all passed, else 1).
+"""
+import collections
+import contextlib
+import json
+import pathlib
+import random
+import subprocess
+import sys
+import tempfile
+import time
+
+import estimate
+import plain_fleet
+
+TOP = pathlib.Path(__file__).resolve().parent.parent
+sys.path.insert(0, str(TOP / "examples"))
+import make_fleet
+FLEET = TOP / "fleet"
+SECONDS = 300
+MOST_MEMORY = 64 << 20
+BIG_LINES = 5_000_000
+# What each cause is called in sentences.
+CAUSES = {
+    "form": "give six fields of their form", "head": "begin with the line", "guest": "repeat the guest", "order": "give each digest once",
+    "sample": "only digests that the sample keeps", "total": "as many copies as there are pages",
+}
+
+# A program that reads digests as Dask's workers do, and prints each one's fault.
+READ = """
+import sys, digests, tallies
+for path in sys.argv[1:]:
+    try:
+        print(len(tallies.frame_of(0, path)))
+    except digests.Fault as fault:
+        print(fault)
+"""
+
+# A small program that runs another one, and tells on standard error its status and the most memory that it held, in KiB. The system
+# counts for a process what the one that started it held, which is little here.
+MEASURE = """
+import os, sys
+_pid, status, used = os.wait4(os.posix_spawn(sys.argv[1], sys.argv[1:], os.environ), 0)
+print(os.waitstatus_to_exitcode(status), used.ru_maxrss, file=sys.stderr)
+"""
+
+
+class Ways:
+    """What tells the numbers of digests: each way's name, and the words that the paths come after."""
+
+    def __init__(self, program):
+        self.program = program
+        self.commands = {word for word in ("digest", "fleet", "estimate") if self.has(word)}
+        self.words = {"fleet.sql": [sys.executable, FLEET / "fleet_sqlite.py"]}
+        if "fleet" in self.commands:
+            self.words["pageshare fleet"] = [program, "fleet", "--json"]
+
+    def has(self, command):
+        try:
+            done = subprocess.run([self.program, command, "--help"], capture_output=True, timeout=60, check=False)
+        except OSError:
+            return False
+        return done.returncode == 0
+
+
+class Tally:
+    """The cases so far."""
+
+    def __init__(self):
+        self.passed = self.failed = 0
+
+    def case(self, name, wrong):
+        """One case, with what is wrong in it: nothing where it passed."""
+        wrong = list(wrong)
+        self.failed += bool(wrong)
+        self.passed += not wrong
+        for what in wrong:
+            print(f"{name}: {what}", flush=True)
+
+
+def ran(words):
+    return subprocess.run(list(map(str, words)), capture_output=True, timeout=SECONDS, check=False)
+
+
+def written(folder, texts):
+    """The texts as files, and their paths."""
+    paths = [folder / f"{number}.csv" for number in range(len(texts))]
+    for path, text in zip(paths, texts):
+        path.write_text(text)
+    return paths
+
+
+def differences(given, due, name=""):
+    """Where two objects differ."""
+    if isinstance(due, dict) and isinstance(given, dict):
+        for key in sorted(given.keys() | due.keys()):
+            yield from differences(given.get(key), due.get(key), f"{name}.{key}")
+    elif isinstance(due, list) and isinstance(given, list) and len(due) == len(given):
+        for number, (one, other) in enumerate(zip(given, due)):
+            yield from differences(one, other, f"{name}[{number}]")
+    # (SQL's standard errors are computed in double precision and then rounded down)
+    elif ".errors." in name and isinstance(given, int) and abs(given - due) <= 1 + due // 10**12:
+        return
+    elif given != due:
+        yield f"{name} is {str(given)[:200]}, and {str(due)[:200]} was due"
+
+
+def merge_faults(words, paths, due):
+    """What is wrong with the numbers that are told of some digests."""
+    done = ran([*words, *paths])
+    if done.returncode != 0 or done.stderr:
+        yield f"status {done.returncode}, {done.stderr[-500:]!r}"
+        return
+    yield from list(differences(json.loads(done.stdout), due))[:5]
+
+
+def random_copies(draw, pool, most):
+    """How many copies a guest has of some contents of the pool."""
+    return {word: draw.choice([1, 1, 1, 2, 3, 50]) for word in draw.sample(pool, draw.randrange(most))}
+
+
+def random_texts(draw, count, sample, most):
+    """The digests of a random fleet: of two salts, some without zeros, and now and then one without lines."""
+    pools = {salt: [draw.randbytes(16).hex() for _ in range(2 * most)] for salt in (0, 4294967295)}
+    texts = []
+    for number in range(count):
+        salt = draw.choice([0, 0, 0, 4294967295])
+        copies = random_copies(draw, pools[salt], most)
+        if draw.randrange(8):
+            copies[plain_fleet.digest(salt, plain_fleet.ZEROS)] = draw.choice([1, 700, 2**40])
+        if draw.randrange(20) == 0:
+            copies = {}
+        texts.append(plain_fleet.text_of_copies(f"host{number // 8}.guest-{number % 8}_A", salt, sample, copies))
+    return texts
+
+
+def random_fleets(tally, draw, ways):
+    for number in range(20):
+        sample = draw.choice([1, 1, 2, 16, 65536])
+        texts = random_texts(draw, draw.randrange(1, 9), sample, draw.choice([3, 40, 400]))
+        due = plain_fleet.counted(texts)
+        with tempfile.TemporaryDirectory() as folder:
+            paths = written(pathlib.Path(folder), texts)
+            for way, words in ways.words.items():
+                tally.case(f"random fleet {number} with sample {sample}, {way}", merge_faults(words, paths, due))
+
+
+def python_with_dask():
+    """A Python that has Dask's packages; None where there is none."""
+    for python in (sys.executable, "/usr/bin/python3"):
+        with contextlib.suppress(OSError):
+            if ran([python, "-c", "import dask.dataframe, distributed, pandas"]).returncode == 0:
+                return python
+    return None
+
+
+@contextlib.contextmanager
+def scheduler(python, folder):
+    """A scheduler and two workers, and the scheduler's address. They end with the case, or else by themselves."""
+    told, bounds = folder / "scheduler.json", ["timeout", str(2 * SECONDS), python, "-m"]
+    host = ["--host", "127.0.0.1", "--no-dashboard", "--scheduler-file", told]
+    programs = [[*bounds, "distributed.cli.dask_scheduler", "--port", "0", *host]]
+    worker = ["--nthreads", "1", "--death-timeout", "60", "--local-directory", folder]
+    programs += [[*bounds, "distributed.cli.dask_worker", *worker, "--name", name, *host] for name in ("one", "other")]
+    running = [subprocess.Popen(list(map(str, words)), stderr=subprocess.DEVNULL) for words in programs]
+    try:
+        until = time.monotonic() + 60
+        while not told.exists() and time.monotonic() < until:
+            time.sleep(0.1)
+        yield json.loads(told.read_text())["address"]
+    finally:
+        for process in running:
+            process.terminate()
+        for process in running:
+            process.wait(30)
+
+
+def at_once(tally, draw, ways, python):
+    """200 digests at once, whole and sampled, by each way."""
+    with tempfile.TemporaryDirectory() as name, contextlib.ExitStack() as stack:
+        folder = pathlib.Path(name)
+        words = dict(ways.words)
+        if python:
+            address = stack.enter_context(scheduler(python, folder))
+            words["Dask"] = [python, FLEET / "fleet_dask.py", "--scheduler", address]
+        for sample in (1, 16):
+            texts = random_texts(draw, 200, sample, 1000)
+            due, paths = plain_fleet.counted(texts), written(folder, texts)
+            for way, own in words.items():
+                tally.case(f"200 digests with sample {sample}, {way}", merge_faults(own, paths, due))
+        if python:
+            what, line, cause, text = broken_texts()[0]
+            paths = written(folder, [text])
+            tally.case(f"{what}, Dask", fault_faults(ran([*words["Dask"], *paths]), paths[0], line, cause))
+            read_by_workers(tally, python, folder)
+
+
+def read_by_workers(tally, python, folder):
+    """Broken digests as a worker reads them, in one process without an engine."""
+    texts = broken_texts()
+    paths = written(folder, [text for _what, _line, _cause, text in texts])
+    done = subprocess.run([python, "-c", READ, *paths], capture_output=True, text=True, timeout=SECONDS, check=False, cwd=FLEET)
+    told = done.stdout.splitlines() + [""] * len(texts)
+    for (what, line, cause, _text), path, one in zip(texts, paths, told):
+        due = f"{path}: fault line {line}: {cause}"
+        tally.case(f"{what}, a worker", [] if one == due else [f"{one or done.stderr!r} was told, and {due!r} was due"])
+
+
+def broken_texts():
+    """Broken digests, each with its first line at fault and the cause."""
+    a, b, c = ("0" * 28 + "a000", "5" * 28 + "b010", "f" * 28 + "c000")
+    head, good = plain_fleet.HEADER, plain_fleet.text_of_copies("web", 7, 1, {a: 3, b: 1, c: 2})
+    lines = good.splitlines(keepends=True)
+    swapped = "".join([lines[0], lines[1], lines[3], lines[2]])
+    sampled = plain_fleet.text_of_copies("web", 7, 4096, {a: 3, c: 2})
+    return [
+        ("cut within a line", 4, "form", good[:-5]),
+        ("cut before its last line feed", 4, "form", good[:-1]),
+        ("cut before its last line", 3, "total", good[: good.rindex("web")]),
+        ("cut within the header", 1, "form", head[:-8]),
+        ("an empty file", 1, "form", ""),
+        ("a header of five fields", 1, "form", good.replace(",sample", "", 1)),
+        ("another header", 1, "head", good.replace("guest", "Guest", 1)),
+        ("no header", 1, "head", good[len(head) :]),
+        ("carriage returns", 1, "head", good.replace("\n", "\r\n")),
+        ("an empty line", 3, "form", good.replace(lines[2], "\n" + lines[2])),
+        ("a name in quotes", 2, "form", good.replace("web", '"web"')),
+        ("a digest in upper case", 2, "form", good.replace(a, a.upper())),
+        ("a number with a zero in front", 3, "form", good.replace(f"{b},1", f"{b},01")),
+        ("no copies", 3, "form", good.replace(f"{b},1", f"{b},0")),
+        ("a sample of 3", 2, "form", good.replace(",6,1,", ",6,3,")),
+        ("a salt of 2^32", 2, "form", good.replace("web,7", "web,4294967296")),
+        ("a line of 70,000 bytes", 3, "form", good.replace(b, b * 2200)),
+        ("another guest", 3, "guest", good.replace(lines[2], lines[2].replace("web", "wea"))),
+        ("another salt", 4, "guest", good.replace(lines[3], lines[3].replace(",7,", ",8,"))),
+        ("other pages", 4, "guest", good.replace(lines[3], lines[3].replace(",6,", ",7,"))),
+        ("another sample on a line", 3, "guest", good.replace(lines[2], lines[2].replace(",6,1,", ",6,16,"))),
+        ("lines out of order", 4, "order", swapped),
+        ("a digest twice", 4, "order", good.replace(c, b)),
+        ("a sampled digest, cut within a line", 3, "form", sampled[:-5]),
+        ("a digest that isn't kept", 3, "sample", sampled.replace(c, b)),
+        ("more copies than pages, all kept", 4, "total", good.replace(f"{c},2", f"{c},3")),
+        ("copies that are nearly 2^64", 4, "total", good.replace(f"{b},1", f"{b},{2**64 - 1}")),
+        ("copies of 2^64", 3, "form", good.replace(f"{b},1", f"{b},{2**64}")),
+        ("fewer copies than pages", 4, "total", good.replace(f"{a},3", f"{a},2")),
+        ("more copies than pages, sampled", 2, "total", sampled.replace(f"{a},3", f"{a},6")),
+    ]
+
+
+def fault_faults(done, path, line, cause):
+    """What is wrong with how a fault is told: one line, with the file, the number of the line at fault and the cause."""
+    told = done.stderr.decode("utf-8", "replace")
+    if done.returncode != 1 or done.stdout:
+        yield f"status {done.returncode}, {done.stdout[:200]!r}, {told[-500:]!r}"
+    elif told.count("\n") != 1 or str(path) not in told or f"line {line}: " not in told:
+        yield f"{told[-500:]!r} was told, and line {line} was due"
+    elif cause not in told.split(": ")[-1].split() and CAUSES[cause] not in told:
+        yield f"{told!r} was told, and the cause {cause} was due"
+
+
+def broken(tally, ways):
+    with tempfile.TemporaryDirectory() as name:
+        folder = pathlib.Path(name)
+        for what, line, cause, text in broken_texts():
+            sample = 4096 if ",4096," in text else 1
+            paths = written(folder, [plain_fleet.text_of_copies("other", 0, sample, {"1" * 28 + "0000": 1}), text])
+            for way, words in ways.words.items():
+                tally.case(f"{what}, {way}", fault_faults(ran([*words, *paths]), paths[1], line, cause))
+        paths = written(folder, [plain_fleet.text_of_copies("one", 0, sample, {"0" * 32: 1}) for sample in (4, 4, 8)])
+        for way, words in ways.words.items():
+            done = ran([*words, *paths])
+            told = done.stderr.decode("utf-8", "replace")
+            is_right = done.returncode == 1 and not done.stdout and told.count("\n") == 1 and str(paths[2]) in told
+            tally.case(f"two samples, {way}", [] if is_right else [f"status {done.returncode}, {told!r}"])
+
+
+def numbers_in(found):
+    """The estimated numbers of a fleet, each by its name, its place, its value and its standard error."""
+    for number, guest in enumerate(found["guests"]):
+        for name in ("distinct", "shared", "alone"):
+            yield f"a guest's {name}", number, guest[name], guest.get("errors", {}).get(name)
+    for name in ("shared", "frames", "reclaimed", "between"):
+        yield f"the total's {name}", 0, found["total"][name], found["total"].get("errors", {}).get(name)
+    for row in found["copies"]:
+        for name in ("contents", "pages"):
+            yield f"a class's {name}", row["to"], row[name], row.get("errors", {}).get(name)
+
+
+def ordinary_copies(draw):
+    """How many copies of each digest each of six guests has: of a pool that several share, and of its own."""
+    pool = [draw.randbytes(16).hex() for _ in range(4000)]
+    for _ in range(6):
+        words = draw.sample(pool, draw.randrange(500, 3000)) + [draw.randbytes(16).hex() for _ in range(draw.randrange(1000, 4000))]
+        copies = {word: min(20, int(draw.expovariate(0.9)) + 1) for word in words}
+        copies[plain_fleet.digest(0, plain_fleet.ZEROS)] = draw.randrange(1, 20000)
+        yield copies
+
+
+def standard_errors(tally, draw, ways):
+    """Of the true numbers at least 90 of 100 lie within two standard errors of what a sample of 16 tells."""
+    within, all_told = collections.Counter(), collections.Counter()
+    for number in range(200):
+        guests = list(ordinary_copies(draw))
+        whole, sampled = ([plain_fleet.text_of_copies(f"g{n}", 0, k, own) for n, own in enumerate(guests)] for k in (1, 16))
+        due = plain_fleet.counted(sampled)
+        if "pageshare fleet" in ways.words:
+            with tempfile.TemporaryDirectory() as folder:
+                paths = written(pathlib.Path(folder), sampled)
+                tally.case(f"sampled fleet {number}, pageshare fleet", merge_faults(ways.words["pageshare fleet"], paths, due))
+        told = {(name, place): (value, error) for name, place, value, error in numbers_in(due)}
+        for name, place, true, _error in numbers_in(plain_fleet.counted(whole)):
+            value, error = told.get((name, place), (0, 0))
+            # A class of few contents has few in the sample or none, from which no error can be told.
+            if name.startswith("a class") and place > 8:
+                continue
+            all_told[name] += 1
+            within[name] += abs(true - value) <= 2 * error
+    for name, count in sorted(all_told.items()):
+        share = 100 * within[name] / count
+        print(f"{name}: {share:.1f} % of {count} true numbers lie within two standard errors")
+        tally.case(f"standard errors of {name}", [] if share >= 90 else ["that is less than 90 %"])
+
+
+def image_faults(draw, ways, folder, number, images):
+    """What is wrong with the digests of some images, and with their numbers."""
+    sample, is_raw = draw.choice([1, 1, 2, 16, 65536]), draw.randrange(5) == 0
+    salts = [draw.choice([0, 0, 1, 4294967295]) for _ in images]
+    paths, texts, files = [], [], []
+    for place, (salt, data) in enumerate(zip(salts, images)):
+        image, name = folder / f"{number}-{place}.img", f"guest-{place}"
+        image.write_bytes(data)
+        words = ["digest", "--name", name, "--salt", salt, "--sample", sample, *(["--raw"] if is_raw else [])]
+        done = ran([ways.program, *words, "--workers", draw.randrange(1, 9), image])
+        texts.append(plain_fleet.text_of_pages(name, salt, sample, estimate.pages_of_image(data, is_raw)))
+        if done.returncode != 0 or done.stderr or done.stdout.decode() != texts[-1]:
+            yield f"digest: status {done.returncode}, {done.stdout[:300]!r}, {done.stderr!r}, and {texts[-1][:300]!r} was due"
+            return
+        paths.append(image)
+        files.append(image.with_suffix(".csv"))
+        files[-1].write_bytes(done.stdout)
+    if "fleet" not in ways.commands:
+        return
+    yield from merge_faults([ways.program, "fleet", "--json"], files, plain_fleet.counted(texts))
+    if sample == 1:
+        yield from beside_estimate(ways, paths, files, salts, is_raw)
+
+
+def beside_estimate(ways, paths, files, salts, is_raw):
+    """Where the numbers of a merge and of `estimate` differ."""
+    words = ["estimate", "--json", "--salts", ",".join(map(str, salts)), *(["--raw"] if is_raw else [])]
+    due = json.loads(ran([ways.program, *words, *paths]).stdout)
+    found = json.loads(ran([ways.program, "fleet", "--json", *files]).stdout)
+    for one in due["guests"] + found["guests"]:
+        # (a digest without lines tells no name and no salt)
+        for key in ("image", "guest", "salt"):
+            one.pop(key, None)
+    yield from differences(found, due, "beside estimate: ")
+
+
+def random_images(tally, draw, ways):
+    pool = [draw.randbytes(plain_fleet.PAGE) for _ in range(6)]
+    with tempfile.TemporaryDirectory() as folder:
+        for number in range(100):
+            images = [estimate.random_image(draw, pool) for _ in range(draw.randrange(1, 6))]
+            tally.case(f"images {number}", image_faults(draw, ways, pathlib.Path(folder), number, images))
+
+
+def example(tally, ways):
+    """The digests that examples/make_fleet.py writes are those of the images that it writes, here of one host."""
+    for guest, sample in [(1, 1), (2, 64)]:
+        with tempfile.TemporaryDirectory() as name:
+            folder, told = pathlib.Path(name), make_fleet.name_of(7, guest)
+            make_fleet.write_digest(folder, 7, guest, sample)
+            make_fleet.write_image(folder, 7, guest)
+            image, given = folder / f"{told}.raw", (folder / f"{told}.csv").read_text()
+            due = {"the count": plain_fleet.text_of_pages(told, 0, sample, estimate.pages_of_bytes(image.read_bytes()))}
+            if "digest" in ways.commands:
+                due["digest"] = ran([ways.program, "digest", "--name", told, "--sample", sample, image]).stdout.decode()
+            for way, text in due.items():
+                tally.case(f"the example's {told}, {way}", [] if given == text else ["its digest isn't that of its image"])
+
+
+def big_file(folder):
+    """A digest of 5 million lines."""
+    path = folder / "big.csv"
+    with open(path, "w", encoding="ascii") as out:
+        out.write(plain_fleet.HEADER)
+        for start in range(0, BIG_LINES, 10000):
+            out.writelines(f"big,0,{BIG_LINES},1,{n:08x}{n * 2654435761 % 2**32:024x},1\n" for n in range(start, start + 10000))
+    return path
+
+
+def memory(tally, ways):
+    """A merge's memory doesn't grow with the lines."""
+    with tempfile.TemporaryDirectory() as name:
+        path = big_file(pathlib.Path(name))
+        begun = time.monotonic()
+        done = ran([sys.executable, "-c", MEASURE, ways.program, "fleet", "--json", path])
+        *told, status, kibibytes = done.stderr.decode("utf-8", "replace").split()
+        taken = int(kibibytes) << 10
+        print(f"fleet: {BIG_LINES:,} lines in {time.monotonic() - begun:.2f} s, {taken / (1 << 20):.1f} MiB of memory")
+        is_right = (status, told) == ("0", []) and taken <= MOST_MEMORY and json.loads(done.stdout)["total"]["frames"] == BIG_LINES
+        tally.case("5 million lines", [] if is_right else [f"status {status}, {taken} bytes of memory, {told}"])
+
+
+def main(seed="1", program=str(TOP / "out/pageshare")):
+    draw, tally, ways = random.Random(int(seed)), Tally(), Ways(program)
+    python = python_with_dask()
+    if not python:
+        print("left out: Dask's cases, since python3-dask, python3-distributed and python3-pandas aren't at hand")
+    random_fleets(tally, draw, ways)
+    at_once(tally, draw, ways, python)
+    broken(tally, ways)
+    standard_errors(tally, draw, ways)
+    example(tally, ways)
+    if "digest" in ways.commands:
+        random_images(tally, draw, ways)
+    if "fleet" in ways.commands:
+        memory(tally, ways)
+    for command in sorted({"digest", "fleet"} - ways.commands):
+        print(f"left out: the cases of `pageshare {command}`, since {program} has no such command")
+    print(f"{tally.passed} passed, {tally.failed} failed")
+    return 1 if tally.failed else 0
+
+
+if __name__ == "__main__":
+    sys.exit(main(*sys.argv[1:3]))

@@ -1,0 +1,123 @@
+"""Digests written and counted plainly, for the checks of fleets: by hashlib, dictionaries and the definitions. Standard library only."""
+import collections
+import hashlib
+import math
+
+PAGE = 4096
+ZEROS = bytes(PAGE)
+HEADER = "guest,salt,pages,sample,digest,copies\n"
+
+
+def digest(salt, page):
+    """The first 16 bytes of SHA-256 of the page, or of the salt's four big-endian bytes and the page, as digits."""
+    return hashlib.sha256((salt.to_bytes(4, "big") if salt else b"") + page).hexdigest()[:32]
+
+
+def is_kept(salt, sample, word):
+    return int(word[-4:], 16) % sample == 0 or word == digest(salt, ZEROS)
+
+
+def text_of_copies(guest, salt, sample, copies):
+    """The digest's text of a guest that has so many copies of each digest."""
+    pages, zeros = sum(copies.values()), digest(salt, ZEROS)
+    kept = sorted(word for word in copies if int(word[-4:], 16) % sample == 0 or word == zeros)
+    return HEADER + "".join(f"{guest},{salt},{pages},{sample},{word},{copies[word]}\n" for word in kept)
+
+
+def text_of_pages(guest, salt, sample, pages):
+    copies = collections.Counter()
+    for page, count in collections.Counter(pages).items():
+        copies[digest(salt, page)] += count
+    return text_of_copies(guest, salt, sample, copies)
+
+
+class Amounts:
+    """A sum over contents of what each adds: those of zeros once, each other one K times, with its standard error."""
+
+    def __init__(self, sample):
+        self.sample, self.exact, self.added = sample, 0, []
+
+    def add(self, is_zero, value):
+        if is_zero:
+            self.exact += value
+        else:
+            self.added.append(value)
+
+    def value(self):
+        return self.exact + self.sample * sum(self.added)
+
+    def error(self):
+        return math.isqrt(self.sample * (self.sample - 1) * sum(value * value for value in self.added))
+
+
+def members(known, amounts, sample):
+    told = {**known, **{name: amount.value() for name, amount in amounts.items()}}
+    if sample > 1:
+        told["errors"] = {name: amount.error() for name, amount in amounts.items()}
+    return told
+
+
+def rows_of(text):
+    rows = [line.split(",") for line in text.splitlines()[1:]]
+    return [(guest, int(salt), int(pages), int(sample), word, int(own)) for guest, salt, pages, sample, word, own in rows]
+
+
+def guest_of(rows, copies, sample):
+    """The numbers of one guest, by its lines and by how many copies the fleet has of each digest."""
+    amounts = {name: Amounts(sample) for name in ("distinct", "shared", "alone")}
+    zero, zeros = 0, {salt: digest(salt, ZEROS) for salt in {row[1] for row in rows}}
+    for _guest, salt, _pages, _sample, word, own in rows:
+        is_zero = word == zeros[salt]
+        zero += own if is_zero else 0
+        amounts["distinct"].add(is_zero, 1)
+        amounts["shared"].add(is_zero, own if copies[word] > 1 else 0)
+        amounts["alone"].add(is_zero, own - 1)
+    guest, salt, pages = rows[0][:3] if rows else (None, None, 0)
+    return members({"guest": guest, "salt": salt, "pages": pages, "zero": zero}, amounts, sample)
+
+
+def total_of(guests, copies, owners, zeros, sample):
+    names = ("shared", "frames", "reclaimed", "between")
+    amounts = {name: Amounts(sample) for name in names}
+    for word, count in copies.items():
+        adds = (count if count > 1 else 0, 1, count - 1, owners[word] - 1)
+        for name, value in zip(names, adds):
+            amounts[name].add(word in zeros, value)
+    zero = sum(guest["zero"] for guest in guests)
+    known = {"pages": sum(guest["pages"] for guest in guests), "zero": zero, "zero_reclaimed": zero - len(zeros & set(copies))}
+    told = members(known, amounts, sample)
+    order = ("pages", "zero", "shared", "frames", "reclaimed", "zero_reclaimed", "between", "errors")
+    return {name: told[name] for name in order if name in told}
+
+
+def classes_of(copies, zeros, sample):
+    """The classes 1, 2, 3 to 4, 5 to 8 and so on that have contents."""
+    classes = collections.defaultdict(list)
+    for word, count in copies.items():
+        classes[next(n for n in range(65) if count <= 2**n)].append((word, count))
+    for number, inside in sorted(classes.items()):
+        amounts = {"contents": Amounts(sample), "pages": Amounts(sample)}
+        for word, count in inside:
+            amounts["contents"].add(word in zeros, 1)
+            amounts["pages"].add(word in zeros, count)
+        yield members({"from": 2**number // 2 + 1, "to": 2**number}, amounts, sample)
+
+
+def counted(texts):
+    """The object of a fleet of digests with one sample, given as texts."""
+    files = [rows_of(text) for text in texts]
+    rows = [row for own in files for row in own]
+    sample = rows[0][3] if rows else 1
+    copies, owners = collections.Counter(), collections.Counter()
+    for _guest, _salt, _pages, _sample, word, own in rows:
+        copies[word] += own
+        owners[word] += 1
+    zeros = {digest(salt, ZEROS) for salt in {row[1] for row in rows}}
+    guests = [guest_of(own, copies, sample) for own in files]
+    found = {"page_bytes": PAGE}
+    if sample > 1:
+        found |= {"sample": sample, "kept": len(copies)}
+    return {
+        **found, "guests": guests, "total": total_of(guests, copies, owners, zeros, sample),
+        "copies": list(classes_of(copies, zeros, sample)),
+    }

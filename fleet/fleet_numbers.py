@@ -1,0 +1,104 @@
+"""The numbers of a fleet, from how often each kind of line and of content came. Standard library only.
+
+A line is a content of one guest, with `copies`, how many of the guest's pages have it. A content has `copies` in all guests, and
+`guests`, how many have it. The numbers are sums over lines or contents: with a sample K, those of zeros are whole, and each other
+one stands for K, since K in K contents are as good as drawn at random. The variance of such a sum of x is estimated by K(K - 1)
+times the kept x squared, and its standard error is the root of that, rounded down.
+"""
+import math
+from typing import NamedTuple
+
+from digests import PAGE_BYTES
+
+FOR_A_GUEST = ("distinct", "shared", "alone")
+IN_TOTAL = ("shared", "frames", "reclaimed", "between")
+
+
+class Line(NamedTuple):
+    """A kind of line: of which file, whether it is of zeros, its copies, and whether another page of the fleet has its content."""
+
+    file: int
+    zero: bool
+    copies: int
+    shared: bool
+
+
+class Content(NamedTuple):
+    """A kind of content: whether it is zeros, its copies, and how many guests have it."""
+
+    zero: bool
+    copies: int
+    guests: int
+
+
+def summed(kinds, sample, worth):
+    """The sum of what each line or content is worth, and its standard error. `kinds` has how often each kind came."""
+    total = squares = 0
+    for kind, times in kinds:
+        value = worth(kind)
+        total += value * times * (1 if kind.zero else sample)
+        squares += 0 if kind.zero else value * value * times
+    return total, math.isqrt(sample * (sample - 1) * squares)
+
+
+def shared_pages(kind):
+    return kind.copies if kind.shared else 0
+
+
+def with_errors(known, sums, sample):
+    """An object's members: what is known exactly, and what is summed; with a sample, the standard errors of the latter too."""
+    members = dict(known)
+    members.update((name, value) for name, (value, _error) in sums.items())
+    if sample > 1:
+        members["errors"] = {name: error for name, (_value, error) in sums.items()}
+    return members
+
+
+def guest_numbers(head, kinds, sample):
+    """The numbers of a guest, from its kinds of lines. A digest without lines tells no name, no salt and no pages."""
+    zero = sum(kind.copies * times for kind, times in kinds if kind.zero)
+    known = {"guest": head and head.guest, "salt": head and head.salt, "pages": head.pages if head else 0, "zero": zero}
+    worth = {"distinct": lambda _: 1, "shared": shared_pages, "alone": lambda kind: kind.copies - 1}
+    sums = {name: summed(kinds, sample, worth[name]) for name in FOR_A_GUEST}
+    return with_errors(known, sums, sample)
+
+
+def total_numbers(guests, kinds, sample):
+    """The numbers of all guests, from the kinds of contents."""
+    zero = sum(guest["zero"] for guest in guests)
+    worth = {
+        "shared": lambda kind: kind.copies if kind.copies > 1 else 0, "frames": lambda _: 1,
+        "reclaimed": lambda kind: kind.copies - 1, "between": lambda kind: kind.guests - 1,
+    }
+    sums = {name: summed(kinds, sample, worth[name]) for name in IN_TOTAL}
+    known = {"pages": sum(guest["pages"] for guest in guests), "zero": zero}
+    members = with_errors(known, sums, sample)
+    order = ["pages", "zero", "shared", "frames", "reclaimed", "zero_reclaimed", "between", "errors"]
+    members["zero_reclaimed"] = zero - sum(times for kind, times in kinds if kind.zero)
+    return {name: members[name] for name in order if name in members}
+
+
+def class_numbers(kinds, sample):
+    """The classes of copies, 1, 2, 3 to 4, 5 to 8 and so on, that have contents."""
+    classes = {}
+    for kind, times in kinds:
+        classes.setdefault((kind.copies - 1).bit_length(), []).append((kind, times))
+    for number, own in sorted(classes.items()):
+        known = {"from": (1 << number) // 2 + 1, "to": 1 << number}
+        sums = {"contents": summed(own, sample, lambda _: 1), "pages": summed(own, sample, lambda kind: kind.copies)}
+        yield with_errors(known, sums, sample)
+
+
+def fleet_numbers(heads, lines, contents):
+    """The object of a fleet: each file's head, None where it has no line, and how often each kind of line and of content came."""
+    sample = next((head.sample for head in heads if head), 1)
+    of_files = [[] for _ in heads]
+    for kind, times in lines.items():
+        of_files[kind.file].append((kind, times))
+    guests = [guest_numbers(head, own, sample) for head, own in zip(heads, of_files)]
+    kinds = list(contents.items())
+    members = {"page_bytes": PAGE_BYTES}
+    if sample > 1:
+        members.update(sample=sample, kept=sum(contents.values()))
+    members.update(guests=guests, total=total_numbers(guests, kinds, sample), copies=list(class_numbers(kinds, sample)))
+    return members
