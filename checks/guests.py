@@ -5,9 +5,12 @@
 
 LIBRARY is libpageshare.a, by default out/libpageshare.a (`make embed`); a fleet and its stress run for SECONDS each, by default 30.
 All that is built goes to out/monitor. In turn: windows under threads in place of guests, and the same under the address and the
-thread sanitizer; pages taken back when the system has no mapping to spare; two guests of a few instructions; a fleet of three guests;
-a fleet under stress, two processors a guest; a journal of 100,000 requests, replayed by `out/pageshare replay` to the same verdicts
-and report. What the machine has no KVM, no userfaultfd or no compiler for is left out, and so said.
+thread sanitizer; pages taken back when the system has no mapping to spare; two guests of a few instructions; a fleet of three guests,
+with KVM's dirty log alone as well, and a table of its figures beside their goals; a fleet under stress, two processors a guest; a
+journal of 100,000 requests, replayed by `out/pageshare replay` to the same verdicts and report; a stand-in for a kernel, booted as
+Linux is. What the machine has no KVM, no userfaultfd or no compiler for is left out, and so said.
+
+With KERNEL=BZIMAGE in the environment a fleet of Linux guests runs as well, whose first process is init.c.
 
 With KSM=1 in the environment (as root) the same guests run under the kernel's KSM too, at its own settings and faster ones, and
 without sharing, and a table of all is printed. KSM's settings are put back when this program ends, however it ends. CC names another
@@ -19,6 +22,7 @@ import json
 import os
 import pathlib
 import shutil
+import struct
 import subprocess
 import sys
 
@@ -27,12 +31,13 @@ SOURCES, OUT = TOP / "monitor", TOP / "out/monitor"
 CC = os.environ.get("CC", "cc")
 FLAGS = "-std=c11 -O2 -g -Wall -Wextra -Wconversion -Werror -pthread".split() + os.environ.get("CFLAGS", "").split()
 GUEST_FLAGS = (
-    "-std=c11 -O2 -Wall -Wextra -Wconversion -Werror -ffreestanding -nostdlib -static -fno-pic -no-pie -fno-stack-protector "
+    "-std=c11 -O2 -Wall -Wextra -Wconversion -Werror -ffreestanding -nostdlib -static -fno-pic -fno-stack-protector "
     "-fcf-protection=none -mgeneral-regs-only -mno-red-zone -Wl,-Ttext-segment=0x200000,--build-id=none,-e,begin"
 ).split()
 WINDOW = ["window", "lender", "journal"]
-PROGRAMS = {"threads": WINDOW, "crowded": WINDOW, "tiny": WINDOW + ["vm"], "fleet": WINDOW + ["vm", "idle", "count", "figures"]}
-REQUESTS = 100_000
+PROGRAMS = {"threads": WINDOW, "crowded": WINDOW, "tiny": WINDOW + ["vm"], "fleet": WINDOW + ["vm", "linux", "voices", "idle", "count", "figures"]}
+# (a journal ends where a page more might be too much, up to 65 requests before this number)
+REQUESTS = 100_100
 KSM = pathlib.Path("/sys/kernel/mm/ksm")
 
 
@@ -60,6 +65,49 @@ def build_guest():
     path = OUT / "guest"
     if subprocess.run([CC, *GUEST_FLAGS, "-o", path, SOURCES / "guest.c"]).returncode != 0:
         sys.exit("the guest does not compile")
+    return path
+
+
+def build_initramfs():
+    """An archive (cpio, newc) with one file, the first process of a Linux guest."""
+    init = OUT / "init"
+    words = [CC, *FLAGS, "-static", "-DGUEST_OF_LINUX", "-o", init, SOURCES / "init.c", SOURCES / "guest.c"]
+    if subprocess.run(words).returncode != 0:
+        sys.exit("init does not compile")
+
+    def entry(number, name, mode, data):
+        """Thirteen numbers, of which here count: inode, mode, links, size, and the name's length."""
+        numbers = [number, mode, 0, 0, 1, 0, len(data), 0, 0, 0, 0, len(name) + 1, 0]
+        head = b"070701" + b"".join(b"%08X" % of for of in numbers) + name + b"\0"
+        return padded(head) + padded(data)
+
+    def padded(data):
+        return data + bytes(-len(data) % 4)
+
+    path = OUT / "initramfs"
+    path.write_bytes(entry(1, b"init", 0o100755, init.read_bytes()) + entry(0, b"TRAILER!!!", 0, b""))
+    return path
+
+
+def build_standin():
+    """A bzImage of standin.c: two sectors with a header (at 0x1f1), and the program, which is entered 0x200 behind its beginning."""
+    at, room, path = 0x1000000, 0x100000, OUT / "standin"
+    places = f"-Wl,--section-start=.begin={at + 0x200:#x},-Ttext={at + 0x1000:#x},--build-id=none,--oformat=binary,-e,begin"
+    flags = [flag for flag in GUEST_FLAGS if not flag.startswith("-Wl")]
+    if subprocess.run([CC, *flags, "-fno-asynchronous-unwind-tables", places, "-o", path, SOURCES / "standin.c"]).returncode != 0:
+        sys.exit("the stand-in for a kernel does not compile")
+    head = bytearray(1024)
+    for place, form, value in [
+        (0x1F1, "<B", 1),  # sectors behind the first
+        (0x202, "<4s", b"HdrS"),
+        (0x206, "<H", 0x20F),  # the protocol's version
+        (0x22C, "<I", 0x7FFFFFFF),  # the last place for an initramfs
+        (0x236, "<H", 1),  # it has a 64-bit beginning
+        (0x258, "<Q", at),
+        (0x260, "<I", room),
+    ]:
+        struct.pack_into(form, head, place, value)
+    path.write_bytes(bytes(head) + bytes(0x200) + path.read_bytes())
     return path
 
 
@@ -173,12 +221,34 @@ def compare(fleet, guest, seconds):
     print("\n".join(rows))
 
 
+def goals(lend, log):
+    """A table of a fleet's figures beside their goals, which are for an idle machine: here none fails the run."""
+    rows = [
+        ("saved of the bound, %", "at least 99.5", 100 * lend["saved"] / lend["bound"]),
+        ("lending a page, us", "at most 25", lend["lend_us"]),
+        ("taking a page back, us", "at most 40", lend["take_us"]),
+        ("a round's processor time over that with the dirty log alone", "at most 1.1", lend["round_ms"] / log["round_ms"]),
+        ("memory beside pages, % of what is lent", "at most 1.5", 100 * lend["beside"]),
+        ("pages lent for each mapping", "", lend["lent"] / lend["mappings"]),
+    ]
+    print("| what | goal | here |\n|---|---|---|")
+    for what, goal, here in rows:
+        print(f"| {what} | {goal} | {here:.1f} |")
+
+
 def with_guests(library, seconds):
     fleet, guest = build("fleet", library), build_guest()
     must([build("tiny", library)])
-    must([fleet, "--seconds", str(seconds), "--json", OUT / "fleet.json", "--svg", OUT / "fleet.svg", guest])
+    lend, log = OUT / "fleet.json", OUT / "log.json"
+    must([fleet, "--seconds", str(seconds), "--json", lend, "--svg", OUT / "fleet.svg", guest])
+    must([fleet, "--seconds", str(seconds), "--idle", "log", "--slice", "0", "--json", log, guest])
+    goals(json.loads(lend.read_text()), json.loads(log.read_text()))
     must([fleet, "--seconds", str(seconds), "--processors", "2", "--round", "20", "--rest", "2", "--mib", "64", guest])
     journal(fleet, guest)
+    must([fleet, "--seconds", "3", "--mib", "32", "--kernel", build_standin(), "--initrd", build_initramfs()])
+    if os.environ.get("KERNEL"):
+        words = ["--kernel", os.environ["KERNEL"], "--initrd", OUT / "initramfs"]
+        must([fleet, "--seconds", str(max(seconds, 60)), "--mib", "256", *words])
     if os.environ.get("KSM") == "1":
         if os.access(KSM / "run", os.W_OK) and os.geteuid() == 0:
             compare(fleet, guest, seconds)
@@ -195,8 +265,8 @@ def main():
         print("left out: all, since there is no C compiler")
         return
     OUT.mkdir(parents=True, exist_ok=True)
-    if not can_open("/dev/userfaultfd") and os.geteuid() != 0:
-        print("left out: all, since userfaultfd is not allowed here")
+    if not can_open("/dev/userfaultfd"):
+        print("left out: all, since there is no /dev/userfaultfd for this user")
         return
     windows(library)
     if can_open("/dev/kvm"):

@@ -6,6 +6,9 @@
 
 static const double MIB = 1 << 20;
 
+/* Of Linux's structure for a mapping. */
+static const double MAPPING_BYTES = 192;
+
 bool figures_make(struct figures *figures, size_t most) {
     figures->most = most;
     figures->samples = calloc(most, sizeof figures->samples[0]);
@@ -39,6 +42,17 @@ static const struct sample *settled(const struct figures *figures) {
 
 static size_t can_be_saved(const struct figures *figures) { return figures->bound.pages - figures->bound.distinct; }
 
+/* Bytes for what is beside pages: all that the process holds, but frames and the guests' own pages; and the system's mappings. */
+static double beside(const struct figures *figures) {
+    const struct sample *now = last(figures);
+    return now->held - ((double)now->totals.frames + (double)figures->own) * PAGE + MAPPING_BYTES * (double)now->counts.mappings;
+}
+
+/* The same for each byte that is lent. */
+static double beside_ratio(const struct figures *figures) {
+    return ratio(beside(figures), (double)last(figures)->counts.lent_now * PAGE);
+}
+
 void figures_watch(const struct figures *figures, FILE *to) {
     const struct sample *now = last(figures);
     const struct sample *before = figures->count > 1 ? now - 1 : now;
@@ -65,8 +79,10 @@ static void print_lending(const struct figures *figures, FILE *to) {
             counts->overtook);
     fprintf(to, "at the end                %zu pages lent in %" PRIu32 " frames, %zu mappings\n", counts->lent_now,
             now->totals.frames, counts->mappings);
-    fprintf(to, "refused, waited           %" PRIu64 " no frame, %" PRIu64 " no mapping; %" PRIu64 " widened, %" PRIu64 " waits\n",
-            counts->no_frame, counts->no_mapping, counts->widened, counts->waits);
+    fprintf(to, "beside pages              %.2f MiB (%.2f %% of what is lent)\n", beside(figures) / MIB,
+            100 * beside_ratio(figures));
+    fprintf(to, "pages not lent            %" PRIu64 " without a frame, %" PRIu64 " without a mapping\n", counts->no_frame,
+            counts->no_mapping);
     fprintf(to, "processor s of it         %.2f looks and lends, %.2f take-backs\n", figures->scan,
             1e-9 * (double)counts->thread_ns);
 }
@@ -118,8 +134,9 @@ bool figures_json(struct figures *figures, const char *path) {
             1e-3 * ratio((double)counts->take_ns, (double)counts->taken), 1e-3 * (double)counts->take_most_ns);
     fprintf(file,
             " \"lent\": %zu, \"frames\": %" PRIu32 ", \"shared\": %" PRIu32
-            ", \"mappings\": %zu, \"scan_s\": %.2f, \"requests\": %" PRId64 ",\n",
-            counts->lent_now, now->totals.frames, now->totals.shared, counts->mappings, figures->scan, figures->requests);
+            ", \"mappings\": %zu, \"beside\": %.4f, \"scan_s\": %.2f, \"requests\": %" PRId64 ",\n",
+            counts->lent_now, now->totals.frames, now->totals.shared, counts->mappings, beside_ratio(figures), figures->scan,
+            figures->requests);
     fprintf(file, " \"samples\": [");
     for (size_t i = 0; i < figures->count; i++)
         fprintf(file, "%s[%.1f, %.1f]", i == 0 ? "" : ", ", figures->samples[i].at, figures->samples[i].held / MIB);

@@ -30,6 +30,7 @@ struct figures {
     double write_cycles;            /* of a write to a seldom written page, the same */
     double scan;                    /* processor seconds for looks and lends */
     double table_bytes;             /* page tables of this process */
+    size_t own;                     /* pages at the end that have memory of their own */
     int64_t requests;               /* of the journal; 0 for none */
 };
 

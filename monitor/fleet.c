@@ -1,14 +1,23 @@
 /*
  * Several guests at once, whose equal pages the library shares.
  *
- *     fleet [--guests N] [--mib N] [--seconds N] [--processors N] [--rest HUNDREDTHS] [--round MILLISECONDS] [--way lend|plain|ksm]
- *           [--idle look|log] [--slice PAGES] [--journal FILE [--requests N]] [--json FILE] [--svg FILE] [--watch] PROGRAM
+ *     fleet [OPTION].. PROGRAM                            guests that run the program of guest.c
+ *     fleet [OPTION].. --kernel BZIMAGE --initrd FILE     guests that run Linux, whose first process is init.c
  *
- * PROGRAM is the guest of guest.c, which checks its memory. Pages that weren't written lately are lent (`lend`), at most so many of
- * a guest every 10 ms (0: they are looked at alone), or left to the kernel's KSM (`ksm`), or nothing is done (`plain`). Prints a
- * table at the end. The status is 0 where every processor ran to the end and saw no wrong word, 1 where not, 2 for a bad command
- * line. With --journal, what was asked of the machine is written to FILE, and to FILE.replay the lines that `pageshare replay` must
- * print; when so many requests are written, and after 10 s at least, the run ends.
+ *     --guests N, --mib N, --processors N      how many, and what each has (of Linux one processor)
+ *     --seconds N                              how long they run
+ *     --rest HUNDREDTHS                        how long a processor rests after each round of its checks
+ *     --way lend|plain|ksm                     idle pages are lent; or nothing is done; or they are left to the kernel's KSM
+ *     --round MILLISECONDS --slice PAGES       a look at a guest's pages so often; so many pages lent at most every 10 ms (0: none)
+ *     --idle look|log                          what tells idle pages: sums of their bytes, or KVM's dirty log
+ *     --frames HUNDREDTHS                      the machine's frames, of all pages
+ *     --journal FILE --requests N              what was asked of the machine, and to FILE.replay the lines that `pageshare replay`
+ *                                              must print; when so many are written, and after 10 s at least, the run ends
+ *     --words TEXT                             more of Linux's command line
+ *     --json FILE, --svg FILE, --watch         figures, a picture, a line a second on a terminal
+ *
+ * Prints a table at the end. The status is 0 where every processor ran to the end and saw no wrong word, 1 where not, 2 for a bad
+ * command line.
  */
 #define _GNU_SOURCE
 #include "count.h"
@@ -16,8 +25,10 @@
 #include "guest.h"
 #include "idle.h"
 #include "journal.h"
+#include "linux.h"
 #include "trouble.h"
 #include "vm.h"
+#include "voices.h"
 #include "window.h"
 #include <errno.h>
 #include <getopt.h>
@@ -29,47 +40,40 @@
 #include <sys/resource.h>
 #include <unistd.h>
 
-enum { GUESTS = 8, TICK_NS = 10000000, LATE_S = 10, JOURNAL_S = 10, TOLD_MOST = 20 };
+enum { GUESTS = 8, TICK_NS = 10000000, LATE_S = 10, JOURNAL_S = 10, TOLD_MOST = 20, LOOK_MOST = 1024 };
 
 enum way { WAY_LEND, WAY_PLAIN, WAY_KSM };
 static const char *const WAYS[] = {"lend", "plain", "ksm"};
-
-/* What a processor says. */
-struct voice {
-    char line[128];
-    size_t length;
-    uint64_t rounds, wrong, last_ns, spent_ns;  /* the last two at the last round's end; spent: of processor time */
-    uint64_t late, cycles, kilocycles, cost_ns; /* rounds from half time on, and sums over these */
-};
 
 struct guest {
     struct vm vm;
     struct fleet *fleet;
     uint8_t *ram;
     struct idle idle;
-    uint8_t *shown;
-    uint64_t *written;
+    uint64_t *written; /* as KVM's log tells */
     uint64_t looked_ns;
-    pthread_mutex_t lock; /* round the voices */
-    struct voice voices[VM_PROCESSORS];
+    struct voices voices;
 };
 
 struct fleet {
     enum way way;
-    unsigned guests, mib, seconds, processors, rest, round_ms, slice;
+    unsigned guests, mib, seconds, processors, rest, round_ms, slice, frames;
     uint32_t requests;
     bool by_log, watch;
-    const char *journal_path, *json, *svg, *program;
+    const char *journal_path, *json, *svg, *program, *kernel, *initrd, *words;
     struct journal *journal;
     struct lender *lender;
     struct figures figures;
     struct guest guest[GUESTS];
-    uint64_t began_ns, scan_ns;
+    uint64_t began_ns;
     double ksmd_began;
     atomic_uint told;
 };
 
 static uint32_t pages_of(const struct fleet *fleet) { return fleet->mib * (1u << 20) / PAGE; }
+
+/* How many pages are looked at at once, of so many. */
+static uint32_t part_of(uint32_t pages) { return pages < LOOK_MOST ? pages : LOOK_MOST; }
 
 /* Told of trouble that the lender waits out; after some it is counted alone. */
 static void tell(void *of, const char *what, int cause) {
@@ -77,45 +81,14 @@ static void tell(void *of, const char *what, int cause) {
     if (atomic_fetch_add(&fleet->told, 1) < TOLD_MOST) fprintf(stderr, "lender: %s: %s\n", what, strerror(cause));
 }
 
-/* A line of a processor, on its thread. Called with the guest's lock. */
-static void hear_line(struct guest *guest, unsigned processor) {
-    struct voice *voice = &guest->voices[processor];
-    uint64_t cycles, kilocycles;
-    if (sscanf(voice->line, "ok %" SCNu64 " %" SCNu64, &cycles, &kilocycles) == 2) {
-        uint64_t spent = clock_ns(CLOCK_THREAD_CPUTIME_ID), cost = spent - voice->spent_ns;
-        voice->rounds++;
-        voice->spent_ns = spent;
-        voice->last_ns = now_ns();
-        if (voice->last_ns - guest->fleet->began_ns < guest->fleet->seconds * 500000000ull) return;
-        voice->late++;
-        voice->cycles += cycles;
-        voice->kilocycles += kilocycles;
-        voice->cost_ns += cost;
-    } else if (strcmp(voice->line, "ready") != 0) {
-        fprintf(stderr, "guest %u, processor %u: %s\n", guest->vm.number, processor, voice->line);
-        voice->wrong++;
-    }
-}
-
-static void hear(struct guest *guest, unsigned processor, char byte) {
-    struct voice *voice = &guest->voices[processor];
-    pthread_mutex_lock(&guest->lock);
-    if (byte != '\n' && voice->length + 1 < sizeof voice->line) {
-        voice->line[voice->length++] = byte;
-    } else if (byte == '\n') {
-        voice->line[voice->length] = 0;
-        voice->length = 0;
-        hear_line(guest, processor);
-    }
-    pthread_mutex_unlock(&guest->lock);
-}
-
+/* A processor wrote a byte to a port. */
 static bool wrote(struct processor *processor, uint16_t port, uint8_t byte) {
     struct vm *vm = processor->vm;
-    if (port == PORT_TEXT + processor->number) hear(vm->of, processor->number, (char)byte);
-    if (port != PORT_REST) return true;
+    struct guest *guest = vm->of;
     struct timespec left = {byte / 100, byte % 100 * 10000000L};
-    while (!atomic_load(&vm->stop) && nanosleep(&left, &left) < 0 && errno == EINTR) {
+    if (port == PORT_TEXT + processor->number) voices_hear(&guest->voices, processor->number, (char)byte);
+    if (port == LINUX_PORT) voices_hear_kernel(&guest->voices, (char)byte);
+    while (port == PORT_REST && !atomic_load(&vm->stop) && nanosleep(&left, &left) < 0 && errno == EINTR) {
     }
     return true;
 }
@@ -154,14 +127,16 @@ static double process_seconds(void) {
 
 /* Looks at a guest's pages, for what was written since the last look. */
 static void look(struct fleet *fleet, struct guest *guest) {
+    uint8_t shown[LOOK_MOST];
     guest->looked_ns = now_ns();
-    if (!window_look(fleet->lender, guest->vm.number, guest->shown)) {
-        trouble("mincore");
-        return;
-    }
     if (fleet->by_log && !vm_written(&guest->vm, guest->written)) return;
-    idle_look(&guest->idle, guest->shown, guest->ram, fleet->by_log ? guest->written : NULL);
-    if (fleet->slice == 0) guest->idle.next = guest->idle.pages;
+    for (uint32_t first = 0; first < pages_of(fleet); first += LOOK_MOST) {
+        uint32_t count = part_of(pages_of(fleet) - first);
+        if (window_look(fleet->lender, guest->vm.number, first, count, shown))
+            idle_look(&guest->idle, first, count, shown, guest->ram, fleet->by_log ? guest->written : NULL);
+        else trouble("mincore");
+    }
+    guest->idle.next = fleet->slice == 0 ? guest->idle.pages : 0;
 }
 
 /* Looks when it is time, and lends what is idle, a slice at a time. */
@@ -184,18 +159,15 @@ static void take_sample(struct fleet *fleet) {
     sample->at = 1e-9 * (double)(now_ns() - fleet->began_ns);
     sample->processor = process_seconds();
     sample->helper = ksmd_seconds(fleet) - fleet->ksmd_began;
-    for (unsigned i = 0; i < fleet->guests; i++) {
-        pthread_mutex_lock(&fleet->guest[i].lock);
-        for (unsigned j = 0; j < fleet->processors; j++) sample->rounds += fleet->guest[i].voices[j].rounds;
-        pthread_mutex_unlock(&fleet->guest[i].lock);
-    }
+    for (unsigned i = 0; i < fleet->guests * fleet->processors; i++)
+        sample->rounds += voices_get(&fleet->guest[i / fleet->processors].voices, i % fleet->processors).rounds;
+    sample->held = 1024 * (double)number_in("/proc/self/smaps_rollup", "Pss_Anon:");
     if (fleet->way == WAY_LEND) {
         lender_report(fleet->lender, &sample->totals, &sample->counts);
-        sample->held = (double)lender_bytes(fleet->lender);
+        sample->held += (double)lender_bytes(fleet->lender);
         sample->saved = sample->totals.reclaimed;
-    } else {
-        sample->held = 1024 * (double)number_in("/proc/self/smaps_rollup", "Pss_Anon:");
-        sample->saved = fleet->way == WAY_KSM ? number_in("/sys/kernel/mm/ksm/pages_sharing", "") : 0;
+    } else if (fleet->way == WAY_KSM) {
+        sample->saved = number_in("/sys/kernel/mm/ksm/pages_sharing", "");
     }
     if (fleet->watch) figures_watch(&fleet->figures, stderr);
 }
@@ -218,7 +190,8 @@ static bool make_lender(struct fleet *fleet) {
     if (fleet->journal_path != NULL && (fleet->journal = journal_open(fleet->journal_path, fleet->requests)) == NULL)
         return trouble(fleet->journal_path);
     /* (a replay hashes by SHA-256, and a hash decides a little of what is answered) */
-    struct lender_config config = {.frames = fleet->guests * pages[0],
+    uint64_t frames = (uint64_t)fleet->guests * pages[0] * fleet->frames / 100;
+    struct lender_config config = {.frames = (uint32_t)frames,
                                    .pages = pages,
                                    .salts = salts,
                                    .guests = fleet->guests,
@@ -230,22 +203,29 @@ static bool make_lender(struct fleet *fleet) {
     return fleet->lender != NULL;
 }
 
+/* Its first process, of init.c, gets half of the guest's memory. */
+static bool set_linux(const struct fleet *fleet, struct guest *guest) {
+    char words[1024];
+    snprintf(words, sizeof words, "earlyprintk=serial,0x3f8,115200,keep acpi=off guest=%u mib=%u rest=%u %s", guest->vm.number,
+             fleet->mib / 2, fleet->rest, fleet->words);
+    return linux_set(&guest->vm, fleet->kernel, fleet->initrd, words);
+}
+
 static bool make_guest(struct fleet *fleet, unsigned number) {
     struct guest *guest = &fleet->guest[number];
     uint32_t pages = pages_of(fleet);
     guest->fleet = fleet;
-    guest->lock = (pthread_mutex_t)PTHREAD_MUTEX_INITIALIZER;
-    guest->shown = calloc(pages, 1);
+    voices_make(&guest->voices, number);
     guest->written = calloc((pages + 63) / 64, sizeof *guest->written);
-    if (guest->shown == NULL || guest->written == NULL || !idle_make(&guest->idle, pages))
-        return trouble("memory for a guest's looks");
+    if (guest->written == NULL || !idle_make(&guest->idle, pages)) return trouble("memory for a guest's looks");
     guest->ram = fleet->way == WAY_LEND ? window_at(fleet->lender, number) : plain_memory(fleet);
     if (guest->ram == NULL) return trouble("memory for a guest");
     guest->vm.number = number;
     guest->vm.wrote = wrote;
     guest->vm.of = guest;
+    guest->vm.has_chips = fleet->kernel != NULL;
     return vm_make(&guest->vm, guest->ram, (size_t)pages * PAGE, fleet->processors, fleet->by_log && fleet->way == WAY_LEND) &&
-           vm_set_guest(&guest->vm, fleet->program, fleet->rest);
+           (fleet->kernel != NULL ? set_linux(fleet, guest) : vm_set_guest(&guest->vm, fleet->program, fleet->rest));
 }
 
 static bool is_over(const struct fleet *fleet) {
@@ -277,18 +257,16 @@ static bool judge(struct fleet *fleet, double khz) {
     for (unsigned i = 0; i < fleet->guests * fleet->processors; i++) {
         struct guest *guest = &fleet->guest[i / fleet->processors];
         unsigned number = i % fleet->processors;
-        pthread_mutex_lock(&guest->lock);
-        const struct voice *voice = &guest->voices[number];
-        bool runs = atomic_load(&guest->vm.processors[number].end) == VM_RUNS && voice->rounds > 0;
-        runs = runs && now_ns() - voice->last_ns < LATE_S * 1000000000ull;
+        const struct voice voice = voices_get(&guest->voices, number);
+        bool runs = atomic_load(&guest->vm.processors[number].end) == VM_RUNS && voice.rounds > 0;
+        runs = runs && now_ns() - voice.last_ns < LATE_S * 1000000000ull;
         if (!runs) fprintf(stderr, "guest %u, processor %u does not run\n", guest->vm.number, number);
-        right = right && runs && voice->wrong == 0;
-        figures->wrong += voice->wrong;
-        cycles += voice->cycles;
-        kilocycles += voice->kilocycles;
-        cost_ns += voice->cost_ns;
-        late += voice->late;
-        pthread_mutex_unlock(&guest->lock);
+        right = right && runs && voice.wrong == 0;
+        figures->wrong += voice.wrong;
+        cycles += voice.cycles;
+        kilocycles += voice.kilocycles;
+        cost_ns += voice.cost_ns;
+        late += voice.late;
     }
     if (late == 0) return right;
     figures->write_cycles = (double)cycles / (double)late;
@@ -297,25 +275,35 @@ static bool judge(struct fleet *fleet, double khz) {
     return right;
 }
 
+/* Tells of a guest's pages whether they have memory, lent or not. */
+static bool has_memory(struct fleet *fleet, struct guest *guest, uint32_t first, uint32_t count, uint8_t *room) {
+    uint8_t has = fleet->way == WAY_LEND ? PAGE_LENT | PAGE_HELD : 1; /* (1 as mincore has it) */
+    bool told = fleet->way == WAY_LEND ? window_look(fleet->lender, guest->vm.number, first, count, room)
+                                       : mincore(guest->ram + (size_t)first * PAGE, (size_t)count * PAGE, room) == 0;
+    for (uint32_t i = 0; i < count; i++) room[i] &= has;
+    return told || trouble("mincore");
+}
+
 /* Counts the distinct pages that the guests have. They stand still. */
 static bool count_bound(struct fleet *fleet) {
-    uint32_t pages = pages_of(fleet);
-    const uint8_t **list = malloc((size_t)fleet->guests * pages * sizeof *list);
+    uint32_t pages = pages_of(fleet), all = fleet->guests * pages;
+    const uint8_t **list = malloc(all * sizeof *list);
+    uint8_t shown[LOOK_MOST];
     size_t count = 0;
-    if (list == NULL) return trouble("memory for a count");
-    for (unsigned i = 0; i < fleet->guests; i++) {
-        struct guest *guest = &fleet->guest[i];
-        bool told = fleet->way == WAY_LEND ? window_look(fleet->lender, i, guest->shown)
-                                           : mincore(guest->ram, (size_t)pages * PAGE, guest->shown) == 0;
-        if (!told) trouble("mincore");
-        for (uint32_t page = 0; told && page < pages; page++) {
-            uint8_t has = fleet->way == WAY_LEND ? PAGE_LENT | PAGE_HELD : 1;
-            if (guest->shown[page] & has) list[count++] = guest->ram + (size_t)page * PAGE;
+    bool told = list != NULL || trouble("memory for a count");
+    for (uint32_t at = 0, part = 0; told && at < all; at += part) {
+        struct guest *guest = &fleet->guest[at / pages];
+        uint32_t first = at % pages;
+        part = part_of(pages - first);
+        told = has_memory(fleet, guest, first, part, shown);
+        for (uint32_t i = 0; i < part; i++) {
+            if (shown[i] != 0) list[count++] = guest->ram + (size_t)(first + i) * PAGE;
+            if ((shown[i] & PAGE_HELD) != 0) fleet->figures.own++;
         }
     }
-    fleet->figures.bound = count_distinct(list, count);
+    if (told) fleet->figures.bound = count_distinct(list, count);
     free(list);
-    return true;
+    return told;
 }
 
 /* Writes what was asked for. */
@@ -346,6 +334,7 @@ static bool run_fleet(struct fleet *fleet) {
     if (!figures_make(&fleet->figures, fleet->seconds + 3)) return trouble("memory for samples");
     fleet->ksmd_began = ksmd_seconds(fleet);
     fleet->began_ns = now_ns();
+    for (unsigned i = 0; i < fleet->guests; i++) fleet->guest[i].voices.half_ns = fleet->began_ns + fleet->seconds * 500000000ull;
     uint64_t ticks = __builtin_ia32_rdtsc();
     bool right = true;
     for (unsigned i = 0; i < fleet->guests && right; i++) right = vm_start(&fleet->guest[i].vm);
@@ -368,7 +357,6 @@ static void free_fleet(struct fleet *fleet) {
         if (guest->ram != NULL) vm_free(&guest->vm);
         if (guest->ram != NULL && fleet->way != WAY_LEND) munmap(guest->ram, (size_t)pages_of(fleet) * PAGE);
         idle_free(&guest->idle);
-        free(guest->shown);
         free(guest->written);
     }
     if (fleet->lender != NULL) lender_free(fleet->lender);
@@ -401,34 +389,47 @@ static bool set_option(struct fleet *fleet, int option) {
     case 'r': return number(optarg, 0, 255, &fleet->rest);
     case 'o': return number(optarg, 1, 60000, &fleet->round_ms);
     case 'l': return number(optarg, 0, 65536, &fleet->slice);
+    case 'f': return number(optarg, 1, 100, &fleet->frames);
     case 'q': right = number(optarg, 1000, 400000, &found), fleet->requests = found; return right;
     case 'w': right = word(optarg, WAYS, 3, &found), fleet->way = (enum way)found; return right;
     case 'i': right = word(optarg, idles, 2, &found), fleet->by_log = found == 1; return right;
     case 'j': fleet->journal_path = optarg; return true;
     case 'J': fleet->json = optarg; return true;
     case 'S': fleet->svg = optarg; return true;
+    case 'k': fleet->kernel = optarg; return true;
+    case 'n': fleet->initrd = optarg; return true;
+    case 'x': fleet->words = optarg; return true;
     case 'W': fleet->watch = true; return true;
     default: return false;
     }
 }
 
 static bool read_options(struct fleet *fleet, int count, char **words) {
-    static const struct option options[] = {{"guests", 1, NULL, 'g'},     {"mib", 1, NULL, 'm'},   {"seconds", 1, NULL, 's'},
-                                            {"processors", 1, NULL, 'p'}, {"rest", 1, NULL, 'r'},  {"round", 1, NULL, 'o'},
-                                            {"requests", 1, NULL, 'q'},   {"way", 1, NULL, 'w'},   {"idle", 1, NULL, 'i'},
-                                            {"journal", 1, NULL, 'j'},    {"json", 1, NULL, 'J'},  {"svg", 1, NULL, 'S'},
-                                            {"watch", 0, NULL, 'W'},      {"slice", 1, NULL, 'l'}, {NULL, 0, NULL, 0}};
+    static const struct option options[] = {
+        {"guests", 1, NULL, 'g'}, {"mib", 1, NULL, 'm'},     {"seconds", 1, NULL, 's'},  {"processors", 1, NULL, 'p'},
+        {"rest", 1, NULL, 'r'},   {"round", 1, NULL, 'o'},   {"requests", 1, NULL, 'q'}, {"way", 1, NULL, 'w'},
+        {"idle", 1, NULL, 'i'},   {"journal", 1, NULL, 'j'}, {"json", 1, NULL, 'J'},     {"svg", 1, NULL, 'S'},
+        {"watch", 0, NULL, 'W'},  {"slice", 1, NULL, 'l'},   {"frames", 1, NULL, 'f'},   {"kernel", 1, NULL, 'k'},
+        {"initrd", 1, NULL, 'n'}, {"words", 1, NULL, 'x'},   {NULL, 0, NULL, 0}};
     int option;
     while ((option = getopt_long(count, words, "", options, NULL)) != -1)
         if (!set_option(fleet, option)) return false;
     if (fleet->journal_path != NULL && fleet->way != WAY_LEND) return false;
+    if (fleet->kernel != NULL) return fleet->initrd != NULL && fleet->processors == 1 && optind == count;
     fleet->program = optind + 1 == count ? words[optind] : NULL;
     return fleet->program != NULL;
 }
 
 int main(int count, char **words) {
-    static struct fleet fleet = {
-        .guests = 3, .mib = 128, .seconds = 30, .processors = 1, .rest = 50, .round_ms = 1000, .slice = 512, .requests = 100000};
+    static struct fleet fleet = {.guests = 3,
+                                 .mib = 128,
+                                 .seconds = 30,
+                                 .processors = 1,
+                                 .rest = 50,
+                                 .round_ms = 1000,
+                                 .slice = 512,
+                                 .frames = 40,
+                                 .requests = 100000};
     for (unsigned i = 0; i < GUESTS; i++) fleet.guest[i].vm.kvm = fleet.guest[i].vm.fd = -1;
     if (!read_options(&fleet, count, words)) {
         fputs("fleet: bad command line; fleet.c has its form at its head\n", stderr);

@@ -1,5 +1,6 @@
 /*
- * A guest without an operating system: a program in user mode of 64-bit mode, on each of its processors. It fills memory by a
+ * A guest without an operating system: a program in user mode of 64-bit mode, on each of its processors (or, with init.c, the
+ * first process of a Linux guest). It fills memory by a
  * generator, and then checks each word of it in each round while it changes some. Of its memory some pages are as in all guests,
  * at another place in each; some are its own; some are zeros; some it writes seldom, and some in each round; the rest it touches
  * page by page as time goes on.
@@ -30,7 +31,7 @@ struct memory {
 static uint32_t added[PROCESSORS][MIXED_MOST];
 static uint64_t filled; /* processors that have filled their part */
 
-static const struct guest_told *const told = (const struct guest_told *)GUEST_TOLD;
+static const struct guest_told *told;
 
 static void out(uint16_t port, uint8_t byte) { __asm__ volatile("outb %0, %1" : : "a"(byte), "Nd"(port) : "memory"); }
 
@@ -113,7 +114,7 @@ static struct region cut(const char *name, uint64_t *at, uint64_t pages, uint64_
 
 /* The regions of this guest, in hundredths of its memory. */
 static struct memory plan(void) {
-    uint64_t at = GUEST_DATA + told->number * SHIFT * WORDS * 8, share = (told->bytes - GUEST_DATA) / (WORDS * 8) / 100;
+    uint64_t at = told->begin + told->number * SHIFT * WORDS * 8, share = (told->end - told->begin) / (WORDS * 8) / 100;
     uint64_t mixed = 6 * share < MIXED_MOST ? 6 * share : MIXED_MOST;
     struct memory memory;
     memory.common = cut("common", &at, 40 * share, SEED_COMMON);
@@ -122,7 +123,7 @@ static struct memory plan(void) {
     memory.zero = cut("zero", &at, 9 * share, 0);
     memory.mixed = cut("mixed", &at, mixed, SEED_MIXED);
     memory.hot = cut("hot", &at, share * 3 / 2, (SEED_OWN + told->number) << 32);
-    memory.fresh = cut("fresh", &at, (told->bytes - at) / (WORDS * 8), SEED_FRESH + told->number);
+    memory.fresh = cut("fresh", &at, (told->end - at) / (WORDS * 8), SEED_FRESH + told->number);
     return memory;
 }
 
@@ -174,8 +175,8 @@ static uint64_t touch(const struct memory *memory, uint64_t processor, uint64_t 
     return freshened + 1;
 }
 
-void begin(uint64_t processor);
-void begin(uint64_t processor) {
+void guest_run(const struct guest_told *from, uint64_t processor) {
+    __atomic_store_n(&told, from, __ATOMIC_RELAXED); /* (all processors store the same) */
     struct memory memory = plan();
     uint64_t freshened = 0;
     fill_all(&memory, processor);
@@ -194,3 +195,8 @@ void begin(uint64_t processor) {
         out(PORT_REST, (uint8_t)told->rest);
     }
 }
+
+#ifndef GUEST_OF_LINUX
+void begin(uint64_t processor);
+void begin(uint64_t processor) { guest_run((const struct guest_told *)GUEST_TOLD, processor); }
+#endif

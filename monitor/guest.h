@@ -21,7 +21,12 @@ enum {
 enum { PORT_TEXT = 0xf0, PORT_REST = 0x10 };
 
 struct guest_told {
-    uint64_t number, processors, bytes, rest;
+    uint64_t number, processors;
+    uint64_t begin, end; /* of the memory that it fills, in bytes */
+    uint64_t rest;
 };
+
+/* Fills and checks memory for ever, on a processor; of guest.c. */
+void guest_run(const struct guest_told *told, uint64_t processor);
 
 #endif

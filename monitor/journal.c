@@ -20,10 +20,11 @@ struct journal {
     atomic_bool ended; /* another thread may ask */
 };
 
-static const char *const WORDS[] = {[PAGESHARE_VERDICT_NO_PAGE] = "no-page",   [PAGESHARE_VERDICT_UNMAPPED] = "unmapped",
-                                    [PAGESHARE_VERDICT_ALREADY] = "already",   [PAGESHARE_VERDICT_PAIRED] = "paired",
-                                    [PAGESHARE_VERDICT_HINTED] = "hinted",     [PAGESHARE_VERDICT_KEPT] = "kept",
-                                    [PAGESHARE_VERDICT_REPLACED] = "replaced", [PAGESHARE_VERDICT_INELIGIBLE] = "ineligible"};
+/* What a proposal of a private page that nobody proposed before is answered, besides joined. */
+static const char *const WORDS[] = {[PAGESHARE_VERDICT_PAIRED] = "paired",
+                                    [PAGESHARE_VERDICT_HINTED] = "hinted",
+                                    [PAGESHARE_VERDICT_REPLACED] = "replaced",
+                                    [PAGESHARE_VERDICT_INELIGIBLE] = "ineligible"};
 
 struct journal *journal_open(const char *path, uint32_t most) {
     char *beside;
@@ -78,48 +79,71 @@ static void spell(char *hex, const uint8_t *bytes) {
     hex[2 * STEP] = 0;
 }
 
-void journal_lend(struct journal *journal, uint32_t guest, uint32_t ppn, const uint8_t page[PAGESHARE_PAGE_BYTES],
-                  struct pageshare_answer answer) {
-    char hex[2 * STEP + 1];
-    bool refused = answer.verdict == PAGESHARE_VERDICT_NO_FRAME;
-    for (unsigned i = 0; i < STORES; i++) {
-        spell(hex, page + i * STEP);
-        asked(journal, fprintf(journal->text, "%" PRIu32 " store %" PRIu32 " %u %s\n", guest, ppn, i * STEP, hex));
-        wrote(journal, fprintf(journal->replay, "%" PRIu32 " %s\n", guest, refused ? "no-frame" : i == 0 ? "mapped" : "stored"));
-    }
-    if (refused) return;
-    asked(journal, fprintf(journal->text, "%" PRIu32 " propose %" PRIu32 "\n", guest, ppn));
-    if (answer.verdict == PAGESHARE_VERDICT_JOINED)
-        wrote(journal, fprintf(journal->replay, "%" PRIu32 " joined %" PRIu32 "\n", guest, answer.count));
-    else wrote(journal, fprintf(journal->replay, "%" PRIu32 " %s\n", guest, WORDS[answer.verdict]));
-}
-
-void journal_load(struct journal *journal, uint32_t guest, uint32_t ppn, uint32_t at, const uint8_t bytes[PAGESHARE_MAX_ACCESS]) {
-    char hex[2 * STEP + 1];
-    spell(hex, bytes);
-    asked(journal, fprintf(journal->text, "%" PRIu32 " load %" PRIu32 " %" PRIu32 " %d\n", guest, ppn, at, STEP));
-    wrote(journal, fprintf(journal->replay, "%" PRIu32 " bytes %s\n", guest, hex));
-}
-
-void journal_release(struct journal *journal, uint32_t guest, uint32_t ppn, struct pageshare_answer answer) {
-    asked(journal, fprintf(journal->text, "%" PRIu32 " release %" PRIu32 "\n", guest, ppn));
-    wrote(journal, fprintf(journal->replay, "%" PRIu32 " released %s\n", guest, answer.count == 1 ? "freed" : "held"));
-}
-
-bool journal_is_full(const struct journal *journal) {
-    return journal->most - journal->requests < STORES + 1 || journal->bytes > TEXT_MOST;
-}
-
-void journal_end(struct journal *journal, const struct pageshare_totals *totals) {
+static void write_end(struct journal *journal, struct pageshare *machine) {
+    struct pageshare_totals totals;
+    if (pageshare_report(machine, &totals) != PAGESHARE_OK) return;
     wrote(journal, fprintf(journal->text, "end %" PRIu32 "\n", journal->requests));
     wrote(journal, fprintf(journal->replay,
                            "report entries %" PRIu32 " mapped %" PRIu32 " shared %" PRIu32 " frames %" PRIu32 " reclaimed %" PRIu32
                            " hints %" PRIu32 "\n",
-                           totals->entries, totals->mapped, totals->shared, totals->frames, totals->reclaimed, totals->hints));
+                           totals.entries, totals.mapped, totals.shared, totals.frames, totals.reclaimed, totals.hints));
     atomic_store(&journal->ended, true);
 }
 
 bool journal_has_ended(const struct journal *journal) { return atomic_load(&journal->ended); }
+
+/* Whether the next lend or take-back is to be written. Ends a journal that has no room for it. */
+static bool is_open(struct journal *journal, struct pageshare *machine) {
+    if (journal == NULL || journal_has_ended(journal)) return false;
+    if (journal->most - journal->requests > STORES && journal->bytes <= TEXT_MOST) return true;
+    write_end(journal, machine);
+    return false;
+}
+
+struct pageshare_answer journal_lend(struct journal *journal, struct pageshare *machine, uint32_t guest, uint32_t ppn,
+                                     const uint8_t page[PAGESHARE_PAGE_BYTES]) {
+    char hex[2 * STEP + 1];
+    bool open = is_open(journal, machine);
+    struct pageshare_answer answer = pageshare_lend(machine, guest, ppn, page);
+    if (answer.status == PAGESHARE_ERROR_FULL && pageshare_restart_count(machine) == PAGESHARE_OK)
+        answer = pageshare_lend(machine, guest, ppn, page);
+    if (!open) return answer;
+    for (unsigned i = 0; i < STORES; i++) {
+        spell(hex, page + i * STEP);
+        asked(journal, fprintf(journal->text, "%" PRIu32 " store %" PRIu32 " %u %s\n", guest, ppn, i * STEP, hex));
+        wrote(journal, fprintf(journal->replay, "%" PRIu32 " %s\n", guest, i == 0 ? "mapped" : "stored"));
+    }
+    asked(journal, fprintf(journal->text, "%" PRIu32 " propose %" PRIu32 "\n", guest, ppn));
+    if (answer.verdict == PAGESHARE_VERDICT_JOINED)
+        wrote(journal, fprintf(journal->replay, "%" PRIu32 " joined %" PRIu32 "\n", guest, answer.count));
+    else wrote(journal, fprintf(journal->replay, "%" PRIu32 " %s\n", guest, WORDS[answer.verdict]));
+    return answer;
+}
+
+/* Loads a page, 64 bytes at a time. */
+static void write_loads(struct journal *journal, struct pageshare *machine, uint32_t guest, uint32_t ppn) {
+    char hex[2 * STEP + 1];
+    uint8_t bytes[STEP];
+    for (uint32_t at = 0; at < PAGESHARE_PAGE_BYTES; at += STEP) {
+        if (pageshare_load(machine, guest, ppn, at, bytes, STEP).verdict != PAGESHARE_VERDICT_BYTES) return;
+        spell(hex, bytes);
+        asked(journal, fprintf(journal->text, "%" PRIu32 " load %" PRIu32 " %" PRIu32 " %d\n", guest, ppn, at, STEP));
+        wrote(journal, fprintf(journal->replay, "%" PRIu32 " bytes %s\n", guest, hex));
+    }
+}
+
+struct pageshare_answer journal_take_back(struct journal *journal, struct pageshare *machine, uint32_t guest, uint32_t ppn,
+                                          uint8_t room[PAGESHARE_PAGE_BYTES]) {
+    bool open = is_open(journal, machine);
+    if (open) write_loads(journal, machine, guest, ppn);
+    struct pageshare_answer answer = pageshare_take_back(machine, guest, ppn, room);
+    if (answer.status == PAGESHARE_ERROR_FULL && pageshare_restart_count(machine) == PAGESHARE_OK)
+        answer = pageshare_take_back(machine, guest, ppn, room);
+    if (!open) return answer;
+    asked(journal, fprintf(journal->text, "%" PRIu32 " release %" PRIu32 "\n", guest, ppn));
+    wrote(journal, fprintf(journal->replay, "%" PRIu32 " released %s\n", guest, answer.count == 1 ? "freed" : "held"));
+    return answer;
+}
 
 int64_t journal_close(struct journal *journal) {
     int64_t requests = journal->requests;

@@ -18,20 +18,18 @@ struct journal *journal_open(const char *path, uint32_t most);
 /* The head: the machine's frames, and each guest's pages and salt. */
 void journal_head(struct journal *journal, uint32_t frames, const uint32_t *pages, const uint32_t *salts, size_t guests);
 
-/* A page that was unmapped is lent, with this answer: 64 stores, and where they were served a proposal. */
-void journal_lend(struct journal *journal, uint32_t guest, uint32_t ppn, const uint8_t page[PAGESHARE_PAGE_BYTES],
-                  struct pageshare_answer answer);
+/*
+ * Asks the machine as pageshare_lend does, for a page that is unmapped; written are 64 stores and a proposal. Where the journal is
+ * NULL or has ended nothing is written. A machine whose count of requests is full begins it anew.
+ */
+struct pageshare_answer journal_lend(struct journal *journal, struct pageshare *machine, uint32_t guest, uint32_t ppn,
+                                     const uint8_t page[PAGESHARE_PAGE_BYTES]);
 
-/* A load of 64 bytes from a place on. */
-void journal_load(struct journal *journal, uint32_t guest, uint32_t ppn, uint32_t at, const uint8_t bytes[PAGESHARE_MAX_ACCESS]);
+/* The same as pageshare_take_back does, for a page that is lent; written are 64 loads before it, so that its bytes are told. */
+struct pageshare_answer journal_take_back(struct journal *journal, struct pageshare *machine, uint32_t guest, uint32_t ppn,
+                                          uint8_t room[PAGESHARE_PAGE_BYTES]);
 
-void journal_release(struct journal *journal, uint32_t guest, uint32_t ppn, struct pageshare_answer answer);
-
-/* Whether it has no room for 65 requests more. */
-bool journal_is_full(const struct journal *journal);
-
-/* The last lines; nothing is written to it afterwards. */
-void journal_end(struct journal *journal, const struct pageshare_totals *totals);
+/* It has ended when it had no room for another lend or take-back: then the last lines are written. Any thread may ask. */
 bool journal_has_ended(const struct journal *journal);
 
 /* Ends the files. Answers how many requests were written, or -1, with errno, where a write failed or the journal has no end. */

