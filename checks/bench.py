@@ -3,7 +3,9 @@
 
     checks/bench.py [--crates FOLDER] [--turns N] [--quick] [--only WORD] [--table FILE] [--instructions]
 
-The proved programs are those in out/: pageshare (`make build`) and the crates *_bench (`make out/store_bench out/thread_bench`). The opponents are the
+The proved programs are those in out/: pageshare (`make build`) and the crates *_bench (`make out/store_bench out/thread_bench`).
+Where their builds for x86-64-v3 are there too (`make bench-v3`) and the processor is of that level, replays, hashes and runs are
+timed with these as well, beside opponents that are built for it. The opponents are the
 Cargo package benches/, which is copied to out/bench and built there. --crates names a folder with the sources of its
 crates, as Debian's packages librust-hex-dev, librust-rayon-dev, librust-sha2-dev and librust-slab-dev leave it at
 /usr/share/cargo/registry; without it cargo looks for them as it is set up to. The opponents hash in software, as the proved
@@ -77,23 +79,53 @@ def stores_and_loads(count, pages):
             yield f"load {ppn} {at} 32"
 
 
-def build_opponents(crates, instructions):
-    """Builds benches/ in out/bench, and answers its folder of programs, or why there is none."""
+# The features of x86-64-v3 beyond x86-64-v2, as /proc/cpuinfo has them.
+V3 = {"avx", "avx2", "bmi1", "bmi2", "f16c", "fma", "abm", "movbe", "xsave"}
+
+
+class Level:
+    """A processor level that programs are built for: what their names and their rows end with, and the parts' names.
+
+    `theirs` is the folder of the opponents' programs, or None."""
+
+    def __init__(self, cpu, suffix, shown, wide):
+        self.cpu, self.suffix, self.shown, self.wide = cpu, suffix, shown, wide
+        self.theirs = None
+
+    def ours(self, program):
+        return os.path.join(TOP, "out", program + self.suffix)
+
+
+V2_LEVEL = Level("x86-64-v2", "", "", "")
+V3_LEVEL = Level("x86-64-v3", "-v3", " (v3)", "wide-")
+
+
+def has_v3():
+    """Whether all programs for x86-64-v3 were built, and this processor runs them."""
+    with open("/proc/cpuinfo", encoding="ascii") as lines:
+        flags = next((set(line.split()) for line in lines if line.startswith("flags")), set())
+    return V3 <= flags and all(os.path.exists(V3_LEVEL.ours(name)) for name in ("pageshare", "store_bench", "thread_bench"))
+
+
+def build_opponents(crates, instructions, cpu):
+    """Builds benches/ in out/bench for a processor level, and answers its folder of programs, or why there is none."""
     if not shutil.which("cargo"):
         return None, "there is no cargo"
     source = os.path.join(OUT, "opponents")
     shutil.rmtree(source, ignore_errors=True)
     shutil.copytree(os.path.join(TOP, "benches"), source)
-    command = ["cargo", "build", "--release", "--quiet", "--target-dir", os.path.join(OUT, "target")]
+    target = os.path.join(OUT, f"target-{cpu}")
+    command = ["cargo", "build", "--release", "--quiet", "--target-dir", target]
     if not instructions:
         command += ["--features", "soft"]
     if crates:
         command += ["--offline", "--config", 'source.crates-io.replace-with="at-hand"']
         command += ["--config", f'source.at-hand.directory="{crates}"']
-    done = subprocess.run(command, cwd=source, capture_output=True, text=True, check=False)
+    setting = os.environ | {"RUSTFLAGS": f"-C target-cpu={cpu}"}
+    done = subprocess.run(command, cwd=source, env=setting, capture_output=True, text=True, check=False)
     if done.returncode != 0:
         return None, "cargo: " + (done.stderr.strip().splitlines() or ["failed"])[-1]
-    return os.path.join(OUT, "target", "release"), None
+    return os.path.join(target, "release"), None
 
 
 def seconds(program, words, path):
@@ -162,28 +194,42 @@ class Table:
                 out.write("\t".join([name, unit, f"{min(ours):.2f}", f"{min(theirs):.2f}" if theirs else "-"]) + "\n")
 
 
-def replays(table, theirs, quick):
-    pageshare = os.path.join(TOP, "out", "pageshare")
+def replays(table, level, quick):
+    pageshare, is_v3 = level.ours("pageshare"), level is V3_LEVEL
     part = 10 if quick else 1
     journals = [
-        ("replay: 30,000 different contents", 0.45, journal("different", 30_000, 30_000, scanned(30_000 // part, different))),
-        ("replay: 70,000 equal pages", 0.5, journal("equal", 70_000, 70_000, scanned(70_000 // part, equal))),
+        ("replay: 30,000 different contents", 0.32 if is_v3 else 0.45, journal("different", 30_000, 30_000, scanned(30_000 // part, different))),
+        ("replay: 70,000 equal pages", 0.3 if is_v3 else 0.5, journal("equal", 70_000, 70_000, scanned(70_000 // part, equal))),
         ("replay: 30,000 different, in turn", 1.0, journal("different-in-turn", 30_000, 30_000, in_turn(30_000 // part, different))),
         ("replay: 70,000 equal, in turn", 1.0, journal("equal-in-turn", 70_000, 70_000, in_turn(70_000 // part, equal))),
-        ("replay: 500,000 stores and loads", 1.0, journal("stores", 20_000, 20_000, stores_and_loads(500_000 // part, 20_000))),
+        ("replay: 500,000 stores and loads", 0.9, journal("stores", 20_000, 20_000, stores_and_loads(500_000 // part, 20_000))),
     ]
     for count in GROWTH[: 2 if quick else None]:
         requests = stores_and_loads(count, 2_000)
         journals.append((f"replay: {count:,} requests", None, journal(f"growth-{count}", 2_000, 2_000, requests)))
     for name, goal, path in journals:
-        other = os.path.join(theirs, "replay") if theirs else None
+        other = os.path.join(level.theirs, "replay") if level.theirs else None
         if other and output(pageshare, ["replay"], path) != output(other, [], path):
             sys.exit(f"{name}: the two programs print different verdicts")
         rows = table.in_turns(
             lambda p=path: 1e3 * seconds(pageshare, ["replay"], p),
             (lambda p=path: 1e3 * seconds(other, [], p)) if other else None,
         )
-        table.add(name, "ms", goal, *rows)
+        table.add(name + level.shown, "ms", goal, *rows)
+    by_hand(table, level, journals[4][2])
+
+
+def by_hand(table, level, path):
+    """The stores and loads once more, beside Rust that reads and prints the text by hand."""
+    pageshare, theirs = level.ours("pageshare"), level.theirs
+    other = os.path.join(theirs, "replay_by_hand") if theirs else None
+    if other and output(pageshare, ["replay"], path) != output(other, [], path):
+        sys.exit("by hand: the two programs print different verdicts")
+    rows = table.in_turns(
+        lambda: 1e3 * seconds(pageshare, ["replay"], path),
+        (lambda: 1e3 * seconds(other, [], path)) if other else None,
+    )
+    table.add("replay: the same stores and loads, by hand" + level.shown, "ms", 1.25, *rows)
 
 
 def image(name, seed, pages):
@@ -201,7 +247,7 @@ def image(name, seed, pages):
 
 
 def estimates(table, theirs, quick):
-    pageshare = os.path.join(TOP, "out", "pageshare")
+    pageshare = V2_LEVEL.ours("pageshare")
     pages = 4096 if quick else 65_536
     images = [image(f"image-{n}", n, pages) for n in range(1, 5)]
     python = [sys.executable, os.path.join(TOP, "benches", "estimate.py")]
@@ -222,18 +268,19 @@ def run_time(command):
     return 1e3 * (time.perf_counter() - start)
 
 
-def counted(table, theirs, program, part, opponent, words, goals, own=()):
+def counted(table, level, program, part, opponent, words, goals, own=()):
     """The figures that a part of a benchmark and its opponent print, and of its own those that stand beside one another."""
-    ours = os.path.join(TOP, "out", program)
+    ours, theirs = level.ours(program), level.theirs
     other = os.path.join(theirs, opponent) if theirs and opponent else None
     mine, others = table.in_turns(lambda: told(ours, [part, *words]), (lambda: told(other, words)) if other else None)
     for figure in mine[0]:
-        same = "one by one" if figure in ("four at once", "one worker") else figure
+        same = "one by one" if figure in ("four at once", "eight at once", "one worker") else figure
         rest = [turn[same] for turn in others] if others and same in others[0] else []
-        table.add(f"{part}: {figure}", "ns", goals.get(figure, goals.get("")), [turn[figure] for turn in mine], rest)
+        goal = goals.get(figure, goals.get(""))
+        table.add(f"{part}: {figure}{level.shown}", "ns", goal, [turn[figure] for turn in mine], rest)
     for figure, beside, shown, goal in own:
         both = [[turn[one] if one in turn else one for turn in mine] for one in (figure, beside)]
-        table.add(f"{part}: {figure}, beside {shown}", "ns", goal, *both)
+        table.add(f"{part}: {figure}, beside {shown}{level.shown}", "ns", goal, *both)
 
 
 # What a run in threads has to beat: the same requests through a core on one thread.
@@ -247,6 +294,16 @@ LARGEST = [("the largest machine", 50e6, "50 ms", 1.0)]
 WORKERS = [("four workers", "one worker", "one worker", 0.30)]
 
 
+# The parts whose times the processor level changes.
+BY_LEVEL = {"replay", "hash", "run"}
+
+
+def hashes(table, level):
+    """Pages hashed; on x86-64-v3 by the hash type for its vectors, of which one worker is to take a fifth of Rust's time."""
+    goals = {"": 1.0, "one worker": 0.20} if level is V3_LEVEL else {"": 1.0}
+    counted(table, level, "store_bench", level.wide + "hash", "hashing", ["2000"], goals, WORKERS)
+
+
 def main():
     parser = argparse.ArgumentParser(description="Times the proved programs beside plain Rust.")
     parser.add_argument("--crates", default=os.environ.get("CRATES"))
@@ -257,24 +314,30 @@ def main():
     parser.add_argument("--instructions", action="store_true", help="let the opponents use the processor's SHA instructions")
     asked = parser.parse_args()
     os.makedirs(OUT, exist_ok=True)
-    theirs, why = build_opponents(asked.crates, asked.instructions)
-    if why:
-        print(f"No opponents: {why}. Our side alone follows.")
+    levels = [V2_LEVEL, V3_LEVEL] if has_v3() else [V2_LEVEL]
+    for level in levels:
+        level.theirs, why = build_opponents(asked.crates, asked.instructions, level.cpu)
+        if why:
+            print(f"No opponents: {why}. Our side alone follows.")
+    if V3_LEVEL not in levels:
+        print("x86-64-v3 is left out: its builds aren't in out/, or this processor lacks it.")
     print(f"{'':<50} {'ours least':>10} {'middle':>10} {'Rust least':>10} {'middle':>10} {'ratio':>6} {'goal':>5}")
     table = Table(2 if asked.quick else asked.turns)
     size = str(20_000 if asked.quick else 200_000)
+    requests = str(2_000 if asked.quick else 20_000)
     parts = {
-        "replay": lambda: replays(table, theirs, asked.quick),
-        "frames": lambda: counted(table, theirs, "store_bench", "frames", "frames", [size], {"": 1.2, "give_back": None}),
-        "table": lambda: counted(table, theirs, "store_bench", "table", "table", [size], {"": 1.2}),
-        "rings": lambda: counted(table, theirs, "thread_bench", "rings", "rings", [size], {"": 1.2, "between two": None}),
-        "hash": lambda: counted(table, theirs, "store_bench", "hash", "hashing", ["2000"], {"": 1.0}, WORKERS),
-        "estimate": lambda: estimates(table, theirs, asked.quick),
-        "run": lambda: counted(table, theirs, "thread_bench", "run", "runs", [str(2_000 if asked.quick else 20_000)], {"": 1.0}, LARGEST + THREADS),
+        "replay": lambda level: replays(table, level, asked.quick),
+        "frames": lambda level: counted(table, level, "store_bench", "frames", "frames", [size], {"": 1.2, "give_back": None}),
+        "table": lambda level: counted(table, level, "store_bench", "table", "table", [size], {"": 1.2}),
+        "rings": lambda level: counted(table, level, "thread_bench", "rings", "rings", [size], {"": 1.2, "between two": None}),
+        "hash": lambda level: hashes(table, level),
+        "estimate": lambda level: estimates(table, level.theirs, asked.quick),
+        "run": lambda level: counted(table, level, "thread_bench", level.wide + "run", "runs", [requests], {"": 1.0}, LARGEST + THREADS),
     }
     for name, part in parts.items():
         if asked.only in name:
-            part()
+            for level in levels if name in BY_LEVEL else [V2_LEVEL]:
+                part(level)
     if asked.table:
         table.write(asked.table)
     for name, _, goal, ours, others in table.missed():

@@ -4,7 +4,7 @@ ghost use Rattle.machine_frames.specs.FrameMap.{IsTaken};
 ghost use Rattle.page_digest.specs.Many.{AreTaken};
 
 use machine_frames::Frames;
-use page_digest::{PageHash, Sha256Hash};
+use page_digest::PageHash;
 use page_model::Page;
 use std::alloc::{AllocError, Global};
 
@@ -55,24 +55,36 @@ fn in_turn(_frames: &Frames, first: u32, second: u32, n: u32) -> u32
 }
 
 /// Returns the sum of `count` hashes of a page, made one by one.
-pub fn one_by_one(page: &Page, count: u32) -> u64 {
+pub fn one_by_one<H: PageHash>(hash: &H, page: &Page, count: u32) -> u64 {
     let mut sum = 0u64;
     for n in 0..count {
-        sum = sum.wrapping_add(Sha256Hash.hash(n % 4, page));
+        sum = sum.wrapping_add(hash.hash(n % 4, page));
     }
     sum
 }
 
 /// Returns the same sum with four hashes made at once, as far as whole fours go.
-pub fn four_at_once(page: &Page, count: u32) -> u64 {
+pub fn four_at_once<H: PageHash>(hash: &H, page: &Page, count: u32) -> u64 {
     let mut sum = 0u64;
     for _four in 0..count / 4 {
-        let numbers = Sha256Hash.hash_four([0, 1, 2, 3], page, page, page, page);
-        sum = sum
-            .wrapping_add(numbers[0])
-            .wrapping_add(numbers[1])
-            .wrapping_add(numbers[2])
-            .wrapping_add(numbers[3]);
+        sum = sum.wrapping_add(sum_of(&hash.hash_four([0, 1, 2, 3], page, page, page, page)));
+    }
+    sum
+}
+
+/// Returns the same sum with eight hashes made at once, as far as whole eights go.
+pub fn eight_at_once<H: PageHash>(hash: &H, page: &Page, count: u32) -> u64 {
+    let mut sum = 0u64;
+    for _eight in 0..count / 8 {
+        sum = sum.wrapping_add(sum_of(&hash.hash_eight([0, 1, 2, 3, 0, 1, 2, 3], [page; 8])));
+    }
+    sum
+}
+
+fn sum_of(numbers: &[u64]) -> u64 {
+    let mut sum = 0u64;
+    for number in numbers {
+        sum = sum.wrapping_add(*number);
     }
     sum
 }

@@ -8,7 +8,7 @@ ghost use Rattle.page_model.specs.declared.limits.TheConstants.{MAX_ENTRIES, MAX
 
 use merge_core::{Core, CoreFault};
 use merge_run::{Config, OpenGate, RunFault, run};
-use page_digest::Sha256Hash;
+use page_digest::PageHash;
 use page_model::{MAX_FRAMES, MAX_PAGES, Request};
 use std::alloc::{AllocError, Global};
 use std::io;
@@ -125,19 +125,20 @@ struct Measure {
 }
 
 // Measures a run in threads, or returns why there was none.
-fn in_threads<R: Clock + Threads + Wait + Sync>(
+fn in_threads<R: Clock + Threads + Wait + Sync, H: PageHash + Copy>(
     rt: &R,
     alloc: Global,
     mix: Mix,
     guests: u8,
     requests: u32,
+    hash: H,
 ) -> io::Result<Result<Measure, RunFault>>
     requires { (guests ≤ MAX_GUESTS) × (requests ≤ 100000) }
 {
     let config = config(alloc, guests, requests)?;
     let scripts = scripts(alloc, mix, guests, requests)?;
     let start = Instant::now(rt)?;
-    let finished = match run(rt, alloc, &config, Sha256Hash, scripts, &OpenGate) {
+    let finished = match run(rt, alloc, &config, hash, scripts, &OpenGate) {
         Ok(finished) => finished,
         Err(fault) => return Ok(Err(fault)),
     };
@@ -153,7 +154,7 @@ fn in_threads<R: Clock + Threads + Wait + Sync>(
 }
 
 // Serves the same request of each guest in turn.
-fn turn(core: &mut Core<Sha256Hash>, guests: u8, request: &Request)
+fn turn<H: PageHash>(core: &mut Core<H>, guests: u8, request: &Request)
     requires guests { guests ≤ length (state_of core.old).guests }
     requires room { core.old.entries + guests ≤ MAX_ENTRIES }
     ensures guests { length (state_of core.new).guests ≡ length (state_of core.old).guests }
@@ -165,24 +166,19 @@ fn turn(core: &mut Core<Sha256Hash>, guests: u8, request: &Request)
 }
 
 // Measures the same requests through a core on one thread, or returns why there was none.
-fn on_one_thread<R: Clock>(
+fn on_one_thread<R: Clock, H: PageHash + Copy>(
     rt: &R,
     alloc: Global,
     mix: Mix,
     guests: u8,
     requests: u32,
+    hash: H,
 ) -> io::Result<Result<Measure, CoreFault>>
     requires { (guests ≤ MAX_GUESTS) × (requests ≤ 100000) }
 {
     let config = config(alloc, guests, requests)?;
     let start = Instant::now(rt)?;
-    let made = Core::new(
-        alloc,
-        config.frames,
-        &config.pages,
-        &config.salts,
-        Sha256Hash,
-    );
+    let made = Core::new(alloc, config.frames, &config.pages, &config.salts, hash);
     let mut core = match made {
         Ok(core) => core,
         Err(fault) => return Ok(Err(fault)),
@@ -205,24 +201,25 @@ fn rate(measure: Measure) -> u128 {
 
 // Prints the rates of a mix, or how many verdicts came if no number was asked for. If a run was refused it prints why,
 // and returns false.
-fn print_mix<R: Clock + Threads + Wait + Print + Sync>(
+fn print_mix<R: Clock + Threads + Wait + Print + Sync, H: PageHash + Copy>(
     rt: &R,
     alloc: Global,
     mix: Mix,
     guests: u8,
     asked: Option<u32>,
+    hash: H,
 ) -> io::Result<bool>
-    requires { guests ≤ 64 }
+    requires { guests ≤ MAX_GUESTS }
 {
     let requests = asked.unwrap_or(CHECKED).min(MOST);
-    let threaded = match in_threads(rt, alloc, mix, guests, requests)? {
+    let threaded = match in_threads(rt, alloc, mix, guests, requests, hash)? {
         Ok(threaded) => threaded,
         Err(fault) => {
             println!(rt; "{guests} guests: {fault}")?;
             return Ok(false);
         }
     };
-    let plain = match on_one_thread(rt, alloc, mix, guests, requests)? {
+    let plain = match on_one_thread(rt, alloc, mix, guests, requests, hash)? {
         Ok(plain) => plain,
         Err(fault) => {
             println!(rt; "{guests} guests: {fault}")?;
@@ -245,9 +242,13 @@ fn print_mix<R: Clock + Threads + Wait + Print + Sync>(
 }
 
 // Returns how many nanoseconds it takes to make the largest machine, or why there is none.
-fn time_of_the_largest<R: Clock>(rt: &R, alloc: Global) -> io::Result<Result<u128, CoreFault>> {
+fn time_of_the_largest<R: Clock, H: PageHash + Copy>(
+    rt: &R,
+    alloc: Global,
+    hash: H,
+) -> io::Result<Result<u128, CoreFault>> {
     let start = Instant::now(rt)?;
-    let made = Core::new(alloc, MAX_FRAMES, &[MAX_PAGES], &[0], Sha256Hash);
+    let made = Core::new(alloc, MAX_FRAMES, &[MAX_PAGES], &[0], hash);
     let nanoseconds = start.elapsed(rt)?.as_nanos();
     match made {
         Ok(_core) => Ok(Ok(nanoseconds)),
@@ -256,8 +257,13 @@ fn time_of_the_largest<R: Clock>(rt: &R, alloc: Global) -> io::Result<Result<u12
 }
 
 // Prints how long it takes to make the largest machine, or that it is made if no number was asked for.
-fn print_largest<R: Clock + Print>(rt: &R, alloc: Global, asked: Option<u32>) -> io::Result<()> {
-    match time_of_the_largest(rt, alloc)? {
+fn print_largest<R: Clock + Print, H: PageHash + Copy>(
+    rt: &R,
+    alloc: Global,
+    asked: Option<u32>,
+    hash: H,
+) -> io::Result<()> {
+    match time_of_the_largest(rt, alloc, hash)? {
         Err(fault) => println!(rt; "the largest machine: {fault}"),
         Ok(nanoseconds) => {
             if asked.is_some() {
@@ -273,15 +279,16 @@ fn print_largest<R: Clock + Print>(rt: &R, alloc: Global, asked: Option<u32>) ->
 /// second, with the number asked for from each guest, for 1, 2, 4, 8 and 64 guests over rings of 64 items: of a mix
 /// with a proposal in 16, and of stores and loads alone. With no number it runs a few requests, and prints how many
 /// verdicts came.
-pub fn time_runs<R: Clock + Threads + Wait + Print + Sync>(
+pub fn time_runs<R: Clock + Threads + Wait + Print + Sync, H: PageHash + Copy>(
     rt: &R,
     alloc: Global,
     asked: Option<u32>,
+    hash: H,
 ) -> io::Result<()> {
-    print_largest(rt, alloc, asked)?;
+    print_largest(rt, alloc, asked, hash)?;
     for guests in [1u8, 2, 4, 8, 64] {
         for mix in [Mix::Proposals, Mix::Plain] {
-            if !print_mix(rt, alloc, mix, guests, asked)? {
+            if !print_mix(rt, alloc, mix, guests, asked, hash)? {
                 return Ok(());
             }
         }
