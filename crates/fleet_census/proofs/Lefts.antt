@@ -67,6 +67,16 @@ chained_on file said (Some before) (Some after) entry chained read =
           record { done = chained.done ++ row ∷ []; left = after; is = refl; whole = chained.whole ∙ rw (same, line.told) (more_done chained.done row after) }
     ]
 
+-- where there is no next line, nothing is left to tell
+pub none_told : (file : ℕ) (told now : Option Said) (entry : Entry) (left : Said) → told ≡ Some left → file < 2 ^ 32 - 1
+    → IfSome told (λ (before : Said). IsRead file before now (Ok entry)) → entry.file ≡ NO_FILE → now ≡ Some (Ok [])
+none_told file None now entry left is low read none = absurd cc
+none_told file (Some before) None entry left is low read none = absurd read
+none_told file (Some before) (Some after) entry left is low read none = elim read [
+  | inl ended ↦ ap Some ended.2
+  | inr line ↦ absurd (omega (arith, line.own, none, low))
+]
+
 pub chained_fault : (file number : ℕ) (said : Said) (told now : Option Said) (fault : LineFault) → IsChained said told
     → IfSome told (λ (before : Said). IsRead file before now (Err (Line number fault))) → (number ≡ file) × (said ≡ Err fault)
 chained_fault file number said None now fault chained read = let e = chained.is in absurd cc

@@ -102,15 +102,15 @@ module _ (fleet : List (List Row)) (turn : ℕ) (leaves : List Entry) (told : Li
   ]
 
 -- what the files say is told on where a file was joined
-pub joined_told : (files : List Said) (told : List (Option Said)) (opening : Opening) (first : First) (turn : ℕ) (result : Result Opening FleetFault) → IsJoined opening first turn result
-    → AreChained files told → IsToldOn files told result
-joined_told files told opening first turn (Ok more) joined chained = chained
-joined_told files told opening first turn (Err OutOfMemory) joined chained = tt
-joined_told files told opening first turn (Err TooManyDigests) joined chained = tt
-joined_told files told opening first turn (Err TooManyPages) joined chained = tt
-joined_told files told opening first turn (Err (OtherSample number)) joined chained = tt
-joined_told files told opening first turn (Err (Read number error)) joined chained = tt
-joined_told files told opening first turn (Err (Line number fault)) joined chained = absurd joined
+pub joined_told : (files : List Said) (opened : ℕ) (leaves : List Entry) (told : List (Option Said)) (opening : Opening) (first : First) (turn : ℕ) (result : Result Opening FleetFault)
+    → IsJoined opening first turn result → AreChained files opened leaves told → IsToldOn files opened leaves told result
+joined_told files opened leaves told opening first turn (Ok more) joined chained = chained
+joined_told files opened leaves told opening first turn (Err OutOfMemory) joined chained = tt
+joined_told files opened leaves told opening first turn (Err TooManyDigests) joined chained = tt
+joined_told files opened leaves told opening first turn (Err TooManyPages) joined chained = tt
+joined_told files opened leaves told opening first turn (Err (OtherSample number)) joined chained = tt
+joined_told files opened leaves told opening first turn (Err (Read number error)) joined chained = tt
+joined_told files opened leaves told opening first turn (Err (Line number fault)) joined chained = absurd joined
 
 -- a fault of a read is no other
 pub open_read_fault : (fleet : List (List Row)) (turn : ℕ) (leaves : List Entry) (told : List (Option Said)) (zeros : List ℕ) (guests : List FleetGuest) (fault : FleetFault)

@@ -1,17 +1,17 @@
 -- The next file that tells of a digest.
-use Rattle.std.proofs.Common.{◌≡◌, ◌≢◌, ℕ, ◌+◌, ◌*◌, ◌-◌, ◌<◌, ◌≤◌, ◌^◌, ◌⊎◌, cond, eqb, List, [], length, length-set, get_or, set, refl, sym, ap, ◌∙◌, arith, inl, inr, get_or-set_other, get_or-set_same}
+use Rattle.std.proofs.Common.{◌≡◌, ◌≢◌, ℕ, ◌+◌, ◌*◌, ◌-◌, ◌<◌, ◌≤◌, ◌^◌, ◌⊎◌, cond, eqb, List, [], ◌++◌, length, length-set, get_or, set, refl, sym, ap, ◌∙◌, arith, inl, inr, get_or-set_other, get_or-set_same}
 use Rattle.std.proofs.lemmas.Bool.{cases_lt, cases_eq, lt-ltb, le-ltb}
 use Rattle.std.specs.Prelude.{Option, Some, None, Ok, Err, slice_index}
 use Rattle.digest_text.specs.Fields.{Row}
 use Rattle.fleet_census.specs.Fleets.{copies_of}
-use Rattle.fleet_census.specs.States.{AreBehind, AreChained, AreOwn, IsBehind, IsFaultOf, IsLastHolder, IsNextHolder, IsNoOther, IsOwn, IsRead, IsReadOn, IsUnread, Said, passed}
+use Rattle.fleet_census.specs.States.{AreBehind, AreChained, AreOwn, AreSound, IsBehind, IsFaultOf, IsLastHolder, IsNextHolder, IsNoOther, IsOwn, IsRead, IsReadOn, IsUnread, Said, passed}
 use Rattle.fleet_census.specs.Tournaments.{IsFirst, entry_at, key, nothing}
 use Rattle.fleet_census.specs.declared.content.Holder.{Holder}
 use Rattle.fleet_census.specs.declared.entry.Entry.{Entry}
 use Rattle.fleet_census.specs.declared.entry.TheConstants.{AT_END, NO_FILE}
 use Rattle.fleet_census.specs.declared.fault.FleetFault.{FleetFault}
 use Rattle.fleet_census.specs.declared.fault.FleetFault.TheVariants.{OutOfMemory, TooManyDigests, TooManyPages, OtherSample, Read, Line}
-use Rattle.fleet_census.proofs.Lefts.{behind_low, behind_raised, behind_taken, chained_fault, chained_on, read_behind}
+use Rattle.fleet_census.proofs.Lefts.{behind_low, behind_raised, behind_taken, chained_fault, chained_on, none_told, read_behind}
 
 pub passed_before : (digest count file : ℕ) → file < count → passed digest count file ≡ digest + 1
 passed_before digest count file lt = rw (lt-ltb file count lt) refl
@@ -136,10 +136,12 @@ own_put leaves file next own is within = record {
   ];
 }
 
-module _ (files : List Said) (told now : List (Option Said)) (file : ℕ) (within : file < length files) (chained : AreChained files told) where
-  -- what the files say is told on
-  pub chained_more : (entry : Entry) → length told ≡ length files → IsReadOn file told now (Ok entry) → AreChained files now
-  chained_more entry long read = record {
+module _ (files : List Said) (opened : ℕ) (leaves : List Entry) (told now : List (Option Said)) (file : ℕ) (within : file < length files)
+    (chained : AreChained files opened leaves told) where
+  -- what the files say is told on, where of one of them the next line was read
+  pub chained_more : (more : ℕ) → ((other : ℕ) → other < more → other ≢ file → other < opened) → (entry : Entry) → length told ≡ length files → length leaves ≡ length files
+      → file < 2 ^ 32 - 1 → IsReadOn file told now (Ok entry) → AreChained files more (set leaves file entry) now
+  chained_more more before entry long same low read = record {
     each = λ other lt. elim (cases_eq other file) [
       | inl e ↦
           let said : get_or (set told file read.now) other None ≡ read.now = rw e (get_or-set_same told file read.now None (omega arith)) in
@@ -147,6 +149,17 @@ module _ (files : List Said) (told now : List (Option Said)) (file : ℕ) (withi
       | inr ne ↦
           let said : get_or (set told file read.now) other None ≡ get_or told other None = get_or-set_other told file other read.now None ne in
           rw (read.others, said) (chained.each other lt)
+    ];
+    ended = λ other lt none. elim (cases_eq other file) [
+      | inl e ↦
+          let said : get_or (set told file read.now) other None ≡ read.now = rw e (get_or-set_same told file read.now None (omega arith)) in
+          let leaf : entry_at (set leaves file entry) other ≡ entry = rw e (get_or-set_same leaves file entry nothing (omega arith)) in
+          let here = chained.each file within in
+          rw (read.others, said) (none_told file (get_or told file None) read.now entry here.left here.is low read.next (rw leaf at none))
+      | inr ne ↦
+          let said : get_or (set told file read.now) other None ≡ get_or told other None = get_or-set_other told file other read.now None ne in
+          let leaf : entry_at (set leaves file entry) other ≡ entry_at leaves other = get_or-set_other leaves file other entry nothing ne in
+          rw (read.others, said) (chained.ended other (before other lt ne) (rw leaf at none))
     ];
   }
 
@@ -161,6 +174,21 @@ module _ (files : List Said) (told now : List (Option Said)) (file : ℕ) (withi
       let both = chained_fault file number (get_or files file (Ok [])) (get_or told file None) read.now fault (chained.each file within) read.next in
       let low : number < length files = rw both.0 within in
       (low, rw both.0 both.1)
+
+-- where no file has a next line, none is at fault
+pub all_sound : (files : List Said) (leaves : List Entry) (told : List (Option Said)) → AreChained files (length files) leaves told
+    → ((file : ℕ) → file < length files → entry_at leaves file ≡ AT_END) → AreSound files
+all_sound files leaves told chained ended = record {
+  each = λ file lt.
+      let it = chained.each file lt in
+      let none = chained.ended file lt (ap (λ (entry : Entry). entry.file) (ended file lt)) in
+      let same : it.left ≡ Ok [] = let e = it.is in cc in
+      record { rows = it.done ++ []; is = it.whole ∙ rw same refl };
+}
+
+-- fewer files are opened
+pub chained_to : (files : List Said) (opened fewer : ℕ) (leaves : List Entry) (told : List (Option Said)) → fewer ≤ opened → AreChained files opened leaves told → AreChained files fewer leaves told
+chained_to files opened fewer leaves told le chained = record { each = chained.each; ended = λ file lt. chained.ended file (omega arith) }
 
 -- a file is never read to another fault
 no_read : (file : ℕ) (before : Said) (now : Option Said) (fault : FleetFault) → IsRead file before now (Err fault) → IsNoOther fault

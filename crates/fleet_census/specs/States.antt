@@ -46,8 +46,10 @@ pub record IsChained (said : Said) (told : Option Said) : Type 0 where
   pub is : told ≡ Some left
   pub whole : said ≡ (left >>= λ rest. Ok (done ++ rest))
 
-pub record AreChained (files : List Said) (told : List (Option Said)) : Type 0 where
+-- The same of each file. Of as many of them as are opened the next line was read; one without a next line has no more to tell.
+pub record AreChained (files : List Said) (opened : ℕ) (leaves : List Entry) (told : List (Option Said)) : Type 0 where
   pub each : (file : ℕ) → file < length files → IsChained (slice_index_or files file (Ok [])) (slice_index_or told file None)
+  pub ended : (file : ℕ) → file < opened → (entry_at leaves file).file ≡ NO_FILE → slice_index_or told file None ≡ Some (Ok [])
 
 -- Of a file's rows some are yet to be told, and these are what is left from a bound on.
 pub record IsUnread (rows : List Row) (bound : ℕ) (told : Option Said) : Type 0 where
@@ -138,6 +140,19 @@ IsTaken fleet digest count zeros leaves told (Ok None) = IsLastHolder fleet dige
 IsTaken fleet digest count zeros leaves told (Err fault) = IsNoOther fault
 
 -- What files say is told on, or the fault of one of them.
-abbrev pub IsToldOn : {T : Type 0} → List Said → List (Option Said) → Result T FleetFault → Type 0
-IsToldOn files told (Ok x) = AreChained files told
-IsToldOn files told (Err fault) = IsFaultOf files fault
+abbrev pub IsToldOn : {T : Type 0} → List Said → ℕ → List Entry → List (Option Said) → Result T FleetFault → Type 0
+IsToldOn files opened leaves told (Ok x) = AreChained files opened leaves told
+IsToldOn files opened leaves told (Err fault) = IsFaultOf files fault
+
+-- no file is at fault
+pub record IsSound (said : Said) : Type 0 where
+  pub rows : List Row
+  pub is : said ≡ Ok rows
+
+pub record AreSound (files : List Said) : Type 0 where
+  pub each : (file : ℕ) → file < length files → IsSound (slice_index_or files file (Ok []))
+
+-- all that the files say was told, or the fault of one of them
+abbrev pub IsToldWhole : {T : Type 0} → List Said → Result T FleetFault → Type 0
+IsToldWhole files (Ok x) = AreSound files
+IsToldWhole files (Err fault) = IsFaultOf files fault

@@ -52,8 +52,9 @@ pub(crate) fn gather<R: Read + Drop, A: Allocator>(
     ensures own { AreOwn (leaves tournament.new.files tournament.new.entries.items) }
     ensures room { vec_capacity holders.new ≡ vec_capacity holders.old }
     ensures holders { All (λ holder. holder.file < length readers.old) holders.new.items }
-    ensures told { (files : List Said) → length files ≡ length readers.old → AreChained files (map (told R.remaining) readers.old)
-        → IsToldOn files (map (told R.remaining) readers.new) result }
+    ensures told { (files : List Said) → length files ≡ length readers.old → AreChained files (length files)
+        (leaves tournament.old.files tournament.old.entries.items) (map (told R.remaining) readers.old)
+        → IsToldOn files (length files) (leaves tournament.new.files tournament.new.entries.items) (map (told R.remaining) readers.new) result }
     ensures gathered { (fleet : List (List Row)) → length fleet ≡ length readers.old → AreZeros fleet zeros.now
         → AreBehind fleet (λ file. digest) (leaves tournament.old.files tournament.old.entries.items) (map (told R.remaining) readers.old)
         → IsGathered fleet digest (leaves tournament.new.files tournament.new.entries.items) (map (told R.remaining) readers.new)

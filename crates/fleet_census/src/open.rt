@@ -72,8 +72,9 @@ fn open_next<R: Read + Drop, A: Allocator>(
     ensures own { AreOwn (leaves tournament.new.files tournament.new.entries.items) }
     ensures lens { IfOk result (λ opening. (vec_len zeros.new ≡ file + 1) × (vec_len guests.new ≡ file + 1)) }
     ensures room { (vec_capacity zeros.new ≡ vec_capacity zeros.old) × (vec_capacity guests.new ≡ vec_capacity guests.old) }
-    ensures told { (files : List Said) → length files ≡ length readers.old → AreChained files (map (told R.remaining) readers.old)
-        → IsToldOn files (map (told R.remaining) readers.new) result }
+    ensures told { (files : List Said) → length files ≡ length readers.old → AreChained files file
+        (leaves tournament.old.files tournament.old.entries.items) (map (told R.remaining) readers.old)
+        → IsToldOn files (file + 1) (leaves tournament.new.files tournament.new.entries.items) (map (told R.remaining) readers.new) result }
     ensures opened { (fleet : List (List Row)) → length fleet ≡ length readers.old → From 0 (lines_of (slice_index_or fleet file []))
         → IsOpenTo fleet file (leaves tournament.old.files tournament.old.entries.items) (map (told R.remaining) readers.old)
         zeros.old.items guests.old.items opening
@@ -113,8 +114,9 @@ pub(crate) fn open<R: Read + Drop, A: Allocator>(
     ensures files { tournament.new.files ≡ tournament.old.files }
     ensures own { AreOwn (leaves tournament.new.files tournament.new.entries.items) }
     ensures lens { IfOk result (λ opening. (vec_len zeros.new ≡ length readers.old) × (vec_len guests.new ≡ length readers.old)) }
-    ensures told { (files : List Said) → length files ≡ length readers.old → AreChained files (map (told R.remaining) readers.old)
-        → IsToldOn files (map (told R.remaining) readers.new) result }
+    ensures told { (files : List Said) → length files ≡ length readers.old → AreChained files 0
+        (leaves tournament.old.files tournament.old.entries.items) (map (told R.remaining) readers.old)
+        → IsToldOn files (length files) (leaves tournament.new.files tournament.new.entries.items) (map (told R.remaining) readers.new) result }
     ensures opened { (fleet : List (List Row)) → length fleet ≡ length readers.old → AreWhole fleet (map (told R.remaining) readers.old)
         → IsOpen fleet (length fleet) (leaves tournament.new.files tournament.new.entries.items) (map (told R.remaining) readers.new)
         zeros.new.items guests.new.items result }

@@ -51,8 +51,9 @@ pub(crate) fn take_holder<R: Read + Drop, A: Allocator>(
     ensures files { tournament.new.files ≡ tournament.old.files }
     ensures own { AreOwn (leaves tournament.new.files tournament.new.entries.items) }
     ensures holder { IfOk result (λ found. IfSome found (λ holder. (holder.file < length readers.old) × (holder.zero ≤ holder.copies))) }
-    ensures told { (files : List Said) → length files ≡ length readers.old → AreChained files (map (told R.remaining) readers.old)
-        → IsToldOn files (map (told R.remaining) readers.new) result }
+    ensures told { (files : List Said) → length files ≡ length readers.old → AreChained files (length files)
+        (leaves tournament.old.files tournament.old.entries.items) (map (told R.remaining) readers.old)
+        → IsToldOn files (length files) (leaves tournament.new.files tournament.new.entries.items) (map (told R.remaining) readers.new) result }
     ensures taken { (fleet : List (List Row)) (count : ℕ) → length fleet ≡ length readers.old
         → AreBehind fleet (passed digest count) (leaves tournament.old.files tournament.old.entries.items) (map
         (told R.remaining) readers.old)

@@ -2,6 +2,7 @@ use Rattle.std.proofs.Common.{◌≡◌, ◌≤◌, length, map, length-drop, ar
 use Rattle.digest_text.specs.Told.{told}
 use Rattle.fleet_census.specs.Tournaments.{leaves}
 use Rattle.fleet_census.proofs.Raised.{at_full, at_last, at_more, content_fault, high, low, none_up_to, one_copy, too_many_pages, up_to}
+use Rattle.fleet_census.proofs.Takes.{all_ended, all_sound}
 use Rattle.fleet_census.proofs.all.count_all.Goals as goal
 
 pub returns-then-first-clause-counted : goal.returns-then-first-clause-counted
@@ -15,6 +16,24 @@ returns-then-first-clause-counted g c fleet long zeros behind tallied =
     let every = c.args.every in
     let turn = c.loop-turn._turn in
     at_last fleet every turn entries _ c.loop-turn.tally at c.first-first.result c.first-first.ensures so_far.own len few c.if-first.true
+
+pub returns-then-first-clause-told : goal.returns-then-first-clause-told
+returns-then-first-clause-told g c files long chained =
+    let so_far = c.loop-turn.invariant in
+    let t = c.loop-turn.tournament in
+    let entries = leaves t.files t.entries.items in
+    let len : length entries ≡ length files = omega (arith, length-drop t.files t.entries.items, t.len, so_far.files, long) in
+    all_sound files entries _ (so_far.chained files long chained) (λ file lt.
+    all_ended entries c.first-first.result c.first-first.ensures so_far.own (omega (arith, len, long, c.requires.few)) c.if-first.true file (omega (arith, lt, len)))
+
+pub returns-then-last-clause-told : goal.returns-then-last-clause-told
+returns-then-last-clause-told g c files long chained =
+    let so_far = c.loop-turn.invariant in
+    let t = c.loop-turn.tournament in
+    let entries = leaves t.files t.entries.items in
+    let len : length entries ≡ length files = omega (arith, length-drop t.files t.entries.items, t.len, so_far.files, long) in
+    all_sound files entries _ (so_far.chained files long chained) (λ file lt.
+    all_ended entries c.first-last.result c.first-last.ensures so_far.own (omega (arith, len, long, c.requires.few)) c.if-last.true file (omega (arith, lt, len)))
 
 pub count-requires-clause-holders : goal.count-requires-clause-holders
 count-requires-clause-holders g c =

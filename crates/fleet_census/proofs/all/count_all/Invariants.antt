@@ -16,8 +16,9 @@ invariant-loop-turn g l = record {
   room : length l.fn.readers ≤ vec_capacity l.holders;
   guests : vec_len l.tally.guests ≡ length l.fn.readers;
   classes : vec_len l.tally.classes ≡ 65;
-  chained : (files : List Said) → length files ≡ length l.fn.readers → AreChained files (map (told {A = g.row.A.Denot} g.R.Read.remaining) l.fn.readers)
-      → AreChained files (map (told {A = g.row.A.Denot} g.R.Read.remaining) l.readers);
+  chained : (files : List Said) → length files ≡ length l.fn.readers → AreChained files (length files) (leaves l.fn.tournament.files l.fn.tournament.entries.items)
+      (map (told {A = g.row.A.Denot} g.R.Read.remaining) l.fn.readers)
+      → AreChained files (length files) (leaves l.tournament.files l.tournament.entries.items) (map (told {A = g.row.A.Denot} g.R.Read.remaining) l.readers);
   counted : (fleet : List (List Row)) → length fleet ≡ length l.fn.readers → AreZeros fleet l.zeros
       → AreBehind fleet (λ file. 0) (leaves l.fn.tournament.files l.fn.tournament.entries.items) (map (told {A = g.row.A.Denot} g.R.Read.remaining) l.fn.readers)
       → AreTallied fleet l.every 0 l.fn.tally

@@ -17,8 +17,9 @@ invariant-loop-turn g l = record {
   holders : All (λ holder. holder.file < length l.fn.readers) l.holders.items;
   zero : l.content.zero ≤ l.content.copies;
   few : l.content.holders ≤ l.turn;
-  chained : (files : List Said) → length files ≡ length l.fn.readers → AreChained files (map (told {A = g.row.A.Denot} g.R.Read.remaining) l.fn.readers)
-      → AreChained files (map (told {A = g.row.A.Denot} g.R.Read.remaining) l.readers);
+  chained : (files : List Said) → length files ≡ length l.fn.readers → AreChained files (length files) (leaves l.fn.tournament.files l.fn.tournament.entries.items)
+      (map (told {A = g.row.A.Denot} g.R.Read.remaining) l.fn.readers)
+      → AreChained files (length files) (leaves l.tournament.files l.tournament.entries.items) (map (told {A = g.row.A.Denot} g.R.Read.remaining) l.readers);
   gathered : (fleet : List (List Row)) → length fleet ≡ length l.fn.readers → AreZeros fleet l.zeros
       → AreBehind fleet (λ file. l.digest) (leaves l.fn.tournament.files l.fn.tournament.entries.items) (map (told {A = g.row.A.Denot} g.R.Read.remaining) l.fn.readers)
       → IsSoFar fleet l.digest l.turn (leaves l.tournament.files l.tournament.entries.items) (map (told {A = g.row.A.Denot} g.R.Read.remaining) l.readers) l.holders.items l.content;

@@ -2,7 +2,13 @@ use Rattle.digest_text.specs.Told.{told}
 use Rattle.fleet_census.specs.Tournaments.{leaves}
 use Rattle.std.proofs.Common.{◌+◌, length, map, arith, ◌∙◌}
 use Rattle.fleet_census.proofs.Opened.{fault_anywhere}
+use Rattle.fleet_census.proofs.Takes.{chained_to}
 use Rattle.fleet_census.proofs.open.open.Goals as goal
+
+pub returns-clause-told : goal.returns-clause-told
+returns-clause-told g c files long chained =
+    let so_far = c.loop-file.invariant in
+    chained_to files c.loop-file.file (length files) _ _ (omega (arith, long, c.loop-file-test.false, so_far.readers)) (so_far.chained files long chained)
 
 pub returns-in-Err-clause-told : goal.returns-in-Err-clause-told
 returns-in-Err-clause-told g c files long chained =

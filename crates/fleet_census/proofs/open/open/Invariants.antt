@@ -15,8 +15,9 @@ invariant-loop-file g l = record {
   guests_len : vec_len l.guests ≡ l.file;
   zeros_room : vec_capacity l.zeros ≡ vec_capacity l.fn.zeros;
   guests_room : vec_capacity l.guests ≡ vec_capacity l.fn.guests;
-  chained : (files : List Said) → length files ≡ length l.fn.readers → AreChained files (map (told {A = g.row.A.Denot} g.R.Read.remaining) l.fn.readers)
-      → AreChained files (map (told {A = g.row.A.Denot} g.R.Read.remaining) l.readers);
+  chained : (files : List Said) → length files ≡ length l.fn.readers → AreChained files 0 (leaves l.fn.tournament.files l.fn.tournament.entries.items)
+      (map (told {A = g.row.A.Denot} g.R.Read.remaining) l.fn.readers)
+      → AreChained files l.file (leaves l.tournament.files l.tournament.entries.items) (map (told {A = g.row.A.Denot} g.R.Read.remaining) l.readers);
   opened : (fleet : List (List Row)) → length fleet ≡ length l.fn.readers → AreWhole fleet (map (told {A = g.row.A.Denot} g.R.Read.remaining) l.fn.readers)
       → IsOpenTo fleet l.file (leaves l.tournament.files l.tournament.entries.items) (map (told {A = g.row.A.Denot} g.R.Read.remaining) l.readers) l.zeros.items l.guests.items l.opening;
 }

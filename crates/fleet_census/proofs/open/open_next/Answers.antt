@@ -21,8 +21,10 @@ returns-in-Ok-clause-told g c files long chained =
     let readers = c.args.readers.now in
     let say = told {A = g.row.A.Denot} g.R.Read.remaining in
     let read = first_on say readers c.args.file c.requires.within c.index-readers-file.result c.read_first.new.reader c.in-Ok.first (c.in-Ok.ensures {u = tt}).read in
-    joined_told files _ c.args.opening c.in-Ok.first c.args.file c.with.result c.with.ensures
-    (chained_more files (map say readers) _ c.args.file (omega (arith, long, c.requires.within)) chained c.in-Ok.first.entry (omega (arith, length-map readers say, long)) read)
+    let t = c.args.tournament.now in
+    rw c.put.ensures.leaves (joined_told files (c.args.file + 1) _ _ c.args.opening c.in-Ok.first c.args.file c.with.result c.with.ensures
+    (chained_more files c.args.file (leaves t.files t.entries.items) (map say readers) _ c.args.file (omega (arith, long, c.requires.within)) chained (c.args.file + 1) (λ other lt ne. omega arith) c.in-Ok.first.entry
+    (omega (arith, length-map readers say, long)) (omega (arith, length-drop t.files t.entries.items, t.len, c.requires.files, long)) (omega (arith, c.requires.within, c.requires.few)) read))
 
 pub returns-in-Ok-clause-opened : goal.returns-in-Ok-clause-opened
 returns-in-Ok-clause-opened g c fleet long rise so_far =
@@ -44,7 +46,7 @@ returns-in-Err-clause-told g c files long chained =
     let readers = c.args.readers.now in
     let say = told {A = g.row.A.Denot} g.R.Read.remaining in
     let read = on say readers c.args.file c.requires.within c.index-readers-file.result c.read_first.new.reader (Err c.in-Err.fault) (c.in-Err.ensures {u = tt}).read in
-    fault_told files (map say readers) _ c.args.file (omega (arith, long, c.requires.within)) chained c.in-Err.fault read
+    fault_told files c.args.file _ (map say readers) _ c.args.file (omega (arith, long, c.requires.within)) chained c.in-Err.fault read
 
 pub returns-in-Err-clause-opened : goal.returns-in-Err-clause-opened
 returns-in-Err-clause-opened g c fleet long rise so_far =

@@ -72,7 +72,8 @@ returns-in-Ok-clause-told g c files long chained =
     let count : length entries ≡ t.files = omega (arith, length-drop t.files t.entries.items, t.len) in
     let own = first_own entries c.first-first.result c.first-first.ensures c.requires.own (omega (arith, count, c.requires.files, c.requires.few)) c.if-first.false in
     let old = map (told {A = g.row.A.Denot} g.R.Read.remaining) c.args.readers.now in
-    chained_more files old _ c.first-first.result.file (omega (arith, own.0, count, c.requires.files, long)) chained c.in-Ok.next (omega (arith, length-map c.args.readers.now (told {A = g.row.A.Denot} g.R.Read.remaining), long)) (c.in-Ok.ensures {u = tt}).read
+    rw c.put.ensures.leaves (chained_more files (length files) entries old _ c.first-first.result.file (omega (arith, own.0, count, c.requires.files, long)) chained (length files) (λ other lt ne. lt) c.in-Ok.next
+    (omega (arith, length-map c.args.readers.now (told {A = g.row.A.Denot} g.R.Read.remaining), long)) (omega (arith, count, c.requires.files, long)) (omega (arith, own.0, count, c.requires.files, c.requires.few)) (c.in-Ok.ensures {u = tt}).read)
 
 pub returns-in-Ok-clause-taken : goal.returns-in-Ok-clause-taken
 returns-in-Ok-clause-taken g c fleet count long behind =
@@ -91,7 +92,7 @@ returns-in-Err-clause-told g c files long chained =
     let entries = leaves t.files t.entries.items in
     let count : length entries ≡ t.files = omega (arith, length-drop t.files t.entries.items, t.len) in
     let own = first_own entries c.first-first.result c.first-first.ensures c.requires.own (omega (arith, count, c.requires.files, c.requires.few)) c.if-first.false in
-    fault_told files (map (told {A = g.row.A.Denot} g.R.Read.remaining) c.args.readers.now) _ c.first-first.result.file (omega (arith, own.0, count, c.requires.files, long)) chained c.in-Err.fault (c.in-Err.ensures {u = tt}).read
+    fault_told files (length files) entries (map (told {A = g.row.A.Denot} g.R.Read.remaining) c.args.readers.now) _ c.first-first.result.file (omega (arith, own.0, count, c.requires.files, long)) chained c.in-Err.fault (c.in-Err.ensures {u = tt}).read
 
 pub returns-in-Err-clause-taken : goal.returns-in-Err-clause-taken
 returns-in-Err-clause-taken g c fleet count long behind =
