@@ -13,3 +13,4 @@ mod Tallied
 mod Firsts
 mod Opened
 mod Raised
+mod Settled

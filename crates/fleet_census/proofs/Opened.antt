@@ -106,7 +106,7 @@ pub joined_told : (files : List Said) (opened : ℕ) (leaves : List Entry) (told
     → IsJoined opening first turn result → AreChained files opened leaves told → IsToldOn files opened leaves told result
 joined_told files opened leaves told opening first turn (Ok more) joined chained = chained
 joined_told files opened leaves told opening first turn (Err OutOfMemory) joined chained = tt
-joined_told files opened leaves told opening first turn (Err TooManyDigests) joined chained = tt
+joined_told files opened leaves told opening first turn (Err TooManyDigests) joined chained = absurd joined
 joined_told files opened leaves told opening first turn (Err TooManyPages) joined chained = tt
 joined_told files opened leaves told opening first turn (Err (OtherSample number)) joined chained = tt
 joined_told files opened leaves told opening first turn (Err (Read number error)) joined chained = tt

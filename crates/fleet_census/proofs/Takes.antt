@@ -136,6 +136,20 @@ own_put leaves file next own is within = record {
   ];
 }
 
+-- a file is never read to another fault
+no_read : (file : ℕ) (before : Said) (now : Option Said) (fault : FleetFault) → IsRead file before now (Err fault) → IsNoOther fault
+no_read file before None fault read = absurd read
+no_read file before (Some after) OutOfMemory read = tt
+no_read file before (Some after) TooManyDigests read = absurd read
+no_read file before (Some after) TooManyPages read = absurd read
+no_read file before (Some after) (OtherSample number) read = absurd read
+no_read file before (Some after) (Read number error) read = tt
+no_read file before (Some after) (Line number fault) read = tt
+
+pub no_other : (file : ℕ) (told : List (Option Said)) (now : List (Option Said)) (fault : FleetFault) (said : Said) → get_or told file None ≡ Some said
+    → IsReadOn file told now (Err fault) → IsNoOther fault
+no_other file told now fault said e read = no_read file said read.now fault (rw e at read.next)
+
 module _ (files : List Said) (opened : ℕ) (leaves : List Entry) (told now : List (Option Said)) (file : ℕ) (within : file < length files)
     (chained : AreChained files opened leaves told) where
   -- what the files say is told on, where of one of them the next line was read
@@ -166,7 +180,7 @@ module _ (files : List Said) (opened : ℕ) (leaves : List Entry) (told now : Li
   -- a fault is that of the file
   pub fault_told : (fault : FleetFault) → IsReadOn file told now (Err fault) → IsFaultOf files fault
   fault_told OutOfMemory read = tt
-  fault_told TooManyDigests read = tt
+  fault_told TooManyDigests read = let it = chained.each file within in no_other file told now TooManyDigests it.left it.is read
   fault_told TooManyPages read = tt
   fault_told (OtherSample number) read = tt
   fault_told (Read number error) read = tt
@@ -189,17 +203,3 @@ all_sound files leaves told chained ended = record {
 -- fewer files are opened
 pub chained_to : (files : List Said) (opened fewer : ℕ) (leaves : List Entry) (told : List (Option Said)) → fewer ≤ opened → AreChained files opened leaves told → AreChained files fewer leaves told
 chained_to files opened fewer leaves told le chained = record { each = chained.each; ended = λ file lt. chained.ended file (omega arith) }
-
--- a file is never read to another fault
-no_read : (file : ℕ) (before : Said) (now : Option Said) (fault : FleetFault) → IsRead file before now (Err fault) → IsNoOther fault
-no_read file before None fault read = absurd read
-no_read file before (Some after) OutOfMemory read = tt
-no_read file before (Some after) TooManyDigests read = absurd read
-no_read file before (Some after) TooManyPages read = absurd read
-no_read file before (Some after) (OtherSample number) read = absurd read
-no_read file before (Some after) (Read number error) read = tt
-no_read file before (Some after) (Line number fault) read = tt
-
-pub no_other : (file : ℕ) (told : List (Option Said)) (now : List (Option Said)) (fault : FleetFault) (said : Said) → get_or told file None ≡ Some said
-    → IsReadOn file told now (Err fault) → IsNoOther fault
-no_other file told now fault said e read = no_read file said read.now fault (rw e at read.next)

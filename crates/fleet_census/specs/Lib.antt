@@ -10,3 +10,4 @@ pub mod Gathers
 pub mod Tallies
 pub mod Openings
 pub mod Merged
+pub mod Numbers

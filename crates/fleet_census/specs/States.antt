@@ -74,7 +74,7 @@ abbrev pub IsFaultOf : List Said → FleetFault → Type 0
 IsFaultOf files (Line number fault) = (number < length files) × (slice_index_or files number (Ok []) ≡ Err fault)
 IsFaultOf files (Read number error) = Unit {0}
 IsFaultOf files OutOfMemory = Unit {0}
-IsFaultOf files TooManyDigests = Unit {0}
+IsFaultOf files TooManyDigests = ⊥
 IsFaultOf files TooManyPages = Unit {0}
 IsFaultOf files (OtherSample number) = Unit {0}
 

@@ -1,10 +1,11 @@
 -- What is counted so far.
-use Rattle.std.specs.Prelude.{◌≡◌, ℕ, ◌+◌, ◌*◌, ◌^◌, ◌<◌, ◌≤◌, nat_lt, Bool, true, false, if◌then◌else◌, List, [], length, slice_index_or}
+use Rattle.std.specs.Prelude.{◌≡◌, ℕ, ◌+◌, ◌*◌, ◌^◌, ◌<◌, ◌≤◌, nat_lt, Bool, true, false, if◌then◌else◌, List, [], length, map, slice_index_or, vec_capacity}
+use Rattle.std.specs.List.{range_with_len}
 use Rattle.digest_text.specs.Fields.{Row}
 use Rattle.fleet_census.specs.Amounts.{sum_below}
-use Rattle.fleet_census.specs.Classes.{class_at}
+use Rattle.fleet_census.specs.Classes.{class_at, no_contents}
 use Rattle.fleet_census.specs.Fleets.{class_below, copies_of, guest_below, total_below, weight}
-use Rattle.fleet_census.specs.Steps.{guest_at}
+use Rattle.fleet_census.specs.Steps.{guest_at, no_amount}
 use Rattle.fleet_census.specs.declared.content.Content.{Content}
 use Rattle.fleet_census.specs.declared.tally.Tally.{Tally}
 
@@ -19,6 +20,14 @@ pub record AreTallied {A : Type 0} (fleet : List (List Row)) (every bound : ℕ)
   pub classes : (number : ℕ) → number < 65 → class_at tally.classes.items number ≡ class_below fleet bound number
   pub weight_is : tally.weight ≡ sum_below (weight every fleet) bound
   pub light : tally.weight < 2 ^ 64
+
+-- nothing is counted, and there is room for the guests
+pub record IsNew {A : Type 0} (guests : ℕ) (tally : Tally A) : Type 0 where
+  pub none : tally.guests.items ≡ []
+  pub room : guests ≤ vec_capacity tally.guests
+  pub total : tally.total ≡ record { pages = 0; zero = 0; shared = no_amount; frames = no_amount; reclaimed = no_amount; zero_reclaimed = 0; between = no_amount }
+  pub classes : tally.classes.items ≡ map no_contents (range_with_len 0 65)
+  pub weightless : tally.weight ≡ 0
 
 -- no guest has a digest from one to another
 pub record NoneBelow (fleet : List (List Row)) (from at : ℕ) : Type 0 where

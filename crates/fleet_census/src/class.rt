@@ -1,5 +1,5 @@
 //! The copies table: how many contents have how many copies.
-ghost use Rattle.std.specs.Prelude.{◌≡◌, ◌+◌, ◌<◌, ◌≤◌, ◌^◌, ℕ, IfOk, OnOk, filter, length, map, vec_len};
+ghost use Rattle.std.specs.Prelude.{◌≡◌, ◌+◌, ◌<◌, ◌≤◌, ◌^◌, ℕ, IfOk, [], filter, length, map, vec_capacity};
 ghost use Rattle.std.specs.List.{range_with_len};
 ghost use Rattle.fleet_census.specs.Classes.{IsInClass, class_after, class_at, fewest, has_contents, most, no_contents};
 
@@ -18,6 +18,15 @@ pub struct FleetClass {
     pub contents: Amount,
     /// How many pages have these contents.
     pub pages: Amount,
+}
+
+impl FleetClass {
+    /// Whether there is such a content.
+    fn has_contents(&self) -> bool
+        ensures { result ≡ has_contents self.now }
+    {
+        self.contents.zeros > 0 || self.contents.others > 0
+    }
 }
 
 // The last class has up to 2^64 copies, which no content has.
@@ -73,6 +82,19 @@ pub(crate) fn new_classes<A: Allocator>(alloc: A) -> Result<Vec<FleetClass, A>, 
         });
     }
     Ok(classes)
+}
+
+/// Appends the classes that have contents.
+pub(crate) fn push_classes<A: Allocator>(copies: &mut Vec<FleetClass, A>, classes: &[FleetClass])
+    requires empty { copies.old.items ≡ [] }
+    requires room { length classes.now ≤ vec_capacity copies.old }
+    ensures { copies.new.items ≡ filter has_contents classes.now }
+{
+    for class in classes {
+        if class.has_contents() {
+            copies.push_reserved(*class);
+        }
+    }
 }
 
 /// Counts a content in its class.

@@ -1,5 +1,5 @@
 //! The first lines of all files.
-ghost use Rattle.std.specs.Prelude.{◌≡◌, ◌+◌, ◌<◌, ◌≤◌, ℕ, List, [], IfOk, length, map, slice_index_or, vec_capacity, vec_len};
+ghost use Rattle.std.specs.Prelude.{◌≡◌, ◌+◌, ◌<◌, ◌≤◌, ℕ, List, [], IfOk, length, map, max, slice_index_or, vec_capacity, vec_len};
 ghost use Rattle.digest_text.specs.Fields.{Row};
 ghost use Rattle.digest_text.specs.Told.{told};
 ghost use Rattle.page_digests.specs.Samples.{zeros_digest};
@@ -27,6 +27,13 @@ pub(crate) struct Opening {
 }
 
 impl Opening {
+    /// Returns the sample of all files, or 1 if none has a line.
+    pub(crate) fn sample(self) -> u32
+        ensures { result ≡ max self.every 1 }
+    {
+        self.every.max(1)
+    }
+
     /// Adds what one more file says.
     fn with(self, file: usize, first: &First) -> Result<Opening, FleetFault>
         ensures { IsJoined self first.now file result }

@@ -1,15 +1,15 @@
 //! What is counted so far.
-ghost use Rattle.std.specs.Prelude.{◌≡◌, ◌≤◌, ◌<◌, ◌^◌, ◌+◌, ℕ, List, [], All, MatchOption, length, slice_index_or, vec_len};
+ghost use Rattle.std.specs.Prelude.{◌≡◌, ◌≤◌, ◌<◌, ◌^◌, ◌+◌, ℕ, List, [], All, IfOk, MatchOption, length, slice_index_or, vec_len};
 ghost use Rattle.digest_text.specs.Fields.{Row};
-ghost use Rattle.fleet_census.specs.Tallies.{AreTallied, IsTallied, NoneBelow, weight_of};
+ghost use Rattle.fleet_census.specs.Tallies.{AreTallied, IsNew, IsTallied, NoneBelow, weight_of};
 ghost use Rattle.fleet_census.specs.Fleets.{content_of, holder_of};
 ghost use Rattle.fleet_census.specs.Holders.{AreRising, found};
 
-use crate::class::count_class;
+use crate::class::{count_class, new_classes};
 use crate::content::{Content, Holder};
 use crate::guest::count_guests;
 use crate::{FleetClass, FleetGuest, FleetTotal};
-use std::alloc::Allocator;
+use std::alloc::{AllocError, Allocator};
 
 /// What is counted of the contents so far.
 #[derive(Drop)]
@@ -34,6 +34,22 @@ fn weigh(weight: u64, every: u32, content: &Content) -> Option<u64>
 }
 
 impl<A: Allocator> Tally<A> {
+    /// Makes a tally of nothing, with room for the guests.
+    pub(crate) fn new(alloc: A, guests: usize) -> Result<Tally<A>, AllocError>
+    where
+        A: Copy,
+        ensures { IfOk result (λ tally. IsNew guests tally) }
+    {
+        let guests = Vec::with_capacity(alloc, guests)?;
+        let classes = new_classes(alloc)?;
+        Ok(Tally {
+            guests,
+            total: FleetTotal::NOTHING,
+            classes,
+            weight: 0,
+        })
+    }
+
     /// Counts a content, with the files that tell of it; or answers that the pages are too many.
     pub(crate) fn count(&mut self, every: u32, content: &Content, holders: &[Holder]) -> bool
         requires holders { All (λ holder. holder.file < vec_len self.old.guests) holders.now }

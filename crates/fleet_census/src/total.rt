@@ -25,6 +25,17 @@ pub struct FleetTotal {
 }
 
 impl FleetTotal {
+    /// What is counted of no contents.
+    pub(crate) const NOTHING: FleetTotal = FleetTotal {
+        pages: 0,
+        zero: 0,
+        shared: Amount::NOTHING,
+        frames: Amount::NOTHING,
+        reclaimed: Amount::NOTHING,
+        zero_reclaimed: 0,
+        between: Amount::NOTHING,
+    };
+
     /// Counts a content.
     pub(crate) fn add(&mut self, content: &Content)
         ensures { self.new ≡ total_with content.now self.old }

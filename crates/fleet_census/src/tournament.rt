@@ -36,7 +36,7 @@ impl<A: Allocator> Tournament<A> {
     /// Makes a tournament of files that are all at their end.
     pub(crate) fn new(alloc: A, files: usize) -> Result<Tournament<A>, AllocError>
         requires { (1 ≤ files) × (files ≤ 65536) }
-        ensures { IfOk result (λ tournament. leaves files tournament.entries.items ≡ replicate files AT_END) }
+        ensures { IfOk result (λ tournament. (tournament.files ≡ files) × (leaves files tournament.entries.items ≡ replicate files AT_END)) }
     {
         let entries = vec![in alloc; AT_END; 2 * files]?;
         Ok(Tournament { entries, files })
