@@ -1,5 +1,5 @@
 -- Sums over digests.
-use Rattle.std.specs.Prelude.{ℕ, zero, suc, ◌+◌, ◌*◌, ◌-◌, ◌^◌, min, Bool, if◌then◌else◌}
+use Rattle.std.specs.Prelude.{ℕ, zero, suc, ◌+◌, ◌*◌, ◌-◌, ◌^◌, ◌<◌, ◌≤◌, min, Bool, if◌then◌else◌}
 use Rattle.fleet_census.specs.declared.amount.Amount.{Amount}
 
 -- the sum of what a function gives for each number below this one
@@ -35,7 +35,12 @@ with_content amount is_zeros x = if is_zeros
 
 -- What a sample of one content in `every` says of the whole: zeros are always kept, and each other content stands for as many.
 abbrev pub estimate : Amount → ℕ → ℕ
-estimate amount every = amount.zeros + every * amount.others
+estimate amount every = amount.zeros + amount.others * every
+
+-- the square root, rounded down
+pub record IsRoot (square root : ℕ) : Type 0 where
+  pub low : root * root ≤ square
+  pub high : square < (root + 1) * (root + 1)
 
 -- The variance of the estimate, if each content but those of zeros is kept with the odds of 1 to `every`, independently of the others:
 -- an estimate of it, by the contents kept.

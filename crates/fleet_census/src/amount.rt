@@ -1,6 +1,6 @@
 //! A sum over contents.
 ghost use Rattle.std.specs.Prelude.{◌≡◌, ◌+◌, ◌*◌, ◌-◌, ◌<◌, ◌≤◌, ◌^◌, min};
-ghost use Rattle.fleet_census.specs.Amounts.{estimate, variance, with_content};
+ghost use Rattle.fleet_census.specs.Amounts.{IsRoot, estimate, variance, with_content};
 
 /// A sum over contents: of each content that the digests tell of a number.
 #[derive(Clone, Copy, Debug, PartialEq, Eq)]
@@ -20,6 +20,24 @@ impl Amount {
         others: 0,
         squares: 0,
     };
+
+    /// Returns the estimate of the sum over all contents, if these are the contents that a sample kept: those of zeros, and of
+    /// each other `sample` contents one. With 1 it is the sum itself. At most 2^64 - 1.
+    pub fn estimate(&self, sample: u32) -> u64
+        ensures { result ≡ min (estimate self.now sample) (2 ^ 64 - 1) }
+    {
+        let others = self.others.saturating_mul(u64::from(sample));
+        self.zeros.saturating_add(others)
+    }
+
+    /// Returns the standard error of the estimate, rounded down: the root of its variance, which is estimated, too, and counted
+    /// up to 2^128 - 1. 0 with a sample of 1.
+    pub fn standard_error(&self, sample: u32) -> u64
+        ensures { IsRoot (min (variance self.now sample) (2 ^ 128 - 1)) result }
+    {
+        let others = u128::from(sample) * u128::from(sample.saturating_sub(1));
+        self.squares.saturating_mul(others).isqrt() as u64
+    }
 
     /// Adds the number of one content more.
     pub(crate) fn add(&mut self, is_zeros: bool, x: u64)

@@ -1,4 +1,7 @@
 //! Why digests can't be merged.
+ghost use Rattle.std.specs.Prelude.{◌≡◌};
+ghost use Rattle.fleet_census.specs.Faults.{file_of};
+
 use digest_text::LineFault;
 use std::alloc::AllocError;
 use std::io;
@@ -29,7 +32,9 @@ pub enum FleetFault {
 
 impl FleetFault {
     /// Returns the number of the file at fault, if it is one.
-    pub fn file(&self) -> Option<usize> {
+    pub fn file(&self) -> Option<usize>
+        ensures { result ≡ file_of self.now }
+    {
         match self {
             FleetFault::OutOfMemory => None,
             FleetFault::TooManyDigests => None,
@@ -42,7 +47,6 @@ impl FleetFault {
 }
 
 impl From<AllocError> for FleetFault {
-    ghost use Rattle.std.specs.Prelude.{◌≡◌};
     ghost use Rattle.fleet_census.specs.declared.fault.FleetFault.{FleetFault};
 
     ghost from_gives = { λ _ fault. fault ≡ FleetFault.OutOfMemory };
