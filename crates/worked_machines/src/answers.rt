@@ -24,7 +24,7 @@ pub enum Reply {
     Got(Answer),
     /// Whether a port has its last verdict.
     Drained(bool),
-    /// How many entries the journal has, or the guest of one of them.
+    /// How many entries the journal has, the guest of one of them, or how many requests a round served.
     Number(u32),
     /// It is too early to settle.
     TooEarly(SettleFault),
@@ -46,6 +46,13 @@ pub fn stepped(step: Result<Step, JournalFull>) -> Reply {
         Ok(Step::Blocked) => Reply::Blocked,
         Ok(Step::Idle) => Reply::Idle,
         Ok(Step::Done) => Reply::Done,
+        Err(JournalFull) => Reply::Full,
+    }
+}
+
+pub fn rounded(served: Result<u32, JournalFull>) -> Reply {
+    match served {
+        Ok(requests) => Reply::Number(requests),
         Err(JournalFull) => Reply::Full,
     }
 }

@@ -2,11 +2,11 @@
 ghost use Rattle.std.specs.Prelude.{◌≡◌, ◌++◌};
 ghost use Rattle.merge_run.specs.View.{closed_names, port_names, end_names, ends_of};
 
-use crate::answers::Reply;
 use crate::answers::Reply::{Done, Number};
+use crate::answers::{Reply, rounded};
 use crate::makes::{Merging, new_machine, step};
 use crate::ports::{Ask, ask_closed, ask_open, close_first, expect_none_open};
-use merge_run::{Fault, JournalFull, Settled, Unsettled, settle};
+use merge_run::{Fault, Settled, Unsettled, settle};
 use page_digest::Sha256Hash;
 use share_rings::{ClosedPort, Port};
 use std::alloc::{Allocator, Global};
@@ -56,6 +56,21 @@ pub fn new_course<A: Allocator + Copy>(
         closed,
         open,
     })
+}
+
+/// Makes such a machine, or stops the test.
+pub fn made<A: Allocator + Copy>(
+    rt: &impl Abort,
+    alloc: A,
+    frames: u32,
+    pages: &[u32],
+    ring: u32,
+    journal: u32,
+) -> Course<A> {
+    let Ok(course) = new_course(alloc, frames, pages, ring, journal) else {
+        panic!(rt; "no machine");
+    };
+    course
 }
 
 impl<A: Allocator> Course<A> {
@@ -110,10 +125,10 @@ impl<A: Allocator + Sync> Course<A> {
         lists: B,
         workers: u32,
         limit: u32,
-    ) -> Result<u32, JournalFull> {
+    ) -> Reply {
         assert!(rt; 1 <= workers && workers <= 64);
         assert!(rt; 1 <= limit && limit <= 1024);
-        self.merger.round(rt, lists, workers, limit)
+        rounded(self.merger.round(rt, lists, workers, limit))
     }
 }
 
@@ -127,6 +142,16 @@ pub fn play<A: Allocator>(rt: &impl Abort, course: Course<A>, rows: &[(Call, Rep
         assert!(rt; reply == wanted, "row {number}");
     }
     course
+}
+
+/// Makes the last calls.
+pub fn play_to_end<A: Allocator>(rt: &impl Abort, course: Course<A>, rows: &[(Call, Reply)]) {
+    drop(play(rt, course, rows));
+}
+
+/// Makes the last calls, and settles the machine.
+pub fn play_and_settle<A: Allocator>(rt: &impl Abort, course: Course<A>, rows: &[(Call, Reply)]) {
+    drop(settled(rt, play(rt, course, rows)));
 }
 
 fn make_call<A: Allocator>(rt: &impl Abort, course: Course<A>, call: Call) -> (Course<A>, Reply) {

@@ -1,17 +1,16 @@
 //! Settling too early: the least guest is named, everything comes back, and each end then knows what is left for it.
 use crate::answers::Reply::{Done, Got, Sent, TooEarly};
 use crate::course::Call::{Close, Guest, Settle, Step};
-use crate::course::{new_course, play, settled};
+use crate::course::{made, play_and_settle};
 use crate::ports::Ask::{Load, Verdict};
 use merge_run::SettleFault::{Running, Undrained};
-use std::test::Fail;
 use worked_answers::Answer::{Byte, Closed};
 
 // Nothing was served yet. After the refusal the merger finds each request, and the port gets each verdict.
 #[test]
-fn nothing_is_idle_after_a_refused_settle(rt: HostRuntime) -> Result<(), Fail> {
-    let course = new_course(rt.alloc(), 1, &[1], 4, 4)?;
-    let course = play(
+fn nothing_is_idle_after_a_refused_settle(rt: HostRuntime) {
+    let course = made(&rt, rt.alloc(), 1, &[1], 4, 4);
+    play_and_settle(
         &rt,
         course,
         &[
@@ -31,15 +30,13 @@ fn nothing_is_idle_after_a_refused_settle(rt: HostRuntime) -> Result<(), Fail> {
             (Guest(0, Verdict), Got(Closed)),
         ],
     );
-    drop(settled(&rt, course));
-    Ok(())
 }
 
 // A guest that runs is named before a lesser one that isn't drained.
 #[test]
-fn the_least_guest_is_named(rt: HostRuntime) -> Result<(), Fail> {
-    let course = new_course(rt.alloc(), 1, &[1, 1], 1, 2)?;
-    let course = play(
+fn the_least_guest_is_named(rt: HostRuntime) {
+    let course = made(&rt, rt.alloc(), 1, &[1, 1], 1, 2);
+    play_and_settle(
         &rt,
         course,
         &[
@@ -55,6 +52,4 @@ fn the_least_guest_is_named(rt: HostRuntime) -> Result<(), Fail> {
             (Guest(1, Verdict), Got(Closed)),
         ],
     );
-    drop(settled(&rt, course));
-    Ok(())
 }

@@ -15,6 +15,8 @@ mod limits;
 #[cfg(test)]
 mod makes;
 #[cfg(test)]
+mod memory;
+#[cfg(test)]
 mod one_slot;
 #[cfg(test)]
 mod ports;

@@ -1,13 +1,13 @@
 //! Which machines can be made, and a journal that is full.
 use crate::answers::Reply::{Busy, Done, Ended, Full, Got, Nothing, Number, Sent};
 use crate::course::Call::{Close, Entries, Guest, Step};
-use crate::course::{new_course, play};
+use crate::course::{made, play, play_to_end};
 use crate::ports::Ask::{Count, Load, Verdict};
 use merge_run::{Config, Fault, open_machine};
 use page_digest::Sha256Hash;
 use page_model::{MAX_ENTRIES, MAX_FRAMES, MAX_PAGES, MAX_RING_CAPACITY};
 use std::alloc::{AllocError, Global};
-use std::test::Fail;
+use std::process::Abort;
 use worked_answers::Answer::{Byte, Closed};
 
 /// The numbers of a machine: its frames, its guests, the pages of each guest but the last, the pages of the last, the
@@ -48,6 +48,13 @@ fn cause_of(alloc: Global, numbers: Numbers) -> Option<Fault> {
     }
 }
 
+/// Checks each row's cause.
+fn expect_causes(rt: &impl Abort, alloc: Global, rows: &[(Numbers, Option<Fault>)]) {
+    for (numbers, fault) in rows {
+        assert_eq!(rt; cause_of(alloc, *numbers), *fault, "{numbers:?}");
+    }
+}
+
 #[test]
 fn limits_of_frames_rings_and_journals(rt: HostRuntime) {
     let limits = [
@@ -61,9 +68,7 @@ fn limits_of_frames_rings_and_journals(rt: HostRuntime) {
         ([1, 1, 1, 1, 1, 1, MAX_ENTRIES], None),
         ([1, 1, 1, 1, 1, 1, 1], None),
     ];
-    for (numbers, fault) in limits {
-        assert_eq!(rt; cause_of(rt.alloc(), numbers), fault, "{numbers:?}");
-    }
+    expect_causes(&rt, rt.alloc(), &limits);
 }
 
 #[test]
@@ -80,15 +85,13 @@ fn limits_of_guests_and_pages(rt: HostRuntime) {
         ([1, 1, 0, MAX_PAGES, 1, 1, 1], None),
         ([1, 64, 1, 1, 64, 1, 1], None),
     ];
-    for (numbers, fault) in limits {
-        assert_eq!(rt; cause_of(rt.alloc(), numbers), fault, "{numbers:?}");
-    }
+    expect_causes(&rt, rt.alloc(), &limits);
 }
 
 // The longest rings hold as many items as they should.
 #[test]
-fn longest_ring(rt: HostRuntime) -> Result<(), Fail> {
-    let mut course = new_course(rt.alloc(), 1, &[1], MAX_RING_CAPACITY, 1)?;
+fn longest_ring(rt: HostRuntime) {
+    let mut course = made(&rt, rt.alloc(), 1, &[1], MAX_RING_CAPACITY, 1);
     for _ in 0..MAX_RING_CAPACITY {
         course = play(&rt, course, &[(Guest(0, Count), Sent)]);
     }
@@ -97,14 +100,13 @@ fn longest_ring(rt: HostRuntime) -> Result<(), Fail> {
         (Step(0), Done),
         (Guest(0, Count), Sent),
     ];
-    drop(play(&rt, course, &rows));
-    Ok(())
+    play_to_end(&rt, course, &rows);
 }
 
 // A full journal is answered before a verdict that is still to be received, and changes nothing.
 #[test]
-fn full_journal(rt: HostRuntime) -> Result<(), Fail> {
-    let course = new_course(rt.alloc(), 1, &[1], 1, 1)?;
+fn full_journal(rt: HostRuntime) {
+    let course = made(&rt, rt.alloc(), 1, &[1], 1, 1);
     let rows = [
         (Guest(0, Load(0)), Sent),
         (Step(0), Done),
@@ -119,20 +121,18 @@ fn full_journal(rt: HostRuntime) -> Result<(), Fail> {
         (Guest(0, Verdict), Nothing),
         (Step(0), Full),
     ];
-    drop(play(&rt, course, &rows));
-    Ok(())
+    play_to_end(&rt, course, &rows);
 }
 
 // A guest that has ended is answered so, though the journal is full.
 #[test]
-fn full_journal_after_the_close(rt: HostRuntime) -> Result<(), Fail> {
-    let course = new_course(rt.alloc(), 1, &[1], 1, 1)?;
+fn full_journal_after_the_close(rt: HostRuntime) {
+    let course = made(&rt, rt.alloc(), 1, &[1], 1, 1);
     let rows = [
         (Close, Sent),
         (Step(0), Done),
         (Step(0), Ended),
         (Guest(0, Verdict), Got(Closed)),
     ];
-    drop(play(&rt, course, &rows));
-    Ok(())
+    play_to_end(&rt, course, &rows);
 }

@@ -2,7 +2,8 @@
 use crate::answers::Reply;
 use crate::answers::Reply::{Blocked, Busy, Done, Ended, Got, Idle, Nothing, Sent, TooEarly};
 use crate::course::Call::{Close, Guest, Settle, Step};
-use crate::course::{Course, new_course, play, settled};
+use crate::course::{Course, made, play, settled};
+use crate::memory::{byte, sizes};
 use crate::ports::Ask::{Count, Drained, Load, Verdict};
 use merge_run::SettleFault::{Running, Undrained};
 use merge_run::Settled;
@@ -11,7 +12,6 @@ use page_model::{Entry, Request};
 use refusing::Refusing;
 use std::alloc::Allocator;
 use std::process::Abort;
-use std::test::Fail;
 use worked_answers::Answer::{Byte, Closed, Totals};
 use worked_answers::numbers;
 
@@ -72,11 +72,9 @@ fn look_at_journal(rt: &impl Abort, journal: &[Entry]) {
 
 fn look_at_memory<A: Allocator>(rt: &impl Abort, settled: &Settled<Sha256Hash, A>) {
     assert_eq!(rt; numbers(&settled.report()), [3, 0, 0, 0, 0, 0]);
-    let core = settled.core();
-    assert_eq!(rt; core.entries(), 3);
-    assert!(rt; core.guests() == 1);
-    assert!(rt; core.pages(0) == 1);
-    assert_eq!(rt; settled.read(0, 0, 4095), 0);
+    assert_eq!(rt; settled.core().entries(), 3);
+    assert_eq!(rt; sizes(rt, settled, 0), (1, 1));
+    assert_eq!(rt; byte(rt, settled, 0, 0, 4095), 0);
 }
 
 fn look_at_port<A: Allocator>(rt: &impl Abort, settled: &Settled<Sha256Hash, A>) {
@@ -86,29 +84,24 @@ fn look_at_port<A: Allocator>(rt: &impl Abort, settled: &Settled<Sha256Hash, A>)
 
 /// Runs a new machine of one guest from beginning to end.
 pub fn run_to_the_end<A: Allocator>(rt: &impl Abort, course: Course<A>) {
-    let course = load_and_count(rt, course);
-    let course = close_and_drain(rt, course);
-    let settled = settled(rt, course);
+    let settled = settled(rt, close_and_drain(rt, load_and_count(rt, course)));
     look_at_journal(rt, settled.journal());
     look_at_memory(rt, &settled);
     look_at_port(rt, &settled);
 }
 
 #[test]
-fn rings_of_one_item(rt: HostRuntime) -> Result<(), Fail> {
-    let course = new_course(rt.alloc(), 1, &[1], 1, 4)?;
-    run_to_the_end(&rt, course);
-    Ok(())
+fn rings_of_one_item(rt: HostRuntime) {
+    run_to_the_end(&rt, made(&rt, rt.alloc(), 1, &[1], 1, 4));
 }
 
 // Each call works when every request for memory is refused.
 #[test]
-fn no_memory_after_the_start(rt: HostRuntime) -> Result<(), Fail> {
+fn no_memory_after_the_start(rt: HostRuntime) {
     let heap = Refusing::new(rt.alloc(), u64::MAX, 0);
-    let course = new_course(&heap, 1, &[1], 1, 4)?;
+    let course = made(&rt, &heap, 1, &[1], 1, 4);
     heap.refuse_all();
     run_to_the_end(&rt, course);
     assert!(rt; !heap.has_refused());
     assert!(rt; heap.holds_nothing());
-    Ok(())
 }

@@ -1,14 +1,14 @@
 //! Two guests whose equal pages come to share one frame, and a store that copies it.
 use crate::answers::Reply::{Done, Got, Nothing, Sent};
 use crate::course::Call::{Close, Guest, Step};
-use crate::course::{Course, new_course, play, settled};
+use crate::course::{Course, made, play, settled};
 use crate::makes::Merging;
+use crate::memory::{byte, byte_so_far, frame, sizes};
 use crate::ports::Ask::{Load, Propose, Store, Verdict};
 use merge_run::Settled;
 use page_digest::Sha256Hash;
 use std::alloc::Global;
 use std::process::Abort;
-use std::test::Fail;
 use worked_answers::Answer::{Byte, Closed, Copied, Hinted, Joined, Mapped, Paired};
 use worked_answers::numbers;
 
@@ -89,63 +89,76 @@ fn close_both(rt: &impl Abort, course: Course) -> Settled<Sha256Hash> {
 
 /// Returns the bytes of the three pages at a place.
 fn bytes_so_far(rt: &impl Abort, merger: &Merging<Global>, at: u32) -> [u8; 3] {
-    let core = merger.core();
-    assert!(rt; core.guests() == 2);
-    assert!(rt; core.pages(0) == 2);
-    assert!(rt; core.pages(1) == 1);
-    assert!(rt; at < 4096);
     [
-        merger.read(0, 0, at),
-        merger.read(0, 1, at),
-        merger.read(1, 0, at),
+        byte_so_far(rt, merger, 0, 0, at),
+        byte_so_far(rt, merger, 0, 1, at),
+        byte_so_far(rt, merger, 1, 0, at),
     ]
 }
 
 /// Returns the same bytes of a settled machine.
 fn bytes(rt: &impl Abort, settled: &Settled<Sha256Hash>, at: u32) -> [u8; 3] {
-    let core = settled.core();
-    assert!(rt; core.guests() == 2);
-    assert!(rt; core.pages(0) == 2);
-    assert!(rt; core.pages(1) == 1);
-    assert!(rt; at < 4096);
     [
-        settled.read(0, 0, at),
-        settled.read(0, 1, at),
-        settled.read(1, 0, at),
+        byte(rt, settled, 0, 0, at),
+        byte(rt, settled, 0, 1, at),
+        byte(rt, settled, 1, 0, at),
     ]
 }
 
 /// Whether the three pages have the same frame.
 fn is_one_frame(rt: &impl Abort, settled: &Settled<Sha256Hash>) -> bool {
-    let core = settled.core();
-    assert!(rt; core.guests() == 2);
-    assert!(rt; core.pages(0) == 2);
-    assert!(rt; core.pages(1) == 1);
-    let frame = core.frame(0, 0);
-    frame.is_some() && core.frame(0, 1) == frame && core.frame(1, 0) == frame
+    let first = frame(rt, settled, 0, 0);
+    first.is_some() && frame(rt, settled, 0, 1) == first && frame(rt, settled, 1, 0) == first
+}
+
+/// What is seen of a settled machine.
+#[derive(Clone, Copy)]
+struct Seen {
+    numbers: [u32; 6],
+    /// Of each guest how many guests there are, and how many pages it has.
+    sizes: [(u8, u32); 2],
+    /// The first bytes of the three pages, and the last ones.
+    first: [u8; 3],
+    last: [u8; 3],
+    is_one_frame: bool,
+}
+
+fn look(rt: &impl Abort, settled: &Settled<Sha256Hash>) -> Seen {
+    Seen {
+        numbers: numbers(&settled.report()),
+        sizes: [sizes(rt, settled, 0), sizes(rt, settled, 1)],
+        first: bytes(rt, settled, 0),
+        last: bytes(rt, settled, 4095),
+        is_one_frame: is_one_frame(rt, settled),
+    }
+}
+
+/// Returns the first bytes of the three pages, and what is seen once both guests have closed.
+fn look_at_end(rt: &impl Abort, course: Course) -> ([u8; 3], Seen) {
+    let before = bytes_so_far(rt, course.merger(), 0);
+    let settled = close_both(rt, course);
+    (before, look(rt, &settled))
 }
 
 #[test]
-fn equal_pages_of_two_guests(rt: HostRuntime) -> Result<(), Fail> {
-    let course = new_course(rt.alloc(), 3, &[2, 1], 8, 16)?;
-    let course = share(&rt, course);
-    assert_eq!(rt; bytes_so_far(&rt, course.merger(), 0), [b'A', b'A', b'A']);
-    let settled = close_both(&rt, course);
-    assert_eq!(rt; numbers(&settled.report()), [8, 3, 3, 1, 2, 0]);
-    assert_eq!(rt; bytes(&rt, &settled, 0), [b'A', b'A', b'A']);
-    assert_eq!(rt; bytes(&rt, &settled, 4095), [0, 0, 0]);
-    assert!(rt; is_one_frame(&rt, &settled));
-    Ok(())
+fn equal_pages_of_two_guests(rt: HostRuntime) {
+    let course = share(&rt, made(&rt, rt.alloc(), 3, &[2, 1], 8, 16));
+    let (before, seen) = look_at_end(&rt, course);
+    assert_eq!(rt; before, [b'A', b'A', b'A']);
+    assert_eq!(rt; seen.numbers, [8, 3, 3, 1, 2, 0]);
+    assert_eq!(rt; seen.sizes, [(2, 2), (2, 1)]);
+    assert_eq!(rt; seen.first, [b'A', b'A', b'A']);
+    assert_eq!(rt; seen.last, [0, 0, 0]);
+    assert!(rt; seen.is_one_frame);
 }
 
 #[test]
-fn a_store_copies_a_shared_page(rt: HostRuntime) -> Result<(), Fail> {
-    let course = new_course(rt.alloc(), 3, &[2, 1], 8, 16)?;
-    let course = copy(&rt, share(&rt, course));
-    assert_eq!(rt; bytes_so_far(&rt, course.merger(), 0), [b'A', b'A', b'B']);
-    let settled = close_both(&rt, course);
-    assert_eq!(rt; numbers(&settled.report()), [12, 3, 2, 2, 1, 0]);
-    assert_eq!(rt; bytes(&rt, &settled, 0), [b'A', b'A', b'B']);
-    assert!(rt; !is_one_frame(&rt, &settled));
-    Ok(())
+fn a_store_copies_a_shared_page(rt: HostRuntime) {
+    let course = share(&rt, made(&rt, rt.alloc(), 3, &[2, 1], 8, 16));
+    let (before, seen) = look_at_end(&rt, copy(&rt, course));
+    assert_eq!(rt; before, [b'A', b'A', b'B']);
+    assert_eq!(rt; seen.numbers, [12, 3, 2, 2, 1, 0]);
+    assert_eq!(rt; seen.sizes, [(2, 2), (2, 1)]);
+    assert_eq!(rt; seen.first, [b'A', b'A', b'B']);
+    assert!(rt; !seen.is_one_frame);
 }

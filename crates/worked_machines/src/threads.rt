@@ -1,5 +1,5 @@
 //! Two guests in their own threads, and the merger in the test's.
-ghost use Rattle.std.specs.Prelude.{◌≡◌, ◌∷◌, [], IfOk, IfSome};
+ghost use Rattle.std.specs.Prelude.{◌≡◌, ◌∷◌, [], IfSome};
 ghost use Rattle.share_rings.specs.Ends.{port_name, closed_name};
 ghost use Rattle.merge_run.specs.View.{end_names, ends_of, guest_count};
 
@@ -9,9 +9,10 @@ use crate::makes::{Merging, new_machine};
 use merge_run::{Step, settle};
 use page_model::Verdict;
 use share_rings::{ClosedPort, Port};
-use std::alloc::{AllocError, Global};
+use std::alloc::{Allocator, Global};
+use std::process::Abort;
 use std::snapshot::Snapshot;
-use std::test::Fail;
+use std::sync::Wait;
 use std::thread;
 use std::thread::{Promise, PromisedHandle, Threads};
 use worked_answers::Answer::{Byte, Closed};
@@ -61,17 +62,18 @@ fn both(ports: Vec<Port>) -> Option<(Port, Port)>
 }
 
 /// Returns the list of two guests' ports.
-fn list_of_both(
-    alloc: Global,
-    first: ClosedPort,
-    second: ClosedPort,
-) -> Result<Vec<ClosedPort>, AllocError>
-    ensures { IfOk result (λ ports. ports.items ≡ first ∷ second ∷ []) }
+fn list_of_both<A: Allocator>(
+    rt: &impl Abort,
+    alloc: A,
+    first: ClosedPort<A>,
+    second: ClosedPort<A>,
+) -> Vec<ClosedPort<A>, A>
+    ensures { result.items ≡ first ∷ second ∷ [] }
 {
-    let mut ports = Vec::with_capacity(alloc, 2)?;
+    let mut ports = Vec::with_capacity(alloc, 2).expect(rt, "memory");
     ports.push_reserved(first);
     ports.push_reserved(second);
-    Ok(ports)
+    ports
 }
 
 type Running = PromisedHandle<Option<Guest>, SamePort>;
@@ -141,11 +143,24 @@ fn run_guest(port: Port) -> Option<Guest>
     Some(Guest { port, tally })
 }
 
-fn start<R: Threads>(rt: &R, port: Port) -> Option<Running>
-    ensures { IfSome result (λ running. port_name running.promise.0.value ≡ port_name port) }
+/// Starts a guest's thread, or stops the test.
+fn start<R: Threads + Abort>(rt: &R, port: Port) -> Running
+    ensures { port_name result.promise.0.value ≡ port_name port }
 {
     let promise = SamePort(Snapshot::of(&port));
-    thread::spawn_with(rt, promise, move || run_guest(port)).ok()
+    let Ok(running) = thread::spawn_with(rt, promise, move || run_guest(port)) else {
+        panic!(rt; "no thread");
+    };
+    running
+}
+
+/// Waits for a guest's thread.
+fn join<R: Threads + Wait + Abort>(rt: &R, running: Running) -> Guest
+    ensures { closed_name result.port ≡ port_name running.promise.0.value }
+{
+    running
+        .join(rt)
+        .expect(rt, "a port that isn't busy to the end")
 }
 
 /// Steps both guests in turn until both have ended.
@@ -163,27 +178,72 @@ fn serve_both(merger: &mut Merging<Global>)
     }
 }
 
-#[test]
-fn guests_in_threads_of_their_own(rt: HostRuntime) -> Result<(), Fail> {
-    let (mut merger, ports) = new_machine(rt.alloc(), 1, &[1, 1], 2, 202)?;
-    let (first, second) = both(ports).ok_or("not two ports")?;
-    let first = start(&rt, first).ok_or("no thread")?;
-    let second = start(&rt, second).ok_or("no thread")?;
+/// A machine whose guests' threads have ended.
+#[derive(Drop)]
+struct Ran {
+    merger: Merging<Global>,
+    first: Guest,
+    second: Guest,
+    ghost pairs: { closed_name first.port ∷ closed_name second.port ∷ [] ≡ end_names (ends_of merger) },
+}
+
+/// Runs a machine by the ports of its two guests.
+fn run_by<R: Threads + Wait + Abort>(
+    rt: &R,
+    merger: Merging<Global>,
+    first: Port,
+    second: Port,
+) -> Ran
+    requires guests { guest_count merger ≡ 2 }
+    requires pairs { port_name first ∷ port_name second ∷ [] ≡ end_names (ends_of merger) }
+{
+    let mut merger = merger;
+    let first = start(rt, first);
+    let second = start(rt, second);
     serve_both(&mut merger);
-    let first = first.join(&rt).ok_or("port 0 was busy to the end")?;
-    let second = second.join(&rt).ok_or("port 1 was busy to the end")?;
+    let first = join(rt, first);
+    let second = join(rt, second);
+    Ran {
+        merger,
+        first,
+        second,
+    }
+}
+
+/// Makes a machine of two guests, and runs it.
+fn run_new<R: Threads + Wait + Abort>(rt: &R, alloc: Global) -> Ran {
+    let Ok((merger, ports)) = new_machine(alloc, 1, &[1, 1], 2, 202) else {
+        panic!(rt; "no machine");
+    };
+    let (first, second) = both(ports).expect(rt, "two ports");
+    run_by(rt, merger, first, second)
+}
+
+/// Settles the machine, and returns how many entries its journal has, and its report's numbers.
+fn settled(rt: &impl Abort, alloc: Global, ran: Ran) -> (usize, [u32; 6]) {
+    let Ran {
+        merger,
+        first,
+        second,
+    } = ran;
+    let ports = list_of_both(rt, alloc, first.port, second.port);
+    let Ok(settled) = settle(merger, ports) else {
+        panic!(rt; "not settled");
+    };
+    (settled.journal().len(), numbers(&settled.report()))
+}
+
+#[test]
+fn guests_in_threads_of_their_own(rt: HostRuntime) {
+    let ran = run_new(&rt, rt.alloc());
     let all = Tally {
         zeros: LOADS,
         closed: 1,
         others: 0,
     };
-    assert_eq!(rt; first.tally, all);
-    assert_eq!(rt; second.tally, all);
-    let ports = list_of_both(rt.alloc(), first.port, second.port)?;
-    let Ok(settled) = settle(merger, ports) else {
-        return Err(Fail::from("not settled"));
-    };
-    assert_eq!(rt; settled.journal().len(), 202);
-    assert_eq!(rt; numbers(&settled.report()), [202, 0, 0, 0, 0, 0]);
-    Ok(())
+    assert_eq!(rt; ran.first.tally, all);
+    assert_eq!(rt; ran.second.tally, all);
+    let (entries, numbers) = settled(&rt, rt.alloc(), ran);
+    assert_eq!(rt; entries, 202);
+    assert_eq!(rt; numbers, [202, 0, 0, 0, 0, 0]);
 }

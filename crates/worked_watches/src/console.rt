@@ -1,14 +1,18 @@
 //! A console in its own thread, with two guests in threads and the merger in the test's.
-ghost use Rattle.std.specs.Prelude.{◌≡◌, ◌<◌};
+ghost use Rattle.std.specs.Prelude.{◌≡◌, ◌<◌, ◌∷◌, []};
+ghost use Rattle.share_rings.specs.Ends.{port_name, closed_name};
 ghost use Rattle.merge_run.specs.View.{end_names, ends_of, guest_count};
 
-use crate::guests::{LOADS, start};
+use crate::guests::{LOADS, join, list_of_both, start};
 use crate::watched::{Watched, both, new_machine};
 use merge_run::{Step, settle};
 use page_model::Report;
+use share_rings::{ClosedPort, Port};
+use std::alloc::Global;
+use std::process::Abort;
 use std::sync::Wait;
-use std::test::Fail;
 use std::thread;
+use std::thread::{JoinHandle, Threads};
 use watched_machine::Watch;
 
 const TRIES: u64 = 1 << 30;
@@ -101,24 +105,74 @@ fn read_often(watch: Watch) -> Tally {
     tally
 }
 
-#[test]
-fn entries_never_fall(rt: HostRuntime) -> Result<(), Fail> {
-    let (mut watched, ports) = new_machine(&rt, rt.alloc(), 1, &[1, 1], 2, 202)?;
-    let watch = watched.publisher.watch().expect(&rt, "a watch");
-    let Ok(reading) = thread::spawn(&rt, move || read_often(watch)) else {
+/// A machine whose guests' threads have ended.
+struct Ran {
+    watched: Watched,
+    served: Served,
+    first: ClosedPort,
+    second: ClosedPort,
+    ghost pairs: { closed_name first ∷ closed_name second ∷ [] ≡ end_names (ends_of watched.merger) },
+}
+
+/// Runs a machine by the ports of its two guests.
+fn run_by<R: Threads + Wait + Abort>(rt: &R, watched: Watched, first: Port, second: Port) -> Ran
+    requires guests { guest_count watched.merger ≡ 2 }
+    requires pairs { port_name first ∷ port_name second ∷ [] ≡ end_names (ends_of watched.merger) }
+{
+    let mut watched = watched;
+    let first = start(rt, first);
+    let second = start(rt, second);
+    let served = serve_both(rt, &mut watched);
+    let first = join(rt, first);
+    let second = join(rt, second);
+    Ran {
+        watched,
+        served,
+        first,
+        second,
+    }
+}
+
+fn start_reading<R: Threads + Abort>(rt: &R, watch: Watch) -> JoinHandle<Tally> {
+    let Ok(reading) = thread::spawn(rt, move || read_often(watch)) else {
         panic!(rt; "no thread");
     };
-    let (first, second) = both(ports).expect(&rt, "two ports");
-    let first = start(&rt, first).expect(&rt, "a thread");
-    let second = start(&rt, second).expect(&rt, "a thread");
-    let served = serve_both(&rt, &mut watched);
-    let first = first
-        .join(&rt)
-        .expect(&rt, "a port that isn't busy to the end");
-    let second = second
-        .join(&rt)
-        .expect(&rt, "a port that isn't busy to the end");
-    let tally = reading.join(&rt);
+    reading
+}
+
+/// Makes a machine of two guests and runs it while another thread reads its reports.
+fn run_new<R: Threads + Wait + Abort>(rt: &R, alloc: Global) -> (Ran, Tally) {
+    let Ok((mut watched, ports)) = new_machine(rt, alloc, 1, &[1, 1], 2, 202) else {
+        panic!(rt; "no machine");
+    };
+    let watch = watched.publisher.watch().expect(rt, "a watch");
+    let reading = start_reading(rt, watch);
+    let (first, second) = both(ports).expect(rt, "two ports");
+    let ran = run_by(rt, watched, first, second);
+    (ran, reading.join(rt))
+}
+
+/// Settles the machine, and returns how its requests were served and its report.
+fn settled<R: Wait + Abort>(rt: &R, alloc: Global, ran: Ran) -> (Served, Report) {
+    let Ran {
+        watched,
+        served,
+        first,
+        second,
+    } = ran;
+    let Watched { merger, publisher } = watched;
+    publisher.end(rt);
+    let ports = list_of_both(rt, alloc, first, second);
+    let Ok(settled) = settle(merger, ports) else {
+        panic!(rt; "not settled");
+    };
+    (served, settled.report())
+}
+
+#[test]
+fn entries_never_fall(rt: HostRuntime) {
+    let (ran, tally) = run_new(&rt, rt.alloc());
+    let (served, report) = settled(&rt, rt.alloc(), ran);
     let all = Served {
         steps: 2 * LOADS + 2,
         published: 20,
@@ -129,14 +183,5 @@ fn entries_never_fall(rt: HostRuntime) -> Result<(), Fail> {
         falls: 0,
     };
     assert_eq!(rt; tally, never);
-    let Watched { merger, publisher } = watched;
-    publisher.end(&rt);
-    let mut ports = Vec::with_capacity(rt.alloc(), 2)?;
-    ports.push_reserved(first);
-    ports.push_reserved(second);
-    let Ok(settled) = settle(merger, ports) else {
-        panic!(rt; "not settled");
-    };
-    assert_eq!(rt; settled.report(), Report::new(202, 0, 0, 0, 0));
-    Ok(())
+    assert_eq!(rt; report, Report::new(202, 0, 0, 0, 0));
 }

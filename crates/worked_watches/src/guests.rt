@@ -1,10 +1,13 @@
 //! A guest in its own thread, which loads a byte again and again and then closes its port.
-ghost use Rattle.std.specs.Prelude.{◌≡◌, IfSome};
+ghost use Rattle.std.specs.Prelude.{◌≡◌, ◌∷◌, [], IfSome};
 ghost use Rattle.share_rings.specs.Ends.{port_name, closed_name};
 
 use page_model::Verdict;
 use share_rings::{ClosedPort, Port};
+use std::alloc::Allocator;
+use std::process::Abort;
 use std::snapshot::Snapshot;
+use std::sync::Wait;
 use std::thread;
 use std::thread::{Promise, PromisedHandle, Threads};
 
@@ -77,10 +80,37 @@ fn run_guest(port: Port) -> Option<ClosedPort>
     Some(port)
 }
 
-/// Starts a guest's thread.
-pub fn start<R: Threads>(rt: &R, port: Port) -> Option<Running>
-    ensures { IfSome result (λ running. port_name running.promise.0.value ≡ port_name port) }
+/// Starts a guest's thread, or stops the test.
+pub fn start<R: Threads + Abort>(rt: &R, port: Port) -> Running
+    ensures { port_name result.promise.0.value ≡ port_name port }
 {
     let promise = SamePort(Snapshot::of(&port));
-    thread::spawn_with(rt, promise, move || run_guest(port)).ok()
+    let Ok(running) = thread::spawn_with(rt, promise, move || run_guest(port)) else {
+        panic!(rt; "no thread");
+    };
+    running
+}
+
+/// Waits for a guest's thread.
+pub fn join<R: Threads + Wait + Abort>(rt: &R, running: Running) -> ClosedPort
+    ensures { closed_name result ≡ port_name running.promise.0.value }
+{
+    running
+        .join(rt)
+        .expect(rt, "a port that isn't busy to the end")
+}
+
+/// Returns the list of two guests' ports.
+pub fn list_of_both<A: Allocator>(
+    rt: &impl Abort,
+    alloc: A,
+    first: ClosedPort<A>,
+    second: ClosedPort<A>,
+) -> Vec<ClosedPort<A>, A>
+    ensures { result.items ≡ first ∷ second ∷ [] }
+{
+    let mut ports = Vec::with_capacity(alloc, 2).expect(rt, "memory");
+    ports.push_reserved(first);
+    ports.push_reserved(second);
+    ports
 }

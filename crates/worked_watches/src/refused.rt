@@ -10,9 +10,12 @@ use page_digest::Sha256Hash;
 use page_model::{Report, Request};
 use refusing::Refusing;
 use std::alloc::{AllocError, Allocator, Global};
+use std::process::Abort;
+use std::sync::Wait;
 use std::sync::atomic::{AtomicBool, Ordering};
 use std::test::Fail;
 use std::thread;
+use std::thread::Threads;
 use watched_machine::{Gate, Viewer, run};
 
 const MOST: u64 = 100;
@@ -23,34 +26,58 @@ const TRIES: u64 = 1 << 24;
 // The requests before those of the machine: for the two lists of the configuration.
 const BEFORE: u64 = 2;
 
+/// What a refusal of memory stopped.
+#[derive(Clone, Copy)]
+enum Refused {
+    Machine,
+    Publish,
+    Nothing,
+}
+
+/// Makes a machine of one guest and watches it to its end. Returns why there is none.
+fn fault_of<R: Wait + Abort>(rt: &R, heap: &Refusing) -> Option<Fault> {
+    match new_machine(rt, heap, 1, &[1], 4, 4) {
+        Ok((watched, ports)) => {
+            let port = only(ports).expect(rt, "one port");
+            watch_and_end(rt, watched, port);
+            None
+        }
+        Err(fault) => Some(fault),
+    }
+}
+
+/// Makes and watches a machine while request number n for memory is refused.
+fn refused_at<R: Wait + Abort>(rt: &R, alloc: Global, n: u64) -> Refused {
+    let heap = Refusing::new(alloc, n, 0);
+    let fault = fault_of(rt, &heap);
+    assert!(rt; heap.holds_nothing(), "at {n}");
+    match fault {
+        None if heap.has_refused() => Refused::Publish,
+        None => Refused::Nothing,
+        Some(fault) => {
+            assert!(rt; heap.has_refused(), "at {n}");
+            assert_eq!(rt; fault, Fault::OutOfMemory, "at {n}");
+            Refused::Machine
+        }
+    }
+}
+
 // The nth request for memory is refused, with n counting up until a run has no refusal: first those of the new machine,
 // then those of a publish. None of the other calls asks for any.
 #[test]
 fn each_growth_refused_in_turn(rt: HostRuntime) -> Result<(), Fail> {
     let mut publish_refused = false;
-    let mut whole_at = None;
-    for n in 0..MOST {
-        let heap = Refusing::new(rt.alloc(), BEFORE + n, 0);
-        match new_machine(&rt, &heap, 1, &[1], 4, 4) {
-            Ok((watched, ports)) => {
-                let port = only(ports).expect(&rt, "one port");
-                watch_and_end(&rt, watched, port);
-                publish_refused = publish_refused || heap.has_refused();
+    for n in BEFORE..BEFORE + MOST {
+        match refused_at(&rt, rt.alloc(), n) {
+            Refused::Machine => {}
+            Refused::Publish => publish_refused = true,
+            Refused::Nothing => {
+                assert!(rt; publish_refused);
+                return Ok(());
             }
-            Err(fault) => {
-                assert!(rt; heap.has_refused(), "at {n}");
-                assert_eq!(rt; fault, Fault::OutOfMemory, "at {n}");
-            }
-        }
-        assert!(rt; heap.holds_nothing(), "at {n}");
-        if !heap.has_refused() {
-            whole_at = Some(n);
-            break;
         }
     }
-    assert!(rt; whole_at.is_some());
-    assert!(rt; publish_refused);
-    Ok(())
+    Err(Fail::from("each run was refused"))
 }
 
 /// Refuses all memory from the guest's first request on, and holds its second one back until that refused a publish.
@@ -98,19 +125,29 @@ fn two_counts<A: Allocator + Copy>(alloc: A) -> Result<Vec<Vec<Request, A>, A>, 
     Ok(scripts)
 }
 
+/// Runs the script, and returns the run's report.
+fn report_of_run<R: Threads + Wait + Abort + Sync>(
+    rt: &R,
+    heap: &Refusing<Global>,
+    miser: &Miser,
+) -> Report {
+    let config = config_of(heap, 1, &[1], 3, 3).expect(rt, "memory");
+    let scripts = two_counts(heap).expect(rt, "memory");
+    match run(rt, heap, &config, Sha256Hash, scripts, miser, &Blind) {
+        Ok(finished) => finished.unwatched(rt).settled.report(),
+        Err(_) => panic!(rt; "no run"),
+    }
+}
+
 // A run goes on where its publishes are refused.
 #[test]
-fn refused_publishes_stop_no_run(rt: HostRuntime) -> Result<(), Fail> {
+fn refused_publishes_stop_no_run(rt: HostRuntime) {
     let heap = Refusing::new(rt.alloc(), u64::MAX, 0);
-    let config = config_of(&heap, 1, &[1], 3, 3)?;
-    let scripts = two_counts(&heap)?;
     let miser = Miser {
         heap: &heap,
         missed: AtomicBool::new(false),
     };
-    let finished = run(&rt, &heap, &config, Sha256Hash, scripts, &miser, &Blind)?;
+    let report = report_of_run(&rt, &heap, &miser);
     assert!(rt; !miser.missed.load(Ordering::SeqCst));
-    let plain = finished.unwatched(&rt);
-    assert_eq!(rt; plain.settled.report(), Report::new(3, 0, 0, 0, 0));
-    Ok(())
+    assert_eq!(rt; report, Report::new(3, 0, 0, 0, 0));
 }

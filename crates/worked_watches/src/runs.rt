@@ -1,16 +1,18 @@
 //! Whole runs, whose machines publish their last report.
 ghost use Rattle.std.specs.Prelude.{◌≡◌, false, All, length, IfOk};
 ghost use Rattle.share_rings.specs.Closing.{has_close, is_close};
+ghost use Rattle.merge_run.specs.Runs.{CanBeRun};
 
 use crate::config::config_of;
 use page_digest::Sha256Hash;
 use page_model::{Report, Request, Verdict};
 use refusing::Refusing;
-use std::alloc::{AllocError, Allocator};
+use std::alloc::{AllocError, Allocator, Global};
 use std::process::Abort;
 use std::sync::Wait;
 use std::test::Fail;
-use watched_machine::{Finished, JournalFull, OpenGate, RunFault, Viewer, run};
+use std::thread::Threads;
+use watched_machine::{Config, Finished, JournalFull, OpenGate, RunFault, Viewer, run};
 
 const MOST: u64 = 200;
 
@@ -66,85 +68,103 @@ fn check_and_end<R: Abort + Wait, A: Allocator>(rt: &R, finished: Finished<Sha25
     publisher.end(rt);
 }
 
+/// Runs scripts, and looks at the run if it ended. Returns the fault of one that didn't.
+fn fault_of_run<R: Threads + Wait + Abort + Sync, A: Allocator + Copy + Send + Sync>(
+    rt: &R,
+    alloc: A,
+    config: &Config<A>,
+    scripts: Vec<Vec<Request, A>, A>,
+) -> Option<RunFault>
+    requires { CanBeRun config.now scripts.items }
+{
+    match run(rt, alloc, config, Sha256Hash, scripts, &OpenGate, &Blind) {
+        Ok(finished) => {
+            check_and_end(rt, finished);
+            None
+        }
+        Err(fault) => Some(fault),
+    }
+}
+
+/// Frames, what a ring holds, and the journal of a run of two guests.
+type Numbers = (u32, u32, u32);
+
+/// Runs the two scripts on a machine of these numbers. Where `starves`, the run gets no memory.
+fn fault_on_heap<R: Threads + Wait + Abort + Sync>(
+    rt: &R,
+    heap: &Refusing,
+    numbers: Numbers,
+    starves: bool,
+) -> Option<RunFault> {
+    let (frames, ring, journal) = numbers;
+    let config = config_of(heap, frames, &[1, 1], ring, journal).expect(rt, "memory");
+    let scripts = two_scripts(heap).expect(rt, "memory");
+    if starves {
+        heap.refuse_all();
+    }
+    fault_of_run(rt, heap, &config, scripts)
+}
+
+/// Runs while request number n for memory is refused, and returns whether any was.
+fn is_refused<R: Threads + Wait + Abort + Sync>(rt: &R, alloc: Global, n: u64) -> bool {
+    let heap = Refusing::new(alloc, n, 0);
+    if let Some(fault) = fault_on_heap(rt, &heap, (2, 1, 5), false) {
+        assert!(rt; heap.has_refused(), "at {n}");
+        assert_eq!(rt; fault, RunFault::OutOfMemory, "at {n}");
+    }
+    assert!(rt; heap.holds_nothing(), "at {n}");
+    heap.has_refused()
+}
+
 // The nth request for memory is refused, with n counting up until a run has no refusal: those of the run, and then
 // those of what it publishes, which stop no run.
 #[test]
 fn run_refused_in_turn(rt: HostRuntime) -> Result<(), Fail> {
-    let mut whole_at = None;
-    for n in 0..MOST {
-        let heap = Refusing::new(rt.alloc(), BEFORE + n, 0);
-        let config = config_of(&heap, 2, &[1, 1], 1, 5)?;
-        let scripts = two_scripts(&heap)?;
-        match run(&rt, &heap, &config, Sha256Hash, scripts, &OpenGate, &Blind) {
-            Ok(finished) => check_and_end(&rt, finished),
-            Err(fault) => {
-                assert!(rt; heap.has_refused(), "at {n}");
-                assert_eq!(rt; fault, RunFault::OutOfMemory, "at {n}");
-            }
-        }
-        drop(config);
-        assert!(rt; heap.holds_nothing(), "at {n}");
-        if !heap.has_refused() {
-            whole_at = Some(n);
-            break;
+    for n in BEFORE..BEFORE + MOST {
+        if !is_refused(&rt, rt.alloc(), n) {
+            return Ok(());
         }
     }
-    assert!(rt; whole_at.is_some());
-    Ok(())
+    Err(Fail::from("each run was refused"))
 }
 
-/// Frames, what a ring holds, and the journal of a run of two guests; and the fault of the run, even if memory is
-/// refused too.
-type Case = (u32, u32, u32, RunFault);
+/// Returns the fault of a run without memory.
+fn fault_without_memory<R: Threads + Wait + Abort + Sync>(
+    rt: &R,
+    alloc: Global,
+    numbers: Numbers,
+) -> Option<RunFault> {
+    let heap = Refusing::new(alloc, u64::MAX, 0);
+    let fault = fault_on_heap(rt, &heap, numbers, true);
+    assert!(rt; heap.has_refused());
+    assert!(rt; heap.holds_nothing());
+    fault
+}
 
 // The two scripts need five entries.
 #[test]
-fn want_of_memory_is_told_last(rt: HostRuntime) -> Result<(), Fail> {
-    let cases: [Case; 5] = [
-        (0, 1, 5, RunFault::Frames),
-        (2, 0, 5, RunFault::Ring),
-        (2, 1, 0, RunFault::Journal),
-        (2, 1, 4, RunFault::Stopped(JournalFull)),
-        (2, 1, 5, RunFault::OutOfMemory),
+fn want_of_memory_is_told_last(rt: HostRuntime) {
+    let cases = [
+        ((0, 1, 5), RunFault::Frames),
+        ((2, 0, 5), RunFault::Ring),
+        ((2, 1, 0), RunFault::Journal),
+        ((2, 1, 4), RunFault::Stopped(JournalFull)),
+        ((2, 1, 5), RunFault::OutOfMemory),
     ];
-    for (frames, ring, journal, fault) in cases {
-        let heap = Refusing::new(rt.alloc(), u64::MAX, 0);
-        let config = config_of(&heap, frames, &[1, 1], ring, journal)?;
-        let scripts = two_scripts(&heap)?;
-        heap.refuse_all();
-        match run(&rt, &heap, &config, Sha256Hash, scripts, &OpenGate, &Blind) {
-            Ok(finished) => check_and_end(&rt, finished),
-            Err(answer) => assert_eq!(rt; answer, fault, "{frames} {ring} {journal}"),
-        }
-        assert!(rt; heap.has_refused());
-        drop(config);
-        assert!(rt; heap.holds_nothing());
+    for (numbers, fault) in cases {
+        assert_eq!(rt; fault_without_memory(&rt, rt.alloc(), numbers), Some(fault));
     }
-    Ok(())
 }
 
 // The faults of a configuration and of a journal without room are the same with memory as without.
 #[test]
-fn faults_with_memory(rt: HostRuntime) -> Result<(), Fail> {
-    let cases: [Case; 2] = [
-        (0, 1, 5, RunFault::Frames),
-        (2, 1, 4, RunFault::Stopped(JournalFull)),
+fn faults_with_memory(rt: HostRuntime) {
+    let cases = [
+        ((0, 1, 5), RunFault::Frames),
+        ((2, 1, 4), RunFault::Stopped(JournalFull)),
     ];
-    for (frames, ring, journal, fault) in cases {
-        let config = config_of(rt.alloc(), frames, &[1, 1], ring, journal)?;
-        let scripts = two_scripts(rt.alloc())?;
-        match run(
-            &rt,
-            rt.alloc(),
-            &config,
-            Sha256Hash,
-            scripts,
-            &OpenGate,
-            &Blind,
-        ) {
-            Ok(finished) => check_and_end(&rt, finished),
-            Err(answer) => assert_eq!(rt; answer, fault),
-        }
+    for (numbers, fault) in cases {
+        let heap = Refusing::new(rt.alloc(), u64::MAX, 0);
+        assert_eq!(rt; fault_on_heap(&rt, &heap, numbers, false), Some(fault));
     }
-    Ok(())
 }

@@ -6,9 +6,11 @@ use crate::config::config_of;
 use page_digest::Sha256Hash;
 use page_model::{Report, Request};
 use std::alloc::{AllocError, Allocator};
+use std::process::Abort;
+use std::sync::Wait;
 use std::sync::atomic::{AtomicBool, AtomicU32, Ordering};
-use std::test::Fail;
 use std::thread;
+use std::thread::Threads;
 use watched_machine::{Gate, Viewer, run};
 
 // Enough tries for some seconds.
@@ -62,30 +64,32 @@ fn three_counts<A: Allocator + Copy>(alloc: A) -> Result<Vec<Vec<Request, A>, A>
     Ok(scripts)
 }
 
+/// Runs the guest, and returns how many entries the run has.
+fn entries_of_run<R: Threads + Wait + Abort + Sync, A: Allocator + Copy + Send + Sync>(
+    rt: &R,
+    alloc: A,
+    showing: &Showing,
+) -> u32 {
+    let config = config_of(alloc, 1, &[1], 3, 4).expect(rt, "memory");
+    let scripts = three_counts(alloc).expect(rt, "memory");
+    match run(rt, alloc, &config, Sha256Hash, scripts, showing, showing) {
+        Ok(finished) => finished.unwatched(rt).settled.report().entries(),
+        Err(_) => panic!(rt; "no run"),
+    }
+}
+
 // The guest waits with its close until the viewer was shown the requests before it, so the run ends only if its reports
 // are published while it works and another thread reads them. Its ring holds all verdicts, and it takes no more then.
 // The last report is that of the whole run.
 #[test]
-fn viewer_is_shown_a_run_that_goes_on(rt: HostRuntime) -> Result<(), Fail> {
-    let config = config_of(rt.alloc(), 1, &[1], 3, 4)?;
-    let scripts = three_counts(rt.alloc())?;
+fn viewer_is_shown_a_run_that_goes_on(rt: HostRuntime) {
     let showing = Showing {
         awaited: 3,
         entries: AtomicU32::new(0),
         failed: AtomicBool::new(false),
     };
-    let finished = run(
-        &rt,
-        rt.alloc(),
-        &config,
-        Sha256Hash,
-        scripts,
-        &showing,
-        &showing,
-    )?;
+    let entries = entries_of_run(&rt, rt.alloc(), &showing);
     assert!(rt; !showing.failed.load(Ordering::SeqCst));
     assert_eq!(rt; showing.entries.load(Ordering::SeqCst), 4);
-    let plain = finished.unwatched(&rt);
-    assert_eq!(rt; plain.settled.report().entries(), 4);
-    Ok(())
+    assert_eq!(rt; entries, 4);
 }

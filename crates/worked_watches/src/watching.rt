@@ -7,11 +7,18 @@ use crate::watched::{Watched, all_zeros, new_machine, one_page, only};
 use merge_run::Step;
 use page_model::{Report, Verdict};
 use share_rings::Port;
-use std::alloc::Allocator;
+use std::alloc::{Allocator, Global};
 use std::process::Abort;
 use std::sync::Wait;
-use std::test::Fail;
+use std::thread::Threads;
 use watched_machine::{OutOfMemory, Told, Watch};
+
+// Reads, and checks what is read.
+fn expect_read<A: Allocator>(rt: &impl Abort, watch: &mut Watch<A>, wanted: Option<Report>)
+    ensures { watch_id watch.new ≡ watch_id watch.old }
+{
+    assert_eq!(rt; watch.read(), wanted);
+}
 
 // Publishes, and again if the first try was refused. After a refusal the watch reads what it read before.
 fn publish_for_sure<R: Abort + Wait, A: Allocator>(
@@ -30,11 +37,30 @@ fn publish_for_sure<R: Abort + Wait, A: Allocator>(
         return told;
     }
     watch.learn(watched.publisher.tell());
-    assert_eq!(rt; watch.read(), Some(before));
+    expect_read(rt, watch, Some(before));
     match watched.publish(rt) {
         Ok(told) => told,
         Err(OutOfMemory) => panic!(rt; "refused with memory"),
     }
+}
+
+// Serves a load.
+fn serve_load<A: Allocator>(rt: &impl Abort, watched: &mut Watched<A>, port: &mut Port<A>)
+    requires { 0 < guest_count watched.old.merger }
+    ensures { watched.new.publisher ≡ watched.old.publisher }
+{
+    assert_eq!(rt; port.load(0, 0, 1), Ok(()));
+    assert_eq!(rt; watched.step(0), Ok(Step::Done));
+}
+
+// Serves a store.
+fn serve_store<A: Allocator>(rt: &impl Abort, watched: &mut Watched<A>, port: &mut Port<A>)
+    requires { 0 < guest_count watched.old.merger }
+    ensures guests { guest_count watched.new.merger ≡ guest_count watched.old.merger }
+    ensures publisher { watched.new.publisher ≡ watched.old.publisher }
+{
+    assert_eq!(rt; port.store(0, 0, &[0x41]), Ok(()));
+    assert_eq!(rt; watched.step(0), Ok(Step::Done));
 }
 
 // Lets a second watch learn from three lists: after the last of them it reads nothing older.
@@ -49,15 +75,50 @@ fn watch_late<R: Abort + Wait, A: Allocator>(
 {
     let first = watched.publisher.tell();
     let third = watched.publisher.tell();
-    assert_eq!(rt; port.load(0, 0, 1), Ok(()));
-    assert_eq!(rt; watched.step(0), Ok(Step::Done));
+    serve_load(rt, watched, port);
     let second = publish_for_sure(rt, watched, watch, one_page(1));
-    let mut late = watched.publisher.watch().expect(rt, "a second watch");
+    let late = watched.publisher.watch().expect(rt, "a second watch");
+    learn_late(rt, late, first, second, third);
+}
+
+fn learn_late<A: Allocator>(rt: &impl Abort, late: Watch<A>, first: Told, second: Told, third: Told)
+    requires first { told_id first ≡ watch_id late }
+    requires second { told_id second ≡ watch_id late }
+    requires third { told_id third ≡ watch_id late }
+{
+    let mut late = late;
     late.learn(first);
     late.learn(second);
-    assert_eq!(rt; late.read(), Some(one_page(2)));
+    expect_read(rt, &mut late, Some(one_page(2)));
     late.learn(third);
-    assert_eq!(rt; late.read(), Some(one_page(2)));
+    expect_read(rt, &mut late, Some(one_page(2)));
+}
+
+// Serves and publishes a store, which is seen only then.
+fn watch_store<R: Abort + Wait, A: Allocator>(
+    rt: &R,
+    watched: &mut Watched<A>,
+    port: &mut Port<A>,
+    watch: &mut Watch<A>,
+)
+    requires guest { 0 < guest_count watched.old.merger }
+    requires same { watch_id watch.old ≡ publisher_id watched.old.publisher }
+    ensures guests { guest_count watched.new.merger ≡ guest_count watched.old.merger }
+    ensures same { watch_id watch.new ≡ publisher_id watched.new.publisher }
+{
+    expect_read(rt, watch, Some(all_zeros()));
+    serve_store(rt, watched, port);
+    expect_read(rt, watch, Some(all_zeros()));
+    let told = publish_for_sure(rt, watched, watch, all_zeros());
+    watch.learn(told);
+    expect_read(rt, watch, Some(one_page(1)));
+}
+
+// Ends the machine, which its watch then sees.
+fn end<R: Abort + Wait, A: Allocator>(rt: &R, watched: Watched<A>, watch: Watch<A>) {
+    let mut watch = watch;
+    watched.end(rt);
+    expect_read(rt, &mut watch, None);
 }
 
 /// Checks that a store is seen once it is published, and a load after it by a second watch. Ends the machine, of one
@@ -67,42 +128,57 @@ pub fn watch_and_end<R: Abort + Wait, A: Allocator>(rt: &R, watched: Watched<A>,
 {
     let (mut watched, mut port) = (watched, port);
     let mut watch = watched.publisher.watch().expect(rt, "a watch");
-    assert_eq!(rt; watch.read(), Some(all_zeros()));
-    assert_eq!(rt; port.store(0, 0, &[0x41]), Ok(()));
-    assert_eq!(rt; watched.step(0), Ok(Step::Done));
-    assert_eq!(rt; watch.read(), Some(all_zeros()));
-    let told = publish_for_sure(rt, &mut watched, &mut watch, all_zeros());
-    watch.learn(told);
-    assert_eq!(rt; watch.read(), Some(one_page(1)));
+    watch_store(rt, &mut watched, &mut port, &mut watch);
     watch_late(rt, &mut watched, &mut port, &mut watch);
     assert_eq!(rt; port.verdict(), Some(Verdict::Mapped));
-    watched.end(rt);
-    assert_eq!(rt; watch.read(), None);
+    end(rt, watched, watch);
+}
+
+// Makes a machine of one guest.
+fn made<R: Abort + Wait>(rt: &R, alloc: Global) -> (Watched, Port)
+    ensures { 0 < guest_count result.0.merger }
+{
+    let Ok((watched, ports)) = new_machine(rt, alloc, 1, &[1], 4, 4) else {
+        panic!(rt; "no machine");
+    };
+    let port = only(ports).expect(rt, "one port");
+    (watched, port)
 }
 
 #[test]
-fn a_watch_learns_and_reads(rt: HostRuntime) -> Result<(), Fail> {
-    let (watched, ports) = new_machine(&rt, rt.alloc(), 1, &[1], 4, 4)?;
-    let port = only(ports).expect(&rt, "one port");
+fn a_watch_learns_and_reads(rt: HostRuntime) {
+    let (watched, port) = made(&rt, rt.alloc());
     watch_and_end(&rt, watched, port);
-    Ok(())
+}
+
+fn send_three(rt: &impl Abort, port: &mut Port) {
+    assert_eq!(rt; port.store(0, 5, &[0x41]), Ok(()));
+    assert_eq!(rt; port.load(0, 5, 1), Ok(()));
+    assert_eq!(rt; port.count(), Ok(()));
+}
+
+// Serves three requests in a round, which the watch sees once they are published.
+fn watch_round<R: Threads + Wait + Sync + Abort>(
+    rt: &R,
+    alloc: Global,
+    watched: &mut Watched,
+    watch: &mut Watch,
+)
+    requires { watch_id watch.old ≡ publisher_id watched.old.publisher }
+{
+    assert_eq!(rt; watched.round(rt, alloc, 4), Ok(3));
+    expect_read(rt, watch, Some(all_zeros()));
+    let told = watched.publish(rt).expect(rt, "memory");
+    watch.learn(told);
+    expect_read(rt, watch, Some(one_page(3)));
 }
 
 // A round serves three requests, and until its report is published nobody reads of them.
 #[test]
-fn a_round_publishes_nothing(rt: HostRuntime) -> Result<(), Fail> {
-    let (mut watched, ports) = new_machine(&rt, rt.alloc(), 1, &[1], 4, 4)?;
-    let mut port = only(ports).expect(&rt, "one port");
+fn a_round_publishes_nothing(rt: HostRuntime) {
+    let (mut watched, mut port) = made(&rt, rt.alloc());
     let mut watch = watched.publisher.watch().expect(&rt, "a watch");
-    assert_eq!(rt; port.store(0, 5, &[0x41]), Ok(()));
-    assert_eq!(rt; port.load(0, 5, 1), Ok(()));
-    assert_eq!(rt; port.count(), Ok(()));
-    assert_eq!(rt; watched.round(&rt, rt.alloc(), 4), Ok(3));
-    assert_eq!(rt; watch.read(), Some(all_zeros()));
-    let told = watched.publish(&rt).expect(&rt, "memory");
-    watch.learn(told);
-    assert_eq!(rt; watch.read(), Some(one_page(3)));
-    watched.end(&rt);
-    assert_eq!(rt; watch.read(), None);
-    Ok(())
+    send_three(&rt, &mut port);
+    watch_round(&rt, rt.alloc(), &mut watched, &mut watch);
+    end(&rt, watched, watch);
 }

@@ -1,14 +1,13 @@
 //! Guests in turn.
 use crate::answers::Reply::{Blocked, Done, Got, Number, Sent};
 use crate::course::Call::{Entries, Guest, GuestOf, Step};
-use crate::course::{new_course, play};
+use crate::course::{made, play, play_to_end};
 use crate::ports::Ask::{Load, Verdict};
-use std::test::Fail;
 use worked_answers::Answer::Byte;
 
 #[test]
-fn round_in_turn(rt: HostRuntime) -> Result<(), Fail> {
-    let course = new_course(rt.alloc(), 1, &[1, 1], 2, 4)?;
+fn round_in_turn(rt: HostRuntime) {
+    let course = made(&rt, rt.alloc(), 1, &[1, 1], 2, 4);
     let rows = [
         (Guest(0, Load(0)), Sent),
         (Guest(0, Load(0)), Sent),
@@ -16,21 +15,20 @@ fn round_in_turn(rt: HostRuntime) -> Result<(), Fail> {
         (Guest(1, Load(0)), Sent),
     ];
     let mut course = play(&rt, course, &rows);
-    assert_eq!(rt; course.round(&rt, rt.alloc(), 1, 3), Ok(3));
+    assert!(rt; course.round(&rt, rt.alloc(), 1, 3) == Number(3));
     let rows = [
         (Entries, Number(3)),
         (GuestOf(0), Number(0)),
         (GuestOf(1), Number(1)),
         (GuestOf(2), Number(0)),
     ];
-    drop(play(&rt, course, &rows));
-    Ok(())
+    play_to_end(&rt, course, &rows);
 }
 
 // Guest 0 doesn't take its verdict, and its ring has one slot, so it waits. Guest 1 is served all the same.
 #[test]
-fn round_past_a_full_ring(rt: HostRuntime) -> Result<(), Fail> {
-    let course = new_course(rt.alloc(), 1, &[1, 1], 1, 8)?;
+fn round_past_a_full_ring(rt: HostRuntime) {
+    let course = made(&rt, rt.alloc(), 1, &[1, 1], 1, 8);
     let rows = [
         (Guest(0, Load(0)), Sent),
         (Step(0), Done),
@@ -38,13 +36,12 @@ fn round_past_a_full_ring(rt: HostRuntime) -> Result<(), Fail> {
         (Guest(1, Load(0)), Sent),
     ];
     let mut course = play(&rt, course, &rows);
-    assert_eq!(rt; course.round(&rt, rt.alloc(), 1, 4), Ok(1));
+    assert!(rt; course.round(&rt, rt.alloc(), 1, 4) == Number(1));
     let rows = [
         (Step(0), Blocked),
         (Entries, Number(2)),
         (GuestOf(1), Number(1)),
         (Guest(1, Verdict), Got(Byte(0))),
     ];
-    drop(play(&rt, course, &rows));
-    Ok(())
+    play_to_end(&rt, course, &rows);
 }

@@ -1,9 +1,10 @@
 //! Forty proposals in one round, enough for a second worker.
-use crate::answers::Reply::{Got, Sent};
+use crate::answers::Reply::{Got, Number, Sent};
 use crate::course::Call::Guest;
-use crate::course::{Course, new_course, play};
+use crate::course::{Course, made, play};
 use crate::ports::Ask::{Propose, StorePair, Verdict};
 use refusing::Refusing;
+use std::alloc::Global;
 use std::process::Abort;
 use std::sync::Wait;
 use std::test::Fail;
@@ -47,22 +48,26 @@ fn take_all(rt: &impl Abort, course: Course) -> Course {
 /// Serves the stores in one round, and the proposals in another, whatever memory there is for lists.
 fn serve_all<R: Threads + Wait + Sync + Abort>(rt: &R, lists: &Refusing, course: Course) {
     let mut course = store_all(rt, course);
-    assert_eq!(rt; course.round(rt, lists, 2, 64), Ok(40));
+    assert!(rt; course.round(rt, lists, 2, 64) == Number(40));
     let mut course = propose_all(rt, course);
-    assert_eq!(rt; course.round(rt, lists, 2, 64), Ok(40));
+    assert!(rt; course.round(rt, lists, 2, 64) == Number(40));
     let course = take_all(rt, course);
     assert_eq!(rt; course.numbers(), [80, 40, 0, 40, 0, 40]);
+}
+
+/// Serves all while growth number n of the rounds' lists is refused, and returns whether any was.
+fn is_refused<R: Threads + Wait + Sync + Abort>(rt: &R, alloc: Global, n: u64) -> bool {
+    let heap = Refusing::new(alloc, n, 0);
+    serve_all(rt, &heap, made(rt, alloc, 40, &[40], 64, 100));
+    assert!(rt; heap.holds_nothing(), "at {n}");
+    heap.has_refused()
 }
 
 // Each growth of the rounds' lists is refused in turn.
 #[test]
 fn many_proposals(rt: HostRuntime) -> Result<(), Fail> {
     for n in 0..MOST_GROWTHS {
-        let heap = Refusing::new(rt.alloc(), n, 0);
-        let course = new_course(rt.alloc(), 40, &[40], 64, 100)?;
-        serve_all(&rt, &heap, course);
-        assert!(rt; heap.holds_nothing(), "at {n}");
-        if !heap.has_refused() {
+        if !is_refused(&rt, rt.alloc(), n) {
             return Ok(());
         }
     }

@@ -1,9 +1,8 @@
 //! A round in which a store follows a proposal of its page, and another proposal follows the store.
-use crate::answers::Reply::{Done, Got, Sent};
+use crate::answers::Reply::{Done, Got, Number, Sent};
 use crate::course::Call::{Guest, Step};
-use crate::course::{Course, new_course, play};
+use crate::course::{Course, made, play};
 use crate::ports::Ask::{Propose, Store, Verdict};
-use merge_run::Fault;
 use refusing::Refusing;
 use std::alloc::{Allocator, Global};
 use std::process::Abort;
@@ -15,8 +14,8 @@ use worked_answers::Answer::{Hinted, Mapped, Stored};
 const MOST_GROWTHS: u64 = 100;
 
 /// Makes two pages that hold the same, and four requests that wait.
-fn waiting(rt: &impl Abort, alloc: Global) -> Result<Course, Fault> {
-    let course = new_course(alloc, 2, &[2], 8, 8)?;
+fn waiting(rt: &impl Abort, alloc: Global) -> Course {
+    let course = made(rt, alloc, 2, &[2], 8, 8);
     let rows = [
         (Guest(0, Store(0, b'A')), Sent),
         (Guest(0, Store(1, b'A')), Sent),
@@ -29,7 +28,7 @@ fn waiting(rt: &impl Abort, alloc: Global) -> Result<Course, Fault> {
         (Guest(0, Propose(0)), Sent),
         (Guest(0, Propose(1)), Sent),
     ];
-    Ok(play(rt, course, &rows))
+    play(rt, course, &rows)
 }
 
 /// Serves all four in one round, whatever memory there is for lists.
@@ -40,7 +39,7 @@ fn serve_four<R: Threads + Wait + Sync + Abort, B: Allocator + Clone + Send>(
     workers: u32,
 ) {
     let mut course = course;
-    assert_eq!(rt; course.round(rt, lists, workers, 4), Ok(4));
+    assert!(rt; course.round(rt, lists, workers, 4) == Number(4));
     let rows = [
         (Guest(0, Verdict), Got(Hinted)),
         (Guest(0, Verdict), Got(Stored)),
@@ -52,22 +51,25 @@ fn serve_four<R: Threads + Wait + Sync + Abort, B: Allocator + Clone + Send>(
 }
 
 #[test]
-fn round_with_a_store(rt: HostRuntime) -> Result<(), Fail> {
+fn round_with_a_store(rt: HostRuntime) {
     for workers in [1u32, 4] {
-        let course = waiting(&rt, rt.alloc())?;
+        let course = waiting(&rt, rt.alloc());
         serve_four(&rt, rt.alloc(), course, workers);
     }
-    Ok(())
+}
+
+/// Serves the four while growth number n of the round's lists is refused, and returns whether any was.
+fn is_refused<R: Threads + Wait + Sync + Abort>(rt: &R, alloc: Global, n: u64) -> bool {
+    let heap = Refusing::new(alloc, n, 0);
+    serve_four(rt, &heap, waiting(rt, alloc), 4);
+    assert!(rt; heap.holds_nothing(), "at {n}");
+    heap.has_refused()
 }
 
 #[test]
 fn refused_growth(rt: HostRuntime) -> Result<(), Fail> {
     for n in 0..MOST_GROWTHS {
-        let heap = Refusing::new(rt.alloc(), n, 0);
-        let course = waiting(&rt, rt.alloc())?;
-        serve_four(&rt, &heap, course, 4);
-        assert!(rt; heap.holds_nothing(), "at {n}");
-        if !heap.has_refused() {
+        if !is_refused(&rt, rt.alloc(), n) {
             return Ok(());
         }
     }
