@@ -33,6 +33,15 @@ pub(crate) fn look_ahead<A: Allocator>(end: &mut MergerEnd<A>, is_full: bool) ->
     if is_full {
         return Ahead::Full;
     }
+    take_next(end)
+}
+
+/// Takes the next request of a guest whose `Closed` was not given, if a slot for its verdict is known to be free.
+fn take_next<A: Allocator>(end: &mut MergerEnd<A>) -> Ahead
+    requires open { has_closed (end_given end.old) ≡ false }
+    requires sends { has_close (end_taken end.old) ≡ false }
+    ensures { Finds false end.old end.new result }
+{
     if end.free() == 0 {
         return Ahead::Blocked;
     }

@@ -1,4 +1,7 @@
 //! A fast hash.
+ghost use Rattle.std.specs.Prelude.{◌≡◌};
+ghost use Rattle.page_digest.specs.Hashes.{fold_hash};
+
 use crate::PageHash;
 use page_model::{HashFunction, Page};
 use std::hash::{FoldHasher, Hasher};
@@ -17,9 +20,16 @@ impl HashFunction for FoldHash {
 
 impl PageHash for FoldHash {
     fn hash(&self, salt: u32, page: &Page) -> u64 {
-        let mut hasher = FoldHasher::default();
-        hasher.write_u32(salt);
-        hasher.write(page);
-        hasher.finish()
+        fold(salt, page)
     }
+}
+
+/// Returns the result of a hasher that was fed the salt and the page.
+fn fold(salt: u32, page: &Page) -> u64
+    ensures { result ≡ fold_hash salt page.now }
+{
+    let mut hasher = FoldHasher::default();
+    hasher.write_u32(salt);
+    hasher.write(page);
+    hasher.finish()
 }

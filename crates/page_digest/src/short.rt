@@ -1,4 +1,6 @@
 //! Weak hashes, for tests of what happens when different pages have equal hashes.
+ghost use Rattle.std.specs.Prelude.{◌≡◌, ◌+◌, ◌*◌, ◌^◌, slice_index};
+
 use crate::PageHash;
 use page_model::{HashFunction, Page};
 
@@ -14,8 +16,15 @@ impl HashFunction for FirstByteHash {
 
 impl PageHash for FirstByteHash {
     fn hash(&self, _salt: u32, page: &Page) -> u64 {
-        page[0].into()
+        first_byte(page)
     }
+}
+
+/// Returns byte 0.
+fn first_byte(page: &Page) -> u64
+    ensures { result ≡ slice_index page.now 0 }
+{
+    page[0].into()
 }
 
 /// Byte 0 of the page times 2^32, plus byte 1: pages with equal byte 1 have the same key. The salt is ignored.
@@ -30,6 +39,13 @@ impl HashFunction for TwoByteHash {
 
 impl PageHash for TwoByteHash {
     fn hash(&self, _salt: u32, page: &Page) -> u64 {
-        u64::from(page[0]) * 4_294_967_296 + u64::from(page[1])
+        two_bytes(page)
     }
+}
+
+/// Returns byte 0 times 2^32, plus byte 1.
+fn two_bytes(page: &Page) -> u64
+    ensures { result ≡ slice_index page.now 0 * 2 ^ 32 + slice_index page.now 1 }
+{
+    u64::from(page[0]) * 4_294_967_296 + u64::from(page[1])
 }
