@@ -1,9 +1,9 @@
 -- What a merge makes of files and fleets.
-use Rattle.std.proofs.Common.{◌≡◌, ◌≢◌, ℕ, suc, zero, ◌+◌, ◌<◌, ◌≤◌, ◌^◌, ◌⊎◌, List, [], ◌∷◌, ◌++◌, length, map, get_or, refl, sym, ap, ◌∙◌, arith, inl, inr}
+use Rattle.std.proofs.Common.{◌≡◌, ℕ, suc, zero, ◌<◌, List, [], ◌∷◌, ◌++◌, length, map, get_or, refl, sym, ap, ◌∙◌, arith, inl, inr}
 use Rattle.std.proofs.lemmas.Bool.{cases_eq}
 use Rattle.std.proofs.lemmas.List.{ext_get_or, get_or-map, length-map, take_all}
 use Rattle.std.proofs.lemmas.List.FromFn.{get_or-map-range_with_len, length-map-range_with_len}
-use Rattle.std.specs.Prelude.{Option, Some, None, Result, Ok, Err, filter, max, sum_by}
+use Rattle.std.specs.Prelude.{Option, Some, None, Ok, Err, filter, max, sum_by}
 use Rattle.std.specs.List.{range_with_len, slice_split}
 use Rattle.std.specs.Option.{option_map}
 use Rattle.digest_text.specs.Fields.{Row}
@@ -14,16 +14,15 @@ use Rattle.digest_text.specs.declared.digest_reader.DigestReader.{DigestReader}
 use Rattle.digest_text.specs.declared.so_far.SoFar.{SoFar}
 use Rattle.page_digests.specs.declared.line.DigestLine.{DigestLine}
 use Rattle.fleet_census.specs.Amounts.{all_digests, sum_below}
-use Rattle.fleet_census.specs.Classes.{class_at, has_contents, no_class, no_contents}
-use Rattle.fleet_census.specs.Fleets.{class_below, class_numbers, copies_table, guest_below, guest_numbers, lines_of, pages_of, total_below}
+use Rattle.fleet_census.specs.Classes.{has_contents, no_class, no_contents}
+use Rattle.fleet_census.specs.Fleets.{class_below, class_numbers, copies_table, guest_numbers, lines_of, pages_of}
 use Rattle.fleet_census.specs.Gathers.{AreZeros}
 use Rattle.fleet_census.specs.Merged.{IsCounted}
-use Rattle.fleet_census.specs.Numbers.{AreAllTallied, IsAllCounted, IsMerged, IsSampleOf, fleet_of, rows_in}
-use Rattle.fleet_census.specs.Openings.{AreWhole, IsOpenTo, sample_of}
-use Rattle.fleet_census.specs.States.{AreBehind, AreChained, AreSound, From, IsChained, IsFaultOf, Said}
+use Rattle.fleet_census.specs.Numbers.{IsAllCounted, IsMerged, IsSampleOf, fleet_of, rows_in}
+use Rattle.fleet_census.specs.Openings.{AreWhole, IsOpenTo}
+use Rattle.fleet_census.specs.States.{AreBehind, AreChained, AreSound, From, IsFaultOf, Said}
 use Rattle.fleet_census.specs.Steps.{no_amount, no_guest}
 use Rattle.fleet_census.specs.Tallies.{AreTallied}
-use Rattle.fleet_census.specs.declared.class.FleetClass.{FleetClass}
 use Rattle.fleet_census.specs.declared.entry.Entry.{Entry}
 use Rattle.fleet_census.specs.declared.fault.FleetFault.{FleetFault}
 use Rattle.fleet_census.specs.declared.fault.FleetFault.TheVariants.{OutOfMemory, TooManyDigests, TooManyPages, OtherSample, Read, Line}

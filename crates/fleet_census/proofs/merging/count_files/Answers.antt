@@ -1,8 +1,5 @@
-use Rattle.std.proofs.Common.{◌≡◌, ◌∙◌, length, map, refl, sym, ap, arith}
-use Rattle.std.proofs.lemmas.List.{length-map}
-use Rattle.std.specs.Prelude.{Some}
+use Rattle.std.proofs.Common.{◌≡◌, length, refl, ap, arith}
 use Rattle.digest_text.specs.Told.{told}
-use Rattle.fleet_census.specs.Tournaments.{leaves}
 use Rattle.fleet_census.specs.declared.total.FleetTotal.{FleetTotal}
 use Rattle.fleet_census.proofs.Settled.{count_told, opened_behind, opened_pages, opened_sample, opened_tallied, opened_zeros, same_length, unread_chained}
 use Rattle.fleet_census.proofs.merging.count_files.Goals as goal

@@ -1,4 +1,4 @@
-use Rattle.std.proofs.Common.{◌≡◌, ◌+◌, ◌*◌, ◌-◌, ◌^◌, ℕ, min, arith, ◌∙◌, refl}
+use Rattle.std.proofs.Common.{◌≡◌, ◌+◌, ◌*◌, ◌-◌, ◌^◌, ℕ, min, arith, ◌∙◌}
 use Rattle.fleet_census.proofs.amount.Amount.estimate.Goals as goal
 
 -- a sum that ends at a number may end there earlier
