@@ -10,7 +10,7 @@ The cases: each command on the worked texts below examples/, from a file and fro
 and each front of a journal and of a script; texts that are too long; inputs that can't be opened or read, outputs that take
 nothing, too little memory, no room for a thread's stack; texts of many requests; words that are no command line, help and the version; estimates of small
 images, and each cause for which there is none; digests of small images and of a process beside a count in Python, and each cause
-for which there is none; and what a terminal is told.
+for which there is none; the numbers of digests merged, and each cause for which there are none; and what a terminal is told.
 
 A worked text is NAME.journal or NAME.script, and what a command is to write of it stands beside it as NAME.COMMAND: NAME.replay,
 NAME.serial, NAME.run (where each run writes the same) and NAME.run-journal. Which order the guests' requests have in a run's journal
@@ -450,6 +450,50 @@ def digest_ends(folder):
     case("digest, progress", [] if is_drawn else [f"{shown!r}"])
 
 
+def fleets(folder):
+    paths = [str(folder / f"guest-{n}.digest") for n in range(3)]
+    for path, image, salt in zip(paths, ["first.raw", "second.core", "first.raw"], [0, 0, 5]):
+        pathlib.Path(path).write_bytes(ran(["digest", "--salt", str(salt), str(ROWS / image)]).stdout)
+    expect("fleet of images.fleet", ["fleet", *paths], "", 0, (ROWS / "images.fleet").read_text(), "")
+    sampled = ["fleet", "sampled-web.digest", "sampled-database.digest"]
+    expect("fleet of sampled.fleet", sampled, "", 0, (ROWS / "sampled.fleet").read_text(), "", folder=ROWS)
+    counted = json.loads(ran(["estimate", "--json", "--salts", "0,0,5", *(str(ROWS / name) for name in ["first.raw", "second.core", "first.raw"])]).stdout)
+    told = json.loads(ran(["fleet", "--json", *paths]).stdout)
+    for guest in [*counted["guests"], *told["guests"]]:
+        guest.pop("image", None) or guest.pop("guest")
+    case("fleet beside estimate", [] if told == counted else [f"{told}, and {counted} was due"])
+    empty = folder / "empty.digest"
+    empty.write_text(DIGEST_HEADER)
+    zeros = dict.fromkeys(["pages", "zero", "distinct", "shared", "alone"], 0)
+    due = {"guest": None, "salt": None, **zeros}
+    given = json.loads(ran(["fleet", "--json", str(empty)]).stdout)
+    case("fleet of no pages", [] if given["guests"] == [due] and given["copies"] == [] else [f"{given}"])
+
+
+def fleet_ends(folder):
+    good, none, broken = str(ROWS / "first.digest"), str(folder / "none"), folder / "broken.digest"
+    missing = "No such file or directory (os error 2)"
+    expect("fleet, no such file", ["fleet", good, none], "", 1, "", f"{none}: {missing}\n")
+    expect("fleet, a folder", ["fleet", str(folder)], "", 1, "", f"{folder}: Is a directory (os error 21)\n")
+    form = "give six fields of their form, with commas between them and a line feed behind them"
+    lines = (ROWS / "first.digest").read_text()
+    for text, cause in [("", f"line 1: {form}"), (lines[:-1], f"line 5: {form}"), (DIGEST_HEADER + "a\n", f"line 2: {form}")]:
+        broken.write_text(text)
+        expect(f"fleet, {cause}", ["fleet", good, str(broken)], "", 1, "", f"{broken}: {cause}\n")
+    other = str(ROWS / "sampled-web.digest")
+    expect("fleet, another sample", ["fleet", good, other], "", 1, "", f"{other}: another sample than in the digests before\n")
+    for name in ["one", "other"]:
+        (folder / name).write_text(f"{DIGEST_HEADER}{name},0,{2**63},1,{'0' * 32},{2**63}\n")
+    words = ["fleet", str(folder / "one"), str(folder / "other")]
+    expect("fleet, too many pages", words, "", 1, "", f"{words[1]} and 1 more: more than 18,446,744,073,709,551,615 pages\n")
+    with open("/dev/full", "wb") as full:
+        fault = "standard output: No space left on device (os error 28)\n"
+        expect("fleet, a full device", ["fleet", good], "", 1, None, fault, output=full)
+    for words in [[], ["--json"], ["--workers", "1", good]]:
+        expect(f"fleet {words}", ["fleet", *words], "", 2, "", True)
+    expect("fleet --help", ["fleet", "--help"], "", 0, True, "")
+
+
 def terminals(folder):
     none = str(folder / "none")
     cases = [
@@ -523,6 +567,8 @@ def main():
         digests(folder)
         processes()
         digest_ends(folder)
+        fleets(folder)
+        fleet_ends(folder)
         progress_of_runs()
         progress_of_a_long_run()
     print(f"{passed} passed, {failed} failed")

@@ -4,6 +4,7 @@ ghost use Rattle.command_terms.specs.Asked.{is_of_script, input_name};
 
 use crate::digests::DigestWords;
 use crate::estimates::EstimateWords;
+use crate::fleets::FleetWords;
 use progress_line::Drawn;
 
 /// What is to be done with a text.
@@ -58,4 +59,6 @@ pub enum Asked<'a> {
     Estimate(EstimateWords<'a>),
     /// To write a guest's digest.
     Digest(DigestWords<'a>),
+    /// To tell what digests tell together.
+    Fleet(FleetWords<'a>),
 }

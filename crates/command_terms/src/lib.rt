@@ -8,6 +8,7 @@ mod digests;
 mod ends;
 mod estimates;
 mod failures;
+mod fleets;
 mod image_causes;
 mod script_faults;
 
@@ -16,5 +17,6 @@ pub use digests::{DigestSource, DigestWords, file_name};
 pub use ends::CommandEnd;
 pub use estimates::{EstimateWords, MOST_WORKERS, worker_count};
 pub use failures::{error_line, first_failure};
+pub use fleets::FleetWords;
 pub use image_causes::ImageCause;
 pub use script_faults::{ScriptFault, script_fault};

@@ -6,6 +6,7 @@
 
 mod digest_words;
 mod estimate_words;
+mod fleet_words;
 mod parts;
 mod progress_words;
 mod words;

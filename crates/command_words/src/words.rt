@@ -1,6 +1,7 @@
 //! The commands, and what the words of a command line ask for.
 use crate::digest_words::{digest_command, digest_words};
 use crate::estimate_words::{estimate_command, estimate_words};
+use crate::fleet_words::{fleet_command, fleet_words};
 use crate::parts::{described, flag, positional};
 use crate::progress_words::{progress_of, progress_option};
 use clap::{Arg, ArgMatches, Command, Error};
@@ -92,7 +93,8 @@ fn command<'a>(alloc: Global, version: &'a str) -> Result<Command<'a>, AllocErro
         .subcommand(serial_command(alloc)?)?
         .subcommand(run_command(alloc)?)?
         .subcommand(estimate_command(alloc)?)?
-        .subcommand(digest_command(alloc)?)
+        .subcommand(digest_command(alloc)?)?
+        .subcommand(fleet_command(alloc)?)
 }
 
 /// The program's command, so far with none of its own.
@@ -114,6 +116,9 @@ pub fn asked_of<'a>(
     }
     if let Some(digest) = matches.subcommand_matches("digest") {
         return Ok(Asked::Digest(digest_words(alloc, digest)?));
+    }
+    if let Some(fleet) = matches.subcommand_matches("fleet") {
+        return Ok(Asked::Fleet(fleet_words(alloc, fleet)?));
     }
     Ok(Asked::Text(task_of(&matches)))
 }

@@ -1,5 +1,5 @@
 //! The commands of the program `pageshare`: it replays journals of page requests, runs scripts of them, and shows what
-//! sharing would reclaim of memory images.
+//! sharing would reclaim of memory images, or of the guests whose digests it merges.
 //!
 //! A command reads a file or standard input, and writes to standard output. Its status is 0 if the work was done, 1 if
 //! input, output, memory or a thread was at fault, and 2 for a bad command line.
@@ -17,6 +17,7 @@ use command_terms::{Asked, CommandEnd};
 use command_words::asked_of;
 use digest_command::do_digest;
 use estimate_command::do_estimate;
+use fleet_command::do_fleet;
 use page_digest::PageHash;
 use std::alloc::Global;
 use std::fs::{File, Files};
@@ -50,6 +51,7 @@ pub fn do_command<
         Ok(Asked::Text(task)) => do_text(rt, alloc, &task, input, output, is_terminal, build.hash)?,
         Ok(Asked::Estimate(words)) => do_estimate(rt, alloc, &words, output, is_terminal)?,
         Ok(Asked::Digest(words)) => do_digest(rt, alloc, &words, output, is_terminal)?,
+        Ok(Asked::Fleet(words)) => do_fleet(rt, alloc, &words, output)?,
         Err(error) if error.kind() == ErrorKind::OutOfMemory => tell_memory(rt, is_terminal)?,
         Err(error) => explain(rt, &error)?,
     };
