@@ -8,6 +8,8 @@ test:
 # The processor level that `make build` and `make embed` build for: x86-64-v2, which runs everywhere, or x86-64-v3 (AVX2).
 CPU = x86-64-v2
 SUFFIX = $(patsubst -v2,,$(patsubst x86-64-%,-%,$(CPU)))
+# (Rust links a library by its name alone, so that the one for x86-64-v3 has a folder of its own)
+FOLDER = $(patsubst -%,%/,$(SUFFIX))
 
 # The proved program, left at out/pageshare, or for x86-64-v3 at out/pageshare-v3.
 build: out/pageshare$(SUFFIX)
@@ -85,10 +87,10 @@ bench: out/pageshare out/store_bench out/thread_bench
 
 bench-v3: out/pageshare-v3 out/store_bench-v3 out/thread_bench-v3 bench
 
-# Outside the gate: the library for C and Rust, left at out/libpageshare.a, with its examples and tests. What this machine has no
-# program for is left out, and told.
-embed: out/libpageshare.a
-	checks/embed.sh out/libpageshare.a
+# Outside the gate: the library for C and Rust, left at out/libpageshare.a, or for x86-64-v3 at out/v3/libpageshare.a, with its
+# examples and tests. What this machine has no program for is left out, and told.
+embed: out/$(FOLDER)libpageshare.a
+	checks/embed.sh $<
 
 # Outside the gate: guests under KVM whose memory the library shares (docs/MONITOR.md), for SECONDS (30) each, with KSM=1 under the
 # kernel's KSM as well, and with KERNEL=bzImage Linux as well. What this machine has no KVM or userfaultfd for is left out, and told.
@@ -96,8 +98,10 @@ guests: out/libpageshare.a out/pageshare
 	checks/guests.py out/libpageshare.a $(or $(SECONDS),30)
 
 # The proved library, and the kit's three calls of malloc, realloc and free.
-out/libpageshare.a: $(SOURCES)
-	cd crates/pageshare_c && rt lib > /dev/null
-	mkdir -p out
+out/libpageshare.a: LEVEL = x86-64-v2
+out/v3/libpageshare.a: LEVEL = x86-64-v3
+out/libpageshare.a out/v3/libpageshare.a: $(SOURCES)
+	cd crates/pageshare_c && rt lib --cpu $(LEVEL) > /dev/null
+	mkdir -p $(dir $@)
 	rm -f $@
 	printf 'create $@\naddlib crates/pageshare_c/out/libpageshare_c.a\naddlib %s/c/liblibc_c.a\nsave\nend\n' "$$(dirname "$$(rt doc)")" | ar -M

@@ -4,6 +4,8 @@
  * call, and of these lends the pages lent a second, in the best of several runs, since other programs only ever add to it.
  *
  *     cc -O2 -Iinclude benches/embed.c out/libpageshare.a -o out/embed/bench && out/embed/bench
+ *
+ * or with out/libpageshare-v3.a, for whose processors the wide hash is.
  */
 #include "pageshare.h"
 #include <stdio.h>
@@ -12,6 +14,9 @@
 #include <time.h>
 
 enum { CALLS = 200000, RUNS = 25 };
+
+/* The hashes by their numbers. */
+static const char *const HASHES[] = {"SHA-256", "fold", "wide SHA-256"};
 
 static double now(void) {
     struct timespec time;
@@ -141,8 +146,8 @@ static void time_many(void) {
         page[PAGESHARE_PAGE_BYTES - 1] = 1;
         lendings[i] = (struct pageshare_lending){0, i, page};
     }
-    for (uint32_t hash = PAGESHARE_SHA256; hash <= PAGESHARE_FOLD; hash++)
-        printf("%s: %.0f pages lent a second one by one, %.0f in lists, half of them equal\n", hash == PAGESHARE_FOLD ? "fold" : "SHA-256",
+    for (uint32_t hash = PAGESHARE_SHA256; hash <= PAGESHARE_SHA256_WIDE; hash++)
+        printf("%s: %.0f pages lent a second one by one, %.0f in lists, half of them equal\n", HASHES[hash],
                rate(hash, false, lendings, answers), rate(hash, true, lendings, answers));
     free(bytes);
     free(lendings);
@@ -168,9 +173,9 @@ int main(void) {
     time_calls("load", loads, &machine);
     time_calls("report", reports, &machine);
     if (pageshare_free(&machine) != PAGESHARE_OK) return 1;
-    for (uint32_t hash = PAGESHARE_SHA256; hash <= PAGESHARE_FOLD; hash++) {
+    for (uint32_t hash = PAGESHARE_SHA256; hash <= PAGESHARE_SHA256_WIDE; hash++) {
         if (pageshare_make_hashed(&machine, 1024, pages, 2, salts, 2, hash) != PAGESHARE_OK) return 1;
-        time_whole_pages(&machine, hash == PAGESHARE_FOLD ? "fold" : "SHA-256");
+        time_whole_pages(&machine, HASHES[hash]);
         if (pageshare_free(&machine) != PAGESHARE_OK) return 1;
     }
     time_many();

@@ -1,11 +1,15 @@
 #!/usr/bin/env python3
 """Tries every edit of crates/NAME/edits, many in one check: the prover must refuse each.
 
-    checks/edits.py [CRATE ..]
+    checks/edits.py [--anew] [CRATE ..]
 
 To be run at the repository's top after `rt ci`, over the libraries that it left in out/. An edit is a file as in must-fail/: a
 line 'file: PATH', and then pairs of lines 'old: TEXT' and 'new: TEXT'. Prints each edit with its first error, how long each
 check took, and last 'N passed, M failed' (status 0 where M is 0, else 1).
+
+As `rt ci` does with what it proved, a refusal is kept on this machine under a sum of all that it rests on: the edit, the crate, the
+libraries below it as they were built, the kit and this script. Where nothing of these has changed the edit isn't tried again,
+but with --anew.
 
 A function is proved from the contracts of what it calls and never from their bodies. So edits of different functions can stand in
 one copy of the crate, which is checked once, and each edited function must be refused by itself: an error in its own proof, or a
@@ -19,6 +23,7 @@ A crate's first check is of the whole crate. Later ones (of a function's second 
 edited functions and what they call, over what earlier checks kept; nobody is told NOT REFUSED by them, but only by a whole check.
 """
 import dataclasses
+import hashlib
 import importlib.machinery
 import importlib.util
 import os
@@ -159,22 +164,55 @@ def whole_changes(texts, plain):
     return changes
 
 
+class Earlier:
+    """The refusals that runs on this machine have seen, in the store in which `rt ci` keeps the like."""
+
+    def __init__(self, kit, crates, anew):
+        self.kept, self.refused = kit.Kept(crates, anew), kit.REFUSED
+        with open(__file__, "rb") as it:
+            self.script = it.read()
+        for crate in crates:
+            self.kept.is_built(crate)
+
+    def name_of(self, crate, path):
+        """The name of an edit's result: a sum of all that it rests on."""
+        with open(path, "rb") as it:
+            parts = (self.kept.key(crate), self.script, os.path.basename(path), it.read())
+        return hashlib.sha256(repr(parts).encode()).hexdigest()
+
+    def find(self, crate, path):
+        """What was said of the edit, if it was refused."""
+        kind, said = self.kept.tried(self.name_of(crate, path)) or (None, None)
+        return said if kind == self.refused else None
+
+    def keep(self, crate, path, said):
+        if all(self.kept.is_untouched(it) for it in [crate, *crate.below()]):
+            self.kept.keep_tried(self.name_of(crate, path), self.refused, said)
+
+
 class Trial:
     """The edits of one crate."""
 
-    def __init__(self, kit, crate, folder):
+    def __init__(self, kit, crate, earlier):
         self.kit, self.crate, self.told, self.lines, self.plain = kit, crate, {}, [], {}
+        self.earlier, self.folder, self.old = earlier, f"{crate.folder}/edits", 0
         self.waiting, self.alone, self.homes = [], [], homes_of(crate)
         # the functions that a whole check has named
         self.paths = []
-        for name in sorted(os.listdir(folder)):
-            if name.endswith(".edit"):
-                self.read(f"{folder}/{name}", name)
+        for name in sorted(os.listdir(self.folder)):
+            said = earlier.find(crate, f"{self.folder}/{name}") if name.endswith(".edit") else None
+            if said:
+                self.old += 1
+                self.told[name] = (True, said)
+            elif name.endswith(".edit"):
+                self.read(f"{self.folder}/{name}", name)
             elif not name.endswith(".md"):
                 self.tell(name, False, "BAD EDIT: an edit's name ends in .edit")
 
     def tell(self, name, is_refused, said):
         self.told[name] = (is_refused, f"edit {self.crate.name}/{name}: {said}")
+        if is_refused:
+            self.earlier.keep(self.crate, f"{self.folder}/{name}", self.told[name][1])
 
     def read(self, path, name):
         texts, why = self.kit.read_edit(path, self.crate.folder)
@@ -315,14 +353,16 @@ class Said:
         return f"refused, as it must be: {first[:160]}"
 
 
-def try_crates(kit, crates):
+def try_crates(kit, crates, earlier):
     """Tries the edits of all crates, as many side by side as processors and memory allow. Returns what was told, crate by crate."""
     printing = threading.Lock()
 
     def work(crate, _given, _jobs):
         try:
-            trial = Trial(kit, crate, f"{crate.folder}/edits").run()
+            trial = Trial(kit, crate, earlier).run()
             lines, told = trial.lines, [trial.told[it] for it in sorted(trial.told)]
+            if trial.old:
+                lines.append(f"{crate.name}: {trial.old} of {len(told)} edits were refused by an earlier run of the same on this machine")
         except (OSError, RuntimeError) as error:
             lines, told = [], [(False, f"{crate.name}: its edits were not tried: {error}")]
         with printing:
@@ -336,14 +376,17 @@ def try_crates(kit, crates):
     return [it for told in kit.in_lanes(tasks).values() for it in told]
 
 
-def main(names):
+def main(words):
+    names = [it for it in words if it != "--anew"]
     kit = load_kit()
     kit.Crate.allowed = kit.handles_of(os.getcwd())
     crates = [it for it in kit.rtlib.crates_below(os.getcwd()) if os.path.isdir(f"{it.folder}/edits")]
     unknown = {*names} - {it.name for it in crates}
     told = [(False, f"{it}: no crate with edits has this name") for it in sorted(unknown)]
     print("".join(f"{said}\n" for _is_refused, said in told), end="")
-    told += try_crates(kit, [it for it in crates if not names or it.name in names])
+    crates = [it for it in crates if not names or it.name in names]
+    every = {below.name: below for it in crates for below in [*it.below(), it]}
+    told += try_crates(kit, crates, Earlier(kit, list(every.values()), "--anew" in words))
     failed = [said for is_refused, said in told if not is_refused]
     for said in failed:
         print(f"FAILED: {said}")

@@ -130,8 +130,9 @@ uint32_t pageshare_make(struct pageshare *machine, uint32_t frames, const uint32
 
 /* The hash by which a machine finds equal pages. They are compared in full before they share a frame, whatever the hash. */
 enum pageshare_hash_kind {
-    PAGESHARE_SHA256 = 0, /* the first eight bytes of SHA-256 */
-    PAGESHARE_FOLD = 1    /* some 20 times as fast; who knows the salt can make a page of any hash, so draw salts at random */
+    PAGESHARE_SHA256 = 0,     /* the first eight bytes of SHA-256 */
+    PAGESHARE_FOLD = 1,       /* some 20 times as fast; who knows the salt can make a page of any hash, so draw salts at random */
+    PAGESHARE_SHA256_WIDE = 2 /* PAGESHARE_SHA256 of eight pages at once: for libraries built for x86-64-v3 */
 };
 
 /* The same with a hash of the caller's choice; pageshare_make takes PAGESHARE_SHA256. Answers PAGESHARE_ERROR_HASH besides. */

@@ -60,17 +60,17 @@ static void check_make(void) {
 /* A machine of each hash, and of none. */
 static void check_hashes(void) {
     struct pageshare machine = PAGESHARE_NONE;
-    for (uint32_t hash = PAGESHARE_SHA256; hash <= PAGESHARE_FOLD; hash++) {
+    for (uint32_t hash = PAGESHARE_SHA256; hash <= PAGESHARE_SHA256_WIDE; hash++) {
         CHECK(pageshare_make_hashed(&machine, 0, PAGES, 2, SALTS, 2, hash) == PAGESHARE_ERROR_FRAMES);
         CHECK(pageshare_make_hashed(&machine, 3, PAGES, 2, SALTS, 2, hash) == PAGESHARE_OK);
-        CHECK(pageshare_make_hashed(&machine, 3, PAGES, 2, SALTS, 2, 2) == PAGESHARE_ERROR_IN_USE);
+        CHECK(pageshare_make_hashed(&machine, 3, PAGES, 2, SALTS, 2, 3) == PAGESHARE_ERROR_IN_USE);
         CHECK(served(pageshare_store(&machine, 0, 0, 0, LETTER, 1), PAGESHARE_VERDICT_MAPPED, 0));
         CHECK(served(pageshare_store(&machine, 0, 1, 0, LETTER, 1), PAGESHARE_VERDICT_MAPPED, 0));
         CHECK(served(pageshare_propose(&machine, 0, 0), PAGESHARE_VERDICT_HINTED, 0));
         CHECK(served(pageshare_propose(&machine, 0, 1), PAGESHARE_VERDICT_PAIRED, 0));
         CHECK(pageshare_free(&machine) == PAGESHARE_OK);
     }
-    CHECK(pageshare_make_hashed(&machine, 0, PAGES, 2, SALTS, 2, 2) == PAGESHARE_ERROR_HASH);
+    CHECK(pageshare_make_hashed(&machine, 0, PAGES, 2, SALTS, 2, 3) == PAGESHARE_ERROR_HASH);
     CHECK(pageshare_make_hashed(&machine, 3, PAGES, 2, SALTS, 2, UINT32_MAX) == PAGESHARE_ERROR_HASH);
     CHECK(pageshare_free(&machine) == PAGESHARE_ERROR_NO_MACHINE);
 }

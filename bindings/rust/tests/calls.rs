@@ -123,7 +123,7 @@ fn refuses() -> Result<(), Box<dyn std::error::Error>> {
 #[test]
 fn shares_by_either_hash() -> Result<(), Box<dyn std::error::Error>> {
     let guests = [Guest { pages: 1, salt: 7 }; 3];
-    for hash in [HashKind::Sha256, HashKind::Fold] {
+    for hash in [HashKind::Sha256, HashKind::Fold, HashKind::WideSha256] {
         let mut m = Machine::with_hash(3, &guests, hash)?;
         let page = [0x5a; PAGE_BYTES];
         for guest in 0..3 {
@@ -195,7 +195,7 @@ fn lends_lists_in_turn() -> Result<(), Box<dyn std::error::Error>> {
         lending(0, 0, &twos),
         lending(1, 9, &twos),
     ];
-    for hash in [HashKind::Sha256, HashKind::Fold] {
+    for hash in [HashKind::Sha256, HashKind::Fold, HashKind::WideSha256] {
         let guests = [Guest { pages: 2, salt: 0 }, Guest { pages: 1, salt: 0 }];
         let mut together = Machine::with_hash(3, &guests, hash)?;
         let mut alone = Machine::with_hash(3, &guests, hash)?;

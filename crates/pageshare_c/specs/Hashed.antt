@@ -1,44 +1,47 @@
 -- A core, by the hash that its machine was made with: what it shows, and the hash.
-use Rattle.std.specs.Prelude.{◌≡◌, ℕ, Bool, true, false, List, refl}
-use Rattle.std.specs.Coded.{Coded, code_by, coded×, coded_bool}
+use Rattle.std.specs.Prelude.{◌≡◌, ℕ, zero, suc, List, refl}
+use Rattle.std.specs.Coded.{Coded, code_by, coded×, coded_ℕ}
 use Rattle.page_digest.specs.Hashes.{sha256_hash, fold_hash}
 use Rattle.merge_core.specs.Shown.{Shown, shown_code}
 use Rattle.pageshare_c.specs.declared.hashed_core.HashedCore.{HashedCore}
-use Rattle.pageshare_c.specs.declared.hashed_core.HashedCore.TheVariants.{Sha256, Fold}
+use Rattle.pageshare_c.specs.declared.hashed_core.HashedCore.TheVariants.{Sha256, Fold, WideSha256}
 
 abbrev pub shown_in : HashedCore → Shown
 shown_in (Sha256 c) = c
 shown_in (Fold c) = c
+shown_in (WideSha256 c) = c
 
 abbrev pub hash_in : HashedCore → ℕ → List ℕ → ℕ
 hash_in (Sha256 c) = sha256_hash
 hash_in (Fold c) = fold_hash
+hash_in (WideSha256 c) = sha256_hash
 
 -- the number by which C names the hash
 abbrev pub hash_number : HashedCore → ℕ
 hash_number (Sha256 c) = 0
 hash_number (Fold c) = 1
+hash_number (WideSha256 c) = 2
 
 -- both have one hash
 abbrev pub SameHash : HashedCore → HashedCore → Type 0
 SameHash old new = hash_number new ≡ hash_number old
 
-abbrev pub is_fold : HashedCore → Bool
-is_fold (Sha256 c) = false
-is_fold (Fold c) = true
+-- the core whose hash has this number
+abbrev pub hashed : ℕ → Shown → HashedCore
+hashed zero c = Sha256 c
+hashed (suc zero) c = Fold c
+hashed (suc (suc n)) c = WideSha256 c
 
-abbrev pub hashed : Bool → Shown → HashedCore
-hashed false c = Sha256 c
-hashed true c = Fold c
-
-pub hashed_back : (c : HashedCore) → hashed (is_fold c) (shown_in c) ≡ c
+pub hashed_back : (c : HashedCore) → hashed (hash_number c) (shown_in c) ≡ c
 hashed_back (Sha256 c) = refl
 hashed_back (Fold c) = refl
+hashed_back (WideSha256 c) = refl
 
 abbrev pub hashed_code : Coded HashedCore
-hashed_code = code_by (Bool × Shown) (coded× coded_bool shown_code) (λ c. (is_fold c, shown_in c)) (λ p. hashed p.0 p.1) hashed_back
+hashed_code = code_by (ℕ × Shown) (coded× coded_ℕ shown_code) (λ c. (hash_number c, shown_in c)) (λ p. hashed p.0 p.1) hashed_back
 
 -- the core with other things to show
 abbrev pub with_shown : (Shown → Shown) → HashedCore → HashedCore
 with_shown f (Sha256 c) = Sha256 (f c)
 with_shown f (Fold c) = Fold (f c)
+with_shown f (WideSha256 c) = WideSha256 (f c)

@@ -8,6 +8,7 @@ use Rattle.merge_core.specs.declared.CoreFault.TheVariants.{Frames, Guests, Page
 use Rattle.pageshare_c.specs.Hashed.{hash_number}
 use Rattle.pageshare_c.specs.Outcomes.{seen}
 use Rattle.pageshare_c.specs.declared.hashed_core.HashedCore.{HashedCore}
+use Rattle.pageshare_c.specs.declared.make.TheConstants.{WIDE_SHA256}
 
 -- the caller gave a region for the frames, and it has room for another number of them
 abbrev pub IsUnfit : Option ℕ → ℕ → Type 0
@@ -28,6 +29,6 @@ pub record Makes (frames : ℕ) (pages salts : List ℕ) (hash : ℕ) (region : 
   pub in_use : IsSome old → status ≡ 5
   pub unused : status ≡ 5 → IsSome old
   pub region_fault : status ≡ 13 → AreLimits frames pages salts × IsUnfit region frames
-  pub hash_fault : status ≡ 14 → 1 < hash
-  pub no_hash : old ≡ None → 1 < hash → status ≡ 14
+  pub hash_fault : status ≡ 14 → WIDE_SHA256 < hash
+  pub no_hash : old ≡ None → WIDE_SHA256 < hash → status ≡ 14
   pub known : (status ≤ 5) ⊎ ((status ≡ 13) ⊎ (status ≡ 14))

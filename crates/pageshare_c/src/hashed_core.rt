@@ -21,7 +21,7 @@ use crate::group::{Lending, lend_each, lend_together};
 use crate::serve::{answer, answer_count, answer_load};
 use crate::whole::{lend, lend_hashed, salt_of, store_page, take_back};
 use merge_core::{Core, SaltedHash};
-use page_digest::{FoldHash, Sha256Hash};
+use page_digest::{FoldHash, Sha256Hash, WideSha256Hash};
 use page_model::{Page, Request, RequestFault};
 
 /// A core, by the hash that its machine was made with. A hash's stated function belongs to its type, so there is a core for each.
@@ -29,6 +29,7 @@ use page_model::{Page, Request, RequestFault};
 pub enum HashedCore {
     Sha256(Core<Sha256Hash>),
     Fold(Core<FoldHash>),
+    WideSha256(Core<WideSha256Hash>),
 }
 
 impl HashedCore {
@@ -41,6 +42,7 @@ impl HashedCore {
         match self {
             HashedCore::Sha256(core) => answer(core, guest, asked),
             HashedCore::Fold(core) => answer(core, guest, asked),
+            HashedCore::WideSha256(core) => answer(core, guest, asked),
         }
     }
 
@@ -59,6 +61,7 @@ impl HashedCore {
         match self {
             HashedCore::Sha256(core) => answer_load(core, guest, asked, room),
             HashedCore::Fold(core) => answer_load(core, guest, asked, room),
+            HashedCore::WideSha256(core) => answer_load(core, guest, asked, room),
         }
     }
 
@@ -77,6 +80,7 @@ impl HashedCore {
         match self {
             HashedCore::Sha256(core) => answer_count(core, guest, asked, totals),
             HashedCore::Fold(core) => answer_count(core, guest, asked, totals),
+            HashedCore::WideSha256(core) => answer_count(core, guest, asked, totals),
         }
     }
 
@@ -89,6 +93,7 @@ impl HashedCore {
         match self {
             HashedCore::Sha256(core) => store_page(core, guest, ppn, page),
             HashedCore::Fold(core) => store_page(core, guest, ppn, page),
+            HashedCore::WideSha256(core) => store_page(core, guest, ppn, page),
         }
     }
 
@@ -102,6 +107,7 @@ impl HashedCore {
         match self {
             HashedCore::Sha256(core) => lend(core, guest, ppn, page),
             HashedCore::Fold(core) => lend(core, guest, ppn, page),
+            HashedCore::WideSha256(core) => lend(core, guest, ppn, page),
         }
     }
 
@@ -120,6 +126,7 @@ impl HashedCore {
         match self {
             HashedCore::Sha256(core) => lend_hashed(core, guest, ppn, page, known),
             HashedCore::Fold(core) => lend_hashed(core, guest, ppn, page, known),
+            HashedCore::WideSha256(core) => lend_hashed(core, guest, ppn, page, known),
         }
     }
 
@@ -139,6 +146,7 @@ impl HashedCore {
         match self {
             HashedCore::Sha256(_) => true,
             HashedCore::Fold(_) => false,
+            HashedCore::WideSha256(_) => true,
         }
     }
 
@@ -147,6 +155,7 @@ impl HashedCore {
         match self {
             HashedCore::Sha256(core) => salt_of(core, guest),
             HashedCore::Fold(core) => salt_of(core, guest),
+            HashedCore::WideSha256(core) => salt_of(core, guest),
         }
     }
 
@@ -164,6 +173,7 @@ impl HashedCore {
         match self {
             HashedCore::Sha256(core) => core.hash_four(salts, a, b, c, d),
             HashedCore::Fold(core) => core.hash_four(salts, a, b, c, d),
+            HashedCore::WideSha256(core) => core.hash_four(salts, a, b, c, d),
         }
     }
 
@@ -180,6 +190,7 @@ impl HashedCore {
         match self {
             HashedCore::Sha256(core) => take_back(core, guest, ppn, room),
             HashedCore::Fold(core) => take_back(core, guest, ppn, room),
+            HashedCore::WideSha256(core) => take_back(core, guest, ppn, room),
         }
     }
 
@@ -190,6 +201,7 @@ impl HashedCore {
         match self {
             HashedCore::Sha256(core) => core.restart_count(),
             HashedCore::Fold(core) => core.restart_count(),
+            HashedCore::WideSha256(core) => core.restart_count(),
         }
     }
 
@@ -200,6 +212,7 @@ impl HashedCore {
         match self {
             HashedCore::Sha256(core) => note_hashes(core, pages),
             HashedCore::Fold(core) => note_hashes(core, pages),
+            HashedCore::WideSha256(core) => note_hashes(core, pages),
         }
     }
 
@@ -210,6 +223,7 @@ impl HashedCore {
         match self {
             HashedCore::Sha256(core) => totals_of(&core.report()),
             HashedCore::Fold(core) => totals_of(&core.report()),
+            HashedCore::WideSha256(core) => totals_of(&core.report()),
         }
     }
 
@@ -221,6 +235,7 @@ impl HashedCore {
         match self {
             HashedCore::Sha256(core) => copy_page(core, guest, ppn, room),
             HashedCore::Fold(core) => copy_page(core, guest, ppn, room),
+            HashedCore::WideSha256(core) => copy_page(core, guest, ppn, room),
         }
     }
 
@@ -232,6 +247,7 @@ impl HashedCore {
         match self {
             HashedCore::Sha256(core) => find_frame(core, guest, ppn),
             HashedCore::Fold(core) => find_frame(core, guest, ppn),
+            HashedCore::WideSha256(core) => find_frame(core, guest, ppn),
         }
     }
 
@@ -248,6 +264,7 @@ impl HashedCore {
         match self {
             HashedCore::Sha256(core) => put_address(core, guest, ppn, at),
             HashedCore::Fold(core) => put_address(core, guest, ppn, at),
+            HashedCore::WideSha256(core) => put_address(core, guest, ppn, at),
         }
     }
 }

@@ -13,7 +13,7 @@ use crate::hashed_core::HashedCore;
 use crate::machine::Machine;
 use machine_frames::{Frames, FramesFault, Region};
 use merge_core::Core;
-use page_digest::{FoldHash, Sha256Hash};
+use page_digest::{FoldHash, Sha256Hash, WideSha256Hash};
 use page_model::{MachineShape, ShapeFault};
 use std::alloc::{AllocError, Global};
 
@@ -22,6 +22,9 @@ pub const SHA256: u32 = 0;
 
 /// The number by which C names the fast hash.
 pub const FOLD: u32 = 1;
+
+/// The number by which C names SHA-256 of eight pages at once.
+pub const WIDE_SHA256: u32 = 2;
 
 /// Makes a machine, whose frames are in the region if there is one, and returns the status.
 pub(crate) fn make(
@@ -38,7 +41,7 @@ pub(crate) fn make(
     if machine.is_live() {
         return 5;
     }
-    if hash > FOLD {
+    if hash > WIDE_SHA256 {
         return 14;
     }
     let shape = match MachineShape::new(frames, pages, salts) {
@@ -90,7 +93,7 @@ fn new_core(
     hash: u32,
     frames: Frames,
 ) -> Result<HashedCore, AllocError>
-    requires hash { hash ≤ 1 }
+    requires hash { hash ≤ WIDE_SHA256 }
     requires frames { frames ≡ no_frames shape.now.frames }
     ensures empty { IfOk result
         (λ core. state_of (shown_in core) ≡ empty_state shape.now.frames (shapes shape.now.salts shape.now.pages)) }
@@ -100,6 +103,10 @@ fn new_core(
         let core = Core::with_frames(alloc, shape, Sha256Hash, frames)?;
         return Ok(HashedCore::Sha256(core));
     }
-    let core = Core::with_frames(alloc, shape, FoldHash, frames)?;
-    Ok(HashedCore::Fold(core))
+    if hash == FOLD {
+        let core = Core::with_frames(alloc, shape, FoldHash, frames)?;
+        return Ok(HashedCore::Fold(core));
+    }
+    let core = Core::with_frames(alloc, shape, WideSha256Hash, frames)?;
+    Ok(HashedCore::WideSha256(core))
 }
