@@ -1,0 +1,9 @@
+mod Digests
+mod Keys
+mod Sums
+mod Contents
+mod Guests
+mod Fleets
+mod Told
+mod Table
+mod Merges

@@ -1,0 +1,95 @@
+-- A merge of whole digests tells the numbers of a census.
+use Rattle.std.proofs.Common.{◌≡◌, ℕ, suc, ◌+◌, ◌<◌, ◌≤◌, List, [], ◌∷◌, ◌++◌, length, length-append, map, get_or, eqb, refl, ap, ◌∙◌, inl, inr, arith}
+use Rattle.std.specs.Prelude.{All}
+use Rattle.std.specs.List.{AllZip, Contains}
+use Rattle.std.proofs.lemmas.List.Elements.{All-contains_itself, All-weaker, Contains-append_left, Contains-append_right}
+use Rattle.std.proofs.lemmas.List.{length-map}
+use Rattle.std.proofs.lemmas.Bool.{cases_lt}
+use Rattle.page_digest.specs.Hashes.{content_digest}
+use Rattle.page_digests.specs.Counted.{AreCounted}
+use Rattle.page_digests.specs.Samples.{digests_of, kept_digests}
+use Rattle.page_digests.specs.declared.line.DigestLine.{DigestLine}
+use Rattle.digest_text.specs.Reread.{head_by}
+use Rattle.digest_text.specs.Written.{rows_of}
+use Rattle.digest_text.specs.Fields.{Row}
+use Rattle.page_census.specs.Contents.{Content, contents, contents_of}
+use Rattle.page_census.specs.Numbers as census
+use Rattle.page_census.specs.Numbers.{copies}
+use Rattle.page_census.specs.declared.source.Guest.{Guest}
+use Rattle.fleet_census.specs.Fleets as merged
+use Rattle.fleet_census.specs.Numbers.{IsSampleOf}
+use Rattle.fleet_census.specs.Openings.{sample_of}
+use Rattle.fleet_census.specs.Fleets.{all_copies}
+use Rattle.fleet_laws.specs.Merges.{AreRowsOf, AreToldApart, DigestLaw, MergeLaw, TellsGuest, digest, whole, zeros}
+use Rattle.fleet_laws.proofs.Fleets.{AreAllCounts, all_copies_are, each_counts}
+use Rattle.fleet_laws.proofs.Guests.{all_kept}
+use Rattle.fleet_laws.proofs.Keys.{in_both}
+use Rattle.fleet_laws.proofs.Table.{table_is}
+use Rattle.fleet_laws.proofs.Told.{tells_guest, tells_total}
+
+module _ {S : Type 0} (pages : S → List (List ℕ)) where
+  module _ (known : List Content) (told : AreToldApart known) (fleet : List (List Row)) (all : List Content) (ka : All (Contains known) all) (of : (d : ℕ) → all_copies fleet d ≡ copies eqb d (map digest all)) where
+    each_told : (guests : List (Guest S)) (some : List (List Row)) → AreAllCounts pages guests some → All (Contains known) (contents pages guests)
+        → AllZip TellsGuest (map (merged.guest_numbers fleet) some) (map (λ (guest : Guest S). census.guest_numbers all (contents_of pages guest)) guests)
+    each_told [] [] each ks = tt
+    each_told [] (rows ∷ some) each ks = absurd each
+    each_told (guest ∷ guests) [] each ks = absurd each
+    each_told (guest ∷ guests) (rows ∷ some) each ks =
+        let own : List Content = contents_of pages guest in
+        let rest : List Content = contents pages guests in
+        let both = in_both (Contains known) own rest ks in
+        (tells_guest known told fleet rows all own ka both.0 of each.0, each_told guests some each.1 both.1)
+
+  pub tells_census : DigestLaw pages
+  tells_census guests fleet is =
+      let all : List Content = contents pages guests in
+      let zero : List Content = zeros guests in
+      let known : List Content = all ++ zero in
+      let ka : All (Contains known) all = All-weaker (Contains all) (Contains known) (λ c here. Contains-append_left all zero c here) all (All-contains_itself all) in
+      let kz : All (Contains known) zero = All-weaker (Contains zero) (Contains known) (λ c here. Contains-append_right all zero c here) zero (All-contains_itself zero) in
+      let each : AreAllCounts pages guests fleet = each_counts pages known is.apart guests fleet is.rows ka kz in
+      let of : (d : ℕ) → all_copies fleet d ≡ copies eqb d (map digest all) = all_copies_are pages guests fleet each in
+      record {
+        guests_are = each_told known is.apart fleet all ka of guests fleet each ka;
+        total_is = tells_total known is.apart pages guests fleet each ka;
+        copies_are = λ few. table_is known is.apart fleet all ka of few;
+      }
+
+  -- where there is a page, some file tells the sample
+  first_told : (guest : Guest S) (rows : List Row) → AreRowsOf pages guest rows → 1 ≤ length (pages guest.source) → sample_of rows ≡ 1
+  first_told guest rows are some = rw are.are (of_lines are.lines are.counted)
+    where
+      of_lines : (lines : List DigestLine) → AreCounted (kept_digests (whole guest.salt) (pages guest.source)) lines → sample_of (rows_of (head_by are.name (whole guest.salt) (pages guest.source)) lines) ≡ 1
+      of_lines [] counted =
+          let none : 0 ≡ length (digests_of guest.salt (pages guest.source)) = counted.total ∙ ap length (all_kept guest.salt (digests_of guest.salt (pages guest.source))) in
+          absurd (omega (arith, none, length-map (pages guest.source) (content_digest guest.salt), some))
+      of_lines (line ∷ lines) counted = refl
+
+  some_told : (guests : List (Guest S)) (fleet : List (List Row)) → AllZip (AreRowsOf pages) guests fleet → 1 ≤ length (contents pages guests)
+      → (file : ℕ) × (file < length fleet) × (sample_of (get_or fleet file []) ≡ 1)
+  some_told [] fleet are some = absurd (omega (arith, some))
+  some_told (guest ∷ guests) [] are some = absurd are
+  some_told (guest ∷ guests) (rows ∷ fleet) are some = elim (cases_lt 0 (length (pages guest.source))) [
+    | inl here ↦ (0, omega arith, first_told guest rows are.0 here)
+    | inr none ↦
+        let own : List Content = contents_of pages guest in
+        let rest : List Content = contents pages guests in
+        let len : length (own ++ rest) ≡ length own + length rest = length-append own rest in
+        let count : length own ≡ length (pages guest.source) = length-map (pages guest.source) (λ (bytes : List ℕ). let c : Content = (guest.salt, bytes) in c) in
+        let later = some_told guests fleet are.1 (omega (arith, some, len, count, none)) in
+        (suc later.0, omega (arith, later.1), later.2)
+  ]
+
+  sample_is : (guests : List (Guest S)) (fleet : List (List Row)) (sample : ℕ) → AllZip (AreRowsOf pages) guests fleet → IsSampleOf fleet sample → 1 ≤ length (contents pages guests) → sample ≡ 1
+  sample_is guests fleet sample are is some =
+      let at = some_told guests fleet are some in
+      elim (is.one at.0 at.1) [
+        | inl none ↦ absurd (omega (arith, none, at.2))
+        | inr same ↦ omega (arith, same, at.2)
+      ]
+
+  pub merge_tells_census : {A : Type 0} → MergeLaw A pages
+  merge_tells_census guests fleet numbers is are = record {
+    told = rw (are.guests, are.total, are.copies) (tells_census guests fleet is);
+    sample = sample_is guests fleet numbers.sample is.rows are.sample;
+  }

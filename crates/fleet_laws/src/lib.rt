@@ -1,0 +1,20 @@
+//! Laws of digests that are merged, about the definitions alone: what a merge tells of guests' pages is what a census tells of them.
+//!
+//! They hold for every source of pages. The functions' bodies are empty: the contract is all there is.
+#![tactic(auto)]
+
+ghost use Rattle.fleet_laws.specs.Merges.{DigestLaw, MergeLaw};
+
+use page_census::PageSource;
+use std::alloc::Allocator;
+
+/// *Where different contents have different digests, the numbers of a merge over whole digests are the numbers of a census of the
+/// pages*: of each guest, in total, and class for class.
+pub fn digest_law<S: PageSource>()
+    ensures { DigestLaw S.pages }
+{}
+
+/// So what `merge` answers of such digests are the numbers of a census, and its sample is 1, if there is a page at all.
+pub fn merge_law<S: PageSource, A: Allocator>()
+    ensures { MergeLaw A S.pages }
+{}
