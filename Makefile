@@ -1,7 +1,7 @@
 .PHONY: test build demo commands estimate fleet no-thread embed guests fuzz soak hints bench bench-v3
 
-# The gate: every proof from nothing, the tests, the edits that must be refused, and the proved program on worked texts. It leaves
-# the times of all steps at out/gate.tsv, whose dearest checks/gate.py prints.
+# The gate: every proof, the tests, the edits that must be refused, and the proved program on worked texts. On a machine that has
+# run none of it that is from nothing. It leaves the times of all steps at out/gate.tsv, whose dearest checks/gate.py prints.
 test:
 	checks/gate.py run
 

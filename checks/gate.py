@@ -4,9 +4,10 @@
     checks/gate.py run     runs all steps of the gate, and writes out/gate.tsv (`make test`)
     checks/gate.py         prints the ten dearest steps of out/gate.tsv, and the sums by kind
 
-The steps: `rt ci` (every proof and every test from nothing, one edit a crate, each program), the test of the script that tries
-edits, all other edits, and the checks of the proved program. All run even where one fails; status 1 where any does. The last
-line is 'N passed, M failed', over all steps.
+The steps: `rt ci` (every proof, every test, one edit a crate, each program), the test of the script that tries edits, all other
+edits, and the checks of the proved program. All run even where one fails; status 1 where any does. The last line is 'N passed,
+M failed', over all steps. On a machine that has run none of it all is done from nothing; what an earlier run there has proved or
+seen refused, of the same files, is taken from it.
 
 out/gate.tsv has a line for each step: its kind, its crate, when it started, its wall seconds and its processor seconds. They
 are read off /proc once a second, so a step's are a second or two short; the sum at the end is the system's own.
