@@ -109,6 +109,21 @@ static void time_whole_pages(struct pageshare *m, const char *hash) {
            joins, back, stored, copied);
 }
 
+/* The hashes of a guest's pages, computed together after a store to each. */
+static void time_hashes(struct pageshare *m, const char *hash) {
+    struct pageshare_page_name names[PAGES];
+    double least = 1e18;
+    for (uint32_t ppn = 0; ppn < PAGES; ppn++) names[ppn] = (struct pageshare_page_name){0, ppn};
+    for (int run = 0; run < WHOLE_RUNS; run++) {
+        if (pageshare_restart_count(m) != PAGESHARE_OK) exit(1);
+        if (time_whole(m, page_stores, 0, different) < 0) exit(1);
+        double start = now();
+        if (pageshare_hash(m, names, PAGES) != PAGESHARE_OK) exit(1);
+        least = less(least, (now() - start) / PAGES);
+    }
+    printf("%s: %.0f ns a page by pageshare_hash\n", hash, least);
+}
+
 enum { MANY = 16384, MANY_RUNS = 15 };
 
 /* The pages lent a second, one by one or by pageshare_lend_many, to a machine that has none of them. */
@@ -176,6 +191,7 @@ int main(void) {
     for (uint32_t hash = PAGESHARE_SHA256; hash <= PAGESHARE_SHA256_WIDE; hash++) {
         if (pageshare_make_hashed(&machine, 1024, pages, 2, salts, 2, hash) != PAGESHARE_OK) return 1;
         time_whole_pages(&machine, HASHES[hash]);
+        time_hashes(&machine, HASHES[hash]);
         if (pageshare_free(&machine) != PAGESHARE_OK) return 1;
     }
     time_many();

@@ -118,7 +118,7 @@ static void check_statuses(void) {
     CHECK(pageshare_make_with(&machine, &config) == PAGESHARE_ERROR_FRAMES);
     config = config_of(3, none, salts, 1, region, 0);
     CHECK(pageshare_make_with(&machine, &config) == PAGESHARE_ERROR_PAGES);
-    config.hash = 2;
+    config.hash = 3;
     CHECK(pageshare_make_with(&machine, &config) == PAGESHARE_ERROR_HASH);
     config = config_of(3, pages, salts, 1, region, sizeof region);
     CHECK(pageshare_make_with(&machine, &config) == PAGESHARE_OK && pageshare_make_with(&machine, &config) == PAGESHARE_ERROR_IN_USE);
