@@ -1,6 +1,6 @@
 -- From pages over digests' texts to the numbers of a census.
 use lib.Count.{ones, ones_in}
-use Rattle.std.proofs.Common.{◌≡◌, ℕ, ◌<◌, ◌≤◌, ◌^◌, ◌==◌, Bool, true, cond, List, [], ◌∷◌, ◌++◌, length, map, get_or, Result, Ok, Err, refl, ap, sym, ◌∙◌, inl, inr, arith}
+use Rattle.std.proofs.Common.{◌≡◌, ℕ, ◌<◌, ◌≤◌, ◌^◌, ◌==◌, cond, List, [], ◌∷◌, map, get_or, Ok, refl, ap, ◌∙◌, inl, inr, arith}
 use Rattle.std.specs.Prelude.{All}
 use Rattle.std.specs.List.{AllZip}
 use Rattle.std.proofs.lemmas.Bool.{cases_Bool, eq-eqb, eqb-true}
@@ -15,8 +15,7 @@ use Rattle.digest_text.proofs.Reread.{rereads}
 use Rattle.digest_text.specs.Fields.{Row}
 use Rattle.digest_text.specs.Reread.{IsHead, head_by}
 use Rattle.digest_text.specs.Rows.{digest_of}
-use Rattle.digest_text.specs.Written.{head_for, rows_of, rows_text, text_of}
-use Rattle.digest_text.specs.declared.fault.LineFault.{LineFault}
+use Rattle.digest_text.specs.Written.{head_for, rows_of, rows_text}
 use Rattle.digest_text.specs.declared.head.DigestHead.{DigestHead}
 use Rattle.page_census.specs.declared.source.Guest.{Guest}
 use Rattle.page_census.specs.Contents.{AreSteady}

@@ -46,8 +46,8 @@ module _ {S : Type 0} (is_steady : S → Type 0) (pages : S → List (List ℕ))
     pub written : AllZip IsTextOf all texts
     pub apart : AreToldApart (contents pages guests ++ zeros guests)
 
--- The texts say the rows that were written, which are those of whole digests of these guests' pages. And the numbers that `merge` answers of
--- the texts are those of a census of the pages.
+-- The texts say the rows that were written, which are those of whole digests of these guests' pages. And the numbers that `merge` answers
+-- of the texts are those of a census of the pages.
 pub record TellCensus {S A : Type 0} (B : Type 0) (pages : S → List (List ℕ)) (guests : List (Guest S)) (all : List (Named A))
     (texts : List (List ℕ)) : Type 0 where
   pub said : map digest_of texts ≡ map Ok (map written_rows all)
