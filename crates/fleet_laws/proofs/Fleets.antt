@@ -68,7 +68,7 @@ module _ {S : Type 0} (pages : S → List (List ℕ)) where
     -- what the guests reclaim alone
     pub sum_alone_is : (all : List Content) (guests : List (Guest S)) → All (Contains known) (contents pages guests)
         → sum_alone (map (λ (guest : Guest S). guest_numbers all (contents_of pages guest)) guests)
-          + sum_by (λ (guest : Guest S). distinct eqb (map digest (contents_of pages guest))) guests ≡ length (contents pages guests)
+        + sum_by (λ (guest : Guest S). distinct eqb (map digest (contents_of pages guest))) guests ≡ length (contents pages guests)
     sum_alone_is all [] ks = refl
     sum_alone_is all (guest ∷ guests) ks =
         let own : List Content = contents_of pages guest in

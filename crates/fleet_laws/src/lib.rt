@@ -20,8 +20,9 @@ pub fn merge_law<S: PageSource, A: Allocator>()
     ensures { MergeLaw A S.pages }
 {}
 
-/// *From pages over texts to a census*: where `write_digests` wrote each text, of what `digest_pages` answered of a steady source with a
-/// sample of 1, what `merge` answers of the texts are the numbers of a census of the sources' pages.
+/// *From pages over texts to a census*: where different contents have different digests, and `write_digests` wrote each text, of what
+/// `digest_pages` answered of a steady source with a sample of 1, what `merge` answers of the texts are the numbers of a census of the
+/// sources' pages.
 pub fn text_law<S: PageSource, A: Allocator, B: Allocator>()
     ensures { TextLaw A B S.is_steady S.pages }
 {}
