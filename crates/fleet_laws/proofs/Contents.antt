@@ -35,7 +35,8 @@ module _ (known : List Content) (told : AreToldApart known) where
       passing_by digest (λ x. ltb 1 (copies is_same x all)) (λ k. ltb 1 (copies eqb k (map digest all))) xs (λ i d lt. ap (ltb 1) (copies_told (get_or xs i d) (ks i d lt) all ka))
 
   -- a page of zeros is told by the digest of zeros under its salt
-  pub zero_told : (salt : ℕ) (bytes : List ℕ) → let zeros : Content = (salt, blank) in let c : Content = (salt, bytes) in Contains known zeros → Contains known c → is_zero c ≡ eqb (digest c) (zeros_digest salt)
+  pub zero_told : (salt : ℕ) (bytes : List ℕ) → let zeros : Content = (salt, blank) in let c : Content = (salt, bytes) in
+      Contains known zeros → Contains known c → is_zero c ≡ eqb (digest c) (zeros_digest salt)
   zero_told salt bytes kz kc =
       let zeros : Content = (salt, blank) in
       let c : Content = (salt, bytes) in

@@ -67,14 +67,16 @@ module _ {S : Type 0} (pages : S → List (List ℕ)) where
 
     -- what the guests reclaim alone
     pub sum_alone_is : (all : List Content) (guests : List (Guest S)) → All (Contains known) (contents pages guests)
-        → sum_alone (map (λ (guest : Guest S). guest_numbers all (contents_of pages guest)) guests) + sum_by (λ (guest : Guest S). distinct eqb (map digest (contents_of pages guest))) guests ≡ length (contents pages guests)
+        → sum_alone (map (λ (guest : Guest S). guest_numbers all (contents_of pages guest)) guests)
+        + sum_by (λ (guest : Guest S). distinct eqb (map digest (contents_of pages guest))) guests ≡ length (contents pages guests)
     sum_alone_is all [] ks = refl
     sum_alone_is all (guest ∷ guests) ks =
         let own : List Content = contents_of pages guest in
         let rest : List Content = contents pages guests in
         let both = in_both (Contains known) own rest ks in
         let numbers : List GuestNumbers = map (λ (guest : Guest S). guest_numbers all (contents_of pages guest)) guests in
-        let sums : sum_alone (guest_numbers all own ∷ numbers) ≡ length own - distinct is_same own + sum_alone numbers = sum_by-cons (λ (n : GuestNumbers). n.alone) (guest_numbers all own) numbers in
+        let sums : sum_alone (guest_numbers all own ∷ numbers) ≡ length own - distinct is_same own + sum_alone numbers =
+        sum_by-cons (λ (n : GuestNumbers). n.alone) (guest_numbers all own) numbers in
         let more = sum_by-cons (λ (g : Guest S). distinct eqb (map digest (contents_of pages g))) guest guests in
         let same : distinct is_same own ≡ distinct eqb (map digest own) = distinct_told known told own both.0 in
         let few : distinct eqb (map digest own) ≤ length (map digest own) = distinct_few (map digest own) all_digests (digests_low own) in
@@ -96,7 +98,8 @@ module _ {S : Type 0} (pages : S → List (List ℕ)) where
       let own : List Content = contents_of pages guest in
       let rest : List Content = contents pages guests in
       sum_by-cons (zero_of d) rows fleet
-      ∙ rw (each.0.zero_are d, all_zero_are guests fleet each.1 d) (sym (ap (λ (cs : List Content). copies eqb d (map digest cs)) (filter-append is_zero own rest) ∙ copies_apart d (filter is_zero own) (filter is_zero rest)))
+      ∙ rw (each.0.zero_are d, all_zero_are guests fleet each.1 d) (
+      sym (ap (λ (cs : List Content). copies eqb d (map digest cs)) (filter-append is_zero own rest) ∙ copies_apart d (filter is_zero own) (filter is_zero rest)))
 
   pub all_pages_are : (guests : List (Guest S)) (fleet : List (List Row)) → AreAllCounts guests fleet → sum_by pages_of fleet ≡ length (contents pages guests)
   all_pages_are [] [] each = refl
@@ -118,7 +121,8 @@ module _ {S : Type 0} (pages : S → List (List ℕ)) where
       let own : List Content = contents_of pages guest in
       let here = once_counted (map digest own) all_digests (digests_low own) in
       let split = same_sum (all_holders (rows ∷ fleet)) (λ d. min (copies eqb d (map digest own)) 1 + all_holders fleet d) all_digests (λ d.
-      sum_by-cons (λ (r : List Row). cond (ltb 0 (copies_of d r)) 1 0) rows fleet ∙ ap (λ (m : ℕ). m + all_holders fleet d) (ap (λ (m : ℕ). cond (ltb 0 m) 1 0) (each.0.copies_are d) ∙ sym (one_if (copies eqb d (map digest own))))) in
+      sum_by-cons (λ (r : List Row). cond (ltb 0 (copies_of d r)) 1 0) rows fleet
+      ∙ ap (λ (m : ℕ). m + all_holders fleet d) (ap (λ (m : ℕ). cond (ltb 0 m) 1 0) (each.0.copies_are d) ∙ sym (one_if (copies eqb d (map digest own))))) in
       let both = both_sums (λ d. min (copies eqb d (map digest own)) 1) (all_holders fleet) all_digests in
       let more = sum_by-cons (λ (g : Guest S). distinct eqb (map digest (contents_of pages g))) guest guests in
       omega (arith, here, split, both, more, holders_sum guests fleet each.1)

@@ -63,7 +63,11 @@ copies_passing q d [] = none (q d)
     none : (b : Bool) → 0 ≡ cond {A = ℕ} b 0 0
     none true = refl
     none false = refl
-copies_passing q d (x ∷ ds) = first (q x) (filter q ds) ∙ ap (λ (m : ℕ). cond (q x) (cond (eqb d x) 1 0) 0 + m) (copies_passing q d ds) ∙ both (eqb d x) refl (copies eqb d ds) ∙ ap (λ (m : ℕ). cond (q d) m 0) (sym (sum_by-cons (λ (k : ℕ). cond (eqb d k) 1 0) x ds))
+copies_passing q d (x ∷ ds) =
+    first (q x) (filter q ds)
+    ∙ ap (λ (m : ℕ). cond (q x) (cond (eqb d x) 1 0) 0 + m) (copies_passing q d ds)
+    ∙ both (eqb d x) refl (copies eqb d ds)
+    ∙ ap (λ (m : ℕ). cond (q d) m 0) (sym (sum_by-cons (λ (k : ℕ). cond (eqb d k) 1 0) x ds))
   where
     first : (t : Bool) (ys : List ℕ) → copies eqb d (cond t (x ∷ ys) ys) ≡ cond t (cond (eqb d x) 1 0) 0 + copies eqb d ys
     first true ys = sum_by-cons (λ (k : ℕ). cond (eqb d k) 1 0) x ys

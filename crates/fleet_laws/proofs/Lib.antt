@@ -7,3 +7,4 @@ mod Fleets
 mod Told
 mod Table
 mod Merges
+mod Texts

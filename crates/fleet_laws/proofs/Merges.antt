@@ -28,7 +28,8 @@ use Rattle.fleet_laws.proofs.Table.{table_is}
 use Rattle.fleet_laws.proofs.Told.{tells_guest, tells_total}
 
 module _ {S : Type 0} (pages : S → List (List ℕ)) where
-  module _ (known : List Content) (told : AreToldApart known) (fleet : List (List Row)) (all : List Content) (ka : All (Contains known) all) (of : (d : ℕ) → all_copies fleet d ≡ copies eqb d (map digest all)) where
+  module _ (known : List Content) (told : AreToldApart known) (fleet : List (List Row)) (all : List Content)
+      (ka : All (Contains known) all) (of : (d : ℕ) → all_copies fleet d ≡ copies eqb d (map digest all)) where
     each_told : (guests : List (Guest S)) (some : List (List Row)) → AreAllCounts pages guests some → All (Contains known) (contents pages guests)
         → AllZip TellsGuest (map (merged.guest_numbers fleet) some) (map (λ (guest : Guest S). census.guest_numbers all (contents_of pages guest)) guests)
     each_told [] [] each ks = tt
@@ -59,7 +60,8 @@ module _ {S : Type 0} (pages : S → List (List ℕ)) where
   first_told : (guest : Guest S) (rows : List Row) → AreRowsOf pages guest rows → 1 ≤ length (pages guest.source) → sample_of rows ≡ 1
   first_told guest rows are some = rw are.are (of_lines are.lines are.counted)
     where
-      of_lines : (lines : List DigestLine) → AreCounted (kept_digests (whole guest.salt) (pages guest.source)) lines → sample_of (rows_of (head_by are.name (whole guest.salt) (pages guest.source)) lines) ≡ 1
+      of_lines : (lines : List DigestLine) → AreCounted (kept_digests (whole guest.salt) (pages guest.source)) lines
+          → sample_of (rows_of (head_by are.name (whole guest.salt) (pages guest.source)) lines) ≡ 1
       of_lines [] counted =
           let none : 0 ≡ length (digests_of guest.salt (pages guest.source)) = counted.total ∙ ap length (all_kept guest.salt (digests_of guest.salt (pages guest.source))) in
           absurd (omega (arith, none, length-map (pages guest.source) (content_digest guest.salt), some))

@@ -80,6 +80,7 @@ module _ (xs : List ℕ) (n : ℕ) (low : All (λ k. k < n) xs) where
   pub once_passing : (q : ℕ → Bool) → ((k : ℕ) → q k ≡ true → ltb 0 (copies eqb k xs) ≡ true) → sum_below (λ k. cond (q k) 1 0) n ≡ distinct eqb (filter q xs)
   once_passing q some =
       same_sum (λ k. cond (q k) 1 0) (λ k. cond (list_any (eqb k) (filter q xs)) 1 0) n (λ k.
-      some_if (q k) (ltb 0 (copies eqb k xs)) (some k) ∙ ap (λ (b : Bool). cond b 1 0) (ap (λ (b : Bool). q k && b) (sym (occurs k xs)) ∙ sym (any-filter_same (eqb k) q (q k) (λ j e. ap q (sym (eqb-true k j e))) xs)))
+      some_if (q k) (ltb 0 (copies eqb k xs)) (some k) ∙ ap (λ (b : Bool). cond b 1 0) (
+      ap (λ (b : Bool). q k && b) (sym (occurs k xs)) ∙ sym (any-filter_same (eqb k) q (q k) (λ j e. ap q (sym (eqb-true k j e))) xs)))
       ∙ is_sum (λ k. cond (list_any (eqb k) (filter q xs)) 1 0) n
       ∙ sym (distinct_below n (filter q xs) (All-filter q (λ (k : ℕ). k < n) xs low))

@@ -46,7 +46,8 @@ module _ (all : List Content) (few : length all < 2 ^ 32) (number : ℕ) (high :
   none_so_many c =
       let most : 2 ^ 33 ≤ 2 ^ number = pow_mono {i = 33} {j = number} high in
       let within : copies is_same c all ≤ length all = count_by-le-length (is_same c) all in
-      and_left (leb (census.fewest number) (copies is_same c all)) (leb (copies is_same c all) (census.most number)) (lt-leb (census.fewest number) (copies is_same c all) (omega (arith, most, within, few)))
+      and_left (leb (census.fewest number) (copies is_same c all)) (leb (copies is_same c all) (census.most number)) (
+      lt-leb (census.fewest number) (copies is_same c all) (omega (arith, most, within, few)))
 
   no_contents : census.has_contents (copies_class all (census.fewest number) (census.most number)) ≡ false
   no_contents = ap (λ (cs : List Content). ltb 0 (distinct is_same cs)) (filter_none (has_copies all (census.fewest number) (census.most number)) all none_so_many)
@@ -66,7 +67,8 @@ all_numbers = refl
 some_contents : (class : FleetClass) → has_contents class ≡ census.has_contents (as_counted class)
 some_contents class = let e : class.contents.zeros + class.contents.others ≡ estimate class.contents 1 = omega arith in ap (ltb 0) e
 
-module _ (known : List Content) (told : AreToldApart known) (fleet : List (List Row)) (all : List Content) (ka : All (Contains known) all) (of : (d : ℕ) → all_copies fleet d ≡ copies eqb d (map digest all)) (few : length all < 2 ^ 32) where
+module _ (known : List Content) (told : AreToldApart known) (fleet : List (List Row)) (all : List Content) (ka : All (Contains known) all)
+    (of : (d : ℕ) → all_copies fleet d ≡ copies eqb d (map digest all)) (few : length all < 2 ^ 32) where
   abbrev is_in : ℕ → ℕ → Bool
   is_in number d = is_between (census.fewest number) (census.most number) (copies eqb d (map digest all))
 
@@ -85,7 +87,8 @@ module _ (known : List Content) (told : AreToldApart known) (fleet : List (List 
   class_is : (number : ℕ) → as_counted (class_below fleet all_digests number) ≡ class_with_number all number
   class_is number =
       let passes : Content → Bool = has_copies all (census.fewest number) (census.most number) in
-      let agree : All (λ c. passes c ≡ is_in number (digest c)) all = λ i d lt. ap (is_between (census.fewest number) (census.most number)) (copies_told known told (get_or all i d) (ka i d lt) all ka) in
+      let agree : All (λ c. passes c ≡ is_in number (digest c)) all = λ i d lt.
+      ap (is_between (census.fewest number) (census.most number)) (copies_told known told (get_or all i d) (ka i d lt) all ka) in
       let contents : estimate (class_below fleet all_digests number).contents 1 ≡ distinct is_same (filter passes all) =
       estimate_is (is_zeros fleet) (λ d. cond (is_in_class (all_copies fleet d) number) 1 0) all_digests
       ∙ same_sum (λ d. cond (is_in_class (all_copies fleet d) number) 1 0) (λ d. cond (is_in number d) 1 0) all_digests (λ d. ap (λ (t : Bool). cond t 1 0) (in_class number d))
@@ -110,7 +113,8 @@ module _ (known : List Content) (told : AreToldApart known) (fleet : List (List 
   rows_are (number ∷ numbers) =
       let class : FleetClass = class_below fleet all_digests number in
       let row : CopiesClass = class_with_number all number in
-      left_out (has_contents class) (census.has_contents row) class (filter has_contents (map (class_below fleet all_digests) numbers)) row (filter census.has_contents (map (class_with_number all) numbers))
+      left_out (has_contents class) (census.has_contents row) class (filter has_contents (map (class_below fleet all_digests) numbers)) row
+      (filter census.has_contents (map (class_with_number all) numbers))
       (some_contents class ∙ ap census.has_contents (class_is number)) (class_is number) (rows_are numbers)
 
   -- the table of a merge is that of a census

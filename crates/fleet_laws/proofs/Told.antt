@@ -58,7 +58,8 @@ module _ (known : List Content) (told : AreToldApart known) where
   }
 
   -- all guests
-  module _ {S : Type 0} (pages : S → List (List ℕ)) (guests : List (Guest S)) (fleet : List (List Row)) (each : AreAllCounts pages guests fleet) (ka : All (Contains known) (contents pages guests)) where
+  module _ {S : Type 0} (pages : S → List (List ℕ)) (guests : List (Guest S)) (fleet : List (List Row))
+      (each : AreAllCounts pages guests fleet) (ka : All (Contains known) (contents pages guests)) where
     abbrev all : List Content
     all = contents pages guests
 
@@ -73,7 +74,8 @@ module _ (known : List Content) (told : AreToldApart known) where
         ∙ rw (length-filter is_zero all, ← (distinct_told known told (filter is_zero all) kz), salts_apart (filter is_zero all) (filter_passes is_zero all)) refl
 
     -- and how often only sharing between guests does
-    between_saved : sum_below (λ d. all_holders fleet d - 1) all_digests ≡ length all - distinct is_same all - sum_alone (map (λ (guest : Guest S). guest_numbers all (contents_of pages guest)) guests)
+    between_saved : sum_below (λ d. all_holders fleet d - 1) all_digests ≡ length all - distinct is_same all
+        - sum_alone (map (λ (guest : Guest S). guest_numbers all (contents_of pages guest)) guests)
     between_saved =
         let whole = less_one (all_holders fleet) all_digests in
         let once = same_sum (λ d. min (all_holders fleet d) 1) (λ d. min (all_copies fleet d) 1) all_digests (holders_some fleet) ∙ sum_once all (all_copies fleet) of in

@@ -103,5 +103,5 @@ pub record IsCensus {S A : Type 0} (pages : S → List (List ℕ)) (guests : Lis
 -- and those that `merge` answers
 abbrev pub MergeLaw : {S : Type 0} → Type 0 → (S → List (List ℕ)) → Type 0
 MergeLaw {S} A pages =
-    (guests : List (Guest S)) (fleet : List (List Row)) (numbers : FleetNumbers A) → IsFleetOf pages guests fleet → AreNumbers fleet numbers →
-    IsCensus pages guests numbers
+    (guests : List (Guest S)) (fleet : List (List Row)) (numbers : FleetNumbers A) → IsFleetOf pages guests fleet →
+    AreNumbers fleet numbers → IsCensus pages guests numbers

@@ -4,6 +4,7 @@
 #![tactic(auto)]
 
 ghost use Rattle.fleet_laws.specs.Merges.{DigestLaw, MergeLaw};
+ghost use Rattle.fleet_laws.specs.Texts.{TextLaw};
 
 use page_census::PageSource;
 use std::alloc::Allocator;
@@ -17,4 +18,11 @@ pub fn digest_law<S: PageSource>()
 /// So what `merge` answers of such digests are the numbers of a census, and its sample is 1, if there is a page at all.
 pub fn merge_law<S: PageSource, A: Allocator>()
     ensures { MergeLaw A S.pages }
+{}
+
+/// *From pages over texts to a census*: where different contents have different digests, and `write_digests` wrote each text, of what
+/// `digest_pages` answered of a steady source with a sample of 1, what `merge` answers of the texts are the numbers of a census of the
+/// sources' pages.
+pub fn text_law<S: PageSource, A: Allocator, B: Allocator>()
+    ensures { TextLaw A B S.is_steady S.pages }
 {}

@@ -1,0 +1,61 @@
+-- From pages over digests' texts to the numbers of a census.
+use Rattle.std.specs.Prelude.{◌≡◌, ℕ, ◌^◌, ◌<◌, true, List, [], ◌++◌, length, map, Some, Ok}
+use Rattle.std.specs.List.{AllZip}
+use Rattle.page_digests.specs.Counted.{AreDigests}
+use Rattle.page_digests.specs.declared.digests.GuestDigests.{GuestDigests}
+use Rattle.digest_text.specs.Fields.{Row}
+use Rattle.digest_text.specs.Names.{is_name}
+use Rattle.digest_text.specs.Rows.{digest_of}
+use Rattle.digest_text.specs.Written.{IsWritten, head_for, rows_of, text_of}
+use Rattle.page_census.specs.Contents.{AreSteady, contents}
+use Rattle.page_census.specs.declared.source.Guest.{Guest}
+use Rattle.fleet_census.specs.Numbers.{IsMerged}
+use Rattle.fleet_census.specs.declared.numbers.FleetNumbers.{FleetNumbers}
+use Rattle.fleet_laws.specs.Merges.{AreToldApart, IsCensus, IsFleetOf, whole, zeros}
+
+-- a guest's digests, and the name that they are written under
+pub record Named (A : Type 0) : Type 0 where
+  pub name : List ℕ
+  pub digests : GuestDigests A
+
+module _ {A : Type 0} where
+  -- the rows that are written of them
+  abbrev pub written_rows : Named A → List Row
+  written_rows named = rows_of (head_for named.name named.digests) named.digests.lines.items
+
+  -- the text is what `write_digests` wrote of them, to a writer that held nothing
+  abbrev pub IsTextOf : Named A → List ℕ → Type 0
+  IsTextOf named text = IsWritten (Some []) (Some text) (text_of named.name named.digests) (Ok tt)
+
+module _ {S : Type 0} (is_steady : S → Type 0) (pages : S → List (List ℕ)) where
+  -- The digests are what `digest_pages` answers of the guest's pages, with the guest's salt and a sample of 1. The name is one, and the
+  -- numbers are those that their types hold.
+  pub record AreDigestsOf {A : Type 0} (guest : Guest S) (named : Named A) : Type 0 where
+    pub name : is_name named.name ≡ true
+    pub salt : guest.salt < 2 ^ 32
+    pub fits : named.digests.pages < 2 ^ 64
+    pub sampling : named.digests.sampling ≡ whole guest.salt
+    pub count : named.digests.pages ≡ length (pages guest.source)
+    pub lines : AreDigests (is_steady guest.source) (pages guest.source) (whole guest.salt) named.digests.lines.items
+
+  -- The texts, in the guests' order, are written of digests of these guests' pages, and each read of a page returned the same bytes. And
+  -- different contents have different digests, as in `IsFleetOf`.
+  pub record AreTextsOf {A : Type 0} (guests : List (Guest S)) (all : List (Named A)) (texts : List (List ℕ)) : Type 0 where
+    pub steady : AreSteady is_steady guests
+    pub digests : AllZip AreDigestsOf guests all
+    pub written : AllZip IsTextOf all texts
+    pub apart : AreToldApart (contents pages guests ++ zeros guests)
+
+-- The texts say the rows that were written, which are those of whole digests of these guests' pages. And the numbers that `merge` answers
+-- of the texts are those of a census of the pages.
+pub record TellCensus {S A : Type 0} (B : Type 0) (pages : S → List (List ℕ)) (guests : List (Guest S)) (all : List (Named A))
+    (texts : List (List ℕ)) : Type 0 where
+  pub said : map digest_of texts ≡ map Ok (map written_rows all)
+  pub fleet : IsFleetOf pages guests (map written_rows all)
+  pub merged : (numbers : FleetNumbers B) → IsMerged (map digest_of texts) (Ok numbers) → IsCensus pages guests numbers
+
+-- A: the allocator of the digests; B: that of the numbers
+abbrev pub TextLaw : {S : Type 0} → Type 0 → Type 0 → (S → Type 0) → (S → List (List ℕ)) → Type 0
+TextLaw {S} A B is_steady pages =
+    (guests : List (Guest S)) (all : List (Named A)) (texts : List (List ℕ)) → AreTextsOf is_steady pages guests all texts
+    → TellCensus B pages guests all texts
