@@ -1,7 +1,7 @@
 -- From pages over digests' texts to the numbers of a census.
 use lib.Count.{ones, ones_in}
-use Rattle.std.proofs.Common.{◌≡◌, ℕ, ◌<◌, ◌≤◌, ◌^◌, ◌==◌, cond, List, [], ◌∷◌, map, get_or, Ok, refl, ap, ◌∙◌, inl, inr, arith}
-use Rattle.std.specs.Prelude.{All}
+use Rattle.std.proofs.Common.{◌≡◌, ℕ, ◌<◌, ◌≤◌, ◌^◌, ◌==◌, cond, List, [], ◌∷◌, map, get_or, Ok, refl, ap, sym, ◌∙◌, inl, inr, arith}
+use Rattle.std.specs.Prelude.{⊤, All}
 use Rattle.std.specs.List.{AllZip}
 use Rattle.std.proofs.lemmas.Bool.{cases_Bool, eq-eqb, eqb-true}
 use Rattle.std.proofs.lemmas.List.Elements.{All-head, All-map, All-tail}
@@ -23,7 +23,7 @@ use Rattle.fleet_census.specs.Numbers.{AreNumbers, IsMerged, fleet_of}
 use Rattle.fleet_census.specs.States.{Said}
 use Rattle.fleet_census.specs.declared.numbers.FleetNumbers.{FleetNumbers}
 use Rattle.fleet_laws.specs.Merges.{AreRowsOf, IsFleetOf, whole}
-use Rattle.fleet_laws.specs.Texts.{AreDigestsOf, IsTextOf, Named, TextLaw, written_rows}
+use Rattle.fleet_laws.specs.Texts.{AreDigestsOf, IsTextOf, Named, TellCensus, TextLaw, reads_of, with_pages, written_rows}
 use Rattle.fleet_laws.proofs.Digests.{digest_low}
 use Rattle.fleet_laws.proofs.Guests.{all_kept}
 use Rattle.fleet_laws.proofs.Merges.{merge_tells_census}
@@ -122,13 +122,67 @@ merged_numbers files fleet numbers said merged =
     let is : fleet_of files ≡ fleet = ap fleet_of said ∙ fleet_is fleet in
     rw is at merged.1
 
-pub texts_tell_census : {S A B : Type 0} (is_steady : S → Type 0) (pages : S → List (List ℕ)) → TextLaw A B is_steady pages
-texts_tell_census is_steady pages guests all texts are =
-    let said = all_said is_steady pages guests all texts are.steady are.digests are.written in
-    let fleet : IsFleetOf pages guests (map written_rows all) = record { rows = all_rows is_steady pages guests all are.steady are.digests; apart = are.apart } in
+-- of guests whose sources are steady
+steady_texts : {S A B : Type 0} (is_steady : S → Type 0) (pages : S → List (List ℕ)) (guests : List (Guest S)) (all : List (Named A))
+    (texts : List (List ℕ)) → AreSteady is_steady guests → AllZip (AreDigestsOf is_steady pages) guests all → AllZip IsTextOf all texts
+    → TellCensus B pages guests all texts
+steady_texts is_steady pages guests all texts steady are written =
+    let fleet : List (List Row) = map written_rows all in
+    let said = all_said is_steady pages guests all texts steady are written in
+    let rows = all_rows is_steady pages guests all steady are in
     record {
       said = said;
-      fleet = fleet;
-      merged = λ numbers merged.
-          merge_tells_census pages guests (map written_rows all) numbers fleet (merged_numbers (map digest_of texts) (map written_rows all) numbers said merged);
+      rows = rows;
+      merged = λ apart numbers merged.
+          let is : IsFleetOf pages guests fleet = record { rows = rows; apart = apart } in
+          merge_tells_census pages guests fleet numbers is (merged_numbers (map digest_of texts) fleet numbers said merged);
+    }
+
+-- what was read, as a source: each read of it returns the same
+abbrev ReadSteady : List (List ℕ) → Type 0
+ReadSteady read = ⊤
+
+abbrev itself : List (List ℕ) → List (List ℕ)
+itself read = read
+
+all_steady : (reads : List (Guest (List (List ℕ)))) → AreSteady ReadSteady reads
+all_steady reads i d lt = tt
+
+module _ {S A : Type 0} (is_steady : S → Type 0) (pages : S → List (List ℕ)) where
+  -- the digests are those of what was read
+  digests_read : (guests : List (Guest S)) (all : List (Named A)) (are : AllZip (AreDigestsOf is_steady pages) guests all)
+      → AllZip (AreDigestsOf ReadSteady itself) (reads_of is_steady pages guests all are) all
+  digests_read [] [] are = tt
+  digests_read [] (named ∷ all) are = absurd are
+  digests_read (guest ∷ guests) [] are = absurd are
+  digests_read (guest ∷ guests) (named ∷ all) are = (
+    record {
+      name = are.0.name;
+      salt = are.0.salt;
+      fits = are.0.fits;
+      sampling = are.0.sampling;
+      count = are.0.count ∙ sym are.0.lines.all;
+      lines = record { read = are.0.lines.read; all = refl; same = λ steady. refl; counted = are.0.lines.counted };
+    },
+    digests_read guests all are.1,
+  )
+
+  -- of steady sources the pages were read
+  pages_read : (guests : List (Guest S)) (all : List (Named A)) (are : AllZip (AreDigestsOf is_steady pages) guests all)
+      → AreSteady is_steady guests → reads_of is_steady pages guests all are ≡ map (with_pages pages) guests
+  pages_read [] [] are steady = refl
+  pages_read [] (named ∷ all) are steady = absurd are
+  pages_read (guest ∷ guests) [] are steady = absurd are
+  pages_read (guest ∷ guests) (named ∷ all) are steady =
+      let P : Guest S → Type 0 = λ g. is_steady g.source in
+      rw (are.0.lines.same (All-head P guest guests steady), pages_read guests all are.1 (All-tail P guest guests steady)) refl
+
+pub texts_tell_census : {S A B : Type 0} (is_steady : S → Type 0) (pages : S → List (List ℕ)) → TextLaw A B is_steady pages
+texts_tell_census is_steady pages guests all texts are =
+    let reads : List (Guest (List (List ℕ))) = reads_of is_steady pages guests all are.digests in
+    let digests = digests_read is_steady pages guests all are.digests in
+    record {
+      census = steady_texts ReadSteady itself reads all texts (all_steady reads) digests are.written;
+      same = pages_read is_steady pages guests all are.digests;
+      steady = λ steady. steady_texts is_steady pages guests all texts steady are.digests are.written;
     }

@@ -1,5 +1,5 @@
 -- From pages over digests' texts to the numbers of a census.
-use Rattle.std.specs.Prelude.{◌≡◌, ℕ, ◌^◌, ◌<◌, true, List, [], ◌++◌, length, map, Some, Ok}
+use Rattle.std.specs.Prelude.{◌≡◌, ℕ, ◌^◌, ◌<◌, true, List, [], ◌∷◌, ◌++◌, length, map, Some, Ok}
 use Rattle.std.specs.List.{AllZip}
 use Rattle.page_digests.specs.Counted.{AreDigests}
 use Rattle.page_digests.specs.declared.digests.GuestDigests.{GuestDigests}
@@ -11,7 +11,7 @@ use Rattle.page_census.specs.Contents.{AreSteady, contents}
 use Rattle.page_census.specs.declared.source.Guest.{Guest}
 use Rattle.fleet_census.specs.Numbers.{IsMerged}
 use Rattle.fleet_census.specs.declared.numbers.FleetNumbers.{FleetNumbers}
-use Rattle.fleet_laws.specs.Merges.{AreToldApart, IsCensus, IsFleetOf, whole, zeros}
+use Rattle.fleet_laws.specs.Merges.{AreRowsOf, AreToldApart, IsCensus, whole, zeros}
 
 -- a guest's digests, and the name that they are written under
 pub record Named (A : Type 0) : Type 0 where
@@ -27,6 +27,10 @@ module _ {A : Type 0} where
   abbrev pub IsTextOf : Named A → List ℕ → Type 0
   IsTextOf named text = IsWritten (Some []) (Some text) (text_of named.name named.digests) (Ok tt)
 
+-- the guest with its pages, in place of their source
+abbrev pub with_pages : {S : Type 0} → (S → List (List ℕ)) → Guest S → Guest (List (List ℕ))
+with_pages pages guest = record { salt = guest.salt; source = pages guest.source }
+
 module _ {S : Type 0} (is_steady : S → Type 0) (pages : S → List (List ℕ)) where
   -- The digests are what `digest_pages` answers of the guest's pages, with the guest's salt and a sample of 1. The name is one, and the
   -- numbers are those that their types hold.
@@ -38,24 +42,37 @@ module _ {S : Type 0} (is_steady : S → Type 0) (pages : S → List (List ℕ))
     pub count : named.digests.pages ≡ length (pages guest.source)
     pub lines : AreDigests (is_steady guest.source) (pages guest.source) (whole guest.salt) named.digests.lines.items
 
-  -- The texts, in the guests' order, are written of digests of these guests' pages, and each read of a page returned the same bytes. And
-  -- different contents have different digests, as in `IsFleetOf`.
+  -- the guests with the pages that were read of each, in place of their source
+  abbrev pub reads_of : {A : Type 0} (guests : List (Guest S)) (all : List (Named A)) → AllZip AreDigestsOf guests all
+      → List (Guest (List (List ℕ)))
+  reads_of [] all are = []
+  reads_of (guest ∷ guests) [] are = []
+  reads_of (guest ∷ guests) (named ∷ all) are = record { salt = guest.salt; source = are.0.lines.read } ∷ reads_of guests all are.1
+
+  -- the texts, in the guests' order, are written of digests of these guests' pages
   pub record AreTextsOf {A : Type 0} (guests : List (Guest S)) (all : List (Named A)) (texts : List (List ℕ)) : Type 0 where
-    pub steady : AreSteady is_steady guests
     pub digests : AllZip AreDigestsOf guests all
     pub written : AllZip IsTextOf all texts
-    pub apart : AreToldApart (contents pages guests ++ zeros guests)
 
--- The texts say the rows that were written, which are those of whole digests of these guests' pages. And the numbers that `merge` answers
--- of the texts are those of a census of the pages.
+-- The texts say the rows that were written, which are those of whole digests of these guests' pages. And if different contents have
+-- different digests, as in `IsFleetOf`, the numbers that `merge` answers of the texts are those of a census of the pages.
 pub record TellCensus {S A : Type 0} (B : Type 0) (pages : S → List (List ℕ)) (guests : List (Guest S)) (all : List (Named A))
     (texts : List (List ℕ)) : Type 0 where
   pub said : map digest_of texts ≡ map Ok (map written_rows all)
-  pub fleet : IsFleetOf pages guests (map written_rows all)
-  pub merged : (numbers : FleetNumbers B) → IsMerged (map digest_of texts) (Ok numbers) → IsCensus pages guests numbers
+  pub rows : AllZip (AreRowsOf pages) guests (map written_rows all)
+  pub merged : AreToldApart (contents pages guests ++ zeros guests) → (numbers : FleetNumbers B)
+      → IsMerged (map digest_of texts) (Ok numbers) → IsCensus pages guests numbers
+
+-- What the texts tell is a census of the pages that were read. Of steady sources these are the sources' pages, and what the texts tell is
+-- a census of these.
+pub record TellReads {S A : Type 0} (B : Type 0) (is_steady : S → Type 0) (pages : S → List (List ℕ)) (guests : List (Guest S))
+    (reads : List (Guest (List (List ℕ)))) (all : List (Named A)) (texts : List (List ℕ)) : Type 0 where
+  pub census : TellCensus B (λ read. read) reads all texts
+  pub same : AreSteady is_steady guests → reads ≡ map (with_pages pages) guests
+  pub steady : AreSteady is_steady guests → TellCensus B pages guests all texts
 
 -- A: the allocator of the digests; B: that of the numbers
 abbrev pub TextLaw : {S : Type 0} → Type 0 → Type 0 → (S → Type 0) → (S → List (List ℕ)) → Type 0
 TextLaw {S} A B is_steady pages =
-    (guests : List (Guest S)) (all : List (Named A)) (texts : List (List ℕ)) → AreTextsOf is_steady pages guests all texts
-    → TellCensus B pages guests all texts
+    (guests : List (Guest S)) (all : List (Named A)) (texts : List (List ℕ)) (are : AreTextsOf is_steady pages guests all texts)
+    → TellReads B is_steady pages guests (reads_of is_steady pages guests all are.digests) all texts

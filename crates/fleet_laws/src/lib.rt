@@ -21,8 +21,8 @@ pub fn merge_law<S: PageSource, A: Allocator>()
 {}
 
 /// *From pages over texts to a census*: where different contents have different digests, and `write_digests` wrote each text, of what
-/// `digest_pages` answered of a steady source with a sample of 1, what `merge` answers of the texts are the numbers of a census of the
-/// sources' pages.
+/// `digest_pages` answered with a sample of 1, what `merge` answers of the texts are the numbers of a census of the pages that were read.
+/// Of steady sources these are the sources' pages.
 pub fn text_law<S: PageSource, A: Allocator, B: Allocator>()
     ensures { TextLaw A B S.is_steady S.pages }
 {}
