@@ -1,13 +1,22 @@
-use Rattle.std.proofs.Common.{◌≡◌, length, ◌∙◌, Ok}
-use Rattle.hex.specs.Hex.{decode_sized}
-use Rattle.hex.proofs.HexLemmas.{decode_sized-twice}
-use Rattle.journal_text.specs.Words.{spelled}
-use Rattle.journal_text.proofs.Bytes.{spelled_is}
+use Rattle.std.proofs.Common.{◌≡◌, ◌+◌, ◌*◌, ◌%◌, ◌<◌, ◌==◌, ◌&&◌, true, nat_lt, length, slice_index, Ok, sym, ap, ◌∙◌, arith}
+use Rattle.std.specs.List.{list_all}
+use Rattle.std.proofs.lemmas.Bool.{and_parts, eqb-true}
+use Rattle.hex.specs.Hex.{decode_of, decode_pairs}
+use Rattle.hex.proofs.HexLemmas.{decode_of-even}
+use Rattle.hex.proofs.Pairs.{decode_done, decode_step}
+use Rattle.journal_text.specs.Words.{is_lower_digit, or_none}
+use Rattle.digest_text.proofs.Digits.{pair_is}
 use Rattle.digest_text.proofs.fields.unpack.Goals as goal
+
+pub loop-at-preserved : goal.loop-at-preserved
+loop-at-preserved c =
+    decode_step c.args.word.now c.loop-at.bytes c.loop-at.at (16 * c.value.result + c.value-in-loop-at.result) (omega arith) (omega arith)
+    (pair_is (slice_index c.args.word.now (2 * c.loop-at.at)) (slice_index c.args.word.now (2 * c.loop-at.at + 1)) (2 * c.loop-at.at) c.value.result c.value-in-loop-at.result c.value.ensures.value c.value-in-loop-at.ensures.value) c.loop-at.invariant
 
 pub returns : goal.returns
 returns c =
     let word = c.args.word.now in
-    let facts = spelled_is word c.requires.word in
-    let sized : decode_sized word (length c.args.bytes.now) ≡ Ok (spelled word) = decode_sized-twice word _ c.requires.room ∙ facts.0 in
-    (rw sized at c.decode_to_slice.ensures.value).1
+    let parts = and_parts (nat_lt 0 (length word) && (length word % 2 == 0)) (list_all is_lower_digit word) c.requires.word in
+    let even : length word % 2 ≡ 0 = eqb-true (length word % 2) 0 (and_parts (nat_lt 0 (length word)) (length word % 2 == 0) parts.0).1 in
+    let done : decode_of word ≡ Ok c.loop-at.bytes = decode_of-even word even ∙ decode_done word c.loop-at.bytes c.loop-at.at (omega arith) (omega arith) c.loop-at.invariant in
+    sym (ap or_none done)
