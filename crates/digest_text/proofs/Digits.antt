@@ -1,12 +1,13 @@
 -- The digits of a digest, in place.
 use Rattle.std.proofs.Common.{◌≡◌, ℕ, zero, suc, ◌+◌, ◌-◌, ◌*◌, ◌<◌, ◌≤◌, ◌≢◌, ◌==◌, ◌&&◌, true, false, not, List, [], ◌∷◌, ◌++◌, length, take, drop, get_or, slice_index, Option, Some, None, Ok, refl, sym, ap, ◌∙◌, arith, inl, inr}
+use Rattle.std.specs.Int.{from_be_bytes, w128}
 use Rattle.std.specs.List.{list_all, position_or_len}
-use Rattle.std.proofs.lemmas.Bool.{and_from, and_parts, cases_Bool, cases_eq, cases_lt, eqb-true, le-ltb, lt-ltb, ne_eqb}
+use Rattle.std.proofs.lemmas.Bool.{and_from, and_parts, cases_Bool, cases_eq, cases_lt, eq-eqb, eqb-true, le-ltb, lt-ltb, ne_eqb}
 use Rattle.std.proofs.lemmas.Bool.Decides.{nat_tests}
 use Rattle.std.proofs.lemmas.List.{drop_more, length-take-le, take-append-drop}
 use Rattle.std.proofs.lemmas.List.Sums.{passes_at_first}
 use Rattle.hex.specs.Hex.{hex_digit_value, pair_value}
-use Rattle.journal_text.specs.Words.{is_lower_digit, is_bytes_word}
+use Rattle.journal_text.specs.Words.{is_lower_digit, is_bytes_word, spelled}
 use Rattle.digest_text.specs.Fields.{digest_in, field_in, is_comma}
 use Rattle.digest_text.specs.Repeats.{digest_first}
 use Rattle.digest_text.proofs.Fronts.{field_before}
@@ -15,6 +16,11 @@ use Rattle.digest_text.proofs.Fronts.{field_before}
 pub digest_long : (word : List ℕ) → length word ≢ 32 → digest_in word ≡ None
 unfolding digest_in
 digest_long word other = rw (ne_eqb (length word) 32 other) refl
+
+-- 32 digits are one
+pub digest_is : (word : List ℕ) → length word ≡ 32 → is_bytes_word word ≡ true → digest_in word ≡ Some (from_be_bytes w128 (spelled word))
+unfolding digest_in
+digest_is word long digits = rw (eq-eqb (length word) 32 long, digits) refl
 
 -- where no comma follows 32 bytes, no digest is first
 pub no_digest_first : (bytes : List ℕ) → (32 < length bytes → get_or bytes 32 0 ≢ 44) → digest_first bytes ≡ None

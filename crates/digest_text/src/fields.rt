@@ -49,7 +49,8 @@ pub(crate) fn digest(word: &[u8]) -> Option<u128>
     if word.len() != 32 || !is_bytes(word) {
         return None;
     }
-    Some(digest_of(word))
+    let word = word.first_chunk::<32>()?;
+    Some(u128::from_be_bytes(unpack(word)))
 }
 
 /// Returns the digest that the first field spells, and what comes after its comma.
@@ -66,16 +67,6 @@ pub(crate) fn digest_field(bytes: &[u8]) -> Option<(u128, &[u8])>
     }
 }
 
-fn digest_of(word: &[u8]) -> u128
-    requires long { length word.now ≡ 32 }
-    requires word { IsTrue (is_bytes_word word.now) }
-    ensures { result ≡ from_be_bytes w128 (spelled word.now) }
-{
-    let mut bytes = [0; 16];
-    unpack(word, &mut bytes);
-    u128::from_be_bytes(bytes)
-}
-
 /// Returns the value of a digit.
 fn value(digit: u8) -> u8
     requires { IsTrue (is_lower_digit digit) }
@@ -89,15 +80,19 @@ fn value(digit: u8) -> u8
     }
 }
 
-/// Writes the bytes that a word spells.
-fn unpack(word: &[u8], bytes: &mut [u8])
+/// Returns the bytes that a word spells. It is never inlined, since where its length is plain LLVM unrolls the loop, which it
+/// otherwise turns into vectors.
+#[inline(never)]
+fn unpack(word: &[u8; 32]) -> [u8; 16]
+    requires long { length word.now ≡ 32 }
     requires word { IsTrue (is_bytes_word word.now) }
-    requires room { length word.now ≡ 2 * length bytes.old }
-    ensures { bytes.new ≡ spelled word.now }
+    ensures { result ≡ spelled word.now }
 {
-    for at in 0..bytes.len() {
+    let mut bytes = [0; 16];
+    for at in 0..16 {
         bytes[at] = 16 * value(word[2 * at]) + value(word[2 * at + 1]);
     }
+    bytes
 }
 
 /// Returns how many copies a field spells, at least one.
