@@ -1,6 +1,5 @@
 //! The fields of a line.
-ghost use Rattle.std.specs.Prelude.{◌≡◌, ◌*◌, ◌≤◌, ◌<◌, ◌^◌, IfSome, Some, length, IsTrue};
-ghost use Rattle.std.specs.Int.{w128, from_be_bytes};
+ghost use Rattle.std.specs.Prelude.{◌≡◌, ◌≤◌, ◌<◌, IfSome, Some, length, IsTrue};
 ghost use Rattle.std.specs.Option.{option_map};
 ghost use Rattle.hex.specs.Hex.{hex_digit_value};
 ghost use Rattle.journal_text.specs.Words.{is_bytes_word, is_lower_digit, spelled};
@@ -49,8 +48,10 @@ pub(crate) fn digest(word: &[u8]) -> Option<u128>
     if word.len() != 32 || !is_bytes(word) {
         return None;
     }
-    let word = word.first_chunk::<32>()?;
-    Some(u128::from_be_bytes(unpack(word)))
+    match word.first_chunk::<32>() {
+        Some(digits) => Some(u128::from_be_bytes(unpack(digits))),
+        None => unreachable!(),
+    }
 }
 
 /// Returns the digest that the first field spells, and what comes after its comma.

@@ -1,10 +1,8 @@
 //! The reader of digests.
-ghost use Rattle.std.specs.Prelude.{◌≡◌, ◌+◌, ◌<◌, ◌≤◌, Ok, Err, Some, None, IfOk, IfSome, length, take, min};
+ghost use Rattle.std.specs.Prelude.{◌≡◌, IfSome};
 ghost use Rattle.std.specs.Option.{option_map};
-ghost use Rattle.digest_text.specs.Fields.{row_in};
-ghost use Rattle.digest_text.specs.Left.{unread};
 ghost use Rattle.digest_text.specs.Noted.{IsEnd};
-ghost use Rattle.digest_text.specs.Rows.{check_header, line_after};
+ghost use Rattle.digest_text.specs.Rows.{check_header};
 ghost use Rattle.digest_text.specs.Told.{IsFirst, IsNext, head_of, told};
 
 use crate::buffered::{Found, Lines};

@@ -1,8 +1,7 @@
 //! What the lines so far say.
-ghost use Rattle.std.specs.Prelude.{◌≡◌, ◌≤◌, Ok, Err, Some, None, IfOk, IfSome, MatchResult, is_none, nat_lt, ◌&&◌, true};
-ghost use Rattle.std.specs.Option.{option_map};
+ghost use Rattle.std.specs.Prelude.{◌≡◌, Some, None, IfOk, is_none, nat_lt, ◌&&◌};
 ghost use Rattle.page_digests.specs.Samples.{IsSample};
-ghost use Rattle.digest_text.specs.Rows.{after_row, is_all, is_same_head, left_before, less};
+ghost use Rattle.digest_text.specs.Rows.{after_row, is_same_head, less};
 ghost use Rattle.digest_text.specs.Seen.{IsOfForm, head_seen, row_seen};
 ghost use Rattle.digest_text.specs.Noted.{IsNoted};
 

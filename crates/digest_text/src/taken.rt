@@ -1,5 +1,5 @@
 //! One more line, taken.
-ghost use Rattle.std.specs.Prelude.{◌≡◌, ◌≤◌, None, Some, length};
+ghost use Rattle.std.specs.Prelude.{◌≡◌, ◌≤◌, length};
 ghost use Rattle.digest_text.specs.Noted.{IsTaken};
 ghost use Rattle.digest_text.specs.Repeats.{IsFront, IsRepeated, Spells};
 

@@ -1,6 +1,5 @@
-use Rattle.std.proofs.Common.{◌≡◌, ◌-◌, ◌<◌, ℕ, List, take, drop, length, get_or, Some, None, sym, ap, ◌∙◌, arith, length-drop}
+use Rattle.std.proofs.Common.{◌≡◌, ◌-◌, ◌<◌, ℕ, List, take, drop, length, get_or, Some, sym, ap, ◌∙◌, arith, length-drop}
 use Rattle.std.proofs.lemmas.List.{length-take-le, take_all}
-use Rattle.digest_text.specs.Fields.{digest_in}
 use Rattle.digest_text.proofs.Digits.{digest_first_is, digest_first_none, no_digest_first}
 use Rattle.digest_text.proofs.fields.digest_field.Goals.{then-bytes-le32-via-then-bytes-le32, then-bytes-le32-via-else-bytes-le32+then-bytes-ne44}
 use Rattle.digest_text.proofs.fields.digest_field.Goals as goal

@@ -1,5 +1,4 @@
-use Rattle.std.proofs.Common.{◌≡◌, Some, sym, ◌∙◌}
-use Rattle.digest_text.specs.Fields.{head_in}
+use Rattle.std.proofs.Common.{sym}
 use Rattle.digest_text.specs.Seen.{head_seen}
 use Rattle.digest_text.proofs.Fronts.{head_spelled, head_within}
 use Rattle.digest_text.proofs.row.read_row.Goals as goal
