@@ -11,6 +11,7 @@ use std::alloc::Allocator;
 pub struct DigestReader<R, A: Allocator> {
     pub(crate) lines: Lines<R, A>,
     pub(crate) so_far: Option<SoFar>,
+    /// How the head was spelled on a line before: a line that begins with these bytes has the same head.
     pub(crate) front: Front,
     /// The number of the last line that was read.
     pub(crate) line: u64,

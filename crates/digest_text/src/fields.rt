@@ -81,8 +81,7 @@ fn value(digit: u8) -> u8
     }
 }
 
-/// Returns the bytes that a word spells. It is never inlined, since where its length is plain LLVM unrolls the loop, which it
-/// otherwise turns into vectors.
+/// Returns the bytes that a word spells. LLVM makes vectors of this loop, but where the function is inlined it unrolls it.
 #[inline(never)]
 fn unpack(word: &[u8; 32]) -> [u8; 16]
     requires long { length word.now ≡ 32 }
