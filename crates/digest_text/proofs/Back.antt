@@ -1,10 +1,10 @@
 -- The fields of a line as they are written, read back.
-use Rattle.std.proofs.Common.{◌≡◌, ℕ, zero, suc, ◌+◌, ◌-◌, ◌*◌, ◌/◌, ◌%◌, ◌<◌, ◌≤◌, ◌^◌, ◌==◌, ◌&&◌, Bool, true, false, not, List, [], ◌∷◌, ◌++◌, length, Some, None, refl, sym, ap, ◌∙◌, arith, nat_lt, nat_le, decimal, append_assoc, length-append, inl, inr}
+use Rattle.std.proofs.Common.{◌≡◌, ℕ, zero, suc, ◌-◌, ◌/◌, ◌%◌, ◌<◌, ◌≤◌, ◌^◌, ◌==◌, ◌&&◌, Bool, true, false, not, List, [], ◌∷◌, ◌++◌, length, Some, refl, sym, ap, ◌∙◌, arith, nat_lt, nat_le, decimal, append_assoc, length-append}
 use Rattle.std.specs.Prelude.{slice_index}
-use Rattle.std.specs.Int.{w128, to_be_bytes, is_power_of_two}
-use Rattle.std.specs.List.{list_all, position_or_len}
+use Rattle.std.specs.Int.{w128, to_be_bytes}
+use Rattle.std.specs.List.{list_all}
 use Rattle.std.specs.Str.{all_ascii_digits}
-use Rattle.std.proofs.lemmas.Bool.{and_parts, and_from, cases_lt, cases_Bool, le-ltb, lt-ltb, ltb-true, ne_eqb, eq-eqb, eqb-true, leb-true}
+use Rattle.std.proofs.lemmas.Bool.{and_parts, and_from, le-ltb, lt-ltb, ltb-true, ne_eqb, eq-eqb, leb-true}
 use Rattle.std.proofs.lemmas.Bool.Decides.{nat_tests}
 use Rattle.std.proofs.lemmas.Fmt.{length-decimal-le}
 use Rattle.std.proofs.lemmas.List.Folds.{list_all-append}
@@ -15,7 +15,7 @@ use Rattle.journal_text.specs.Words.{is_lower_digit, is_bytes_word, or_none, spe
 use Rattle.journal_text.proofs.Spelled.{above, after_at, before_at, digits_of_decimal, number_back, within_at}
 use Rattle.page_digests.specs.Samples.{IsSample}
 use Rattle.page_digests.specs.declared.line.DigestLine.{DigestLine}
-use Rattle.digest_text.specs.Fields.{Row, copies_in, counted_in, digest_in, field_in, head_in, is_comma, number_in, row_in, sample_in}
+use Rattle.digest_text.specs.Fields.{copies_in, counted_in, digest_in, field_in, head_in, is_comma, number_in, row_in, sample_in}
 use Rattle.digest_text.specs.Names.{is_name, is_name_byte, name_in}
 use Rattle.digest_text.specs.Reread.{IsHead}
 use Rattle.digest_text.specs.Written.{counted_text, digest_word, head_text}

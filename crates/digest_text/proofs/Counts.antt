@@ -1,12 +1,12 @@
 -- The lines of counted digests are lines that can be read.
-use Rattle.std.proofs.Common.{◌≡◌, ℕ, zero, suc, ◌+◌, ◌<◌, ◌≤◌, ◌^◌, ◌==◌, ◌%◌, Bool, true, false, cond, List, [], ◌∷◌, length, map, get_or, refl, sym, ap, ◌∙◌, arith, inl, inr}
-use Rattle.std.specs.Prelude.{All, filter, count_by, sum_by}
+use Rattle.std.proofs.Common.{◌≡◌, ℕ, ◌<◌, ◌≤◌, ◌^◌, ◌==◌, ◌%◌, Bool, true, cond, List, [], ◌∷◌, length, get_or, refl, ap, ◌∙◌, arith, inl, inr}
+use Rattle.std.specs.Prelude.{All, filter}
 use Rattle.std.proofs.lemmas.Bool.{cases_Bool, eq-eqb, eqb-true}
 use Rattle.std.proofs.lemmas.List.{length-map}
 use Rattle.std.proofs.lemmas.List.Sums.{count_by-le-length, get_or-le-sum_by, length-filter, sum_by-cons}
 use Rattle.page_digest.specs.Hashes.{content_digest}
-use Rattle.page_digests.specs.Counted.{AreCounted, count_of, told_copies}
-use Rattle.page_digests.specs.Samples.{Sampled, digests_of, is_kept, kept_digests, zeros_digest}
+use Rattle.page_digests.specs.Counted.{AreCounted, count_of}
+use Rattle.page_digests.specs.Samples.{Sampled, digests_of, is_kept, kept_digests}
 use Rattle.page_digests.specs.declared.line.DigestLine.{DigestLine}
 use Rattle.digest_text.specs.Reread.{AreLines, head_by}
 

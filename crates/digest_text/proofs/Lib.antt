@@ -6,3 +6,5 @@ pub mod Numbers
 pub mod Back
 pub mod Reread
 pub mod Counts
+pub mod Fronts
+pub mod Digits

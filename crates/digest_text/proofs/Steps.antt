@@ -8,9 +8,10 @@ use Rattle.std.proofs.lemmas.Bool.{cases_Bool, cases_lt, le-ltb, lt-ltb}
 use Rattle.std.proofs.lemmas.List.{drop-append-le, length-take-le, take-append-le}
 use Rattle.std.proofs.lemmas.List.Splits.{length-slice_split, slice_split_first}
 use Rattle.page_digests.specs.declared.line.DigestLine.{DigestLine}
-use Rattle.digest_text.specs.Fields.{Row, row_in}
+use Rattle.digest_text.specs.Fields.{Row, counted_in, row_in}
 use Rattle.digest_text.specs.Left.{IsBroken, IsFound}
 use Rattle.digest_text.specs.Noted.{IsNoted, IsRow, IsTaken}
+use Rattle.digest_text.specs.Repeats.{Spells}
 use Rattle.digest_text.specs.Rows.{◌>>=◌, at_line, check_header, digest_of, ended, is_feed, line_after, rows_after, rows_in, with_row}
 use Rattle.digest_text.specs.Told.{IsNext}
 use Rattle.digest_text.specs.declared.buffered.Found.{Found}
@@ -19,6 +20,7 @@ use Rattle.digest_text.specs.declared.buffered.Found.TheVariants.{Line as FoundL
 use Rattle.digest_text.specs.declared.fault.Cause.{Cause}
 use Rattle.digest_text.specs.declared.fault.Cause.TheVariants as causes
 use Rattle.digest_text.specs.declared.fault.LineFault.{LineFault}
+use Rattle.digest_text.specs.declared.head.DigestHead.{DigestHead}
 use Rattle.digest_text.specs.declared.read_fault.ReadFault.TheVariants.{Line}
 use Rattle.digest_text.specs.declared.so_far.SoFar.{SoFar}
 use Rattle.digest_text.proofs.Sought.{position_within}
@@ -31,6 +33,18 @@ row_taken old (Some new) bytes row e h = record {
   noted = refl;
   read = rw (← e) (rw h.0 (rw h.1 refl));
 }
+
+row_read : (front rest bytes : List ℕ) (head : DigestHead) (line : DigestLine) → Spells front head → bytes ≡ front ++ rest → length bytes ≤ 256 → counted_in rest ≡ Some line
+    → row_in bytes ≡ Some (record { head = head; line = line })
+unfolding row_in
+row_read front rest bytes head line spells apart few counted =
+    rw (le-ltb 256 (length bytes) few) (rw apart (rw (spells.before rest, counted) refl))
+
+-- a line that begins with the bytes of a line before it
+pub row_repeated : (old new : SoFar) (front rest bytes : List ℕ) (line : DigestLine) → Spells front old.head → bytes ≡ front ++ rest → length bytes ≤ 256
+    → counted_in rest ≡ Some line → IsNoted (Some old) (Some new) (record { head = old.head; line = line }) (Ok tt) → IsRow (Some old) (Some new) bytes line
+row_repeated old new front rest bytes line spells apart few counted h =
+    row_taken (Some old) (Some new) bytes (record { head = old.head; line = line }) (sym (row_read front rest bytes old.head line spells apart few counted)) h
 
 -- a list without such an element is one part
 split_whole : (p : ℕ → Bool) (xs : List ℕ) → position_or_len p xs ≡ length xs → slice_split p xs ≡ xs ∷ []

@@ -3,6 +3,7 @@ pub mod Rows
 pub mod Seen
 pub mod Left
 pub mod Noted
+pub mod Repeats
 pub mod Names
 pub mod Told
 pub mod Written

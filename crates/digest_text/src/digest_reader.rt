@@ -1,5 +1,8 @@
 //! What a reader of digests keeps.
+ghost use Rattle.digest_text.specs.Repeats.{IsFront};
+
 use crate::buffered::Lines;
+use crate::row::Front;
 use crate::so_far::SoFar;
 use std::alloc::Allocator;
 
@@ -8,6 +11,9 @@ use std::alloc::Allocator;
 pub struct DigestReader<R, A: Allocator> {
     pub(crate) lines: Lines<R, A>,
     pub(crate) so_far: Option<SoFar>,
+    /// How the head was spelled on a line before: a line that begins with these bytes has the same head.
+    pub(crate) front: Front,
     /// The number of the last line that was read.
     pub(crate) line: u64,
+    ghost repeats: { IsFront so_far front.items },
 }

@@ -1,10 +1,11 @@
 //! The fields of a line.
-ghost use Rattle.std.specs.Prelude.{◌≡◌, ◌*◌, ◌≤◌, ◌<◌, ◌^◌, IfSome, length, IsTrue};
-ghost use Rattle.std.specs.Int.{w128, from_be_bytes};
+ghost use Rattle.std.specs.Prelude.{◌≡◌, ◌≤◌, ◌<◌, IfSome, Some, length, IsTrue};
 ghost use Rattle.std.specs.Option.{option_map};
-ghost use Rattle.journal_text.specs.Words.{is_bytes_word, spelled};
+ghost use Rattle.hex.specs.Hex.{hex_digit_value};
+ghost use Rattle.journal_text.specs.Words.{is_bytes_word, is_lower_digit, spelled};
 ghost use Rattle.page_digests.specs.Samples.{IsSample};
 ghost use Rattle.digest_text.specs.Fields.{copies_in, digest_in, field_in, number_in, sample_in};
+ghost use Rattle.digest_text.specs.Repeats.{digest_first};
 
 use journal_text::word::{cut, is_bytes, number_to};
 
@@ -47,26 +48,51 @@ pub(crate) fn digest(word: &[u8]) -> Option<u128>
     if word.len() != 32 || !is_bytes(word) {
         return None;
     }
-    Some(digest_of(word))
+    match word.first_chunk::<32>() {
+        Some(digits) => Some(u128::from_be_bytes(unpack(digits))),
+        None => unreachable!(),
+    }
 }
 
-fn digest_of(word: &[u8]) -> u128
+/// Returns the digest that the first field spells, and what comes after its comma.
+pub(crate) fn digest_field(bytes: &[u8]) -> Option<(u128, &[u8])>
+    ensures { option_map (λ x. (x.0, x.1.now)) result ≡ digest_first bytes.now }
+{
+    if bytes.len() <= 32 || bytes[32] != b',' {
+        return None;
+    }
+    let word = &bytes[..32];
+    match digest(word) {
+        Some(digest) => Some((digest, &bytes[33..])),
+        None => None,
+    }
+}
+
+/// Returns the value of a digit.
+fn value(digit: u8) -> u8
+    requires { IsTrue (is_lower_digit digit) }
+    ensures value { hex_digit_value digit ≡ Some result }
+    ensures within { result < 16 }
+{
+    if digit <= b'9' {
+        digit - b'0'
+    } else {
+        digit - b'a' + 10
+    }
+}
+
+/// Returns the bytes that a word spells. LLVM makes vectors of this loop, but where the function is inlined it unrolls it.
+#[inline(never)]
+fn unpack(word: &[u8; 32]) -> [u8; 16]
     requires long { length word.now ≡ 32 }
     requires word { IsTrue (is_bytes_word word.now) }
-    ensures { result ≡ from_be_bytes w128 (spelled word.now) }
+    ensures { result ≡ spelled word.now }
 {
     let mut bytes = [0; 16];
-    unpack(word, &mut bytes);
-    u128::from_be_bytes(bytes)
-}
-
-/// Writes the bytes that a word spells.
-fn unpack(word: &[u8], bytes: &mut [u8])
-    requires word { IsTrue (is_bytes_word word.now) }
-    requires room { length word.now ≡ 2 * length bytes.old }
-    ensures { bytes.new ≡ spelled word.now }
-{
-    let _ = hex::decode_to_slice(word, bytes);
+    for at in 0..16 {
+        bytes[at] = 16 * value(word[2 * at]) + value(word[2 * at + 1]);
+    }
+    bytes
 }
 
 /// Returns how many copies a field spells, at least one.

@@ -16,6 +16,7 @@ mod read_fault;
 mod reader;
 mod row;
 mod so_far;
+mod taken;
 mod write_fault;
 mod writer;
 

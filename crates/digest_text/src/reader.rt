@@ -1,15 +1,14 @@
 //! The reader of digests.
-ghost use Rattle.std.specs.Prelude.{◌≡◌, ◌+◌, ◌<◌, ◌≤◌, Ok, Err, Some, None, IfOk, IfSome, length, take, min};
+ghost use Rattle.std.specs.Prelude.{◌≡◌, IfSome};
 ghost use Rattle.std.specs.Option.{option_map};
-ghost use Rattle.digest_text.specs.Fields.{row_in};
-ghost use Rattle.digest_text.specs.Left.{unread};
-ghost use Rattle.digest_text.specs.Noted.{IsEnd, IsTaken};
-ghost use Rattle.digest_text.specs.Rows.{check_header, line_after};
+ghost use Rattle.digest_text.specs.Noted.{IsEnd};
+ghost use Rattle.digest_text.specs.Rows.{check_header};
 ghost use Rattle.digest_text.specs.Told.{IsFirst, IsNext, head_of, told};
 
 use crate::buffered::{Found, Lines};
-use crate::row::{MAX_LINE_BYTES, read_row};
-use crate::so_far::{SoFar, note};
+use crate::row::{Front, MAX_LINE_BYTES};
+use crate::so_far::SoFar;
+use crate::taken::take_line;
 use crate::{Cause, DigestHead, DigestReader, LineFault, ReadFault};
 use page_digests::DigestLine;
 use std::alloc::Allocator;
@@ -28,17 +27,6 @@ fn check_header(line: &[u8]) -> Result<(), Cause>
         return Err(Cause::Head);
     }
     Ok(())
-}
-
-/// Notes what a line says, and returns its digest and copies, or its fault.
-fn take_line(so_far: &mut Option<SoFar>, line: &[u8]) -> Result<DigestLine, Cause>
-    ensures { IsTaken so_far.old so_far.new line.now result }
-{
-    let Some(row) = read_row(line) else {
-        return Err(Cause::Form);
-    };
-    note(so_far, &row)?;
-    Ok(row.line)
 }
 
 /// Checks that the lines tell of all pages, where each content is kept.
@@ -74,6 +62,7 @@ impl<R: Read + Drop, A: Allocator> DigestReader<R, A> {
         Ok(DigestReader {
             lines,
             so_far: None,
+            front: Front::new(),
             line: 1,
         })
     }
@@ -96,7 +85,11 @@ impl<R: Read + Drop, A: Allocator> DigestReader<R, A> {
         let line = self.line.saturating_add(1);
         match self.lines.find()? {
             Found::Line(count) => {
-                match take_line(&mut self.so_far, &self.lines.unread()[..count]) {
+                match take_line(
+                    &mut self.so_far,
+                    &mut self.front,
+                    &self.lines.unread()[..count],
+                ) {
                     Ok(found) => {
                         self.lines.take(count + 1);
                         self.line = line;

@@ -1,15 +1,20 @@
 //! What a line says.
-ghost use Rattle.std.specs.Prelude.{◌≡◌, ◌≤◌, ◌^◌, ℕ, List, IfSome, length};
+ghost use Rattle.std.specs.Prelude.{◌≡◌, ◌≤◌, IfSome, length};
 ghost use Rattle.std.specs.Option.{option_map};
 ghost use Rattle.digest_text.specs.Fields.{counted_in, head_in, row_in};
+ghost use Rattle.digest_text.specs.Repeats.{Spells};
 ghost use Rattle.digest_text.specs.Seen.{IsOfForm, head_seen, row_seen};
 
-use crate::fields::{copies, digest, field, number, sample};
+use crate::fields::{copies, digest_field, field, number, sample};
 use crate::name::is_name;
+use arrayvec::ArrayVec;
 use page_digests::DigestLine;
 
 /// The most bytes of a line, without its line feed. A line of the form has at most 156.
 pub(crate) const MAX_LINE_BYTES: usize = 256;
+
+/// The bytes with which a line spells its first four fields, with their commas. Any line's have room.
+pub(crate) type Front = ArrayVec<u8, MAX_LINE_BYTES>;
 
 /// What a line begins with, as it stands there.
 #[derive(Clone, Copy)]
@@ -26,6 +31,8 @@ pub(crate) struct LineHead<'a> {
 pub(crate) struct LineRow<'a> {
     pub(crate) head: LineHead<'a>,
     pub(crate) line: DigestLine,
+    /// The first four fields, with their commas.
+    pub(crate) front: &'a [u8],
 }
 
 /// Returns a line's first four fields, and what is left behind them.
@@ -55,11 +62,10 @@ fn head(bytes: &[u8]) -> Option<(LineHead<'_>, &[u8])>
 
 /// Returns a line's last two fields.
 #[tactic(auto, unfolding(crate::specs::Fields::counted_in))]
-fn counted(bytes: &[u8]) -> Option<DigestLine>
+pub(crate) fn counted(bytes: &[u8]) -> Option<DigestLine>
     ensures { result ≡ counted_in bytes.now }
 {
-    let (word, rest) = field(bytes)?;
-    let digest = digest(word)?;
+    let (digest, rest) = digest_field(bytes)?;
     let copies = copies(rest)?;
     Some(DigestLine { digest, copies })
 }
@@ -69,11 +75,14 @@ fn counted(bytes: &[u8]) -> Option<DigestLine>
 pub(crate) fn read_row(bytes: &[u8]) -> Option<LineRow<'_>>
     ensures value { option_map row_seen result ≡ row_in bytes.now }
     ensures known { IfSome result (λ row. IsOfForm row.head) }
+    ensures front { IfSome result (λ row. Spells row.front.now (head_seen row.head)) }
+    ensures few { IfSome result (λ row. length row.front.now ≤ MAX_LINE_BYTES) }
 {
     if bytes.len() > MAX_LINE_BYTES {
         return None;
     }
     let (head, rest) = head(bytes)?;
     let line = counted(rest)?;
-    Some(LineRow { head, line })
+    let front = &bytes[..bytes.len() - rest.len()];
+    Some(LineRow { head, line, front })
 }

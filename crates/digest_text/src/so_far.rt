@@ -1,14 +1,13 @@
 //! What the lines so far say.
-ghost use Rattle.std.specs.Prelude.{◌≡◌, ◌≤◌, Ok, Err, Some, None, IfOk, IfSome, MatchResult, is_none, nat_lt, ◌&&◌, true};
-ghost use Rattle.std.specs.Option.{option_map};
+ghost use Rattle.std.specs.Prelude.{◌≡◌, Some, None, IfOk, is_none, nat_lt, ◌&&◌};
 ghost use Rattle.page_digests.specs.Samples.{IsSample};
-ghost use Rattle.digest_text.specs.Rows.{after_row, is_all, is_same_head, left_before, less};
+ghost use Rattle.digest_text.specs.Rows.{after_row, is_same_head, less};
 ghost use Rattle.digest_text.specs.Seen.{IsOfForm, head_seen, row_seen};
 ghost use Rattle.digest_text.specs.Noted.{IsNoted};
 
 use crate::row::{LineHead, LineRow};
 use crate::{Cause, DigestHead, GuestName};
-use page_digests::{Sample, Sampling};
+use page_digests::{DigestLine, Sample, Sampling};
 
 /// What the lines so far say.
 #[derive(Drop)]
@@ -38,10 +37,10 @@ fn is_same_head(head: &DigestHead, other: &LineHead<'_>) -> bool
 }
 
 /// Whether there are more copies than pages, where only some contents are kept.
-fn is_over(head: &LineHead<'_>, left: Option<u64>) -> bool
-    ensures { result ≡ (nat_lt 1 head.now.every && is_none left) }
+fn is_over(every: u32, left: Option<u64>) -> bool
+    ensures { result ≡ (nat_lt 1 every && is_none left) }
 {
-    head.every > 1 && left.is_none()
+    every > 1 && left.is_none()
 }
 
 fn sample_of(every: u32) -> Sample
@@ -69,7 +68,7 @@ fn first(row: &LineRow<'_>) -> Result<SoFar, Cause>
         return Err(Cause::Sample);
     }
     let left = less(Some(head.pages), row.line.copies);
-    if is_over(head, left) {
+    if is_over(head.every, left) {
         return Err(Cause::Total);
     }
     let head = DigestHead {
@@ -86,28 +85,35 @@ fn first(row: &LineRow<'_>) -> Result<SoFar, Cause>
     })
 }
 
+/// Notes one more line that begins as those before it, or returns its fault and notes nothing.
+#[tactic(auto, unfolding(crate::specs::Rows::after_row))]
+pub(crate) fn follow(so_far: &mut SoFar, line: &DigestLine) -> Result<(), Cause>
+    ensures { IsNoted (Some so_far.old) (Some so_far.new) (record { head = so_far.old.head; line = line.now }) result }
+{
+    if line.digest <= so_far.digest {
+        return Err(Cause::Order);
+    }
+    if !so_far.sampling.keeps(line.digest) {
+        return Err(Cause::Sample);
+    }
+    let left = less(so_far.left, line.copies);
+    if is_over(so_far.head.sample.get(), left) {
+        return Err(Cause::Total);
+    }
+    so_far.digest = line.digest;
+    so_far.left = left;
+    Ok(())
+}
+
 /// Notes what one more line says, or returns its fault and notes nothing.
 #[tactic(auto, unfolding(crate::specs::Rows::after_row))]
 fn next(so_far: &mut SoFar, row: &LineRow<'_>) -> Result<(), Cause>
     ensures { IsNoted (Some so_far.old) (Some so_far.new) (row_seen row.now) result }
 {
-    let digest = row.line.digest;
     if !is_same_head(&so_far.head, &row.head) {
         return Err(Cause::Guest);
     }
-    if digest <= so_far.digest {
-        return Err(Cause::Order);
-    }
-    if !so_far.sampling.keeps(digest) {
-        return Err(Cause::Sample);
-    }
-    let left = less(so_far.left, row.line.copies);
-    if is_over(&row.head, left) {
-        return Err(Cause::Total);
-    }
-    so_far.digest = digest;
-    so_far.left = left;
-    Ok(())
+    follow(so_far, &row.line)
 }
 
 /// Notes what a line says, or returns its fault and notes nothing.

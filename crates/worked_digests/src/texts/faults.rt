@@ -109,6 +109,18 @@ fn out_of_order(rt: HostRuntime) -> Result<(), Fail> {
             3,
             Cause::Order,
         ),
+        (
+            "web,0,4,1,00e1000000000000000000000000000B,1\n",
+            3,
+            3,
+            Cause::Form,
+        ),
+        (
+            "web,0,4,1,00e1000000000000000000000000000b;1\n",
+            3,
+            3,
+            Cause::Form,
+        ),
         ("", 3, 2, Cause::Total),
         (
             "web,0,4,1,00e1000000000000000000000000000b,2\n",

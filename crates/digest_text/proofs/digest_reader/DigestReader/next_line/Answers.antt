@@ -10,7 +10,7 @@ returns-in-Ok g c =
     let found = rw c.in-Line.is at c.in_ok-count.ensures.found in
     next_row before.line c.saturating_add-line.result c.saturating_add-line.ensures before.so_far
     (left g.R.Read.remaining before.lines) (g.R.Read.remaining lines.source) (g.R.Read.remaining c.take.new.self.source) (unread lines) (unread c.take.new.self) c.in-Line.count c.take_line.new.so_far c.in-Ok.found
-    c.find.ensures.keeps found.0 found.1 c.take.ensures.unread (ap g.R.Read.remaining c.take.ensures.source) (rw c.unread.ensures at c.in-Ok.ensures)
+    c.find.ensures.keeps found.0 found.1 c.take.ensures.unread (ap g.R.Read.remaining c.take.ensures.source) (rw c.unread.ensures at c.in-Ok.ensures.taken)
 
 pub returns-in-Err : goal.returns-in-Err
 returns-in-Err g c =
@@ -19,7 +19,7 @@ returns-in-Err g c =
     let found = rw c.in-Line.is at c.in_ok-count.ensures.found in
     next_fault before.line c.saturating_add-line.result c.saturating_add-line.ensures before.so_far
     (left g.R.Read.remaining before.lines) (g.R.Read.remaining lines.source) (unread lines) c.in-Line.count c.take_line.new.so_far c.in-Err.cause
-    c.find.ensures.keeps found.0 found.1 (rw c.unread.ensures at c.in-Err.ensures)
+    c.find.ensures.keeps found.0 found.1 (rw c.unread.ensures at c.in-Err.ensures.taken)
 
 pub returns-in-Broken : goal.returns-in-Broken
 returns-in-Broken g c =
