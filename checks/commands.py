@@ -470,6 +470,30 @@ def fleets(folder):
     case("fleet of no pages", [] if given["guests"] == [due] and given["copies"] == [] else [f"{given}"])
 
 
+def fleet_pairs(folder):
+    """What each two guests have in common, by hand: of the two images zeros, 2 and 2 pages, and two contents of 1 and 1."""
+    images = [str(folder / f"guest-{n}.digest") for n in range(3)]
+    empty = str(folder / "empty.digest")
+    sampled = [str(ROWS / "sampled-web.digest"), str(ROWS / "sampled-database.digest")]
+    header, errors = "guest,guest,contents,pages\n", "guest,guest,contents,contents_error,pages,pages_error\n"
+    path = folder / "pairs.csv"
+    for name, paths, due in [
+        ("images", images, header + "first.raw,second.core,3,5\nfirst.raw,first.raw,0,0\nsecond.core,first.raw,0,0\n"),
+        ("a sample", sampled, errors + "web,database,17,15,749,46\n"),
+        ("one guest", images[:1], header),
+        ("no pages", [empty, images[0]], header + ",first.raw,0,0\n"),
+    ]:
+        plain = ran(["fleet", *paths]).stdout.decode()
+        path.unlink(missing_ok=True)
+        expect(f"fleet --pairs, {name}", ["fleet", "--pairs", str(path), *paths], "", 0, plain, "")
+        given = path.read_text() if path.exists() else None
+        case(f"fleet --pairs, {name}", [] if given == due else [f"the file has {given!r}, and {due!r} was due"])
+    nowhere = str(folder / "none" / "pairs.csv")
+    missing, no_room = "No such file or directory (os error 2)", "No space left on device (os error 28)"
+    expect("fleet, no place for the pairs", ["fleet", "--pairs", nowhere, *images], "", 1, "", f"{nowhere}: {missing}\n")
+    expect("fleet, pairs to a full device", ["fleet", "--pairs", "/dev/full", *images], "", 1, "", f"/dev/full: {no_room}\n")
+
+
 def fleet_ends(folder):
     good, none, broken = str(ROWS / "first.digest"), str(folder / "none"), folder / "broken.digest"
     missing = "No such file or directory (os error 2)"
@@ -489,9 +513,19 @@ def fleet_ends(folder):
     with open("/dev/full", "wb") as full:
         fault = "standard output: No space left on device (os error 28)\n"
         expect("fleet, a full device", ["fleet", good], "", 1, None, fault, output=full)
-    for words in [[], ["--json"], ["--workers", "1", good]]:
+    for words in [[], ["--json"], ["--workers", "1", good], ["--pairs"], ["--pairs", good], ["--progress", "often", good]]:
         expect(f"fleet {words}", ["fleet", *words], "", 2, "", True)
     expect("fleet --help", ["fleet", "--help"], "", 0, True, "")
+    shown = ran(["fleet", "--progress", "always", good]).stderr.decode()
+    is_drawn = shown.startswith("\r100 %  0 of 0 MiB") and shown.endswith("s left\x1b[K\n")
+    case("fleet, progress", [] if is_drawn else [f"{shown!r}"])
+    shown = ran(["fleet", "--progress", "always", good, other]).stderr.decode()
+    is_drawn = shown.startswith("\r100 %") and shown.endswith(f"\x1b[K\n{other}: another sample than in the digests before\n")
+    case("fleet, progress and a fault", [] if is_drawn else [f"{shown!r}"])
+    for how, due in [("auto", True), ("never", False)]:
+        status, given = told(["fleet", "--progress", how, good], "")
+        is_right = status == 0 and ("100 %  0 of 0 MiB" in given) == due
+        case(f"fleet, progress {how} on a terminal", [] if is_right else [f"{status}, {given!r}"])
 
 
 def terminals(folder):
@@ -568,6 +602,7 @@ def main():
         processes()
         digest_ends(folder)
         fleets(folder)
+        fleet_pairs(folder)
         fleet_ends(folder)
         progress_of_runs()
         progress_of_a_long_run()

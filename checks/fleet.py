@@ -7,11 +7,12 @@ The ways: `pageshare fleet`, fleet/fleet_dask.py by a scheduler and two workers 
 fleet/fleet.sql in SQLite. PROGRAM is by default out/pageshare (`make build`); where it has no `digest` or `fleet`, or where Dask's
 packages aren't at hand, the cases of these are left out, and the output says so. Nothing is built here.
 
-The cases, which follow from SEED, by default 1: random fleets with several salts, samples and digests without lines; 200 digests
-at once, whole and sampled; broken digests, each with its first line at fault; that at least 90 of 100 true numbers of 200 random
-fleets lie within two standard errors of what one content in 16 tells; the example fleet's digests beside its images; random
-images through `digest` and `fleet` beside `estimate`; and the memory that `fleet` takes for 5 million lines. Prints what went
-wrong, and at the end `N passed, M failed` (status 0 where all passed, else 1).
+The cases, which follow from SEED, by default 1: random fleets with several salts, samples and digests without lines, and what each
+two of their guests have in common (`fleet --pairs`); 200 digests at once, whole and sampled, and their pairs; broken digests, each
+with its first line at fault; that at least 90 of 100 true numbers of 200 random fleets lie within two standard errors of what one
+content in 16 tells; the example fleet's digests beside its images; random images through `digest` and `fleet` beside `estimate`;
+and the memory that `fleet` takes for 5 million lines. Prints what went wrong, and at the end `N passed, M failed` (status 0 where
+all passed, else 1).
 """
 import collections
 import contextlib
@@ -127,6 +128,17 @@ def merge_faults(words, paths, due):
     yield from list(differences(json.loads(done.stdout), due))[:5]
 
 
+def pairs_faults(program, folder, paths, texts, due):
+    """What is wrong with what is told of each two of some digests, and with the numbers beside it."""
+    pairs = folder / "pairs.csv"
+    yield from merge_faults([program, "fleet", "--json", "--pairs", pairs], paths, due)
+    lines = plain_fleet.pairs_text(texts).splitlines()
+    given = pairs.read_text().splitlines() if pairs.exists() else []
+    if len(given) != len(lines):
+        yield f"{len(given)} lines of pairs, and {len(lines)} were due"
+    yield from [f"{one!r} is told, and {other!r} was due" for one, other in zip(given, lines) if one != other][:5]
+
+
 def random_copies(draw, pool, most):
     """How many copies a guest has of some contents of the pool."""
     return {word: draw.choice([1, 1, 1, 2, 3, 50]) for word in draw.sample(pool, draw.randrange(most))}
@@ -156,6 +168,9 @@ def random_fleets(tally, draw, ways):
             paths = written(pathlib.Path(folder), texts)
             for way, words in ways.words.items():
                 tally.case(f"random fleet {number} with sample {sample}, {way}", merge_faults(words, paths, due))
+            if "fleet" in ways.commands:
+                wrong = pairs_faults(ways.program, pathlib.Path(folder), paths, texts, due)
+                tally.case(f"random fleet {number} with sample {sample}, pairs", wrong)
 
 
 def python_with_dask():
@@ -201,6 +216,8 @@ def at_once(tally, draw, ways, python):
             due, paths = plain_fleet.counted(texts), written(folder, texts)
             for way, own in words.items():
                 tally.case(f"200 digests with sample {sample}, {way}", merge_faults(own, paths, due))
+            if "fleet" in ways.commands:
+                tally.case(f"200 digests with sample {sample}, pairs", pairs_faults(ways.program, folder, paths, texts, due))
         if python:
             what, line, cause, text = broken_texts()[0]
             paths = written(folder, [text])

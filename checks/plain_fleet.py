@@ -103,6 +103,32 @@ def classes_of(copies, zeros, sample):
         yield members({"from": 2**number // 2 + 1, "to": 2**number}, amounts, sample)
 
 
+def in_common(own, other, zeros, sample):
+    """What two guests have in common, by how many copies they have of each digest: its fields as they are written."""
+    contents, pages = Amounts(sample), Amounts(sample)
+    for word in own.keys() & other.keys():
+        contents.add(word in zeros, 1)
+        pages.add(word in zeros, own[word] + other[word] - 1)
+    for amount in (contents, pages):
+        yield amount.value()
+        if sample > 1:
+            yield amount.error()
+
+
+def pairs_text(texts):
+    """What each two guests of a fleet of digests with one sample, given as texts, have in common, as CSV."""
+    files = [rows_of(text) for text in texts]
+    rows = [row for own in files for row in own]
+    sample = rows[0][3] if rows else 1
+    zeros = {digest(salt, ZEROS) for salt in {row[1] for row in rows}}
+    guests = [(own[0][0] if own else "", {row[4]: row[5] for row in own}) for own in files]
+    fields = ("contents", "contents_error", "pages", "pages_error") if sample > 1 else ("contents", "pages")
+    lines = [("guest", "guest", *fields)]
+    for place, (name, own) in enumerate(guests):
+        lines += [(name, other_name, *in_common(own, other, zeros, sample)) for other_name, other in guests[place + 1:]]
+    return "".join(",".join(map(str, line)) + "\n" for line in lines)
+
+
 def counted(texts):
     """The object of a fleet of digests with one sample, given as texts."""
     files = [rows_of(text) for text in texts]

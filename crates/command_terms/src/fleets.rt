@@ -2,12 +2,17 @@
 ghost use Rattle.std.specs.Prelude.{◌≡◌, ◌-◌, vec_len};
 ghost use Rattle.command_terms.specs.Fleets.{digest_named};
 
+use progress_line::Drawn;
+
 /// Which digests are merged, and how their numbers are shown.
 #[derive(Debug, Drop, PartialEq, Eq)]
 pub struct FleetWords<'a> {
     /// The paths of the digests, guest 0's first.
     pub digests: Vec<&'a str>,
     pub json: bool,
+    /// Where what each two guests have in common goes.
+    pub pairs: Option<&'a str>,
+    pub progress: Drawn,
 }
 
 impl<'a> FleetWords<'a> {

@@ -2,12 +2,13 @@
 use Rattle.std.proofs.Common.{◌≡◌, ℕ, zero, suc, ◌+◌, ◌*◌, ◌-◌, ◌<◌, ◌≤◌, ◌^◌, min, Bool, true, false, cond, eqb, List, [], ◌∷◌, get_or, refl, sym, arith, inl, inr}
 use Rattle.std.proofs.lemmas.Bool.{cases_Bool, cases_lt, ltb-false}
 use Rattle.std.proofs.lemmas.List.Sums.{sum_by-cons}
-use Rattle.std.specs.Prelude.{nat_lt, sum_by}
+use Rattle.std.specs.Prelude.{◌&&◌, nat_lt, sum_by}
 use Rattle.page_digests.specs.Samples.{zeros_digest}
 use Rattle.digest_text.specs.Fields.{Row}
 use Rattle.fleet_census.specs.Amounts.{amount_below, sum_below, with_content}
 use Rattle.fleet_census.specs.Classes.{class_after, fewest, is_in_class, most}
-use Rattle.fleet_census.specs.Fleets.{all_copies, all_holders, all_zero, class_below, content_of, copies_of, guest_below, holder_of, is_zeros, salt_of, total_below, weight, zero_of}
+use Rattle.fleet_census.specs.Fleets.{all_copies, all_holders, all_zero, both_have, class_below, content_of, copies_of, guest_below, holder_of, is_zeros, pair_below, salt_of, total_below, weight, zero_of}
+use Rattle.fleet_census.specs.Pairs.{pair_after, pair_with}
 use Rattle.fleet_census.specs.Steps.{guest_after, guest_with, total_with}
 use Rattle.fleet_census.proofs.Classed.{not_low}
 use Rattle.fleet_census.proofs.Sums.{amount_next, amount_past, amount_stays, number_next, number_past, sum_low, sum_more, sum_stays}
@@ -18,6 +19,15 @@ pub one_of_all : (f : List Row → ℕ) (fleet : List (List Row)) (file : ℕ) �
 one_of_all f [] file none = omega (arith, none)
 one_of_all f (rows ∷ fleet) zero none = omega (arith, sum_by-cons f rows fleet)
 one_of_all f (rows ∷ fleet) (suc file) none = omega (arith, sum_by-cons f rows fleet, one_of_all f fleet file none)
+
+-- and two of them are, too
+two_of_all : (f : List Row → ℕ) (fleet : List (List Row)) (file other : ℕ) → other < file → f [] ≡ 0
+    → f (get_or fleet file []) + f (get_or fleet other []) ≤ sum_by f fleet
+two_of_all f [] file other apart none = omega (arith, none)
+two_of_all f (rows ∷ fleet) zero other apart none = absurd (omega arith)
+two_of_all f (rows ∷ fleet) (suc file) zero apart none = omega (arith, sum_by-cons f rows fleet, one_of_all f fleet file none)
+two_of_all f (rows ∷ fleet) (suc file) (suc other) apart none =
+    omega (arith, sum_by-cons f rows fleet, two_of_all f fleet file other (omega arith) none)
 
 all_none : (f : List Row → ℕ) (fleet : List (List Row)) → ((file : ℕ) → f (get_or fleet file []) ≡ 0) → sum_by f fleet ≡ 0
 all_none f [] none = refl
@@ -42,6 +52,14 @@ one_if (suc n) = one_part (nat_lt 0 (suc n)) n
 zero_if : (b : Bool) (n : ℕ) → n ≡ 0 → cond b n 0 ≡ 0
 zero_if true n e = e
 zero_if false n e = refl
+
+-- what two guests have counts only where both have copies
+both_low : (a b : ℕ) → cond (nat_lt 0 a && nat_lt 0 b) 1 0 ≤ a
+both_low zero b = omega arith
+both_low (suc a) b = one_part (nat_lt 0 (suc a) && nat_lt 0 b) a
+
+first_none : (a b n : ℕ) → a ≡ 0 → cond (nat_lt 0 a && nat_lt 0 b) n 0 ≡ 0
+first_none a b n e = rw e refl
 
 -- what is in a class has a copy
 class_low : (copies number : ℕ) → cond (is_in_class copies number) 1 0 ≤ copies
@@ -151,13 +169,69 @@ module _ (fleet : List (List Row)) (from at : ℕ) (within : from ≤ at)
       | inr isnt ↦ rw isnt (hasnt_step (let le = ltb-false 0 (copies_of at (get_or fleet file [])) isnt in omega (arith, le)))
     ]
 
-  module _ (number : ℕ) where
-    out_of : (x : ℕ → ℕ) → ((digest : ℕ) → x digest ≤ all_copies fleet digest) → x at ≡ 0 → (digest : ℕ) → from ≤ digest → digest ≤ at → x digest ≡ 0
-    out_of x below here digest ge le = elim (cases_lt digest at) [
-      | inl lt ↦ nothing x below digest ge lt
-      | inr ge2 ↦ let e : digest ≡ at = omega arith in rw e here
+  -- where a digest counts for nothing
+  out_of : (x : ℕ → ℕ) → ((digest : ℕ) → x digest ≤ all_copies fleet digest) → x at ≡ 0 → (digest : ℕ) → from ≤ digest → digest ≤ at → x digest ≡ 0
+  out_of x below here digest ge le = elim (cases_lt digest at) [
+    | inl lt ↦ nothing x below digest ge lt
+    | inr ge2 ↦ let e : digest ≡ at = omega arith in rw e here
+  ]
+
+  module _ (file other : ℕ) (apart : other < file) where
+    together : (digest : ℕ) → copies_of digest (get_or fleet file []) + copies_of digest (get_or fleet other []) ≤ all_copies fleet digest
+    together digest = two_of_all (copies_of digest) fleet file other apart refl
+
+    both_contents : ℕ → ℕ
+    both_contents digest = cond (both_have digest (get_or fleet file []) (get_or fleet other [])) 1 0
+
+    both_pages : ℕ → ℕ
+    both_pages digest = cond (both_have digest (get_or fleet file []) (get_or fleet other [])) (copies_of digest (get_or fleet file []) + copies_of digest (get_or fleet other []) - 1) 0
+
+    few_contents : (digest : ℕ) → both_contents digest ≤ all_copies fleet digest
+    unfolding both_contents
+    few_contents digest = omega (arith, together digest, both_low (copies_of digest (get_or fleet file [])) (copies_of digest (get_or fleet other [])))
+
+    few_pages : (digest : ℕ) → both_pages digest ≤ all_copies fleet digest
+    unfolding both_pages
+    few_pages digest = omega (
+      arith,
+      together digest,
+      zero_part (both_have digest (get_or fleet file []) (get_or fleet other [])) (copies_of digest (get_or fleet file []) + copies_of digest (get_or fleet other []) - 1),
+    )
+
+    both_step : nat_lt 0 (copies_of at (get_or fleet file [])) ≡ true → nat_lt 0 (copies_of at (get_or fleet other [])) ≡ true
+        → pair_with (content_of fleet at) (pair_below fleet from (get_or fleet file []) (get_or fleet other []))
+        (record { file = file; copies = copies_of at (get_or fleet file []); zero = zero_of at (get_or fleet file []) })
+        (record { file = other; copies = copies_of at (get_or fleet other []); zero = zero_of at (get_or fleet other []) })
+        ≡ pair_below fleet (suc at) (get_or fleet file []) (get_or fleet other [])
+    unfolding both_contents both_pages
+    both_step some others =
+        let a = copies_of at (get_or fleet file []) in
+        let b = copies_of at (get_or fleet other []) in
+        let small : a + b < 2 ^ 64 = omega (arith, together at, few (all_copies fleet) (λ digest. omega arith), sum_more (all_copies fleet) at) in
+        let all : min (a + b) (2 ^ 64 - 1) - 1 ≡ a + b - 1 = omega (arith, small) in
+        rw (all, rw (some, others) at (next both_contents few_contents), rw (some, others) at (next both_pages few_pages)) refl
+
+    -- where one of them hasn't it
+    apart_step : both_contents at ≡ 0 → both_pages at ≡ 0
+        → pair_below fleet from (get_or fleet file []) (get_or fleet other []) ≡ pair_below fleet (suc at) (get_or fleet file []) (get_or fleet other [])
+    unfolding both_contents both_pages
+    apart_step contents pages =
+        sym (rw (amount_past (is_zeros fleet) both_contents from at within (out_of both_contents few_contents contents), amount_past (is_zeros fleet) both_pages from at within (out_of both_pages few_pages pages)) refl)
+
+    -- what two guests have in common
+    pub pair_step : pair_after (content_of fleet at) (pair_below fleet from (get_or fleet file []) (get_or fleet other []))
+        (holder_of file at (get_or fleet file [])) (holder_of other at (get_or fleet other []))
+        ≡ pair_below fleet (suc at) (get_or fleet file []) (get_or fleet other [])
+    unfolding both_contents both_pages
+    pair_step = elim (cases_Bool (nat_lt 0 (copies_of at (get_or fleet file [])))) [
+      | inl some ↦ elim (cases_Bool (nat_lt 0 (copies_of at (get_or fleet other [])))) [
+        | inl others ↦ rw (some, others) (both_step some others)
+        | inr none ↦ rw (some, none) (apart_step (rw (some, none) refl) (rw (some, none) refl))
+      ]
+      | inr isnt ↦ rw isnt (apart_step (rw isnt refl) (rw isnt refl))
     ]
 
+  module _ (number : ℕ) where
     -- the classes of copies
     pub class_step : class_after (content_of fleet at) number (class_below fleet from number) ≡ class_below fleet (suc at) number
     class_step =
@@ -212,6 +286,16 @@ module _ (fleet : List (List Row)) (from above : ℕ) (within : from ≤ above)
         stays (λ digest. all_copies fleet digest - 1) (λ digest ge lt. omega (arith, no_copy digest ge lt)),
         number_stays (λ digest. all_zero fleet digest - 1) (λ digest ge lt. omega (arith, no_zero digest ge lt)),
         stays (λ digest. all_holders fleet digest - 1) (λ digest ge lt. omega (arith, no_holder_of digest ge lt)),
+      )
+      refl
+
+  pub pair_stays : (file other : ℕ) → pair_below fleet above (get_or fleet file []) (get_or fleet other []) ≡ pair_below fleet from (get_or fleet file []) (get_or fleet other [])
+  pair_stays file other =
+      let rows = get_or fleet file [] in
+      let others = get_or fleet other [] in
+      rw (
+        stays (λ digest. cond (both_have digest rows others) 1 0) (λ digest ge lt. first_none (copies_of digest rows) (copies_of digest others) 1 (none digest ge lt file)),
+        stays (λ digest. cond (both_have digest rows others) (copies_of digest rows + copies_of digest others - 1) 0) (λ digest ge lt. first_none (copies_of digest rows) (copies_of digest others) (copies_of digest rows + copies_of digest others - 1) (none digest ge lt file)),
       )
       refl
 

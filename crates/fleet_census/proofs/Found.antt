@@ -1,14 +1,11 @@
 -- What is found of a file among those that tell of a content.
-use Rattle.std.proofs.Common.{◌≡◌, ◌≢◌, ℕ, suc, ◌+◌, ◌<◌, Bool, true, false, cond, eqb, List, [], ◌∷◌, ◌++◌, length, take, get_or, set, refl, sym, ap, ◌∙◌, arith, inl, inr, get_or-set_other, get_or-set_same}
+use Rattle.std.proofs.Common.{◌≡◌, ◌≢◌, ℕ, suc, ◌+◌, ◌<◌, ◌≤◌, Bool, true, false, cond, eqb, List, [], ◌∷◌, ◌++◌, length, take, drop, get_or, set, refl, sym, ap, ◌∙◌, arith, inl, inr, get_or-set_other, get_or-set_same}
 use Rattle.std.proofs.lemmas.Bool.{cases_lt, cases_eq, eq-eqb, ne_eqb}
-use Rattle.std.proofs.lemmas.List.{get_or_append_left, get_or-take, length-take, length_push, take_more}
+use Rattle.std.proofs.lemmas.List.{get_or_append_left, get_or-drop, get_or-take, length-drop, length-take, length_push, take-append-drop, take_more}
 use Rattle.std.proofs.Math.Seq.{get_or-append_seam}
 use Rattle.std.specs.Prelude.{Option, Some, None}
 use Rattle.fleet_census.specs.Holders.{AreRising, found, no_holder}
-use Rattle.fleet_census.specs.Steps.{guest_after, guest_at, guest_with, no_guest}
-use Rattle.fleet_census.specs.declared.content.Content.{Content}
 use Rattle.fleet_census.specs.declared.content.Holder.{Holder}
-use Rattle.fleet_census.specs.declared.guest.FleetGuest.{FleetGuest}
 
 pub found_none : (file : ℕ) (holders : List Holder) → ((i : ℕ) → i < length holders → (get_or holders i no_holder).file ≢ file) → found file holders ≡ None
 found_none file [] other = refl
@@ -42,6 +39,14 @@ rising_push holders holder rising below = record {
   ];
 }
 
+pub rising_take : (holders : List Holder) (k : ℕ) → AreRising holders → AreRising (take k holders)
+rising_take holders k rising = record {
+  each = λ i j before within.
+      let low : j < k = omega (arith, length-take k holders, within) in
+      let all : j < length holders = omega (arith, length-take k holders, within) in
+      rw (get_or-take k holders i no_holder (omega arith), get_or-take k holders j no_holder low) (rising.each i j before all);
+}
+
 -- a file isn't named before its turn
 pub not_yet : (holders : List Holder) (k : ℕ) → AreRising holders → k < length holders → found (get_or holders k no_holder).file (take k holders) ≡ None
 not_yet holders k rising within =
@@ -50,24 +55,51 @@ not_yet holders k rising within =
     let less = rising.each i k low within in
     rw (get_or-take k holders i no_holder low) (omega (arith, less)))
 
--- one more of those that tell of the content is counted
-pub counted_more : (content : Content) (before guests : List FleetGuest) (holders : List Holder) (k : ℕ) (after : FleetGuest) → AreRising holders → k < length holders
-    → ((file : ℕ) → file < length before → guest_at guests file ≡ guest_after content (guest_at before file) (found file (take k holders)))
-    → length guests ≡ length before → (get_or holders k no_holder).file < length before
-    → after ≡ guest_with content (guest_at guests (get_or holders k no_holder).file) (get_or holders k no_holder)
-    → (file : ℕ) → file < length before
-    → guest_at (set guests (get_or holders k no_holder).file after) file ≡ guest_after content (guest_at before file) (found file (take (k + 1) holders))
-counted_more content before guests holders k after rising within so_far same low is file lt =
-    let holder = get_or holders k no_holder in
-    let more : take (k + 1) holders ≡ take k holders ++ holder ∷ [] = take_more holders k no_holder within in
-    elim (cases_eq holder.file file) [
-      | inl e ↦
-          let none : found file (take k holders) ≡ None = rw e at (not_yet holders k rising within) in
-          let old : guest_at guests file ≡ guest_at before file = so_far file lt ∙ ap (λ (which : Option Holder). guest_after content (guest_at before file) which) none in
-          let here : guest_at (set guests holder.file after) file ≡ after = rw e (get_or-set_same guests file after no_guest (omega arith)) in
-          let with_it : after ≡ guest_with content (guest_at before file) holder = is ∙ rw (e, old) refl in
-          here ∙ with_it ∙ rw (more, found_push file (take k holders) holder e none) refl
-      | inr ne ↦
-          let here : guest_at (set guests holder.file after) file ≡ guest_at guests file = get_or-set_other guests holder.file file after no_guest (λ e. ne (sym e)) in
-          here ∙ so_far file lt ∙ rw (more, found_push_other file (take k holders) holder ne) refl
-    ]
+-- Of the files before one that is named, all that is known is known of those named before it.
+found_append : (file : ℕ) (first last : List Holder) → ((i : ℕ) → i < length last → (get_or last i no_holder).file ≢ file) → found file (first ++ last) ≡ found file first
+found_append file [] last other = found_none file last other
+found_append file (holder ∷ first) last other =
+    ap (λ (rest : Option Holder). cond (eqb holder.file file) (Some holder) rest) (found_append file first last other)
+
+pub found_before : (holders : List Holder) (k other : ℕ) → AreRising holders → k < length holders → other < (get_or holders k no_holder).file
+    → found other (take k holders) ≡ found other holders
+found_before holders k other rising within before =
+    let later : (i : ℕ) → i < length (drop k holders) → (get_or (drop k holders) i no_holder).file ≢ other = λ i lt.
+    rw (get_or-drop k holders i no_holder) (not_before i (omega (arith, lt, length-drop k holders))) in
+    sym (found_append other (take k holders) (drop k holders) later) ∙ ap (found other) (take-append-drop k holders) where
+      not_before : (i : ℕ) → k + i < length holders → (get_or holders (k + i) no_holder).file ≢ other
+      not_before i lt = elim (cases_lt 0 i) [
+        | inl some ↦ let less = rising.each k (k + i) (omega arith) lt in omega (arith, less, before)
+        | inr none ↦ let e : k + i ≡ k = omega arith in rw e (omega (arith, before))
+      ]
+
+-- A list of what is counted for each file. `after` is what becomes of an entry by what is known of its file.
+module _ {X : Type 0} (none : X) (after : X → Option Holder → X) (stays : (x : X) → after x None ≡ x) (before items : List X) (holders : List Holder)
+    (k : ℕ) (rising : AreRising holders) (within : k < length holders)
+    (so_far : (file : ℕ) → file < length before → get_or items file none ≡ after (get_or before file none) (found file (take k holders))) where
+  -- one more of those that tell of the content is counted
+  pub counted_more : (new : X) → length items ≡ length before → (get_or holders k no_holder).file < length before
+      → new ≡ after (get_or items (get_or holders k no_holder).file none) (Some (get_or holders k no_holder)) → (file : ℕ) → file < length before
+      → get_or (set items (get_or holders k no_holder).file new) file none ≡ after (get_or before file none) (found file (take (k + 1) holders))
+  counted_more new same low is file lt =
+      let holder = get_or holders k no_holder in
+      let more : take (k + 1) holders ≡ take k holders ++ holder ∷ [] = take_more holders k no_holder within in
+      elim (cases_eq holder.file file) [
+        | inl e ↦
+            let absent : found file (take k holders) ≡ None = rw e at (not_yet holders k rising within) in
+            let old : get_or items file none ≡ get_or before file none = so_far file lt ∙ ap (λ (which : Option Holder). after (get_or before file none) which) absent ∙ stays (get_or before file none) in
+            let here : get_or (set items holder.file new) file none ≡ new = rw e (get_or-set_same items file new none (omega arith)) in
+            let with_it : new ≡ after (get_or before file none) (Some holder) = is ∙ rw (e, old) refl in
+            here ∙ with_it ∙ rw (more, found_push file (take k holders) holder e absent) refl
+        | inr ne ↦
+            let here : get_or (set items holder.file new) file none ≡ get_or items file none = get_or-set_other items holder.file file new none (λ e. ne (sym e)) in
+            here ∙ so_far file lt ∙ rw (more, found_push_other file (take k holders) holder ne) refl
+      ]
+
+  -- and one beyond the list isn't
+  pub counted_past : length before ≤ (get_or holders k no_holder).file → (file : ℕ) → file < length before
+      → get_or items file none ≡ after (get_or before file none) (found file (take (k + 1) holders))
+  counted_past past file lt =
+      let holder = get_or holders k no_holder in
+      let more : take (k + 1) holders ≡ take k holders ++ holder ∷ [] = take_more holders k no_holder within in
+      so_far file lt ∙ rw (more, found_push_other file (take k holders) holder (λ e. omega (arith, e, past, lt))) refl

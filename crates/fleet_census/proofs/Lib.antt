@@ -1,6 +1,7 @@
 mod Won
 mod Sums
 mod Found
+mod Paired
 mod Classed
 mod Lefts
 mod Counts

@@ -17,7 +17,7 @@ use Rattle.fleet_census.specs.declared.content.Holder.{Holder}
 use Rattle.fleet_census.specs.declared.fault.FleetFault.{FleetFault}
 use Rattle.fleet_census.specs.declared.fault.FleetFault.TheVariants.{OutOfMemory, TooManyDigests, TooManyPages, OtherSample, Read, Line}
 use Rattle.fleet_census.specs.declared.tally.Tally.{Tally}
-use Rattle.fleet_census.proofs.Counts.{class_stays, guest_stays, one_of_all, total_stays, weight_low, weight_stays, weight_step}
+use Rattle.fleet_census.proofs.Counts.{class_stays, guest_stays, one_of_all, pair_stays, total_stays, weight_low, weight_stays, weight_step}
 use Rattle.fleet_census.proofs.Lefts.{behind_low, behind_raised, behind_taken}
 use Rattle.fleet_census.proofs.Sums.{sum_grows, sum_more}
 use Rattle.fleet_census.proofs.Takes.{all_ended, first_own, later}
@@ -53,6 +53,7 @@ tallied_stays fleet every bound above tally within none tallied = record {
   guests = λ file lt. tallied.guests file lt ∙ sym (guest_stays fleet bound above within none.each file);
   total = tallied.total ∙ sym (total_stays fleet bound above within none.each);
   classes = λ number lt. tallied.classes number lt ∙ sym (class_stays fleet bound above within none.each number);
+  pairs = λ file other lt before within_row. tallied.pairs file other lt before within_row ∙ sym (pair_stays fleet bound above within none.each file other);
   weight_is = tallied.weight_is ∙ sym (weight_stays fleet bound above within none.each every);
   light = tallied.light;
 }

@@ -1,7 +1,7 @@
 -- What a merge makes of files and fleets.
-use Rattle.std.proofs.Common.{◌≡◌, ℕ, suc, zero, ◌<◌, List, [], ◌∷◌, ◌++◌, length, map, get_or, refl, sym, ap, ◌∙◌, arith, inl, inr}
+use Rattle.std.proofs.Common.{◌≡◌, ℕ, suc, zero, ◌<◌, List, [], ◌∷◌, ◌++◌, length, map, replicate, take, get_or, refl, sym, ap, ◌∙◌, arith, inl, inr}
 use Rattle.std.proofs.lemmas.Bool.{cases_eq}
-use Rattle.std.proofs.lemmas.List.{ext_get_or, get_or-map, length-map, take_all}
+use Rattle.std.proofs.lemmas.List.{ext_get_or, get_or-map, get_or-take, length-map, length-replicate, length-take, nil_from_length, take_all}
 use Rattle.std.proofs.lemmas.List.FromFn.{get_or-map-range_with_len, length-map-range_with_len}
 use Rattle.std.specs.Prelude.{Option, Some, None, Ok, Err, filter, max, sum_by}
 use Rattle.std.specs.List.{range_with_len, slice_split}
@@ -15,11 +15,12 @@ use Rattle.digest_text.specs.declared.so_far.SoFar.{SoFar}
 use Rattle.page_digests.specs.declared.line.DigestLine.{DigestLine}
 use Rattle.fleet_census.specs.Amounts.{all_digests, sum_below}
 use Rattle.fleet_census.specs.Classes.{has_contents, no_class, no_contents}
-use Rattle.fleet_census.specs.Fleets.{class_below, class_numbers, copies_table, guest_numbers, lines_of, pages_of}
+use Rattle.fleet_census.specs.Fleets.{class_below, class_numbers, copies_table, guest_numbers, lines_of, pages_of, pair_below, pair_table, pairs_told}
 use Rattle.fleet_census.specs.Gathers.{AreZeros}
 use Rattle.fleet_census.specs.Merged.{IsCounted}
 use Rattle.fleet_census.specs.Numbers.{IsAllCounted, IsMerged, IsSampleOf, fleet_of, rows_in}
 use Rattle.fleet_census.specs.Openings.{AreWhole, IsOpenTo}
+use Rattle.fleet_census.specs.Pairs.{empty_rows, no_pair, pair_at, row_lengths, rows_for, rows_of}
 use Rattle.fleet_census.specs.States.{AreBehind, AreChained, AreSound, From, IsFaultOf, Said}
 use Rattle.fleet_census.specs.Steps.{no_amount, no_guest}
 use Rattle.fleet_census.specs.Tallies.{AreTallied}
@@ -28,7 +29,11 @@ use Rattle.fleet_census.specs.declared.fault.FleetFault.{FleetFault}
 use Rattle.fleet_census.specs.declared.fault.FleetFault.TheVariants.{OutOfMemory, TooManyDigests, TooManyPages, OtherSample, Read, Line}
 use Rattle.fleet_census.specs.declared.guest.FleetGuest.{FleetGuest}
 use Rattle.fleet_census.specs.declared.open.Opening.{Opening}
+use Rattle.fleet_census.specs.declared.pair.FleetPair.{FleetPair}
+use Rattle.fleet_census.specs.declared.pair.Pairs.{Pairs}
+use Rattle.fleet_census.specs.declared.pair.Pairs.TheVariants.{Counted, Omitted}
 use Rattle.fleet_census.specs.declared.tally.Tally.{Tally}
+use Rattle.fleet_census.proofs.Paired.{as_many, row_long}
 use Rattle.fleet_census.proofs.Rising.{rows_from}
 
 -- nothing of a file was told yet
@@ -65,12 +70,14 @@ module _ (fleet : List (List Row)) (leaves : List Entry) (told : List (Option Sa
   -- before the first content is counted
   pub opened_tallied : {A : Type 0} (every : ℕ) (tally : Tally A) → tally.guests.items ≡ guests
       → tally.total ≡ record { pages = opening.pages; zero = 0; shared = no_amount; frames = no_amount; reclaimed = no_amount; zero_reclaimed = 0; between = no_amount }
-      → tally.classes.items ≡ map no_contents (range_with_len 0 65) → tally.weight ≡ 0 → AreTallied fleet every 0 tally
+      → tally.classes.items ≡ map no_contents (range_with_len 0 65)
+      → ((file other : ℕ) → pair_at (rows_of tally.pairs.items) file other ≡ no_pair) → tally.weight ≡ 0 → AreTallied fleet every 0 tally
   unfolding sum_below
-  opened_tallied every tally guests_are total classes weightless = record {
+  opened_tallied every tally guests_are total classes pairless weightless = record {
     guests = λ file lt. rw guests_are (opened.guests_are file lt);
     total = total ∙ rw opened_pages refl;
     classes = λ number lt. rw classes (get_or-map-range_with_len no_contents 0 65 number number no_class lt (omega arith));
+    pairs = λ file other lt before within_row. pairless file other;
     weight_is = weightless;
     light = omega (arith, weightless);
   }
@@ -135,15 +142,15 @@ module _ {R A : Type 0} (remaining : R → Option (List ℕ)) where
       record { told_are = said; rise = λ file lt. all_rise readers file (get_or (fleet_of files) file []) (said file lt) }
 
 -- a fault of a merge
-pub fault_merged : {A : Type 0} (files : List Said) (tally : Tally A) (fault : FleetFault) → IsFaultOf files fault → (AreSound files → IsAllCounted (fleet_of files) tally (Err fault)) → IsMerged {A = A} files (Err fault)
-fault_merged files tally OutOfMemory told counted = tt
-fault_merged files tally TooManyDigests told counted = absurd told
-fault_merged files tally TooManyPages told counted = counted
-fault_merged files tally (OtherSample number) told counted = counted
-fault_merged files tally (Read number error) told counted = tt
-fault_merged files tally (Line number fault) told counted = told
+pub fault_merged : {A : Type 0} (files : List Said) (pairs : Pairs) (tally : Tally A) (fault : FleetFault) → IsFaultOf files fault → (AreSound files → IsAllCounted (fleet_of files) tally (Err fault)) → IsMerged {A = A} files pairs (Err fault)
+fault_merged files pairs tally OutOfMemory told counted = tt
+fault_merged files pairs tally TooManyDigests told counted = absurd told
+fault_merged files pairs tally TooManyPages told counted = counted
+fault_merged files pairs tally (OtherSample number) told counted = counted
+fault_merged files pairs tally (Read number error) told counted = tt
+fault_merged files pairs tally (Line number fault) told counted = told
 
--- the guests' numbers, and the classes, where all digests are counted
+-- the guests' numbers, the classes and the pairs, where all digests are counted
 module _ {A : Type 0} (fleet : List (List Row)) (sample : ℕ) (tally : Tally A) (tallied : AreTallied fleet sample all_digests tally) where
   pub guests_are : length tally.guests.items ≡ length fleet → tally.guests.items ≡ map (guest_numbers fleet) fleet
   guests_are long = ext_get_or no_guest tally.guests.items (map (guest_numbers fleet) fleet) (long ∙ sym (length-map fleet (guest_numbers fleet)))
@@ -156,3 +163,28 @@ module _ {A : Type 0} (fleet : List (List Row)) (sample : ℕ) (tally : Tally A)
 
   pub classes_are : length tally.classes.items ≡ 65 → filter has_contents tally.classes.items ≡ copies_table fleet
   classes_are long = ap (filter has_contents) (all_classes long)
+
+  -- and what each two of them have in common
+  row_is : (file : ℕ) → file < length fleet → length (get_or (rows_of tally.pairs.items) file []) ≡ file
+      → get_or (rows_of tally.pairs.items) file [] ≡ map (pair_below fleet all_digests (get_or fleet file [])) (take file fleet)
+  row_is file lt long =
+      let row = get_or (rows_of tally.pairs.items) file [] in
+      let pair : List Row → FleetPair = pair_below fleet all_digests (get_or fleet file []) in
+      let before : length (take file fleet) ≡ file = omega (arith, length-take file fleet, lt) in
+      ext_get_or no_pair row (map pair (take file fleet)) (omega (arith, long, length-map (take file fleet) pair, before)) (λ other within.
+      let apart : other < file = omega (arith, within, long) in
+      tallied.pairs file other lt apart within ∙ sym (get_or-map pair (take file fleet) other [] no_pair (omega (arith, before, apart)) ∙ ap pair (get_or-take file fleet other [] apart)))
+
+  pub pairs_are : (pairs : Pairs) → row_lengths (rows_of tally.pairs.items) ≡ row_lengths (rows_for pairs (length fleet)) → rows_of tally.pairs.items ≡ pairs_told pairs fleet
+  pairs_are Omitted lengths = nil_from_length (rows_of tally.pairs.items) (as_many (rows_of tally.pairs.items) [] lengths)
+  pairs_are Counted lengths =
+      let rows = rows_of tally.pairs.items in
+      let n = length fleet in
+      let row : ℕ → List FleetPair = λ file. map (pair_below fleet all_digests (get_or fleet file [])) (take file fleet) in
+      let empty : ℕ → List FleetPair = λ before. replicate before no_pair in
+      let many : length rows ≡ n = as_many rows (empty_rows n) lengths ∙ length-map-range_with_len empty 0 n in
+      ext_get_or [] rows (pair_table fleet) (many ∙ sym (length-map-range_with_len row 0 n)) (λ file within.
+      let lt : file < n = omega (arith, within, many) in
+      let long : length (get_or rows file []) ≡ file =
+      row_long rows (empty_rows n) file lengths ∙ ap length (get_or-map-range_with_len empty 0 n file file [] lt (omega arith)) ∙ length-replicate file no_pair in
+      row_is file lt long ∙ sym (get_or-map-range_with_len row 0 n file file [] lt (omega arith)))

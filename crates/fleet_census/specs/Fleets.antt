@@ -1,5 +1,5 @@
 -- What is counted of a fleet: of the rows of each guest's file. Each number is a sum over all digests.
-use Rattle.std.specs.Prelude.{ℕ, ◌-◌, ◌*◌, ◌==◌, min, nat_lt, Bool, if◌then◌else◌, List, [], ◌∷◌, count_by, filter, map, sum_by, Option, Some, None}
+use Rattle.std.specs.Prelude.{ℕ, ◌+◌, ◌-◌, ◌*◌, ◌==◌, ◌&&◌, min, nat_lt, Bool, if◌then◌else◌, List, [], ◌∷◌, count_by, filter, length, map, slice_index_or, sum_by, take, Option, Some, None}
 use Rattle.std.specs.List.{range_with_len}
 use Rattle.page_digests.specs.Counted.{told_copies}
 use Rattle.page_digests.specs.Samples.{zeros_digest}
@@ -11,6 +11,9 @@ use Rattle.fleet_census.specs.declared.class.FleetClass.{FleetClass}
 use Rattle.fleet_census.specs.declared.content.Content.{Content}
 use Rattle.fleet_census.specs.declared.content.Holder.{Holder}
 use Rattle.fleet_census.specs.declared.guest.FleetGuest.{FleetGuest}
+use Rattle.fleet_census.specs.declared.pair.FleetPair.{FleetPair}
+use Rattle.fleet_census.specs.declared.pair.Pairs.{Pairs}
+use Rattle.fleet_census.specs.declared.pair.Pairs.TheVariants.{Counted, Omitted}
 use Rattle.fleet_census.specs.declared.total.FleetTotal.{FleetTotal}
 
 abbrev pub lines_of : List Row → List DigestLine
@@ -45,6 +48,10 @@ all_zero fleet digest = sum_by (zero_of digest) fleet
 abbrev pub all_holders : List (List Row) → ℕ → ℕ
 all_holders fleet digest = count_by (λ rows. nat_lt 0 (copies_of digest rows)) fleet
 
+-- two guests have it
+abbrev pub both_have : ℕ → List Row → List Row → Bool
+both_have digest rows others = nat_lt 0 (copies_of digest rows) && nat_lt 0 (copies_of digest others)
+
 -- it is the digest of a page of zeros of some guest
 abbrev pub is_zeros : List (List Row) → ℕ → Bool
 is_zeros fleet digest = nat_lt 0 (all_zero fleet digest)
@@ -59,6 +66,15 @@ module _ (fleet : List (List Row)) (bound : ℕ) where
     distinct = amount_below (is_zeros fleet) (λ digest. min (copies_of digest rows) 1) bound;
     shared = amount_below (is_zeros fleet) (λ digest. if nat_lt 1 (all_copies fleet digest) then copies_of digest rows else 0) bound;
     alone = amount_below (is_zeros fleet) (λ digest. copies_of digest rows - 1) bound;
+  }
+
+  -- What two guests have in common, by the digests below a bound. Of a digest that both have count: among contents one; among pages all copies
+  -- of both less one.
+  abbrev pub pair_below : List Row → List Row → FleetPair
+  pair_below rows others = record {
+    contents = amount_below (is_zeros fleet) (λ digest. if both_have digest rows others then 1 else 0) bound;
+    pages = amount_below (is_zeros fleet) (λ digest. if both_have digest rows others
+        then copies_of digest rows + copies_of digest others - 1 else 0) bound;
   }
 
   -- The numbers in total. Of a digest count: among frames one if some guest has it; among pages to reclaim all copies less one; among those
@@ -90,6 +106,16 @@ guest_numbers fleet rows = guest_below fleet all_digests rows
 
 abbrev pub total_numbers : List (List Row) → FleetTotal
 total_numbers fleet = total_below fleet all_digests
+
+-- for each guest what it has in common with each guest before it
+abbrev pub pair_table : List (List Row) → List (List FleetPair)
+pair_table fleet = map (λ file. map (pair_below fleet all_digests (slice_index_or fleet file [])) (take file fleet))
+    (range_with_len 0 (length fleet))
+
+-- the same where it is counted, and no rows where it isn't
+abbrev pub pairs_told : Pairs → List (List Row) → List (List FleetPair)
+pairs_told Counted fleet = pair_table fleet
+pairs_told Omitted fleet = []
 
 -- the numbers of all classes
 unfoldable pub class_numbers : List ℕ

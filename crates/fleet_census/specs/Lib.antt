@@ -2,6 +2,7 @@ pub mod Tournaments
 pub mod Amounts
 pub mod Holders
 pub mod Steps
+pub mod Pairs
 pub mod Classes
 pub mod Fleets
 pub mod Faults

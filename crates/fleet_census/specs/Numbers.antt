@@ -2,14 +2,16 @@
 use Rattle.std.specs.Prelude.{◌≡◌, ℕ, ◌^◌, ◌⊎◌, ◌<◌, ◌≤◌, List, [], length, map, slice_index_or, sum_by, Result, Ok, Err}
 use Rattle.digest_text.specs.Fields.{Row}
 use Rattle.fleet_census.specs.Amounts.{all_digests}
-use Rattle.fleet_census.specs.Fleets.{all_pages, copies_table, guest_numbers, pages_of, total_numbers}
+use Rattle.fleet_census.specs.Fleets.{all_pages, copies_table, guest_numbers, pages_of, pairs_told, total_numbers}
 use Rattle.fleet_census.specs.Openings.{IsOther, sample_of}
+use Rattle.fleet_census.specs.Pairs.{rows_of}
 use Rattle.fleet_census.specs.States.{AreSound, Said}
 use Rattle.fleet_census.specs.Tallies.{AreTallied}
 use Rattle.fleet_census.specs.declared.fault.FleetFault.{FleetFault}
 use Rattle.fleet_census.specs.declared.fault.FleetFault.TheVariants.{OutOfMemory, TooManyDigests, TooManyPages, OtherSample, Read, Line}
 use Rattle.fleet_census.specs.declared.merging.TheConstants.{MAX_DIGESTS}
 use Rattle.fleet_census.specs.declared.numbers.FleetNumbers.{FleetNumbers}
+use Rattle.fleet_census.specs.declared.pair.Pairs.{Pairs}
 use Rattle.fleet_census.specs.declared.tally.Tally.{Tally}
 
 -- the rows of a file, and none of one at fault
@@ -52,21 +54,22 @@ IsAllCounted fleet tally (Err OutOfMemory) = Unit {0}
 IsAllCounted fleet tally (Err TooManyDigests) = ⊥
 
 -- the numbers are those of the definitions, and fit
-pub record AreNumbers {A : Type 0} (fleet : List (List Row)) (numbers : FleetNumbers A) : Type 0 where
+pub record AreNumbers {A : Type 0} (fleet : List (List Row)) (pairs : Pairs) (numbers : FleetNumbers A) : Type 0 where
   pub sample : IsSampleOf fleet numbers.sample
   pub pages : sum_by pages_of fleet < 2 ^ 64
   pub light : all_pages numbers.sample fleet < 2 ^ 64
   pub guests : numbers.guests.items ≡ map (guest_numbers fleet) fleet
   pub total : numbers.total ≡ total_numbers fleet
   pub copies : numbers.copies.items ≡ copies_table fleet
+  pub pairs_are : rows_of numbers.pairs.items ≡ pairs_told pairs fleet
 
 -- The numbers of whole files. Or a file at fault is told, with its first fault; or, where all are whole, the first other sample, or that the
 -- pages are too many.
-abbrev pub IsMerged : {A : Type 0} → List Said → Result (FleetNumbers A) FleetFault → Type 0
-IsMerged files (Ok numbers) = AreSound files × AreNumbers (fleet_of files) numbers
-IsMerged files (Err (Line number fault)) = (number < length files) × (slice_index_or files number (Ok []) ≡ Err fault)
-IsMerged files (Err (OtherSample number)) = AreSound files → IsOther (fleet_of files) number
-IsMerged files (Err TooManyPages) = AreSound files → HasTooMany (fleet_of files)
-IsMerged files (Err (Read number error)) = Unit {0}
-IsMerged files (Err OutOfMemory) = Unit {0}
-IsMerged files (Err TooManyDigests) = MAX_DIGESTS < length files
+abbrev pub IsMerged : {A : Type 0} → List Said → Pairs → Result (FleetNumbers A) FleetFault → Type 0
+IsMerged files pairs (Ok numbers) = AreSound files × AreNumbers (fleet_of files) pairs numbers
+IsMerged files pairs (Err (Line number fault)) = (number < length files) × (slice_index_or files number (Ok []) ≡ Err fault)
+IsMerged files pairs (Err (OtherSample number)) = AreSound files → IsOther (fleet_of files) number
+IsMerged files pairs (Err TooManyPages) = AreSound files → HasTooMany (fleet_of files)
+IsMerged files pairs (Err (Read number error)) = Unit {0}
+IsMerged files pairs (Err OutOfMemory) = Unit {0}
+IsMerged files pairs (Err TooManyDigests) = MAX_DIGESTS < length files

@@ -6,6 +6,7 @@ ghost use Rattle.digest_text.specs.Told.{told};
 ghost use Rattle.fleet_census.specs.Classes.{no_contents};
 ghost use Rattle.fleet_census.specs.Numbers.{IsAllCounted, IsMerged};
 ghost use Rattle.fleet_census.specs.Openings.{AreWhole};
+ghost use Rattle.fleet_census.specs.Pairs.{row_lengths, rows_of};
 ghost use Rattle.fleet_census.specs.States.{IsToldWhole, Said};
 ghost use Rattle.fleet_census.specs.Tallies.{IsNew};
 ghost use Rattle.fleet_census.specs.Tournaments.{leaves};
@@ -18,7 +19,7 @@ use crate::content::Holder;
 use crate::open::open;
 use crate::tally::Tally;
 use crate::tournament::Tournament;
-use crate::{FleetFault, FleetNumbers};
+use crate::{FleetFault, FleetNumbers, Pairs};
 use digest_text::DigestReader;
 use std::alloc::Allocator;
 use std::io::Read;
@@ -26,18 +27,19 @@ use std::io::Read;
 /// The most digests of one merge.
 pub const MAX_DIGESTS: usize = 65_536;
 
-/// Counts what the digests tell together. The guests are in the readers' order. A digest is read once, and what is kept of
-/// all of them doesn't grow with their length.
+/// Counts what the digests tell together, and, if asked, what each two guests have in common. The guests are in the readers'
+/// order. A digest is read once, and what is kept of all of them doesn't grow with their length.
 ///
 /// If several digests are at fault, any of them may be the one that is told; and none of their lines is read if there are more
 /// than `MAX_DIGESTS`.
 pub fn merge<R: Read + Drop, A: Allocator + Copy>(
     alloc: A,
     readers: &mut [DigestReader<R, A>],
+    pairs: Pairs,
 ) -> Result<FleetNumbers<A>, FleetFault>
     requires some { 1 ≤ length readers.old }
     ensures few { MAX_DIGESTS < length readers.old → result ≡ Err FleetFault.TooManyDigests }
-    ensures merged { (files : List Said) → map (told R.remaining) readers.old ≡ map Some files → IsMerged files result }
+    ensures merged { (files : List Said) → map (told R.remaining) readers.old ≡ map Some files → IsMerged files pairs result }
 {
     let files = readers.len();
     if files > MAX_DIGESTS {
@@ -47,7 +49,7 @@ pub fn merge<R: Read + Drop, A: Allocator + Copy>(
     let zeros = Vec::with_capacity(alloc, files)?;
     let holders = Vec::with_capacity(alloc, files)?;
     let mut copies = Vec::with_capacity(alloc, CLASSES)?;
-    let mut tally = Tally::new(alloc, files)?;
+    let mut tally = Tally::new(alloc, files, pairs)?;
     match count_files(readers, tournament, zeros, holders, &mut tally) {
         Ok(sample) => {
             push_classes(&mut copies, &tally.classes);
@@ -56,6 +58,7 @@ pub fn merge<R: Read + Drop, A: Allocator + Copy>(
                 guests: tally.guests,
                 total: tally.total,
                 copies,
+                pairs: tally.pairs,
             })
         }
         Err(fault) => Err(fault),
@@ -77,6 +80,7 @@ fn count_files<R: Read + Drop, A: Allocator>(
     requires room { (length readers.old ≤ vec_capacity zeros) × (length readers.old ≤ vec_capacity holders) }
     requires new { IsNew (length readers.old) tally.old }
     ensures lens { IfOk result (λ _. (vec_len tally.new.guests ≡ length readers.old) × (vec_len tally.new.classes ≡ CLASSES)) }
+    ensures lengths { IfOk result (λ _. row_lengths (rows_of tally.new.pairs.items) ≡ row_lengths (rows_of tally.old.pairs.items)) }
     ensures told { (files : List Said) → map (told R.remaining) readers.old ≡ map Some files → IsToldWhole files result }
     ensures counted { (fleet : List (List Row)) → length fleet ≡ length readers.old → AreWhole fleet (map (told R.remaining) readers.old)
         → IsAllCounted fleet tally.new result }

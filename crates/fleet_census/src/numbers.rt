@@ -1,5 +1,5 @@
 //! What a merge counts.
-use crate::{FleetClass, FleetGuest, FleetTotal};
+use crate::{FleetClass, FleetGuest, FleetPair, FleetTotal};
 use std::alloc::Allocator;
 
 /// What is counted of the guests whose digests were merged.
@@ -14,4 +14,6 @@ pub struct FleetNumbers<A: Allocator> {
     /// How many contents have 1 copy, 2, 3 to 4, 5 to 8, and so on in powers of two: only the classes that have contents,
     /// rising.
     pub copies: Vec<FleetClass, A>,
+    /// For each guest what it has in common with each guest before it, in their order; no rows if pairs weren't counted.
+    pub pairs: Vec<Vec<FleetPair, A>, A>,
 }

@@ -4,11 +4,13 @@ ghost use Rattle.digest_text.specs.Fields.{Row};
 ghost use Rattle.fleet_census.specs.Tallies.{AreTallied, IsNew, IsTallied, NoneBelow, weight_of};
 ghost use Rattle.fleet_census.specs.Fleets.{content_of, holder_of};
 ghost use Rattle.fleet_census.specs.Holders.{AreRising, found};
+ghost use Rattle.fleet_census.specs.Pairs.{row_lengths, rows_for, rows_of};
 
 use crate::class::{count_class, new_classes};
 use crate::content::{Content, Holder};
 use crate::guest::count_guests;
-use crate::{FleetClass, FleetGuest, FleetTotal};
+use crate::pair::{count_pairs, new_pairs};
+use crate::{FleetClass, FleetGuest, FleetPair, FleetTotal, Pairs};
 use std::alloc::{AllocError, Allocator};
 
 /// What is counted of the contents so far.
@@ -17,6 +19,8 @@ pub(crate) struct Tally<A: Allocator> {
     pub(crate) guests: Vec<FleetGuest, A>,
     pub(crate) total: FleetTotal,
     pub(crate) classes: Vec<FleetClass, A>,
+    /// For each guest what it has in common with each guest before it; no rows if pairs aren't counted.
+    pub(crate) pairs: Vec<Vec<FleetPair, A>, A>,
     /// How many pages the contents stand for: each but those of zeros for as many as the sample says.
     pub(crate) weight: u64,
 }
@@ -34,18 +38,21 @@ fn weigh(weight: u64, every: u32, content: &Content) -> Option<u64>
 }
 
 impl<A: Allocator> Tally<A> {
-    /// Makes a tally of nothing, with room for the guests.
-    pub(crate) fn new(alloc: A, guests: usize) -> Result<Tally<A>, AllocError>
+    /// Makes a tally of nothing, with room for the guests and for their pairs, if these are counted.
+    pub(crate) fn new(alloc: A, guests: usize, pairs: Pairs) -> Result<Tally<A>, AllocError>
     where
         A: Copy,
-        ensures { IfOk result (λ tally. IsNew guests tally) }
+        ensures new { IfOk result (λ tally. IsNew guests tally) }
+        ensures pairs { IfOk result (λ tally. rows_of tally.pairs.items ≡ rows_for pairs guests) }
     {
+        let pairs = new_pairs(alloc, pairs, guests)?;
         let guests = Vec::with_capacity(alloc, guests)?;
         let classes = new_classes(alloc)?;
         Ok(Tally {
             guests,
             total: FleetTotal::NOTHING,
             classes,
+            pairs,
             weight: 0,
         })
     }
@@ -56,6 +63,7 @@ impl<A: Allocator> Tally<A> {
         requires classes { vec_len self.old.classes ≡ 65 }
         ensures guests { vec_len self.new.guests ≡ vec_len self.old.guests }
         ensures classes { vec_len self.new.classes ≡ 65 }
+        ensures lengths { row_lengths (rows_of self.new.pairs.items) ≡ row_lengths (rows_of self.old.pairs.items) }
         ensures counted { (fleet : List (List Row)) (from at : ℕ) → from ≤ at → 1 ≤ every → vec_len self.old.guests ≡ length fleet
             → AreTallied fleet every from self.old → NoneBelow fleet from at → content.now ≡ content_of fleet at → 1 ≤ content.now.copies
             → AreRising holders.now
@@ -69,6 +77,7 @@ impl<A: Allocator> Tally<A> {
         count_guests(&mut self.guests, content, holders);
         self.total.add(content);
         count_class(&mut self.classes, content);
+        count_pairs(&mut self.pairs, content, holders);
         true
     }
 }

@@ -1,24 +1,28 @@
 //! The command `fleet`.
 use crate::faults::{Cause, Fault};
-use crate::opened::{Digest, fault_of_rest, open_digests};
+use crate::opened::{Digest, OpenedFiles, fault_of_rest, open_files, read_headers};
+use crate::reading::Reading;
 use command_terms::{CommandEnd, FleetWords};
 use digest_text::{DigestHead, DigestReader};
-use fleet_census::{FleetFault, FleetNumbers, merge};
-use fleet_text::{Fleet, fleet_lines, json_text, table_text};
+use fleet_census::{FleetFault, FleetNumbers, Pairs, merge};
+use fleet_text::{Fleet, fleet_lines, json_text, table_text, write_pairs};
 use image_files::FileCause;
+use progress_line::line_where;
 use std::alloc::{AllocError, Global};
-use std::fs::{File, Files};
+use std::fs::{self, File, Files};
 use std::io::{self, Eprint, Write};
+use std::time::Clock;
 
-/// Merges the digests, and writes the table or the JSON object. Returns how that ended: a fault is reported in a line on standard
-/// error, and then nothing was written to the output unless that is what failed.
-pub fn do_fleet<R: Files<File = File> + Eprint, W: Write + Drop>(
+/// Merges the digests, writes the pairs of guests, and then the table or the JSON object. Returns how that ended: a fault is reported
+/// in a line on standard error, and then nothing was written to the output unless that is what failed.
+pub fn do_fleet<R: Files<File = File> + Eprint + Clock, W: Write + Drop>(
     rt: &R,
     alloc: Global,
     words: &FleetWords<'_>,
     output: W,
+    is_terminal: bool,
 ) -> io::Result<CommandEnd> {
-    let done = fleet(rt, alloc, words, output);
+    let done = fleet(rt, alloc, words, output, is_terminal);
     let end = CommandEnd::of(&done);
     if let Err(fault) = done {
         eprintln!(rt; "{fault}")?;
@@ -26,31 +30,44 @@ pub fn do_fleet<R: Files<File = File> + Eprint, W: Write + Drop>(
     Ok(end)
 }
 
-fn fleet<'a, R: Files<File = File>, W: Write + Drop>(
+fn fleet<'a, R: Files<File = File> + Eprint + Clock, W: Write + Drop>(
     rt: &R,
     alloc: Global,
     words: &FleetWords<'a>,
-    mut output: W,
+    output: W,
+    is_terminal: bool,
 ) -> Result<(), Fault<'a>> {
-    let mut digests = open_digests(rt, alloc, words)?;
+    let opened = open_files(rt, alloc, words)?;
+    let line = line_where(rt, words.progress, is_terminal);
+    let reading = Reading::new(line, opened.bytes);
+    let read = read_all(alloc, words, opened, &reading);
+    reading.end();
+    let (digests, numbers) = read?;
+    tell(rt, alloc, words, &digests, &numbers, output)
+}
+
+/// Reads the digests, and counts what they tell together.
+fn read_all<'a, 'r, R: Eprint + Clock>(
+    alloc: Global,
+    words: &FleetWords<'a>,
+    opened: OpenedFiles,
+    reading: &'r Reading<'r, R>,
+) -> Result<(Vec<Digest<'r, R>>, FleetNumbers<Global>), Fault<'a>> {
+    let mut digests = read_headers(alloc, words, opened, reading)?;
     let numbers = numbers_of(alloc, words, &mut digests)?;
-    let text = text_of(alloc, words.json, &digests, &numbers).map_err(|refused| Fault::of_all(
-        words,
-        Cause::from(refused),
-    ))?;
-    write_all(&mut output, &text).map_err(|cause| Fault::of("standard output", Cause::File(cause)))
+    Ok((digests, numbers))
 }
 
 /// Counts what the digests tell together.
-fn numbers_of<'a>(
+fn numbers_of<'a, R: Eprint + Clock>(
     alloc: Global,
     words: &FleetWords<'a>,
-    digests: &mut [Digest],
+    digests: &mut [Digest<'_, R>],
 ) -> Result<FleetNumbers<Global>, Fault<'a>> {
     if digests.is_empty() {
         return Err(Fault::of_all(words, Cause::NoDigest));
     }
-    match merge(alloc, digests) {
+    match merge(alloc, digests, pairs_for(words)) {
         Ok(numbers) => Ok(numbers),
         Err(FleetFault::TooManyPages) => Err(too_many(words, digests)),
         Err(fault) => match fault.file() {
@@ -60,9 +77,20 @@ fn numbers_of<'a>(
     }
 }
 
+/// Returns whether pairs are counted: only where they are written.
+fn pairs_for(words: &FleetWords<'_>) -> Pairs {
+    match words.pairs {
+        Some(_path) => Pairs::Counted,
+        None => Pairs::Omitted,
+    }
+}
+
 /// Returns the fault of a digest whose lines tell of more copies than its guest has pages, if there is one: its end is read only now.
 /// Otherwise the pages are too many.
-fn too_many<'a>(words: &FleetWords<'a>, digests: &mut [Digest]) -> Fault<'a> {
+fn too_many<'a, R: Eprint + Clock>(
+    words: &FleetWords<'a>,
+    digests: &mut [Digest<'_, R>],
+) -> Fault<'a> {
     for (n, digest) in digests.iter_mut().enumerate() {
         if let Some(fault) = fault_of_rest(digest) {
             return Fault::of(words.digest_of(n), Cause::from(fault));
@@ -71,33 +99,64 @@ fn too_many<'a>(words: &FleetWords<'a>, digests: &mut [Digest]) -> Fault<'a> {
     Fault::of_all(words, Cause::Fleet(FleetFault::TooManyPages))
 }
 
-/// Returns what is written. All of it is made before any of it is written.
-fn text_of(
+/// Writes the pairs of guests, and then the table or the JSON object, of which all is made before.
+fn tell<'a, R: Files<File = File>, T: Eprint + Clock, W: Write + Drop>(
+    rt: &R,
     alloc: Global,
-    is_json: bool,
-    digests: &[Digest],
+    words: &FleetWords<'a>,
+    digests: &[Digest<'_, T>],
     numbers: &FleetNumbers<Global>,
-) -> Result<String, AllocError> {
-    let heads = heads_of(alloc, digests)?;
-    let guests = fleet_lines(alloc, &heads, &numbers.guests)?;
+    mut output: W,
+) -> Result<(), Fault<'a>> {
+    let out_of_memory = |refused| Fault::of_all(words, Cause::from(refused));
+    let heads = heads_of(alloc, digests).map_err(out_of_memory)?;
+    let guests = fleet_lines(alloc, &heads, &numbers.guests).map_err(out_of_memory)?;
     let fleet = Fleet {
         sample: numbers.sample,
         guests: &guests,
         total: numbers.total,
         copies: &numbers.copies,
     };
+    let text = text_of(alloc, words.json, &fleet).map_err(out_of_memory)?;
+    if let Some(path) = words.pairs {
+        write_file(rt, alloc, path, &fleet, numbers).map_err(|cause| Fault::of(
+            path,
+            Cause::File(cause),
+        ))?;
+    }
+    write_all(&mut output, &text).map_err(|cause| Fault::of("standard output", Cause::File(cause)))
+}
+
+fn text_of(alloc: Global, is_json: bool, fleet: &Fleet<'_>) -> Result<String, AllocError> {
     if is_json {
-        let mut text = json_text(alloc, &fleet)?;
+        let mut text = json_text(alloc, fleet)?;
         text.push_str("\n")?;
         Ok(text)
     } else {
-        table_text(alloc, &fleet)
+        table_text(alloc, fleet)
     }
 }
 
 /// Returns what each digest says of its guest.
-fn heads_of(alloc: Global, digests: &[Digest]) -> Result<Vec<Option<&DigestHead>>, AllocError> {
+fn heads_of<'a, R: Eprint + Clock>(
+    alloc: Global,
+    digests: &'a [Digest<'_, R>],
+) -> Result<Vec<Option<&'a DigestHead>>, AllocError> {
     digests.iter().map(DigestReader::head).collect(alloc)
+}
+
+/// Writes the pairs of guests to a file.
+fn write_file<R: Files<File = File>>(
+    rt: &R,
+    alloc: Global,
+    path: &str,
+    fleet: &Fleet<'_>,
+    numbers: &FleetNumbers<Global>,
+) -> Result<(), FileCause> {
+    let mut file = fs::create(rt, path)?;
+    write_pairs(alloc, fleet, &numbers.pairs, &mut file)?;
+    file.flush()?;
+    Ok(())
 }
 
 fn write_all(output: &mut impl Write, text: &str) -> Result<(), FileCause> {

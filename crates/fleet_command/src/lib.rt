@@ -5,5 +5,6 @@
 mod faults;
 mod fleet;
 mod opened;
+mod reading;
 
 pub use fleet::do_fleet;

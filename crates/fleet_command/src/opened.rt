@@ -1,46 +1,88 @@
 //! The digests that are merged.
 use crate::faults::{Cause, Fault};
+use crate::reading::{CountedFile, Reading};
 use command_terms::FleetWords;
 use digest_text::{DigestReader, ReadFault};
 use fleet_census::{FleetFault, MAX_DIGESTS};
 use std::alloc::Global;
 use std::fs::{self, File, Files};
+use std::io::Eprint;
+use std::time::Clock;
+
+/// The files of the digests.
+#[derive(Drop)]
+pub struct OpenedFiles {
+    files: Vec<File>,
+    /// How many bytes they have.
+    pub bytes: u64,
+}
 
 /// A digest that is read.
-pub type Digest = DigestReader<File, Global>;
+pub type Digest<'a, R> = DigestReader<CountedFile<'a, R>, Global>;
 
-/// Opens each digest and reads its header, or returns the first fault. None is opened if there are too many.
-pub fn open_digests<'a, R: Files<File = File>>(
+/// Opens the file of each digest, or returns the first fault. None is opened if there are too many.
+pub fn open_files<'a, R: Files<File = File>>(
     rt: &R,
     alloc: Global,
     words: &FleetWords<'a>,
-) -> Result<Vec<Digest>, Fault<'a>> {
+) -> Result<OpenedFiles, Fault<'a>> {
     if words.digests.len() > MAX_DIGESTS {
         let cause = Cause::Fleet(FleetFault::TooManyDigests);
         return Err(Fault::of_all(words, cause));
     }
-    let mut digests = Vec::new(alloc);
+    let mut opened = OpenedFiles {
+        files: Vec::new(alloc),
+        bytes: 0,
+    };
     for path in &words.digests {
-        open_next(rt, alloc, path, &mut digests).map_err(|cause| Fault::of(path, cause))?;
+        open_next(rt, path, &mut opened).map_err(|cause| Fault::of(path, cause))?;
+    }
+    Ok(opened)
+}
+
+/// Opens a file and appends it to the others.
+fn open_next<R: Files<File = File>>(
+    rt: &R,
+    path: &str,
+    opened: &mut OpenedFiles,
+) -> Result<(), Cause> {
+    let file = fs::open(rt, path)?;
+    opened.bytes = opened.bytes.saturating_add(file.metadata()?.len());
+    opened.files.push(file)?;
+    Ok(())
+}
+
+/// Reads the header of each digest, or returns the first fault.
+pub fn read_headers<'a, 'r, R: Eprint + Clock>(
+    alloc: Global,
+    words: &FleetWords<'a>,
+    opened: OpenedFiles,
+    reading: &'r Reading<'r, R>,
+) -> Result<Vec<Digest<'r, R>>, Fault<'a>> {
+    let mut digests = Vec::new(alloc);
+    for (n, file) in opened.files.into_iter().enumerate() {
+        read_header(alloc, file, reading, &mut digests).map_err(|cause| Fault::of(
+            words.digest_of(n),
+            cause,
+        ))?;
     }
     Ok(digests)
 }
 
-/// Opens a digest and appends it to the others.
-fn open_next<R: Files<File = File>>(
-    rt: &R,
+/// Reads a digest's header and appends it to the others.
+fn read_header<'r, R: Eprint + Clock>(
     alloc: Global,
-    path: &str,
-    digests: &mut Vec<Digest>,
+    file: File,
+    reading: &'r Reading<'r, R>,
+    digests: &mut Vec<Digest<'r, R>>,
 ) -> Result<(), Cause> {
-    let file = fs::open(rt, path)?;
-    let digest = DigestReader::new(alloc, file)?;
+    let digest = DigestReader::new(alloc, CountedFile::new(file, reading))?;
     digests.push(digest)?;
     Ok(())
 }
 
 /// Reads a digest to its end, and returns its fault if there is one.
-pub fn fault_of_rest(digest: &mut Digest) -> Option<ReadFault> {
+pub fn fault_of_rest<R: Eprint + Clock>(digest: &mut Digest<'_, R>) -> Option<ReadFault> {
     for _line in 0..u64::MAX {
         match digest.next_line() {
             Ok(Some(_)) => {}

@@ -51,7 +51,7 @@ pub fn do_command<
         Ok(Asked::Text(task)) => do_text(rt, alloc, &task, input, output, is_terminal, build.hash)?,
         Ok(Asked::Estimate(words)) => do_estimate(rt, alloc, &words, output, is_terminal)?,
         Ok(Asked::Digest(words)) => do_digest(rt, alloc, &words, output, is_terminal)?,
-        Ok(Asked::Fleet(words)) => do_fleet(rt, alloc, &words, output)?,
+        Ok(Asked::Fleet(words)) => do_fleet(rt, alloc, &words, output, is_terminal)?,
         Err(error) if error.kind() == ErrorKind::OutOfMemory => tell_memory(rt, is_terminal)?,
         Err(error) => explain(rt, &error)?,
     };

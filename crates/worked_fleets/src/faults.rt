@@ -1,6 +1,7 @@
 //! Digests that can't be merged.
 use crate::merged::{Refusal, merge_texts};
 use digest_text::Cause;
+use fleet_census::Pairs;
 use std::alloc::Global;
 use std::process::Abort;
 use std::test::Fail;
@@ -28,7 +29,7 @@ big,0,1125899906842624,65536,00e10000000000000000000000010000,1125899906842624
 ";
 
 fn refusal(rt: &impl Abort, alloc: Global, texts: &[&[u8]]) -> Option<Refusal> {
-    merge_texts(rt, alloc, alloc, texts).err()
+    merge_texts(rt, alloc, alloc, texts, Pairs::Omitted).err()
 }
 
 #[test]

@@ -1,6 +1,6 @@
 //! Texts that are merged, for the tests.
 use digest_text::{Cause, DigestReader, ReadFault};
-use fleet_census::{FleetFault, FleetNumbers, merge};
+use fleet_census::{FleetFault, FleetNumbers, FleetPair, Pairs, merge};
 use std::alloc::{Allocator, Global};
 use std::process::Abort;
 
@@ -40,6 +40,7 @@ pub fn merge_texts<A: Allocator + Copy>(
     memory: A,
     global: Global,
     texts: &[&[u8]],
+    pairs: Pairs,
 ) -> Result<FleetNumbers<A>, Refusal> {
     let mut readers = Vec::with_capacity(global, texts.len())
         .ok()
@@ -51,5 +52,17 @@ pub fn merge_texts<A: Allocator + Copy>(
         }
     }
     assert!(rt; !readers.is_empty());
-    merge(memory, &mut readers).map_err(refusal_of)
+    merge(memory, &mut readers, pairs).map_err(refusal_of)
+}
+
+/// Merges texts, and returns what two of the guests have in common, where there is an entry for them.
+pub fn pair_of(
+    rt: &impl Abort,
+    alloc: Global,
+    texts: &[&[u8]],
+    guest: usize,
+    other: usize,
+) -> Option<FleetPair> {
+    let told = merge_texts(rt, alloc, alloc, texts, Pairs::Counted).ok()?;
+    told.pairs.get(guest)?.get(other).copied()
 }

@@ -1,6 +1,6 @@
 //! The numbers of a small fleet, added up by hand. The first digest is that of a page of zeros under salt 0, by sha256sum.
-use crate::merged::merge_texts;
-use fleet_census::{Amount, FleetClass, FleetGuest, FleetTotal};
+use crate::merged::{merge_texts, pair_of};
+use fleet_census::{Amount, FleetClass, FleetGuest, FleetPair, FleetTotal, Pairs};
 use std::test::Fail;
 
 const WEB: &[u8] = b"guest,salt,pages,sample,digest,copies
@@ -13,6 +13,11 @@ const DATABASE: &[u8] = b"guest,salt,pages,sample,digest,copies
 db,0,6,1,00e1000000000000000000000000000a,2
 db,0,6,1,ad7facb2586fc6e966c004d7d1d16b02,3
 db,0,6,1,c0000000000000000000000000000001,1
+";
+
+const MAIL: &[u8] = b"guest,salt,pages,sample,digest,copies
+mail,0,5,1,50000000000000000000000000000000,4
+mail,0,5,1,e0000000000000000000000000000001,1
 ";
 
 const EMPTY: &[u8] = b"guest,salt,pages,sample,digest,copies\n";
@@ -28,9 +33,15 @@ fn amount(zeros: u64, others: u64, squares: u128) -> Amount {
 // The guests share a content of five copies, and zeros; each has a content of its own.
 #[test]
 fn guests(rt: HostRuntime) -> Result<(), Fail> {
-    let told = merge_texts(&rt, rt.alloc(), rt.alloc(), &[WEB, EMPTY, DATABASE])
-        .ok()
-        .expect(&rt, "numbers");
+    let told = merge_texts(
+        &rt,
+        rt.alloc(),
+        rt.alloc(),
+        &[WEB, EMPTY, DATABASE],
+        Pairs::Omitted,
+    )
+    .ok()
+    .expect(&rt, "numbers");
     assert!(rt; told.sample == 1);
     let web = FleetGuest {
         pages: 7,
@@ -59,9 +70,15 @@ fn guests(rt: HostRuntime) -> Result<(), Fail> {
 
 #[test]
 fn total(rt: HostRuntime) -> Result<(), Fail> {
-    let told = merge_texts(&rt, rt.alloc(), rt.alloc(), &[DATABASE, WEB])
-        .ok()
-        .expect(&rt, "numbers");
+    let told = merge_texts(
+        &rt,
+        rt.alloc(),
+        rt.alloc(),
+        &[DATABASE, WEB],
+        Pairs::Omitted,
+    )
+    .ok()
+    .expect(&rt, "numbers");
     let total = FleetTotal {
         pages: 13,
         zero: 6,
@@ -85,6 +102,31 @@ fn total(rt: HostRuntime) -> Result<(), Fail> {
         pages: amount(6, 5, 25),
     };
     assert!(rt; told.copies.as_slice() == [once, five_to_eight].as_slice());
+    assert!(rt; told.pairs.is_empty());
+    Ok(())
+}
+
+// The web server and the database have zeros in common, 3 and 3, and a content of 3 and 2 copies; the mail server and the web server
+// one of 4 and 1; the mail server and the database nothing.
+#[test]
+fn pairs(rt: HostRuntime) -> Result<(), Fail> {
+    let of = |guest, other| pair_of(&rt, rt.alloc(), &[WEB, DATABASE, MAIL], guest, other);
+    let zeros_and_one = FleetPair {
+        contents: amount(1, 1, 1),
+        pages: amount(5, 4, 16),
+    };
+    let one = FleetPair {
+        contents: amount(0, 1, 1),
+        pages: amount(0, 4, 16),
+    };
+    let none = FleetPair {
+        contents: amount(0, 0, 0),
+        pages: amount(0, 0, 0),
+    };
+    assert!(rt; of(1, 0) == Some(zeros_and_one));
+    assert!(rt; of(2, 0) == Some(one));
+    assert!(rt; of(2, 1) == Some(none));
+    assert!(rt; of(1, 1).is_none());
     Ok(())
 }
 
@@ -105,7 +147,7 @@ fn other_salts(rt: HostRuntime) -> Result<(), Fail> {
     let salted = b"guest,salt,pages,sample,digest,copies
 db,7,3,1,ad7facb2586fc6e966c004d7d1d16b02,3
 ";
-    let told = merge_texts(&rt, rt.alloc(), rt.alloc(), &[WEB, salted])
+    let told = merge_texts(&rt, rt.alloc(), rt.alloc(), &[WEB, salted], Pairs::Omitted)
         .ok()
         .expect(&rt, "numbers");
     assert!(rt; told.total.zero == 3);

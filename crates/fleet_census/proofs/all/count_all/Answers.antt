@@ -112,6 +112,7 @@ loop-turn-preserved g c =
       room = omega (arith, next.room, so_far.room);
       guests = (c.if-not-count.ensures {u = tt}).guests ∙ so_far.guests;
       classes = (c.if-not-count.ensures {u = tt}).classes;
+      lengths = (c.if-not-count.ensures {u = tt}).lengths ∙ so_far.lengths;
       chained = λ files long chained. next.told files (omega (arith, long, so_far.readers)) (so_far.chained files long chained);
       counted = λ fleet long zeros behind tallied.
           let t = c.loop-turn.tournament in

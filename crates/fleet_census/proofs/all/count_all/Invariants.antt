@@ -3,6 +3,7 @@ use Rattle.digest_text.specs.Fields.{Row}
 use Rattle.digest_text.specs.Told.{told}
 use Rattle.fleet_census.specs.Gathers.{AreZeros}
 use Rattle.fleet_census.specs.Merged.{IsAt}
+use Rattle.fleet_census.specs.Pairs.{row_lengths, rows_of}
 use Rattle.fleet_census.specs.States.{AreBehind, AreChained, AreOwn, Said}
 use Rattle.fleet_census.specs.Tallies.{AreTallied}
 use Rattle.fleet_census.specs.Tournaments.{leaves}
@@ -16,6 +17,7 @@ invariant-loop-turn g l = record {
   room : length l.fn.readers ≤ vec_capacity l.holders;
   guests : vec_len l.tally.guests ≡ length l.fn.readers;
   classes : vec_len l.tally.classes ≡ 65;
+  lengths : row_lengths (rows_of l.tally.pairs.items) ≡ row_lengths (rows_of l.fn.tally.pairs.items);
   chained : (files : List Said) → length files ≡ length l.fn.readers → AreChained files (length files) (leaves l.fn.tournament.files l.fn.tournament.entries.items)
       (map (told {A = g.row.A.Denot} g.R.Read.remaining) l.fn.readers)
       → AreChained files (length files) (leaves l.tournament.files l.tournament.entries.items) (map (told {A = g.row.A.Denot} g.R.Read.remaining) l.readers);

@@ -30,7 +30,7 @@ returns-in-Ok-count_all-clause-counted g c fleet long whole =
       zero_reclaimed = total.zero_reclaimed;
       between = total.between;
     }) new.total in
-    let tallied = opened_tallied fleet _ _ c.open.new.zeros.items c.open.new.guests.items c.in-Ok.opening opened c.sample-sample.result _ refl total new.classes new.weightless in
+    let tallied = opened_tallied fleet _ _ c.open.new.zeros.items c.open.new.guests.items c.in-Ok.opening opened c.sample-sample.result _ refl total new.classes new.pairless new.weightless in
     let counted = (c.in-Ok-count_all.ensures {u = tt}).counted fleet (omega (arith, long, c.open.auto.readers)) (rw c.deref.ensures.value zeros) behind tallied in
     record {
       is = opened_sample fleet _ _ c.open.new.zeros.items c.open.new.guests.items c.in-Ok.opening opened c.sample-sample.result c.sample-sample.ensures;
@@ -58,7 +58,7 @@ returns-clause-counted g c fleet long whole =
       zero_reclaimed = total.zero_reclaimed;
       between = total.between;
     }) new.total in
-    let tallied = opened_tallied fleet _ _ c.open.new.zeros.items c.open.new.guests.items c.in-Ok.opening opened c.sample-sample.result _ refl total new.classes new.weightless in
+    let tallied = opened_tallied fleet _ _ c.open.new.zeros.items c.open.new.guests.items c.in-Ok.opening opened c.sample-sample.result _ refl total new.classes new.pairless new.weightless in
     count_told fleet c.sample-sample.result c.count_all.new.tally c.in-Err-count_all.fault
     (opened_sample fleet _ _ c.open.new.zeros.items c.open.new.guests.items c.in-Ok.opening opened c.sample-sample.result c.sample-sample.ensures)
     ((c.in-Err-count_all.ensures {u = tt}).counted fleet (omega (arith, long, c.open.auto.readers)) (rw c.deref.ensures.value zeros) behind tallied)

@@ -13,3 +13,4 @@ returns-clause-counted g c fleet from at within some long so_far none is one ris
     tallied fleet c.args.every from at within some c.args.self.now so_far none c.args.content.now is _ c.args.holders.now known (c.in-Some.ensures {u = tt}).0 (c.in-Some.ensures {u = tt}).1
     (λ file lt. rw (kept_items c.args.self.now.guests.len c.count_guests.new.guests _ guests_len) (rw c.deref_mut.ensures.value at (c.count_guests.ensures rising file (omega (arith, lt, long, c.args.self.now.guests.ok.0, c.deref_mut.ensures.len))))) c.add.ensures
     (λ number lt. rw (kept_items c.args.self.now.classes.len c.count_class.new.classes _ classes_len) (rw c.deref_mut-2.ensures.value at (c.count_class.ensures one number lt)))
+    c.count_pairs.ensures.lengths (c.count_pairs.ensures.counted rising)
