@@ -1,0 +1,75 @@
+//! What the words of a merge's command line ask for.
+use crate::words::VERSION;
+use clap::error::ErrorKind;
+use command_terms::{Asked, FleetWords};
+use command_words::asked_of;
+use progress_line::Drawn;
+use std::alloc::{AllocError, Global};
+use std::test::Fail;
+
+// The program's name, the command's, and these words, which spaces part.
+fn words(alloc: Global, line: &str) -> Result<Vec<String>, AllocError> {
+    let line = format!(in alloc; "pageshare fleet {line}")?;
+    let mut words = Vec::new(alloc);
+    for word in line.split(' ') {
+        words.push(String::from_str(alloc, word)?)?;
+    }
+    Ok(words)
+}
+
+// What is asked of the digests `a` and `b`.
+fn fleet(
+    alloc: Global,
+    json: bool,
+    pairs: Option<&'static str>,
+    progress: Drawn,
+) -> Result<Asked<'static>, AllocError> {
+    let mut digests = Vec::new(alloc);
+    digests.push("a")?;
+    digests.push("b")?;
+    Ok(Asked::Fleet(FleetWords {
+        digests,
+        json,
+        pairs,
+        progress,
+    }))
+}
+
+#[test]
+fn reads_the_words_of_a_fleet(rt: HostRuntime) -> Result<(), Fail> {
+    let alloc = rt.alloc();
+    for (line, json, pairs, progress) in [
+        ("a b", false, None, Drawn::Auto),
+        ("--json a b", true, None, Drawn::Auto),
+        ("--pairs c a b", false, Some("c"), Drawn::Auto),
+        (
+            "--progress=always --json --pairs=c a b",
+            true,
+            Some("c"),
+            Drawn::Always,
+        ),
+    ] {
+        let given = words(alloc, line)?;
+        let due = fleet(alloc, json, pairs, progress)?;
+        assert_eq!(rt; asked_of(alloc, &given, VERSION).ok(), Some(due));
+    }
+    Ok(())
+}
+
+#[test]
+fn refuses_other_words_of_a_fleet(rt: HostRuntime) -> Result<(), Fail> {
+    for (line, kind) in [
+        ("--help", ErrorKind::DisplayHelp),
+        ("--json", ErrorKind::MissingRequiredArgument),
+        ("--pairs a", ErrorKind::MissingRequiredArgument),
+        ("--progress often a", ErrorKind::InvalidValue),
+        ("--workers 2 a", ErrorKind::UnknownArgument),
+    ] {
+        let given = words(rt.alloc(), line)?;
+        let error = asked_of(rt.alloc(), &given, VERSION)
+            .err()
+            .ok_or("no error")?;
+        assert_eq!(rt; error.kind(), kind, "{line}");
+    }
+    Ok(())
+}
