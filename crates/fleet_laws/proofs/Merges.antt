@@ -91,7 +91,7 @@ module _ {S : Type 0} (pages : S → List (List ℕ)) where
       ]
 
   pub merge_tells_census : {A : Type 0} → MergeLaw A pages
-  merge_tells_census guests fleet numbers is are = record {
+  merge_tells_census guests fleet pairs numbers is are = record {
     told = rw (are.guests, are.total, are.copies) (tells_census guests fleet is);
     sample = sample_is guests fleet numbers.sample is.rows are.sample;
   }

@@ -22,6 +22,7 @@ use Rattle.page_census.specs.Contents.{AreSteady}
 use Rattle.fleet_census.specs.Numbers.{AreNumbers, IsMerged, fleet_of}
 use Rattle.fleet_census.specs.States.{Said}
 use Rattle.fleet_census.specs.declared.numbers.FleetNumbers.{FleetNumbers}
+use Rattle.fleet_census.specs.declared.pair.Pairs.{Pairs}
 use Rattle.fleet_laws.specs.Merges.{AreRowsOf, IsFleetOf, whole}
 use Rattle.fleet_laws.specs.Texts.{AreDigestsOf, IsTextOf, Named, TellCensus, TextLaw, reads_of, with_pages, written_rows}
 use Rattle.fleet_laws.proofs.Digests.{digest_low}
@@ -116,9 +117,9 @@ fleet_is [] = refl
 fleet_is (rows ∷ fleet) = ap (λ (more : List (List Row)). rows ∷ more) (fleet_is fleet)
 
 -- what `merge` answers of such files
-merged_numbers : {B : Type 0} (files : List Said) (fleet : List (List Row)) (numbers : FleetNumbers B) → files ≡ map Ok fleet
-    → IsMerged files (Ok numbers) → AreNumbers fleet numbers
-merged_numbers files fleet numbers said merged =
+merged_numbers : {B : Type 0} (files : List Said) (fleet : List (List Row)) (pairs : Pairs) (numbers : FleetNumbers B) → files ≡ map Ok fleet
+    → IsMerged files pairs (Ok numbers) → AreNumbers fleet pairs numbers
+merged_numbers files fleet pairs numbers said merged =
     let is : fleet_of files ≡ fleet = ap fleet_of said ∙ fleet_is fleet in
     rw is at merged.1
 
@@ -133,9 +134,9 @@ steady_texts is_steady pages guests all texts steady are written =
     record {
       said = said;
       rows = rows;
-      merged = λ apart numbers merged.
+      merged = λ apart pairs numbers merged.
           let is : IsFleetOf pages guests fleet = record { rows = rows; apart = apart } in
-          merge_tells_census pages guests fleet numbers is (merged_numbers (map digest_of texts) fleet numbers said merged);
+          merge_tells_census pages guests fleet pairs numbers is (merged_numbers (map digest_of texts) fleet pairs numbers said merged);
     }
 
 -- what was read, as a source: each read of it returns the same

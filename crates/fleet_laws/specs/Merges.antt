@@ -21,6 +21,7 @@ use Rattle.fleet_census.specs.Numbers.{AreNumbers}
 use Rattle.fleet_census.specs.declared.class.FleetClass.{FleetClass}
 use Rattle.fleet_census.specs.declared.guest.FleetGuest.{FleetGuest}
 use Rattle.fleet_census.specs.declared.numbers.FleetNumbers.{FleetNumbers}
+use Rattle.fleet_census.specs.declared.pair.Pairs.{Pairs}
 use Rattle.fleet_census.specs.declared.total.FleetTotal.{FleetTotal}
 
 -- the digest of a content
@@ -100,8 +101,8 @@ pub record IsCensus {S A : Type 0} (pages : S → List (List ℕ)) (guests : Lis
   pub told : TellsCensus pages guests numbers.guests.items numbers.total numbers.copies.items
   pub sample : 1 ≤ length (contents pages guests) → numbers.sample ≡ 1
 
--- and those that `merge` answers
+-- and those that `merge` answers, whether or not it counts pairs
 abbrev pub MergeLaw : {S : Type 0} → Type 0 → (S → List (List ℕ)) → Type 0
 MergeLaw {S} A pages =
-    (guests : List (Guest S)) (fleet : List (List Row)) (numbers : FleetNumbers A) → IsFleetOf pages guests fleet →
-    AreNumbers fleet numbers → IsCensus pages guests numbers
+    (guests : List (Guest S)) (fleet : List (List Row)) (pairs : Pairs) (numbers : FleetNumbers A) → IsFleetOf pages guests fleet →
+    AreNumbers fleet pairs numbers → IsCensus pages guests numbers

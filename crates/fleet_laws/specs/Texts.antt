@@ -11,6 +11,7 @@ use Rattle.page_census.specs.Contents.{AreSteady, contents}
 use Rattle.page_census.specs.declared.source.Guest.{Guest}
 use Rattle.fleet_census.specs.Numbers.{IsMerged}
 use Rattle.fleet_census.specs.declared.numbers.FleetNumbers.{FleetNumbers}
+use Rattle.fleet_census.specs.declared.pair.Pairs.{Pairs}
 use Rattle.fleet_laws.specs.Merges.{AreRowsOf, AreToldApart, IsCensus, whole, zeros}
 
 -- a guest's digests, and the name that they are written under
@@ -55,13 +56,14 @@ module _ {S : Type 0} (is_steady : S → Type 0) (pages : S → List (List ℕ))
     pub written : AllZip IsTextOf all texts
 
 -- The texts say the rows that were written, which are those of whole digests of these guests' pages. And if different contents have
--- different digests, as in `IsFleetOf`, the numbers that `merge` answers of the texts are those of a census of the pages.
+-- different digests, as in `IsFleetOf`, the numbers that `merge` answers of the texts are those of a census of the pages, whether or not it
+-- counts pairs.
 pub record TellCensus {S A : Type 0} (B : Type 0) (pages : S → List (List ℕ)) (guests : List (Guest S)) (all : List (Named A))
     (texts : List (List ℕ)) : Type 0 where
   pub said : map digest_of texts ≡ map Ok (map written_rows all)
   pub rows : AllZip (AreRowsOf pages) guests (map written_rows all)
-  pub merged : AreToldApart (contents pages guests ++ zeros guests) → (numbers : FleetNumbers B)
-      → IsMerged (map digest_of texts) (Ok numbers) → IsCensus pages guests numbers
+  pub merged : AreToldApart (contents pages guests ++ zeros guests) → (pairs : Pairs) (numbers : FleetNumbers B)
+      → IsMerged (map digest_of texts) pairs (Ok numbers) → IsCensus pages guests numbers
 
 -- What the texts tell is a census of the pages that were read. Of steady sources these are the sources' pages, and what the texts tell is
 -- a census of these.
