@@ -10,7 +10,8 @@ The cases: each command on the worked texts below examples/, from a file and fro
 and each front of a journal and of a script; texts that are too long; inputs that can't be opened or read, outputs that take
 nothing, too little memory, no room for a thread's stack; texts of many requests; words that are no command line, help and the version; estimates of small
 images, and each cause for which there is none; digests of small images and of a process beside a count in Python, and each cause
-for which there is none; the numbers of digests merged, and each cause for which there are none; and what a terminal is told.
+for which there is none; the numbers of digests merged, what each two of their guests have in common, and each cause for which there
+are none; and what a terminal is told.
 
 A worked text is NAME.journal or NAME.script, and what a command is to write of it stands beside it as NAME.COMMAND: NAME.replay,
 NAME.serial, NAME.run (where each run writes the same) and NAME.run-journal. Which order the guests' requests have in a run's journal

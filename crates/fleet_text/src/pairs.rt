@@ -1,4 +1,6 @@
 //! What each two guests have in common, as CSV for programs.
+ghost use Rattle.std.specs.Prelude.{◌≡◌, option_and_then, slice_get};
+
 use crate::Fleet;
 use crate::told::Told;
 use fleet_census::{Amount, FleetPair};
@@ -68,7 +70,9 @@ fn pair_of<B: Allocator>(
     pairs: &[Vec<FleetPair, B>],
     first: usize,
     second: usize,
-) -> Option<FleetPair> {
+) -> Option<FleetPair>
+    ensures { result ≡ option_and_then (λ row. slice_get row.items first) (slice_get pairs.now second) }
+{
     pairs.get(second)?.get(first).copied()
 }
 
