@@ -86,6 +86,7 @@ module _ (fleet : List (List Row)) (leaves : List Entry) (told : List (Option Sa
   pub opened_sample : (sample : ℕ) → sample ≡ max opening.every 1 → IsSampleOf fleet sample
   opened_sample sample is = elim (cases_eq opening.every 0) [
     | inl none ↦ record {
+      least = omega (arith, is);
       one = λ file lt. elim (opened.one file lt) [
         | inl e ↦ inl e
         | inr e ↦ inl (e ∙ none)
@@ -95,6 +96,7 @@ module _ (fleet : List (List Row)) (leaves : List Entry) (told : List (Option Sa
     | inr some ↦
         let same : sample ≡ opening.every = omega (arith, is) in
         record {
+          least = omega (arith, is);
           one = λ file lt. elim (opened.one file lt) [
             | inl e ↦ inl e
             | inr e ↦ inr (e ∙ sym same)

@@ -24,6 +24,7 @@ fleet_of files = map rows_in files
 
 -- Of all files' contents one in `sample` is kept; 1, if no file has a line.
 pub record IsSampleOf (fleet : List (List Row)) (sample : ℕ) : Type 0 where
+  pub least : 1 ≤ sample
   pub one : (file : ℕ) → file < length fleet
       → (sample_of (slice_index_or fleet file []) ≡ 0) ⊎ (sample_of (slice_index_or fleet file []) ≡ sample)
   pub some : (sample ≡ 1) ⊎ (file : ℕ) × (file < length fleet) × (sample_of (slice_index_or fleet file []) ≡ sample)

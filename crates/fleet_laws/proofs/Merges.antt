@@ -1,13 +1,8 @@
 -- A merge of whole digests tells the numbers of a census.
-use Rattle.std.proofs.Common.{◌≡◌, ℕ, suc, ◌+◌, ◌<◌, ◌≤◌, List, [], ◌∷◌, ◌++◌, length, length-append, map, get_or, eqb, refl, ap, ◌∙◌, inl, inr, arith}
-use Rattle.std.specs.Prelude.{All}
+use Rattle.std.proofs.Common.{◌≡◌, ℕ, zero, suc, ◌<◌, List, [], ◌∷◌, ◌++◌, length, map, get_or, eqb, refl, inl, inr, arith}
+use Rattle.std.specs.Prelude.{◌⊎◌, All}
 use Rattle.std.specs.List.{AllZip, Contains}
 use Rattle.std.proofs.lemmas.List.Elements.{All-contains_itself, All-weaker, Contains-append_left, Contains-append_right}
-use Rattle.std.proofs.lemmas.List.{length-map}
-use Rattle.std.proofs.lemmas.Bool.{cases_lt}
-use Rattle.page_digest.specs.Hashes.{content_digest}
-use Rattle.page_digests.specs.Counted.{AreCounted}
-use Rattle.page_digests.specs.Samples.{digests_of, kept_digests}
 use Rattle.page_digests.specs.declared.line.DigestLine.{DigestLine}
 use Rattle.digest_text.specs.Reread.{head_by}
 use Rattle.digest_text.specs.Written.{rows_of}
@@ -22,7 +17,6 @@ use Rattle.fleet_census.specs.Openings.{sample_of}
 use Rattle.fleet_census.specs.Fleets.{all_copies}
 use Rattle.fleet_laws.specs.Merges.{AreRowsOf, AreToldApart, DigestLaw, MergeLaw, TellsGuest, digest, whole, zeros}
 use Rattle.fleet_laws.proofs.Fleets.{AreAllCounts, all_copies_are, each_counts}
-use Rattle.fleet_laws.proofs.Guests.{all_kept}
 use Rattle.fleet_laws.proofs.Keys.{in_both}
 use Rattle.fleet_laws.proofs.Table.{table_is}
 use Rattle.fleet_laws.proofs.Told.{tells_guest, tells_total}
@@ -56,39 +50,30 @@ module _ {S : Type 0} (pages : S → List (List ℕ)) where
         copies_are = λ few. table_is known is.apart fleet all ka of few;
       }
 
-  -- where there is a page, some file tells the sample
-  first_told : (guest : Guest S) (rows : List Row) → AreRowsOf pages guest rows → 1 ≤ length (pages guest.source) → sample_of rows ≡ 1
-  first_told guest rows are some = rw are.are (of_lines are.lines are.counted)
+  -- rows of a whole digest tell its sample, if there is a row
+  own_sample : (guest : Guest S) (rows : List Row) → AreRowsOf pages guest rows → (sample_of rows ≡ 0) ⊎ (sample_of rows ≡ 1)
+  own_sample guest rows are = rw are.are (of_lines are.lines)
     where
-      of_lines : (lines : List DigestLine) → AreCounted (kept_digests (whole guest.salt) (pages guest.source)) lines
-          → sample_of (rows_of (head_by are.name (whole guest.salt) (pages guest.source)) lines) ≡ 1
-      of_lines [] counted =
-          let none : 0 ≡ length (digests_of guest.salt (pages guest.source)) = counted.total ∙ ap length (all_kept guest.salt (digests_of guest.salt (pages guest.source))) in
-          absurd (omega (arith, none, length-map (pages guest.source) (content_digest guest.salt), some))
-      of_lines (line ∷ lines) counted = refl
+      of_lines : (lines : List DigestLine) → let told : ℕ = sample_of (rows_of (head_by are.name (whole guest.salt) (pages guest.source)) lines) in (told ≡ 0) ⊎ (told ≡ 1)
+      of_lines [] = inl refl
+      of_lines (line ∷ lines) = inr refl
 
-  some_told : (guests : List (Guest S)) (fleet : List (List Row)) → AllZip (AreRowsOf pages) guests fleet → 1 ≤ length (contents pages guests)
-      → (file : ℕ) × (file < length fleet) × (sample_of (get_or fleet file []) ≡ 1)
-  some_told [] fleet are some = absurd (omega (arith, some))
-  some_told (guest ∷ guests) [] are some = absurd are
-  some_told (guest ∷ guests) (rows ∷ fleet) are some = elim (cases_lt 0 (length (pages guest.source))) [
-    | inl here ↦ (0, omega arith, first_told guest rows are.0 here)
-    | inr none ↦
-        let own : List Content = contents_of pages guest in
-        let rest : List Content = contents pages guests in
-        let len : length (own ++ rest) ≡ length own + length rest = length-append own rest in
-        let count : length own ≡ length (pages guest.source) = length-map (pages guest.source) (λ (bytes : List ℕ). let c : Content = (guest.salt, bytes) in c) in
-        let later = some_told guests fleet are.1 (omega (arith, some, len, count, none)) in
-        (suc later.0, omega (arith, later.1), later.2)
+  each_sample : (guests : List (Guest S)) (fleet : List (List Row)) → AllZip (AreRowsOf pages) guests fleet → (file : ℕ) → file < length fleet
+      → (sample_of (get_or fleet file []) ≡ 0) ⊎ (sample_of (get_or fleet file []) ≡ 1)
+  each_sample [] [] are file lt = absurd (omega (arith, lt))
+  each_sample [] (rows ∷ fleet) are file lt = absurd are
+  each_sample (guest ∷ guests) [] are file lt = absurd are
+  each_sample (guest ∷ guests) (rows ∷ fleet) are zero lt = own_sample guest rows are.0
+  each_sample (guest ∷ guests) (rows ∷ fleet) are (suc file) lt = each_sample guests fleet are.1 file (omega (arith, lt))
+
+  sample_is : (guests : List (Guest S)) (fleet : List (List Row)) (sample : ℕ) → AllZip (AreRowsOf pages) guests fleet → IsSampleOf fleet sample → sample ≡ 1
+  sample_is guests fleet sample are is = elim is.some [
+    | inl one ↦ one
+    | inr at ↦ elim (each_sample guests fleet are at.0 at.1) [
+      | inl none ↦ absurd (omega (arith, none, at.2, is.least))
+      | inr one ↦ omega (arith, one, at.2)
+    ]
   ]
-
-  sample_is : (guests : List (Guest S)) (fleet : List (List Row)) (sample : ℕ) → AllZip (AreRowsOf pages) guests fleet → IsSampleOf fleet sample → 1 ≤ length (contents pages guests) → sample ≡ 1
-  sample_is guests fleet sample are is some =
-      let at = some_told guests fleet are some in
-      elim (is.one at.0 at.1) [
-        | inl none ↦ absurd (omega (arith, none, at.2))
-        | inr same ↦ omega (arith, same, at.2)
-      ]
 
   pub merge_tells_census : {A : Type 0} → MergeLaw A pages
   merge_tells_census guests fleet pairs numbers is are = record {

@@ -1,5 +1,5 @@
 -- A merge of whole digests tells the numbers of a census of the pages.
-use Rattle.std.specs.Prelude.{◌≡◌, ℕ, ◌-◌, ◌^◌, ◌<◌, ◌≤◌, min, List, ◌++◌, length, map}
+use Rattle.std.specs.Prelude.{◌≡◌, ℕ, ◌-◌, ◌^◌, ◌<◌, min, List, ◌++◌, length, map}
 use Rattle.std.specs.List.{AllZip, Contains}
 use Rattle.page_model.specs.Pages.{blank}
 use Rattle.page_digest.specs.Hashes.{content_digest}
@@ -96,10 +96,10 @@ module _ {S : Type 0} (pages : S → List (List ℕ)) where
       (guests : List (Guest S)) (fleet : List (List Row)) → IsFleetOf pages guests fleet →
       TellsCensus guests (map (merged.guest_numbers fleet) fleet) (merged.total_numbers fleet) (merged.copies_table fleet)
 
--- The numbers that a merge answers are those of a census; and if there is a page at all, their sample is 1.
+-- The numbers that a merge answers are those of a census, and their sample is 1.
 pub record IsCensus {S A : Type 0} (pages : S → List (List ℕ)) (guests : List (Guest S)) (numbers : FleetNumbers A) : Type 0 where
   pub told : TellsCensus pages guests numbers.guests.items numbers.total numbers.copies.items
-  pub sample : 1 ≤ length (contents pages guests) → numbers.sample ≡ 1
+  pub sample : numbers.sample ≡ 1
 
 -- and those that `merge` answers, whether or not it counts pairs
 abbrev pub MergeLaw : {S : Type 0} → Type 0 → (S → List (List ℕ)) → Type 0

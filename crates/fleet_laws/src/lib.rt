@@ -15,7 +15,7 @@ pub fn digest_law<S: PageSource>()
     ensures { DigestLaw S.pages }
 {}
 
-/// So what `merge` answers of such digests are the numbers of a census, and its sample is 1, if there is a page at all.
+/// So what `merge` answers of such digests are the numbers of a census, and its sample is 1.
 pub fn merge_law<S: PageSource, A: Allocator>()
     ensures { MergeLaw A S.pages }
 {}
