@@ -1,6 +1,6 @@
 -- What stands where after bytes and lanes have moved.
 use Rattle.std.proofs.Common.{◌≡◌, ℕ, ◌+◌, ◌*◌, ◌/◌, ◌%◌, ◌<◌, List, [], ◌∷◌, ◌++◌, length, slice_index, slice_index_or, Fits, w8, refl, ◌∙◌, arith}
-use Rattle.std.proofs.lemmas.List.{get_or_append_left}
+use Rattle.std.proofs.lemmas.List.{get_or-append-add, get_or_append_left}
 use Rattle.std.proofs.lemmas.Simd.{Each1-get_or}
 use Rattle.std.specs.Simd.Lanes.{Each1}
 use Rattle.sha2.specs.Sha256.{word_at}
@@ -88,6 +88,43 @@ transposes a b c d la lb lc ld =
     of_four (λ x. Transposed (a0 ∷ a1 ∷ a2 ∷ a3 ∷ []) (b0 ∷ b1 ∷ b2 ∷ b3 ∷ []) (c0 ∷ c1 ∷ c2 ∷ c3 ∷ []) x)
     (written_out a0 a1 a2 a3 b0 b1 b2 b3 c0 c1 c2 c3)
     d ld) c lc) b lb) a la
+
+-- ---- four vectors by the lanes of their halves
+
+module _ (x y : List ℕ) (len : length x ≡ 8) where
+  of_first : (k : ℕ) → k < 8 → slice_index_or (x ++ y) k 0 ≡ slice_index x k
+  of_first k lt = get_or_append_left x y 0 k (omega (arith, len))
+
+  of_second : (k : ℕ) → slice_index_or (x ++ y) (8 + k) 0 ≡ slice_index y k
+  of_second k = rw (← len) (get_or-append-add x y k 0)
+
+-- lane k of each lower half and then lane k of each upper half, where a stands before c and b before d
+abbrev halves : List ℕ → List ℕ → List ℕ → List ℕ → ℕ → List ℕ
+halves a b c d k =
+    slice_index_or (a ++ c) k 0 ∷ slice_index_or (b ++ d) k 0 ∷ slice_index_or (a ++ c) (8 + k) 0 ∷ slice_index_or (b ++ d) (8 + k) 0
+    ∷ slice_index_or (a ++ c) (4 + k) 0 ∷ slice_index_or (b ++ d) (4 + k) 0 ∷ slice_index_or (a ++ c) (12 + k) 0 ∷ slice_index_or (b ++ d) (12 + k) 0 ∷ []
+
+module _ (a b c d : List ℕ) (la : length a ≡ 8) (lb : length b ≡ 8) where
+  abbrev crossed : List (List ℕ)
+  crossed = halves a b c d 0 ∷ halves a b c d 1 ∷ halves a b c d 2 ∷ halves a b c d 3 ∷ []
+
+  pub transposes_lower : (j k : ℕ) → j < 4 → k < 4 → slice_index (lane slice_index j crossed) k ≡ slice_index (one_of j a b c d) k
+  transposes_lower j k ltj ltk =
+      in_each (λ n. slice_index (lane slice_index n crossed) k ≡ slice_index (one_of n a b c d) k)
+      (in_each (λ n. slice_index (lane slice_index 0 crossed) n ≡ slice_index a n) (of_first a c la 0 (omega arith)) (of_first a c la 1 (omega arith)) (of_first a c la 2 (omega arith)) (of_first a c la 3 (omega arith)) k ltk)
+      (in_each (λ n. slice_index (lane slice_index 1 crossed) n ≡ slice_index b n) (of_first b d lb 0 (omega arith)) (of_first b d lb 1 (omega arith)) (of_first b d lb 2 (omega arith)) (of_first b d lb 3 (omega arith)) k ltk)
+      (in_each (λ n. slice_index (lane slice_index 2 crossed) n ≡ slice_index c n) (of_second a c la 0) (of_second a c la 1) (of_second a c la 2) (of_second a c la 3) k ltk)
+      (in_each (λ n. slice_index (lane slice_index 3 crossed) n ≡ slice_index d n) (of_second b d lb 0) (of_second b d lb 1) (of_second b d lb 2) (of_second b d lb 3) k ltk)
+      j ltj
+
+  pub transposes_upper : (j k : ℕ) → j < 4 → k < 4 → slice_index (lane slice_index (4 + j) crossed) k ≡ slice_index (one_of j a b c d) (4 + k)
+  transposes_upper j k ltj ltk =
+      in_each (λ n. slice_index (lane slice_index (4 + n) crossed) k ≡ slice_index (one_of n a b c d) (4 + k))
+      (in_each (λ n. slice_index (lane slice_index 4 crossed) n ≡ slice_index a (4 + n)) (of_first a c la 4 (omega arith)) (of_first a c la 5 (omega arith)) (of_first a c la 6 (omega arith)) (of_first a c la 7 (omega arith)) k ltk)
+      (in_each (λ n. slice_index (lane slice_index 5 crossed) n ≡ slice_index b (4 + n)) (of_first b d lb 4 (omega arith)) (of_first b d lb 5 (omega arith)) (of_first b d lb 6 (omega arith)) (of_first b d lb 7 (omega arith)) k ltk)
+      (in_each (λ n. slice_index (lane slice_index 6 crossed) n ≡ slice_index c (4 + n)) (of_second a c la 4) (of_second a c la 5) (of_second a c la 6) (of_second a c la 7) k ltk)
+      (in_each (λ n. slice_index (lane slice_index 7 crossed) n ≡ slice_index d (4 + n)) (of_second b d lb 4) (of_second b d lb 5) (of_second b d lb 6) (of_second b d lb 7) k ltk)
+      j ltj
 
 -- ---- eight lanes of two vectors of four
 

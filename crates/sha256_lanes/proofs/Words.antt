@@ -10,6 +10,18 @@ use Rattle.sha256_lanes.proofs.Lanes.{word_of}
 use Rattle.sha256_lanes.specs.Lanes.{lane}
 use Rattle.sha256_lanes.specs.Schedules.{Schedules}
 
+-- ---- sums in another order than the standard's
+
+pub first_sum : (h sigma chosen constant word : ℕ)
+    → add32 (add32 (add32 (add32 h constant) word) sigma) chosen ≡ add32 (add32 (add32 (add32 h sigma) chosen) constant) word
+first_sum h sigma chosen constant word = omega arith
+
+pub word_sum : (newest seventh sigma oldest : ℕ)
+    → add32 (add32 sigma (add32 oldest seventh)) newest ≡ add32 (add32 (add32 newest seventh) sigma) oldest
+word_sum newest seventh sigma oldest = omega arith
+
+-- ---- rounds
+
 -- no round yet
 pub no_round : (start words : List ℕ) → start ≡ rounds start words 0
 unfolding rounds
@@ -34,6 +46,8 @@ pub whole_block : (start words block after : List ℕ) → ((t : ℕ) → t < 64
     → after ≡ add_state start (rounds start words 64) → after ≡ compress start block
 unfolding compress
 whole_block start words block after same e = e ∙ ap (add_state start) (same_rounds start words (schedule block 48) 64 same)
+
+-- ---- the schedule
 
 -- a word that is read from the 16 bytes that stand in a block from one place on
 pub word_within : (block : List ℕ) (at k : ℕ) → k < 4 → word_at (chunk at 16 block) (4 * k) ≡ word_at block (at + 4 * k)

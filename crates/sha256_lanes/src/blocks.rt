@@ -1,5 +1,5 @@
 //! The first 16 words of each schedule, which are those of the message's block. Words are read four at a time, as one vector
-//! for each message, and such vectors of four messages are transposed.
+//! for each message, or one for two of eight messages, and four such vectors are transposed.
 ghost use Rattle.std.specs.Prelude.{◌≡◌, ℕ, List, ◌+◌, ◌*◌, ◌<◌, ◌≤◌, [], length, slice_index, slice_index_or};
 ghost use Rattle.sha2.specs.Sha256.{word_at};
 ghost use Rattle.sha256_lanes.specs.Lanes.{lane, one_of};
@@ -8,7 +8,7 @@ ghost use Rattle.sha256_lanes.specs.Schedules.{Schedules};
 
 use crate::padded::Padded;
 use crate::schedule::Schedule;
-use crate::vectors::{Vector, big_endian, joined, transposed};
+use crate::vectors::{Vector, big_endian, joined, transposed, transposed_halves};
 use std::simd::{u8x16, u32x4, u32x8};
 
 /// Writes the words of four blocks.
@@ -32,8 +32,18 @@ pub(crate) fn begin_eight(words: &mut Schedule<u32x8>, messages: &[Padded<'_>; 8
     ensures { (j : ℕ) → j < 8
         → Schedules (lane slice_index j words.new) (block_at (slice_index_or messages.now j []) n) 16 }
 {
+    let [a, b, c, d, e, f, g, h] = messages;
+    let (a, b, c, d) = (a.block(n), b.block(n), c.block(n), d.block(n));
+    let (e, f, g, h) = (e.block(n), f.block(n), g.block(n), h.block(n));
     for turn in 0..4 {
-        put_four(words, &eight_words(messages, n, 4 * turn), 4 * turn);
+        let at = 16 * turn;
+        let four = transposed_halves(
+            words_of_two(a, e, at),
+            words_of_two(b, f, at),
+            words_of_two(c, g, at),
+            words_of_two(d, h, at),
+        );
+        put_four(words, &four, 4 * turn);
     }
 }
 
@@ -71,33 +81,15 @@ fn four_words(a: &[u8], b: &[u8], c: &[u8], d: &[u8], t: usize) -> [u32x4; 4]
     )
 }
 
-// Returns words t to t + 3 of each message's block that has `n` blocks before it.
+// Returns the four words from byte `at` on of `low`, and then those of `high`.
 #[inline(always)]
-fn eight_words(messages: &[Padded<'_>; 8], n: usize, t: usize) -> [u32x8; 4]
-    requires few { t + 4 ≤ 16 }
-    requires long { (j : ℕ) → j < 8 → 64 * (n + 1) ≤ length (slice_index_or messages.now j []) }
-    ensures { (j k : ℕ) → j < 8 → k < 4
-        → slice_index (lane slice_index j result) k ≡ word_at (block_at (slice_index_or messages.now j []) n) (4 * (t + k)) }
+fn words_of_two(low: &[u8], high: &[u8], at: usize) -> u32x8
+    requires low { at + 16 ≤ length low.now }
+    requires high { at + 16 ≤ length high.now }
+    ensures low { (k : ℕ) → k < 4 → slice_index result k ≡ word_at low.now (at + 4 * k) }
+    ensures high { (k : ℕ) → k < 4 → slice_index result (4 + k) ≡ word_at high.now (at + 4 * k) }
 {
-    let [a, b, c, d, e, f, g, h] = messages;
-    let low = four_words(a.block(n), b.block(n), c.block(n), d.block(n), t);
-    let high = four_words(e.block(n), f.block(n), g.block(n), h.block(n), t);
-    all_joined(low, high)
-}
-
-#[inline(always)]
-fn all_joined(low: [u32x4; 4], high: [u32x4; 4]) -> [u32x8; 4]
-    ensures low { (j k : ℕ) → j < 4 → k < 4
-        → slice_index (lane slice_index j result) k ≡ slice_index (lane slice_index j low) k }
-    ensures high { (j k : ℕ) → j < 4 → k < 4
-        → slice_index (lane slice_index (4 + j) result) k ≡ slice_index (lane slice_index j high) k }
-{
-    [
-        joined(low[0], high[0]),
-        joined(low[1], high[1]),
-        joined(low[2], high[2]),
-        joined(low[3], high[3]),
-    ]
+    joined(words_at(low, at), words_at(high, at))
 }
 
 // Returns the four words from a block's byte `at` on.

@@ -153,8 +153,9 @@ fn round<V: Vector>(state: &State<V>, constant: V, word: V) -> State<V>
         → lane V.word j result ≡ round (lane V.word j state.now) (V.word constant j) (V.word word j) }
 {
     let [a, b, c, d, e, f, g, h] = *state;
-    let chosen = h.add(big_sigma1(e)).add(e.choose(f, g));
-    let first = chosen.add(constant).add(word);
+    // What is known longest is added first.
+    let known = h.add(constant).add(word);
+    let first = known.add(big_sigma1(e)).add(e.choose(f, g));
     let second = big_sigma0(a).add(a.majority(b, c));
     [first.add(second), a, b, c, d.add(first), e, f, g]
 }

@@ -51,6 +51,9 @@ fn word_after<V: Vector>(words: &Schedule<V>, t: usize) -> V
     requires high { t < 64 }
     ensures { (j : ℕ) → j < V.width → V.word result j ≡ next_word (lane V.word j words.now) t }
 {
-    let late = small_sigma1(words[t - 2]).add(words[t - 7]);
-    late.add(small_sigma0(words[t - 15])).add(words[t - 16])
+    // The newest of the four words is added last.
+    let early = words[t - 16].add(words[t - 7]);
+    small_sigma0(words[t - 15])
+        .add(early)
+        .add(small_sigma1(words[t - 2]))
 }

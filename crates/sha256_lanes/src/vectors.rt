@@ -110,6 +110,26 @@ pub(crate) fn transposed(a: u32x4, b: u32x4, c: u32x4, d: u32x4) -> [u32x4; 4]
     ]
 }
 
+/// Returns lane k of the lower halves of the four, and then lane k of their upper halves, for each k.
+#[inline(always)]
+pub(crate) fn transposed_halves(a: u32x8, b: u32x8, c: u32x8, d: u32x8) -> [u32x8; 4]
+    ensures low { (j k : ℕ) → j < 4 → k < 4
+        → slice_index (lane slice_index j result) k ≡ slice_index (one_of j a b c d) k }
+    ensures high { (j k : ℕ) → j < 4 → k < 4
+        → slice_index (lane slice_index (4 + j) result) k ≡ slice_index (one_of j a b c d) (4 + k) }
+{
+    let low_odd = a.shuffle(c, [0, 8, 1, 9, 4, 12, 5, 13]);
+    let low_even = b.shuffle(d, [0, 8, 1, 9, 4, 12, 5, 13]);
+    let high_odd = a.shuffle(c, [2, 10, 3, 11, 6, 14, 7, 15]);
+    let high_even = b.shuffle(d, [2, 10, 3, 11, 6, 14, 7, 15]);
+    [
+        low_odd.shuffle(low_even, [0, 8, 1, 9, 4, 12, 5, 13]),
+        low_odd.shuffle(low_even, [2, 10, 3, 11, 6, 14, 7, 15]),
+        high_odd.shuffle(high_even, [0, 8, 1, 9, 4, 12, 5, 13]),
+        high_odd.shuffle(high_even, [2, 10, 3, 11, 6, 14, 7, 15]),
+    ]
+}
+
 /// Returns the lanes of `low`, and then those of `high`.
 #[inline(always)]
 pub(crate) fn joined(low: u32x4, high: u32x4) -> u32x8
