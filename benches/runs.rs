@@ -7,7 +7,7 @@ use std::thread;
 use std::time::Instant;
 
 const PAGES: u32 = 64;
-const RING: usize = 64;
+const RING: usize = 256;
 
 // Request number n of each guest: with a proposal in 16, or stores and loads alone.
 fn request(proposes: bool, n: u32) -> Request {

@@ -17,8 +17,8 @@ use page_forecasts::{FORECASTS, Forecasts, is_changed, is_proposed};
 use page_model::{Entry, Page, Request};
 use std::alloc::Allocator;
 
-/// How many of the next requests are considered.
-const REACH: usize = 64;
+/// How many of the next requests are considered: where one in 16 is a proposal, as many as show seven.
+const REACH: usize = 128;
 
 /// A private page that is proposed, and its frame.
 #[derive(Clone, Copy)]
@@ -115,7 +115,8 @@ fn hash_beside<H: PageHash, A: Allocator>(
 }
 
 /// Returns the salts and frames of a proposed page and of others that these requests propose, at most eight in all. Each of
-/// the others needs a hash, and when it is proposed it will still hold what it holds now.
+/// the others needs a hash, and when it is proposed it will still hold what it holds now. None is looked for past the
+/// seventh that won't.
 fn at_rest<H: PageHash, A: Allocator>(
     held: &Held<H, A>,
     first: Proposal,
@@ -127,33 +128,21 @@ fn at_rest<H: PageHash, A: Allocator>(
 {
     let mut pairs = ArrayVec::new();
     pairs.push((first.salt, first.mpn));
+    let mut changing = 0usize;
     for i in 0..next.len() {
-        if pairs.is_full() {
+        if pairs.is_full() || changing >= FORECASTS {
             return pairs;
         }
-        if let Some(pair) = resting(held, first, &next[..i], &next[i]) {
-            pairs.push(pair);
+        let guest = next[i].guest;
+        if let Some(ppn) = proposed_anew(first, &next[..i], &next[i]) {
+            if is_changed(&next[..i], guest, ppn) {
+                changing += 1;
+            } else if let Some(pair) = unhashed(held, guest as usize, ppn as usize) {
+                pairs.push(pair);
+            }
         }
     }
     pairs
-}
-
-/// Returns the salt and frame of the page that a request proposes, if it isn't the first page, needs a hash, and the
-/// requests before neither propose nor change it.
-fn resting<H: PageHash, A: Allocator>(
-    held: &Held<H, A>,
-    first: Proposal,
-    before: &[Entry],
-    entry: &Entry,
-) -> Option<(u32, u32)>
-    requires whole { Whole H.hash_of held.now }
-    ensures { IfSome result (λ pair. IsPaged (pmap_of held.now) pair.0 pair.1) }
-{
-    let ppn = proposed_anew(first, before, entry)?;
-    if is_changed(before, entry.guest, ppn) {
-        return None;
-    }
-    unhashed(held, entry.guest as usize, ppn as usize)
 }
 
 /// Foresees pages that these requests propose, at most as many as are hashed with this one. Returns how many.

@@ -208,7 +208,7 @@ impl<H: PageHash, A: Allocator> Core<H, A> {
     /// Serves one request of a guest as [`apply`](Core::apply) does, for a caller who knows which requests come `next`.
     ///
     /// If the request proposes a page whose hash isn't known, that hash is computed together with those of up to seven pages
-    /// that the next 64 requests propose, as they will be after the stores and releases before their proposals: eight or four
+    /// that the next 128 requests propose, as they will be after the stores and releases before their proposals: eight or four
     /// at once. If other requests come instead, the answers are the same.
     pub fn apply_ahead(&mut self, guest: u8, request: &Request, next: &[Entry]) -> Verdict
         requires guest { guest < length (state_of self.old).guests }

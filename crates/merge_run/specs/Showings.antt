@@ -12,7 +12,7 @@ pub record Showing : Type 0 where
 
 -- the most requests that are served between two showings
 abbrev pub round_limit : ℕ
-round_limit = 64
+round_limit = 128
 
 -- So many entries were served before the showing. At most a round's more were served by then, and the report is that of the
 -- replay of them all.

@@ -19,8 +19,8 @@ use std::thread::Threads;
 /// How many workers may compute a round's hashes. One of them is the calling thread.
 const WORKERS: u32 = 2;
 
-/// How many requests a round serves at most.
-const LIMIT: u32 = 64;
+/// How many requests a round serves at most: where one in 16 is a proposal, as many as show eight.
+const LIMIT: u32 = 128;
 
 /// How many failed looks the merger makes before it sleeps: they take some 100 microseconds.
 const MOST_LOOKS: u32 = 2_000;

@@ -73,7 +73,7 @@ pub fn run<
     Ok(finished)
 }
 
-/// Runs a machine as [`run`] does, with an observer that is shown the machine's report after each round, at most 64 requests
+/// Runs a machine as [`run`] does, with an observer that is shown the machine's report after each round, at most 128 requests
 /// after the one before. Each time that is the report of the replay of the whole journal so far, and the last time of the
 /// whole run. The observer comes back with what it kept of them.
 ///

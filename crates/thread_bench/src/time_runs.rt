@@ -20,7 +20,8 @@ use std::time::Instant;
 // How many pages each guest has, and how many frames there are for each guest.
 const PAGES: u32 = 64;
 
-const RING: u32 = 64;
+// Room for eight proposals of one guest, as many pages as are hashed at once, and for those that come meanwhile.
+const RING: u32 = 256;
 
 const CHECKED: u32 = 100;
 
@@ -276,7 +277,7 @@ fn print_largest<R: Clock + Print, H: PageHash + Copy>(
 }
 
 /// Makes the largest machine, and prints how many nanoseconds that took. Then prints how many requests were served per
-/// second, with the number asked for from each guest, for 1, 2, 4, 8 and 64 guests over rings of 64 items: of a mix
+/// second, with the number asked for from each guest, for 1, 2, 4, 8 and 64 guests over rings of 256 items: of a mix
 /// with a proposal in 16, and of stores and loads alone. With no number it runs a few requests, and prints how many
 /// verdicts came.
 pub fn time_runs<R: Clock + Threads + Wait + Print + Sync, H: PageHash + Copy>(

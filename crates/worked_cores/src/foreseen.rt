@@ -165,6 +165,26 @@ fn by_eights(rt: HostRuntime) {
     }
 }
 
+/// Adds the lines by which a page is stored to fifteen times and then proposed.
+fn push_sixteen(rt: &impl Abort, lines: &mut Vec<Line>, ppn: u32) {
+    lines.push(stored(ppn)).expect(rt, "memory for a line");
+    for _again in 1..15 {
+        let again = (0, Ask::Store(ppn, ppn.to_be_bytes()[3]), Answer::Stored);
+        lines.push(again).expect(rt, "memory for a line");
+    }
+    lines.push(proposed(ppn)).expect(rt, "memory for a line");
+}
+
+/// Eight pages are hashed at once where one request in 16 is a proposal.
+#[test]
+fn one_in_sixteen(rt: HostRuntime) {
+    let mut lines = Vec::new(rt.alloc());
+    for ppn in 0..8 {
+        push_sixteen(&rt, &mut lines, ppn);
+    }
+    assert_eq!(rt; hashed(&rt, rt.alloc(), &lines), (0, 0, 8));
+}
+
 /// A page that is released and stored to anew is foreseen as it will be then. A page needs no hash if it will be
 /// unmapped, if there is no such page, or if it is shared and not stored to.
 #[test]
