@@ -9,11 +9,22 @@ use std::time::Instant;
 const PAGES: u32 = 64;
 const RING: usize = 256;
 
-// Request number n of each guest: with a proposal in 16, or stores and loads alone.
-fn request(proposes: bool, n: u32) -> Request {
+// What a guest's request number n stores before a proposal: every fourth page holds the same in all guests, and no two of the
+// others do.
+fn content(guest: usize, n: u32) -> [u8; 8] {
+    let [a, b, c, d] = n.to_be_bytes();
+    match n / 16 % 4 {
+        0 => [1; 8],
+        _ => [guest as u8, 2, 2, 2, a, b, c, d],
+    }
+}
+
+// Request number n of a guest: with a proposal in 16, or stores and loads alone.
+fn request(proposes: bool, guest: usize, n: u32) -> Request {
     let turn = if proposes { 16 } else { 2 };
     let ppn = n / turn % PAGES;
     match n % turn {
+        0 if proposes => Request::Store { ppn, at: 0, bytes: Bytes::new(&content(guest, n)) },
         0 => Request::Store { ppn, at: 0, bytes: Bytes::new(&[(ppn % 4) as u8; 8]) },
         15 => Request::Propose(ppn),
         _ => Request::Load { ppn, at: 0, len: 8 },
@@ -54,7 +65,7 @@ fn merge(machine: &mut Machine, ends: Vec<(Receiver<Request>, SyncSender<Verdict
 
 // How many requests of so many guests are served in a second.
 fn rate(guests: usize, requests: u32, proposes: bool) -> u128 {
-    let scripts: Vec<Vec<Request>> = (0..guests).map(|_| (0..requests).map(|n| request(proposes, n)).collect()).collect();
+    let scripts: Vec<Vec<Request>> = (0..guests).map(|guest| (0..requests).map(|n| request(proposes, guest, n)).collect()).collect();
     let pages = vec![PAGES; guests];
     let mut machine = Machine::new(guests * PAGES as usize, &pages, &vec![0; guests]);
     let start = Instant::now();

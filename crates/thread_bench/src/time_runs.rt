@@ -31,7 +31,7 @@ const MOST: u32 = 100_000;
 #[derive(Clone, Copy)]
 enum Mix {
     // Each page is stored to, read and proposed, page after page. One request in 16 is a proposal, since a page's hash
-    // costs far more than all else. Every fourth page holds the same.
+    // costs far more than all else. Every fourth page holds the same in all guests, and no two of the others do.
     Proposals,
     // Alternate stores and loads.
     Plain,
@@ -46,12 +46,12 @@ impl Mix {
     }
 }
 
-// Returns request number n of each guest.
-fn request(mix: Mix, n: u32) -> Request
+// Returns request number n of a guest.
+fn request(mix: Mix, guest: u8, n: u32) -> Request
     ensures { is_close result ≡ false }
 {
     match mix {
-        Mix::Proposals => request_of_proposals(n),
+        Mix::Proposals => request_of_proposals(guest, n),
         Mix::Plain => plain_request(n),
     }
 }
@@ -67,24 +67,34 @@ fn plain_request(n: u32) -> Request
     made.unwrap_or(Request::Count)
 }
 
-fn request_of_proposals(n: u32) -> Request
+// Returns what a guest's request number n stores. Most contents differ, since a page that holds what was just hashed isn't
+// hashed again.
+fn content(guest: u8, n: u32) -> [u8; 8] {
+    let [a, b, c, d] = n.to_be_bytes();
+    match n / 16 % 4 {
+        0 => [1; 8],
+        _ => [guest, 2, 2, 2, a, b, c, d],
+    }
+}
+
+fn request_of_proposals(guest: u8, n: u32) -> Request
     ensures { is_close result ≡ false }
 {
     let ppn = n / 16 % PAGES;
     let made = match n % 16 {
-        0 => Request::store(ppn, 0, &[(ppn % 4) as u8; 8]),
+        0 => Request::store(ppn, 0, &content(guest, n)),
         15 => Ok(Request::Propose(ppn)),
         _ => Request::load(ppn, 0, 8),
     };
     made.unwrap_or(Request::Count)
 }
 
-fn script(alloc: Global, mix: Mix, requests: u32) -> Result<Vec<Request>, AllocError>
+fn script(alloc: Global, mix: Mix, guest: u8, requests: u32) -> Result<Vec<Request>, AllocError>
     ensures { IfOk result (λ script. has_close script.items ≡ false) }
 {
     let mut script = Vec::with_capacity(alloc, requests as usize)?;
     for n in 0..requests {
-        script.push_reserved(request(mix, n));
+        script.push_reserved(request(mix, guest, n));
     }
     Ok(script)
 }
@@ -99,8 +109,8 @@ fn scripts(
     ensures plain { IfOk result (λ scripts. All (λ script. has_close script.items ≡ false) scripts.items) }
 {
     let mut scripts = Vec::with_capacity(alloc, guests as usize)?;
-    for _guest in 0..guests {
-        scripts.push_reserved(script(alloc, mix, requests)?);
+    for guest in 0..guests {
+        scripts.push_reserved(script(alloc, mix, guest, requests)?);
     }
     Ok(scripts)
 }
@@ -154,15 +164,25 @@ fn in_threads<R: Clock + Threads + Wait + Sync, H: PageHash + Copy>(
     }))
 }
 
-// Serves the same request of each guest in turn.
-fn turn<H: PageHash>(core: &mut Core<H>, guests: u8, request: &Request)
+// Serves request number n of each guest in turn.
+fn turn<H: PageHash>(core: &mut Core<H>, guests: u8, mix: Mix, n: u32)
     requires guests { guests ≤ length (state_of core.old).guests }
     requires room { core.old.entries + guests ≤ MAX_ENTRIES }
     ensures guests { length (state_of core.new).guests ≡ length (state_of core.old).guests }
     ensures entries { core.new.entries ≡ core.old.entries + guests }
 {
     for guest in 0..guests {
-        core.apply(guest, request);
+        core.apply(guest, &request(mix, guest, n));
+    }
+}
+
+// Serves the close of each guest in turn.
+fn close_all<H: PageHash>(core: &mut Core<H>, guests: u8)
+    requires guests { guests ≤ length (state_of core.old).guests }
+    requires room { core.old.entries + guests ≤ MAX_ENTRIES }
+{
+    for guest in 0..guests {
+        core.apply(guest, &Request::Close);
     }
 }
 
@@ -185,9 +205,9 @@ fn on_one_thread<R: Clock, H: PageHash + Copy>(
         Err(fault) => return Ok(Err(fault)),
     };
     for n in 0..requests {
-        turn(&mut core, guests, &request(mix, n));
+        turn(&mut core, guests, mix, n);
     }
-    turn(&mut core, guests, &Request::Close);
+    close_all(&mut core, guests);
     let nanoseconds = start.elapsed(rt)?.as_nanos();
     Ok(Ok(Measure {
         verdicts: u64::from(core.entries()),

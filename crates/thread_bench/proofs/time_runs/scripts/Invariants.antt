@@ -3,4 +3,4 @@ use Rattle.share_rings.specs.Closing.{has_close}
 use Rattle.thread_bench.proofs.time_runs.scripts.Given as goal
 
 abbrev pub invariant-loop-guest : goal.invariant-loop-guest
-invariant-loop-guest l = All (λ script. has_close script.items ≡ false) l.scripts.items × (vec_len l.scripts ≡ l._guest) × (l.guests ≤ vec_capacity l.scripts)
+invariant-loop-guest l = All (λ script. has_close script.items ≡ false) l.scripts.items × (vec_len l.scripts ≡ l.guest) × (l.guests ≤ vec_capacity l.scripts)
