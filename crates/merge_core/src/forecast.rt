@@ -20,6 +20,9 @@ use std::alloc::Allocator;
 /// How many of the next requests are considered: where one in 16 is a proposal, as many as show seven.
 const REACH: usize = 128;
 
+/// The fewest foreseen pages for which hashing by eights pays: five beside the proposed one would else take two fours.
+const WORTH_EIGHT_LANES: usize = 5;
+
 /// A private page that is proposed, and its frame.
 #[derive(Clone, Copy)]
 struct Proposal {
@@ -94,8 +97,8 @@ fn hash_foreseen<H: PageHash, A: Allocator>(
     forecasts.hash_of(salt, paged_bytes(held, salt, mpn))
 }
 
-/// Returns the hash of a proposed page, computed together with those of the pages that are foreseen: of all if they are as
-/// many as can be, and otherwise of the first three.
+/// Returns the hash of a proposed page, computed together with those of the foreseen pages: of all of them if they are
+/// worth eight lanes, and otherwise of the first three.
 fn hash_beside<H: PageHash, A: Allocator>(
     held: &Held<H, A>,
     forecasts: &mut Forecasts<H>,
@@ -107,7 +110,7 @@ fn hash_beside<H: PageHash, A: Allocator>(
     ensures { result ≡ H.hash_of first.salt (bytes_in held.now.frames first.mpn) }
 {
     let bytes = paged_bytes(held, first.salt, first.mpn);
-    if count < FORECASTS {
+    if count < WORTH_EIGHT_LANES {
         forecasts.hash_beside_three(&held.hash, first.salt, bytes)
     } else {
         forecasts.hash_beside_seven(&held.hash, first.salt, bytes)

@@ -145,23 +145,20 @@ fn lines_at_rest(rt: &impl Abort, alloc: Global, pages: u32) -> Vec<Line> {
     lines
 }
 
-/// Eight pages are hashed at once; of seven, four at once, and the others in a second four, whose last page is one of
-/// before.
+/// Pages that are each stored to and then proposed are hashed by eights from six on: five others are then in sight of the
+/// first. Pages at rest are hashed by eights if there are eight, and otherwise by fours.
 #[test]
 fn by_eights(rt: HostRuntime) {
-    for (pages, by_fours, by_eights) in [(7, 8, 0), (8, 0, 8)] {
+    for (pages, in_turn, at_rest) in [
+        (5, (1, 4, 0), (1, 4, 0)),
+        (6, (0, 0, 8), (0, 8, 0)),
+        (7, (0, 0, 8), (0, 8, 0)),
+        (8, (0, 0, 8), (0, 0, 8)),
+    ] {
         let lines = lines_in_turn(&rt, rt.alloc(), pages);
-        assert_eq!(rt;
-            hashed(&rt, rt.alloc(), &lines),
-            (0, by_fours, by_eights),
-            "{pages} in turn"
-        );
+        assert_eq!(rt; hashed(&rt, rt.alloc(), &lines), in_turn, "{pages} in turn");
         let lines = lines_at_rest(&rt, rt.alloc(), pages);
-        assert_eq!(rt;
-            hashed(&rt, rt.alloc(), &lines),
-            (0, by_fours, by_eights),
-            "{pages} at rest"
-        );
+        assert_eq!(rt; hashed(&rt, rt.alloc(), &lines), at_rest, "{pages} at rest");
     }
 }
 
