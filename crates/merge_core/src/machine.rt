@@ -1,8 +1,8 @@
 //! The core.
-ghost use Rattle.std.specs.Prelude.{◌≡◌, ◌+◌, ◌<◌, ◌≤◌, length, slice_get, is_some, Some, IsSome, IfOk, IfSome, MatchResult};
+ghost use Rattle.std.specs.Prelude.{◌≡◌, ◌+◌, ◌<◌, ◌≤◌, length, map, slice_get, is_some, Some, IsSome, IfOk, IfSome, MatchResult};
 ghost use Rattle.std.specs.Option.{option_map};
 ghost use Rattle.page_lending.specs.declared.pieces.TheConstants.{STORES_A_PAGE};
-ghost use Rattle.page_digest.specs.Hashes.{four_hashes};
+ghost use Rattle.page_digest.specs.Hashes.{four_hashes, eight_hashes};
 ghost use Rattle.page_model.specs.Limits.{shapes};
 ghost use Rattle.page_model.specs.Pages.{page_at, totals, is_mapped};
 ghost use Rattle.page_model.specs.Replay.{empty_state};
@@ -276,6 +276,13 @@ impl<H: PageHash, A: Allocator> Core<H, A> {
         ensures { result ≡ four_hashes H.hash_of salts a.now b.now c.now d.now }
     {
         self.held.hash.hash_four(salts, a, b, c, d)
+    }
+
+    /// Does the same for eight pages: eight at once if the hash can, and otherwise by two fours.
+    pub fn hash_eight(&self, salts: [u32; 8], pages: [&Page; 8]) -> [u64; 8]
+        ensures { result ≡ eight_hashes H.hash_of salts (map (λ page. page.now) pages.entry) }
+    {
+        self.held.hash.hash_eight(salts, pages)
     }
 
     /// Restarts the count of requests at 0, for a machine that serves more than the count can hold.
