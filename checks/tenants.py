@@ -5,7 +5,7 @@
 
 COUNT random journals, by default 1,000, follow from SEED, by default 1. In each the guests of two tenants have two salts. The journal
 is replayed whole, and without the second tenant's entries. Where both premises of the law hold, the lines of the first tenant's
-guests must be the same, but for the numbers of `totals`. The premises are looked at here, beside the program's verdicts alone:
+guests must be the same, but for the numbers of `totals`. The premises are worked out here, from the requests and their verdicts:
 
 - none of these lines is `no-frame`;
 - no key under which one of these guests proposed a private page is one under which a guest of the second tenant did. A key is
@@ -97,8 +97,8 @@ def keys_proposed(requests, verdicts, salts):
     return keys
 
 
-def ends_of(lines, requests, verdicts, salts, first):
-    """The premises that fail."""
+def failing_premises(lines, requests, verdicts, salts, first):
+    """The premises of the law that fail, in words."""
     own = {salts[guest] for guest in first}
     keys = keys_proposed(requests, verdicts, salts)
     ours = set().union(*(it for salt, it in keys.items() if salt in own))
@@ -121,7 +121,7 @@ def main(count=1000, seed=1, program=str(TOP / "out/pageshare")):
         own = [line for line in requests if guest_of(line) in first]
         whole = [verdict for line, verdict in zip(requests, verdicts) if guest_of(line) in first]
         same = len(verdicts) == len(requests) and whole == replayed(program, text_of(lines, own))
-        return nth, " and ".join(ends_of(lines, requests, verdicts, salts, first)), same
+        return nth, " and ".join(failing_premises(lines, requests, verdicts, salts, first)), same
 
     with concurrent.futures.ThreadPoolExecutor(os.cpu_count()) as pool:
         for nth, fails, same in pool.map(tried, range(count)):
