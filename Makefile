@@ -1,4 +1,4 @@
-.PHONY: test edits build demo commands estimate fleet no-thread embed guests fuzz soak hints bench bench-v3
+.PHONY: test edits build demo commands estimate fleet no-thread embed guests fuzz tenants soak hints bench bench-v3
 
 # The gate is these two commands. Both say how far they are and what failed, and leave the times of their steps at out/gate.tsv. On
 # a machine that has run none of it all is done from nothing.
@@ -67,6 +67,10 @@ out/%_bench-v3: $(SOURCES)
 # Outside the gate: 100,000 broken texts, each of which must get its output or one fault line (COUNT and SEED may be given).
 fuzz: out/pageshare
 	checks/fuzz.py $(or $(COUNT),100000) $(SEED)
+
+# Outside the gate: 1,000 random journals of two tenants, with and without the second one's entries (COUNT and SEED may be given).
+tenants: out/pageshare
+	checks/tenants.py $(or $(COUNT),1000) $(SEED)
 
 # Outside the gate: random scripts through threads, their journals replayed, for ten minutes (SECONDS and SEED may be given).
 soak: out/pageshare
