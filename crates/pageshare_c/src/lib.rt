@@ -30,6 +30,7 @@ mod find;
 mod framed;
 mod group;
 mod hashed_core;
+mod laws;
 mod machine;
 mod make;
 mod parcel;
@@ -42,6 +43,7 @@ pub use answer::{Answer, NO_FRAME, Refusal, Totals};
 use answer::{refuse, status_of};
 pub use group::Lending;
 pub use hashed_core::HashedCore;
+pub use laws::numbers_law;
 pub use machine::Machine;
 pub use machine_frames::Region;
 use make::{SHA256, make};
@@ -261,6 +263,28 @@ pub extern "C" fn pageshare_lend_four(
         None => 6,
         Some(mut core) => {
             core.lend_four(pages, answers);
+            machine.put(core);
+            0
+        }
+    }
+}
+
+/// Lends eight pages as [`pageshare_lend_four`] lends four. With the wide SHA-256 eight hashes are computed together, and with
+/// SHA-256 four and four.
+#[unsafe(no_mangle)]
+pub extern "C" fn pageshare_lend_eight(
+    alloc: Global,
+    machine: &mut Machine,
+    pages: &[Lending<'_>; 8],
+    answers: &mut [Answer; 8],
+) -> u32
+    ensures lends { LendsGroup pages.now answers.old answers.new machine.old.slot.core machine.new.slot.core }
+    ensures status { result ≡ held_status machine.old.slot.core }
+{
+    match machine.take(alloc) {
+        None => 6,
+        Some(mut core) => {
+            core.lend_eight(pages, answers);
             machine.put(core);
             0
         }
