@@ -5,7 +5,7 @@ ghost use Rattle.page_digest.specs.Hashes.{sha256_hash};
 ghost use Rattle.watched_machine.specs.Publishing.{AreReportsOf};
 
 use crate::config::config_of;
-use merge_run::{Fault, JournalFull, Merger, Step, open_machine};
+use merge_run::{Fault, JournalFull, Machine, Merger, Step};
 use page_digest::Sha256Hash;
 use page_model::Report;
 use share_rings::Port;
@@ -34,7 +34,7 @@ pub fn new_machine<R: Wait, A: Allocator + Copy>(
     ensures guests { IfOk result (λ (watched, _). guest_count watched.merger ≡ length pages.now) }
 {
     let config = config_of(alloc, frames, pages, ring, journal)?;
-    let (merger, ports) = open_machine(alloc, &config, Sha256Hash)?;
+    let (merger, ports) = Machine::new(alloc, &config, Sha256Hash)?;
     match Publisher::new(alloc, rt) {
         Ok(publisher) => Ok((Watched { merger, publisher }, ports)),
         Err(OutOfMemory) => Err(Fault::OutOfMemory),
