@@ -134,6 +134,7 @@ def many_requests():
     for what, lines, verdict in [
         ("requests", "0 load 0 0 1\n" * count + f"end {count}\n", "bytes 00"),
         ("proposals of one scan", f"0 scan sequential {count}\nend 1\n", "unmapped"),
+        ("proposals of one random scan", f"0 scan random 7 {count}\nend 1\n", "unmapped"),
     ]:
         due = f"0 {verdict}\n" * count + f"0 closed\nreport entries {count + 1} {zeros}"
         for command in ["serial", "run"]:
