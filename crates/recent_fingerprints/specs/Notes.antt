@@ -1,12 +1,14 @@
 -- The last notes, as callers see them.
-use Rattle.std.specs.Prelude.{ℕ, Bool, ◌&&◌, ◌==◌, not, List, [], ◌∷◌, take}
+use Rattle.std.specs.Prelude.{ℕ, Bool, ◌&&◌, ◌==◌, not, List, [], ◌∷◌, take, bit_or}
 use Rattle.std.specs.List.{list_any}
 use Rattle.recent_fingerprints.specs.declared.note.Note.{Note}
 use Rattle.recent_fingerprints.specs.declared.note.PageName.{PageName}
 
--- how many notes are kept, and these, newest first
+-- how many notes are kept, and these, newest first; and the number by which fingerprints are spread over buckets, on which no
+-- answer depends
 pub record Recent : Type 0 where
   pub places : ℕ
+  pub factor : ℕ
   pub notes : List Note
 
 -- the note of a page with its fingerprint
@@ -29,9 +31,9 @@ is_other asked note = (note.fingerprint == asked.fingerprint) && not (is_same_pa
 abbrev pub was_noted : PageName → ℕ → List Note → Bool
 was_noted page fingerprint notes = list_any (is_other (note_of page fingerprint)) notes
 
--- no notes
-abbrev pub nothing_noted : ℕ → Recent
-nothing_noted places = record { places = places; notes = [] }
+-- no notes; the factor is the seed made odd
+abbrev pub nothing_noted : ℕ → ℕ → Recent
+nothing_noted places seed = record { places = places; factor = bit_or seed 1; notes = [] }
 
 -- one more note, and the oldest is forgotten where there are more than places
 abbrev pub with_note : PageName → ℕ → Recent → Recent

@@ -42,6 +42,7 @@ impl<A: Allocator> Chains<A> {
         requires { AreKept self.old.ring.items self.old.heads.items self.old.buckets.factor self.old.buckets.shift self.old.places self.old.newest (deque_capacity self.old.ring) }
         ensures kept { AreKept self.new.ring.items self.new.heads.items self.new.buckets.factor self.new.buckets.shift self.new.places self.new.newest (deque_capacity self.new.ring) }
         ensures places { self.new.places ≡ self.old.places }
+        ensures factor { self.new.buckets.factor ≡ self.old.buckets.factor }
         ensures notes { map note_in self.new.ring.items ≡ take self.old.places (note ∷ map note_in self.old.ring.items) }
     {
         let bucket = self.buckets.of(note.fingerprint);

@@ -27,7 +27,7 @@ impl<A: Allocator> Model for RecentFingerprints<A> {
 
     ghost Value = { Recent };
 
-    ghost view = { λ r. record { places = r.chains.places; notes = map note_in r.chains.ring.items } };
+    ghost view = { λ r. record { places = r.chains.places; factor = r.chains.buckets.factor; notes = map note_in r.chains.ring.items } };
 
     ghost invariant = { λ r. AreKept r.chains.ring.items r.chains.heads.items r.chains.buckets.factor r.chains.buckets.shift r.chains.places r.chains.newest (deque_capacity r.chains.ring) };
 }
@@ -40,7 +40,7 @@ impl<A: Allocator + Clone> RecentFingerprints<A> {
     pub fn new(alloc: A, places: u32, seed: u64) -> Result<RecentFingerprints<A>, AllocError>
         requires some { 1 ≤ places }
         requires limit { places ≤ MAX_PLACES }
-        ensures { IfOk result (λ recent. recent ≡ nothing_noted places) }
+        ensures { IfOk result (λ recent. recent ≡ nothing_noted places seed) }
     {
         let (count, shift) = bucket_count(places);
         let mut heads = Vec::new(alloc.clone()?);
