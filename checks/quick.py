@@ -4,8 +4,8 @@
     checks/quick.py [PROGRAM]
 
 PROGRAM is by default out/pageshare. Nothing is built here. Runs commands.py, 1,000 texts of fuzz.py, 200 journals of tenants.py, ten
-seconds of soak.py and 100 images of estimate.py, and prints what they print. The last line is `N passed, M failed`, of all of them (status 0 where all
-passed, else 1).
+seconds of soak.py, 100 images of estimate.py and the live process of live.py, and prints what they print. The last line is
+`N passed, M failed`, of all of them (status 0 where all passed, else 1).
 """
 import pathlib
 import re
@@ -20,6 +20,7 @@ CHECKS = [
     ("tenants.py", ["200", SEED]),
     ("soak.py", ["10", SEED]),
     ("estimate.py", ["100", SEED]),
+    ("live.py", []),
 ]
 CLOSING = re.compile(r"^(\d+) passed, (\d+) failed\n\Z", re.M)
 
