@@ -114,10 +114,10 @@ class Progress:
         print(line, file=self.log, flush=True)
         self.last = [*self.last[-29:], line]
         self.note_section(line)
-        for found, heard in ((DONE.match(line), self.proved), (TESTED.match(line), self.tested)):
+        for found, heard, what in ((DONE.match(line), self.proved, ""), (TESTED.match(line), self.tested, ": its tests")):
             if found:
                 heard.add(found[1])
-                self.show(f"{found[1]}{': its tests' if heard is self.tested else ''} proved")
+                self.show(f"{found[1]}{what} {'kept from an earlier run' if 'is kept' in line else 'proved'}")
         if TRIED.match(line):
             self.edits += 1
             self.show(line if not self.is_drawn else "")
