@@ -1,0 +1,9 @@
+pub mod SlotLists
+pub mod Moves
+pub mod Lent
+pub mod Given
+pub mod Sounds
+pub mod Owned
+pub mod Empty
+pub mod Refused
+pub mod Lends

@@ -1,0 +1,16 @@
+//! What slots hold.
+
+/// What a slot holds that isn't free: the client whose it is, and the frame that has the page's bytes.
+#[derive(Clone, Copy, Debug, PartialEq, Eq)]
+pub struct Holding {
+    pub client: u32,
+    pub frame: u32,
+}
+
+/// A page that was lent: its slot, its frame, and how many slots have this frame now, with this one.
+#[derive(Clone, Copy, Debug, PartialEq, Eq)]
+pub struct PageLoan {
+    pub ppn: u32,
+    pub frame: u32,
+    pub sharers: u32,
+}

@@ -1,0 +1,178 @@
+//! Slots over a core.
+ghost use Rattle.std.specs.Prelude.{◌≡◌, ◌≤◌, length, None, Some, IfOk, MatchResult, slice_set};
+ghost use Rattle.page_model.specs.declared.limits.TheConstants.{MAX_FRAMES, MAX_PAGES};
+ghost use Rattle.machine_frames.specs.FrameMap.{no_frames};
+ghost use Rattle.lent_slots.specs.Totals.{held_slots, frames_in_use, shared_slots, FramesOfSlots, empty_machine};
+ghost use Rattle.lent_slots.specs.Slots.{holding, LendsPage, RefusesPage, released, freed, left_free, without};
+
+use crate::core_slots::{hold, take};
+use crate::count::{add_sharer, count_shared, drop_sharer};
+use crate::fault::SlotFault;
+use crate::holding::{Holding, PageLoan};
+use crate::make::{new_core, new_counts, new_free, new_slots};
+use machine_frames::Frames;
+use merge_core::{Core, SaltedHash};
+use page_digest::PageHash;
+use page_model::Page;
+use std::alloc::{AllocError, Allocator, Global};
+use std::marker::Model;
+
+/// Slots and their frames: the core that has the frames, what each slot holds, the slots that are free, and how many slots have
+/// each frame.
+#[derive(Drop)]
+pub struct LentSlots<H: PageHash, A: Allocator = Global> {
+    core: Core<H, A>,
+    slots: Vec<Option<Holding>, A>,
+    free: Vec<u32, A>,
+    counts: Vec<u32, A>,
+}
+
+impl<H: PageHash, A: Allocator> Model for LentSlots<H, A> {
+    ghost use Rattle.std.specs.Prelude.{length, ◌≤◌, vec_capacity};
+    ghost use Rattle.lent_slots.specs.Slots.{MachineView};
+    ghost use Rattle.lent_slots.specs.Fits.{Sound};
+
+    ghost Value = { MachineView };
+
+    ghost view = { λ m. record { slots = m.slots.items; frames = m.core.frames } };
+
+    ghost invariant = { λ m. Sound m.core m.slots.items m.free.items m.counts.items × (length m.slots.items ≤ vec_capacity m.free) };
+}
+
+impl<H: PageHash + Drop, A: Allocator + Clone> LentSlots<H, A> {
+    /// Makes `count` slots over these frames, all of them free. Pages are hashed under the salt. There are 1 to 1,048,576 slots, and
+    /// 2 to 1,048,576 frames, one of which is spare. All other memory is allocated here.
+    pub fn new(
+        alloc: A,
+        count: u32,
+        salt: u32,
+        hash: H,
+        frames: Frames<A>,
+    ) -> Result<LentSlots<H, A>, AllocError>
+        requires slots { (1 ≤ count) × (count ≤ MAX_PAGES) }
+        requires frames { (2 ≤ length frames) × (length frames ≤ MAX_FRAMES) × (frames ≡ no_frames (length frames)) }
+        ensures { IfOk result (λ slots. slots ≡ empty_machine count (length frames)) }
+    {
+        let counts = new_counts(alloc.clone()?, frames.total())?;
+        let free = new_free(alloc.clone()?, count)?;
+        let slots = new_slots(alloc.clone()?, count)?;
+        let core = new_core(alloc, count, salt, hash, frames)?;
+        Ok(LentSlots {
+            core,
+            slots,
+            free,
+            counts,
+        })
+    }
+}
+
+impl<H: PageHash, A: Allocator> LentSlots<H, A> {
+    /// Lends a client's page, whose hash under a salt is known: puts it into a free slot, where it joins the pages that are equal to
+    /// it, or gets a frame of its own. If the salt isn't that of the slots, the hash is ignored. It allocates no memory.
+    ///
+    /// # Errors
+    ///
+    /// No slot is free, or the page joined no other and all frames but the spare one are in use. Then nothing changed.
+    pub fn lend(
+        &mut self,
+        client: u32,
+        page: &Page,
+        known: SaltedHash,
+    ) -> Result<PageLoan, SlotFault>
+        requires hash { known.hash ≡ H.hash_of known.salt page.now }
+        ensures lends { MatchResult result (λ loan. LendsPage client page.now loan self.old self.new)
+            (λ fault. RefusesPage fault self.old × (self.new ≡ self.old)) }
+    {
+        match self.free.pop() {
+            None => Err(SlotFault::NoSlot),
+            Some(ppn) => match hold(&mut self.core, &mut self.slots, client, ppn, page, known) {
+                None => {
+                    self.free.push_reserved(ppn);
+                    Err(SlotFault::NoFrame)
+                }
+                Some(frame) => {
+                    let sharers = add_sharer(&mut self.counts, frame);
+                    Ok(PageLoan {
+                        ppn,
+                        frame,
+                        sharers,
+                    })
+                }
+            },
+        }
+    }
+
+    /// Returns what a slot holds, `None` if it is free or there is no such slot.
+    pub fn holding(&self, ppn: u32) -> Option<Holding>
+        ensures { result ≡ holding self.now.slots ppn }
+    {
+        if ppn as usize >= self.slots.len() {
+            return None;
+        }
+        self.slots[ppn as usize]
+    }
+
+    /// Releases a slot, and returns the frame that is free since: that of the slot, unless other slots have it, too. A slot that is
+    /// free stays so. It allocates no memory.
+    pub fn release(&mut self, ppn: u32) -> Option<u32>
+        ensures freed { result ≡ freed ppn self.old }
+        ensures now { self.new ≡ released ppn self.old }
+    {
+        match self.holding(ppn) {
+            None => None,
+            Some(held) => self.give_up(ppn, held),
+        }
+    }
+
+    /// Releases a slot that holds this.
+    fn give_up(&mut self, ppn: u32, held: Holding) -> Option<u32>
+        requires { holding self.old.slots ppn ≡ Some held }
+        ensures freed { result ≡ left_free (slice_set self.old.slots ppn None) held.frame }
+        ensures now { self.new ≡ without self.old ppn held.frame }
+    {
+        take(&mut self.core, &self.slots, ppn, held);
+        self.slots[ppn as usize] = None;
+        self.free.push_reserved(ppn);
+        let sharers = drop_sharer(&mut self.counts, held.frame);
+        if sharers == 0 { Some(held.frame) } else { None }
+    }
+
+    /// Returns the frames. A frame is taken exactly where slots have it.
+    pub fn frames(&self) -> &Frames<A>
+        ensures value { result.now ≡ self.now.frames }
+        ensures slots { FramesOfSlots self.now }
+    {
+        self.core.frames()
+    }
+
+    /// Returns what the slots hold.
+    pub fn slots(&self) -> &[Option<Holding>]
+        ensures { result.now ≡ self.now.slots }
+    {
+        &self.slots
+    }
+
+    /// Returns how many slots are held.
+    pub fn held(&self) -> u32
+        ensures count { result ≡ held_slots self.now }
+        ensures few { result ≤ 1048576 }
+    {
+        (self.slots.len() - self.free.len()) as u32
+    }
+
+    /// Returns how many frames are in use.
+    pub fn frames_in_use(&self) -> u32
+        ensures count { result ≡ frames_in_use self.now }
+        ensures few { result ≤ 1048576 }
+    {
+        self.core.frames().used()
+    }
+
+    /// Returns how many slots have a frame that another slot has, too.
+    pub fn shared(&self) -> u32
+        ensures count { result ≡ shared_slots self.now }
+        ensures few { result ≤ 1048576 }
+    {
+        count_shared(&self.slots, &self.counts)
+    }
+}

@@ -1,0 +1,97 @@
+//! Pages that clients lend and release.
+use lent_slots::{LentSlots, SlotFault};
+use machine_frames::Frames;
+use merge_core::SaltedHash;
+use page_digest::{FoldHash, PageHash};
+use page_model::Page;
+use std::alloc::Global;
+use std::process::Abort;
+
+/// What is asked. A page's bytes are all the one named.
+#[derive(Clone, Copy)]
+enum Ask {
+    /// This client lends a page.
+    Lend(u32, u8),
+    /// This slot is released.
+    Release(u32),
+}
+
+/// What is seen of a call.
+#[derive(Clone, Copy, Debug, PartialEq, Eq)]
+enum Seen {
+    /// So many slots have the page's frame.
+    Lent(u32),
+    NoSlot,
+    NoFrame,
+    /// Whether a frame is free since.
+    Released(bool),
+}
+
+/// What is asked, what is seen of it, and then the slots held, the frames in use and the slots that share.
+type Line = (Ask, Seen, [u32; 3]);
+
+const SALT: u32 = 7;
+
+/// Makes slots over so many frames.
+fn slots_of(rt: &impl Abort, alloc: Global, count: u32, frames: u32) -> LentSlots<FoldHash> {
+    assert!(rt; count >= 1 && count <= 1_048_576);
+    assert!(rt; frames >= 2 && frames <= 1_048_576);
+    let frames = Frames::new(alloc, frames).expect(rt, "there is memory");
+    LentSlots::new(alloc, count, SALT, FoldHash, frames).expect(rt, "there is memory")
+}
+
+fn lend(slots: &mut LentSlots<FoldHash>, client: u32, byte: u8) -> Seen {
+    let page = [byte; 4096];
+    let known = SaltedHash {
+        salt: SALT,
+        hash: FoldHash.hash(SALT, &page),
+    };
+    match slots.lend(client, &page, known) {
+        Ok(loan) => Seen::Lent(loan.sharers),
+        Err(SlotFault::NoSlot) => Seen::NoSlot,
+        Err(SlotFault::NoFrame) => Seen::NoFrame,
+    }
+}
+
+fn serve(slots: &mut LentSlots<FoldHash>, ask: Ask) -> Seen {
+    match ask {
+        Ask::Lend(client, byte) => lend(slots, client, byte),
+        Ask::Release(ppn) => Seen::Released(slots.release(ppn).is_some()),
+    }
+}
+
+fn counts_of(slots: &LentSlots<FoldHash>) -> [u32; 3] {
+    [slots.held(), slots.frames_in_use(), slots.shared()]
+}
+
+/// Asks one after the other, and looks for what is to be seen.
+fn expect_lines(rt: &impl Abort, mut slots: LentSlots<FoldHash>, lines: &[Line]) {
+    for (ask, seen, counts) in lines {
+        let is = serve(&mut slots, *ask);
+        assert!(rt; is == *seen);
+        let counted = counts_of(&slots);
+        assert!(rt; counted == *counts);
+    }
+}
+
+const LINES: [Line; 12] = [
+    (Ask::Lend(0, 5), Seen::Lent(1), [1, 1, 0]),
+    (Ask::Lend(1, 5), Seen::Lent(2), [2, 1, 2]),
+    (Ask::Lend(1, 5), Seen::Lent(3), [3, 1, 3]),
+    (Ask::Lend(0, 6), Seen::Lent(1), [4, 2, 3]),
+    // All frames but the spare one are in use.
+    (Ask::Lend(0, 7), Seen::NoFrame, [4, 2, 3]),
+    (Ask::Lend(2, 6), Seen::Lent(2), [5, 2, 5]),
+    (Ask::Lend(2, 6), Seen::NoSlot, [5, 2, 5]),
+    (Ask::Release(9), Seen::Released(false), [5, 2, 5]),
+    (Ask::Release(1), Seen::Released(false), [4, 2, 3]),
+    (Ask::Release(0), Seen::Released(true), [3, 1, 3]),
+    (Ask::Release(0), Seen::Released(false), [3, 1, 3]),
+    (Ask::Lend(0, 7), Seen::Lent(1), [4, 2, 3]),
+];
+
+#[test]
+fn pages_are_lent_and_released(rt: HostRuntime) {
+    let slots = slots_of(&rt, rt.alloc(), 5, 3);
+    expect_lines(&rt, slots, &LINES);
+}
