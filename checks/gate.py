@@ -38,7 +38,12 @@ PROGRAM = "crates/pageshare/out/pageshare"
 CHECK = 5_000_000
 # Of each command: its steps, each with the words that run it, and whether these take --anew.
 COMMANDS = {
-    "test": [("rt ci", ["rt", "ci"], True), ("runs", ["checks/quick.py", PROGRAM], False), ("documents", ["checks/names.py"], False)],
+    "test": [
+        ("rt ci", ["rt", "ci"], True),
+        ("runs", ["checks/quick.py", PROGRAM], False),
+        ("documents", ["checks/names.py"], False),
+        ("map of crates", ["checks/map.py", "--check"], False),
+    ],
     "edits": [("edits' test", ["checks/edits_test.py"], False), ("edits", ["checks/edits.py"], True)],
 }
 # What each command takes from nothing, in processor minutes (measured on processors of 2.5 GHz).
