@@ -2,6 +2,7 @@
 //!
 //! The contracts of those crates cite their limits by name. The functions' bodies are empty: the contract is all there is.
 #![tactic(auto)]
+
 ghost use Rattle.std.specs.Prelude.{◌≡◌};
 ghost use Rattle.page_digests.specs.declared.sample.TheConstants.{MAX_SAMPLE};
 ghost use Rattle.page_lending.specs.declared.pieces.TheConstants.{STORES_A_PAGE};
