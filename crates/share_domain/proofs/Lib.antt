@@ -1,0 +1,4 @@
+pub mod Leaves
+pub mod Machines
+pub mod Made
+pub mod Sums

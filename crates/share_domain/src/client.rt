@@ -1,0 +1,15 @@
+//! Clients.
+
+/// What stands for a frame where a released slot freed none: no frame has this number.
+pub const NO_FRAME: u32 = u32::MAX;
+
+/// Where a client's number is in its life.
+#[derive(Clone, Copy, Debug, PartialEq, Eq)]
+pub enum Presence {
+    /// No client has the number.
+    Out,
+    /// The client with the number may lend pages.
+    In,
+    /// The client with the number has begun to leave, and may still have slots.
+    Leaving,
+}

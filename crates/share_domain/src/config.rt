@@ -1,0 +1,48 @@
+//! The sizes of a domain.
+ghost use Rattle.std.specs.Prelude.{OnOk, IfErr};
+ghost use Rattle.share_domain.specs.Made.{AreLimits, NoDomainFor};
+
+use crate::fault::DomainFault;
+use page_model::{MAX_FRAMES, MAX_PAGES};
+
+/// The most machines that a domain has.
+pub const MAX_MACHINES: u32 = 64;
+
+/// The most clients that are in at a time.
+pub const MAX_CLIENTS: u32 = 65_536;
+
+/// The sizes of a domain, and the salt of its pages.
+#[derive(Clone, Copy, Debug, PartialEq, Eq)]
+pub struct DomainConfig {
+    /// How many machines there are: 1 to 64.
+    pub machines: u32,
+    /// How many slots each machine has: 1 to 1,048,576.
+    pub slots: u32,
+    /// How many frames each machine has: 2 to 1,048,576. One of them is spare: it is in use only within a call.
+    pub frames: u32,
+    /// How many clients may be in at a time: 1 to 65,536.
+    pub clients: u32,
+    /// The salt under which pages are hashed. Draw it at random and keep it secret, so that no client can choose pages whose
+    /// hashes are equal.
+    pub salt: u32,
+}
+
+/// Checks that there may be a domain with these numbers.
+pub(crate) fn check_limits(config: &DomainConfig) -> Result<(), DomainFault>
+    ensures ok { OnOk result (AreLimits config.now) }
+    ensures fault { IfErr result (λ fault. NoDomainFor config.now fault) }
+{
+    if config.machines == 0 || config.machines > MAX_MACHINES {
+        return Err(DomainFault::Machines);
+    }
+    if config.slots == 0 || config.slots > MAX_PAGES {
+        return Err(DomainFault::Slots);
+    }
+    if config.frames < 2 || config.frames > MAX_FRAMES {
+        return Err(DomainFault::Frames);
+    }
+    if config.clients == 0 || config.clients > MAX_CLIENTS {
+        return Err(DomainFault::Clients);
+    }
+    Ok(())
+}

@@ -1,0 +1,252 @@
+//! The domain.
+ghost use Rattle.std.specs.Prelude.{◌≡◌, ◌<◌, ◌≤◌, ◌++◌, drop, length, IfOk, IfSome, MatchOption, MatchResult, slice_get};
+ghost use Rattle.share_domain.specs.Domains.{next_client, entered, page_machine, LendsIn, RefusesIn, release_answer, after_release};
+ghost use Rattle.share_domain.specs.Domains.{held_in, machine_at, with_client, with_machines, with_released, freed_in};
+ghost use Rattle.share_domain.specs.Leaving.{Leaves, StaysOut, first_slot, is_here, left_by};
+ghost use Rattle.share_domain.specs.Made.{AreLimits, AreFree, NoDomainFor, empty_domain};
+ghost use Rattle.share_domain.specs.Totals.{domain_totals};
+ghost use Rattle.lent_slots.specs.Totals.{FramesOfSlots};
+
+use crate::client::Presence;
+use crate::clients::{find_out, is_here, is_in};
+use crate::config::{DomainConfig, check_limits};
+use crate::fault::{DomainFault, LendFault, NoSuchSlot};
+use crate::holding::{Loan, Slot};
+use crate::leave::{find_slot, is_of, told};
+use crate::lend::{holding_at, lend_at, machine_of, release_at};
+use crate::make::{new_clients, new_frames, new_machines};
+use crate::report::{DomainReport, report};
+use lent_slots::{Holding, LentSlots, SlotFault};
+use machine_frames::Frames;
+use merge_core::SaltedHash;
+use page_digest::PageHash;
+use page_model::Page;
+use std::alloc::{AllocError, Allocator, Global};
+use std::marker::Model;
+
+/// A domain: one to 64 machines, whose slots belong to clients.
+#[derive(Drop)]
+pub struct Domain<H: PageHash, A: Allocator = Global> {
+    hash: H,
+    salt: u32,
+    frames: u32,
+    machines: Vec<LentSlots<H, A>, A>,
+    clients: Vec<Presence, A>,
+}
+
+impl<H: PageHash, A: Allocator> Model for Domain<H, A> {
+    ghost use Rattle.share_domain.specs.Domains.{DomainView};
+    ghost use Rattle.share_domain.specs.Sound.{SoundDomain};
+
+    ghost Value = { DomainView };
+
+    ghost view = { λ d. record { salt = d.salt; frames = d.frames; machines = d.machines.items; clients = d.clients.items } };
+
+    ghost invariant = { λ d. SoundDomain d.frames d.machines.items d.clients.items };
+}
+
+impl<H: PageHash + Drop + Copy, A: Allocator + Clone> Domain<H, A> {
+    /// Makes a domain with no client in. All its memory is allocated here.
+    pub fn new(alloc: A, config: &DomainConfig, hash: H) -> Result<Domain<H, A>, DomainFault>
+        ensures empty { IfOk result (λ domain. domain ≡ empty_domain config.now) }
+        ensures fault { MatchResult result (λ _. AreLimits config.now) (λ fault. NoDomainFor config.now fault) }
+    {
+        check_limits(config)?;
+        let frames = new_frames(alloc.clone()?, config)?;
+        Ok(Domain::with_frames(alloc, config, hash, frames)?)
+    }
+
+    /// Makes a domain with these frames, all of them free: those of machine 0 first. The caller may have made them in a region of
+    /// its own ([`Frames::in_region`]), of which each machine has a part. All other memory of the domain is allocated here.
+    pub fn with_frames(
+        alloc: A,
+        config: &DomainConfig,
+        hash: H,
+        frames: Vec<Frames<A>, A>,
+    ) -> Result<Domain<H, A>, AllocError>
+        requires limits { AreLimits config.now }
+        requires frames { AreFree config.now frames.items }
+        ensures { IfOk result (λ domain. domain ≡ empty_domain config.now) }
+    {
+        let machines = new_machines(alloc.clone()?, config, hash, frames)?;
+        let clients = new_clients(alloc, config.clients)?;
+        Ok(Domain {
+            hash,
+            salt: config.salt,
+            frames: config.frames,
+            machines,
+            clients,
+        })
+    }
+}
+
+impl<H: PageHash, A: Allocator> Domain<H, A> {
+    /// Lets a client in, and returns its number: the first that no client has. Returns `None` if as many clients are in as there
+    /// may be.
+    pub fn enter(&mut self) -> Option<u32>
+        ensures client { result ≡ next_client self.old }
+        ensures now { self.new ≡ entered self.old result }
+    {
+        match find_out(&self.clients) {
+            None => None,
+            Some(client) => {
+                self.note(client, Presence::In);
+                Some(client)
+            }
+        }
+    }
+
+    /// Lends a client's page: puts it into a free slot of the machine that its hash names, where it joins the pages that are equal
+    /// to it or gets a frame of its own.
+    ///
+    /// # Errors
+    ///
+    /// The client isn't in or has begun to leave; the machine has no free slot; or the page joined no other, and all frames of the
+    /// machine but the spare one are in use. Then nothing changed.
+    pub fn lend(&mut self, client: u32, page: &Page) -> Result<Loan, LendFault>
+        ensures lends { MatchResult result
+            (λ loan. LendsIn (page_machine H.hash_of self.old page.now) client page.now loan self.old self.new)
+            (λ fault. RefusesIn (page_machine H.hash_of self.old page.now) client fault self.old × (self.new ≡ self.old)) }
+    {
+        if !is_in(&self.clients, client) {
+            return Err(LendFault::NoClient);
+        }
+        let hash = self.hash.hash(self.salt, page);
+        let m = machine_of(self.machines.len(), hash);
+        let known = SaltedHash {
+            salt: self.salt,
+            hash,
+        };
+        match lend_at(&mut self.machines, m, client, page, known) {
+            Err(SlotFault::NoSlot) => Err(LendFault::NoSlot),
+            Err(SlotFault::NoFrame) => Err(LendFault::NoFrame),
+            Ok(lent) => Ok(Loan {
+                slot: Slot {
+                    machine: m as u32,
+                    ppn: lent.ppn,
+                },
+                frame: m as u32 * self.frames + lent.frame,
+                sharers: lent.sharers,
+            }),
+        }
+    }
+
+    /// Releases a client's slot, and returns the frame that is free since: that of the slot, unless other slots have it, too.
+    ///
+    /// # Errors
+    ///
+    /// The slot isn't the client's. Then nothing changed.
+    pub fn release(&mut self, client: u32, slot: Slot) -> Result<Option<u32>, NoSuchSlot>
+        ensures answer { result ≡ release_answer client slot self.old }
+        ensures now { self.new ≡ after_release client slot self.old }
+    {
+        if !is_of(client, &holding_at(&self.machines, slot)) {
+            return Err(NoSuchSlot);
+        }
+        Ok(self.give_up(slot))
+    }
+
+    /// Releases as many of a client's slots as there is room to tell of, or all that are left, and returns how many. For each of
+    /// them `freed` then holds the frame that is free since, or [`NO_FRAME`](crate::NO_FRAME).
+    ///
+    /// From the first call on the client lends no more pages. Call it until it returns 0: in that call the client had no slot left,
+    /// and is out, and its number may be given to another. Returns `None` if there is no such client. Give room for one frame
+    /// at least: with none, 0 could mean either.
+    ///
+    /// For each slot that it releases it goes through the slots from the first one on.
+    pub fn leave(&mut self, client: u32, freed: &mut [u32]) -> Option<usize>
+        requires room { 1 ≤ length freed.old }
+        ensures { MatchOption result (StaysOut client freed.old freed.new self.old self.new)
+            (λ count. Leaves client count freed.old freed.new self.old self.new) }
+    {
+        if !self.is_present(client) {
+            return None;
+        }
+        if self.first_slot(client).is_none() {
+            self.note(client, Presence::Out);
+            return Some(0);
+        }
+        self.note(client, Presence::Leaving);
+        Some(self.release_each(client, freed))
+    }
+
+    /// Returns what the domain counts. It looks at each slot.
+    pub fn report(&self) -> DomainReport
+        ensures { result ≡ domain_totals self.now }
+    {
+        report(&self.machines, &self.clients)
+    }
+
+    /// Returns what a slot holds, `None` if it is free or there is no such slot. The frame's number is that in its machine.
+    pub fn holding(&self, slot: Slot) -> Option<Holding>
+        ensures { result ≡ held_in self.now.machines slot }
+    {
+        holding_at(&self.machines, slot)
+    }
+
+    /// Returns the number of machines.
+    pub fn machines(&self) -> u32
+        ensures { result ≡ length self.now.machines }
+    {
+        self.machines.len() as u32
+    }
+
+    /// Returns the frames of a machine. A frame is taken exactly where slots have it.
+    pub fn frames(&self, machine: u32) -> &Frames<A>
+        requires { machine < length self.now.machines }
+        ensures value { result.now ≡ (machine_at self.now.machines machine).frames }
+        ensures slots { FramesOfSlots (machine_at self.now.machines machine) }
+    {
+        self.machines[machine as usize].frames()
+    }
+
+    /// Whether a client has entered, and isn't out yet.
+    fn is_present(&self, client: u32) -> bool
+        ensures { result ≡ is_here (slice_get self.now.clients client) }
+    {
+        is_here(&self.clients, client)
+    }
+
+    /// Returns a client's first slot.
+    fn first_slot(&self, client: u32) -> Option<Slot>
+        ensures slot { result ≡ first_slot client self.now.machines }
+        ensures within { IfSome result (λ slot. slot.machine < length self.now.machines) }
+    {
+        find_slot(&self.machines, client)
+    }
+
+    /// Notes a client's presence.
+    fn note(&mut self, client: u32, presence: Presence)
+        requires { client < length self.old.clients }
+        ensures { self.new ≡ with_client self.old client presence }
+    {
+        self.clients[client as usize] = presence;
+    }
+
+    /// Releases a slot.
+    fn give_up(&mut self, slot: Slot) -> Option<u32>
+        requires { slot.machine < length self.old.machines }
+        ensures freed { result ≡ freed_in self.old.frames slot self.old.machines }
+        ensures now { self.new ≡ with_machines self.old (with_released slot self.old.machines) }
+    {
+        match release_at(&mut self.machines, slot) {
+            None => None,
+            Some(mpn) => Some(slot.machine * self.frames + mpn),
+        }
+    }
+
+    /// Releases slots of a client, as many as there is room to tell of, and returns how many.
+    fn release_each(&mut self, client: u32, freed: &mut [u32]) -> usize
+        ensures count { result ≡ length (left_by self.old.frames client (length freed.old) self.old.machines).told }
+        ensures told { freed.new ≡ (left_by self.old.frames client (length freed.old) self.old.machines).told ++ drop result freed.old }
+        ensures now { self.new ≡ with_machines self.old (left_by self.old.frames client (length freed.old) self.old.machines).machines }
+    {
+        for i in 0..freed.len() {
+            match self.first_slot(client) {
+                None => return i,
+                Some(slot) => freed[i] = told(self.give_up(slot)),
+            }
+        }
+        freed.len()
+    }
+}

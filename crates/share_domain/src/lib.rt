@@ -1,0 +1,25 @@
+//! A domain: what a host needs so that the VMM processes of one machine share memory.
+//!
+//! A domain has one to 64 machines, each a core with one guest, and clients, which come and go. A client lends pages. Each page
+//! that it lent has a slot, which is a page of one of the machines and belongs to the client until the client releases it or
+//! leaves. A page goes to the machine that its hash names, so equal pages meet, and share a frame there.
+#![tactic(auto)]
+
+mod client;
+mod clients;
+mod config;
+mod domain;
+mod fault;
+mod holding;
+mod leave;
+mod lend;
+mod make;
+mod report;
+
+pub use client::{NO_FRAME, Presence};
+pub use config::{DomainConfig, MAX_CLIENTS, MAX_MACHINES};
+pub use domain::Domain;
+pub use fault::{DomainFault, LendFault, NoSuchSlot};
+pub use holding::{Loan, Slot};
+pub use lent_slots::Holding;
+pub use report::DomainReport;
