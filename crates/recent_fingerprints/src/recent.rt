@@ -35,7 +35,7 @@ impl<A: Allocator> Model for RecentFingerprints<A> {
 impl<A: Allocator + Clone> RecentFingerprints<A> {
     ghost use Rattle.recent_fingerprints.specs.declared.limits.TheConstants.{MAX_PLACES};
 
-    /// Makes an empty list of notes with `places` places, 24 bytes each, and 4 to 8 more for the buckets. The seed is drawn at
+    /// Makes an empty list of notes with `places` places, 32 bytes each, and 4 to 8 more for the buckets. The seed is drawn at
     /// random and kept secret: who knows it can choose fingerprints that take long to look up. No result depends on it.
     pub fn new(alloc: A, places: u32, seed: u64) -> Result<RecentFingerprints<A>, AllocError>
         requires some { 1 ≤ places }
