@@ -4,7 +4,7 @@
  * PAGESHARE_LEVEL=v2 or v3 chooses by hand. `pageshare --version` prints the commit and the kit of the build below the program's
  * own line. The launcher finds the builds from where it lies itself, so the installed folders may be moved together.
  */
-#define _POSIX_C_SOURCE 200809L
+#define _XOPEN_SOURCE 700
 #include "../library/processor.h"
 #include <errno.h>
 #include <limits.h>
@@ -12,6 +12,7 @@
 #include <stdio.h>
 #include <stdlib.h>
 #include <string.h>
+#include <sys/auxv.h>
 #include <sys/wait.h>
 #include <unistd.h>
 
@@ -34,13 +35,13 @@ static unsigned chosen_level(void) {
     return 0;
 }
 
-/* Writes the path of that level's build, or returns an error's number. */
+/* Writes the path of that level's build, or returns an error's number. (/proc need not be mounted.) */
 static int find_build(char path[PATH_MAX], unsigned level) {
     static const char *const PATHS[] = {"/../libexec/pageshare/pageshare-v2", "/../libexec/pageshare/pageshare-v3"};
     const char *build = PATHS[level - 2];
-    ssize_t length = readlink("/proc/self/exe", path, PATH_MAX - 1);
-    if (length < 0) return errno;
-    path[length] = '\0';
+    const char *own = (const char *)getauxval(AT_EXECFN);
+    if (own == NULL) return ENOENT;
+    if (realpath(own, path) == NULL) return errno;
     char *name = strrchr(path, '/');
     if (name == NULL || (size_t)(name - path) + strlen(build) >= PATH_MAX) return ENAMETOOLONG;
     strcpy(name, build);
@@ -75,7 +76,7 @@ int main(int count, char **words) {
         return NOT_STARTED;
     }
     int error = find_build(path, level);
-    if (error != 0) return failed("/proc/self/exe", error);
+    if (error != 0) return failed("the installed builds", error);
     if (count > 0) words[0] = name;
     if (count == 2 && (strcmp(words[1], "--version") == 0 || strcmp(words[1], "-V") == 0)) return print_version(path, words);
     execv(path, words);
