@@ -6,7 +6,7 @@
 FOLDER is by default out/dist; nothing is built here but programs that use the library. The tarball is unpacked in a new folder, and
 its program run with nothing of this repository or the kit on PATH: at both levels, on images whose estimate is known. It is installed
 below a prefix, where C and Rust programs are linked by pkg-config, shared and static; man pages and completions are read by the
-programs that show them; the library of x86-64-v3 is run on an emulated processor without AVX2, where it has to refuse; and what is
+programs that show them; systemd rates the host's unit; the library of x86-64-v3 is run on an emulated processor without AVX2, where it has to refuse; and what is
 uninstalled leaves no file. A second `packaging/dist.py` of the same tree has to make the same bytes. Then the Debian package is
 installed, run and removed in an empty Debian that debootstrap makes, which needs root and the network.
 
@@ -205,6 +205,20 @@ def try_completions(prefix):
     expect("bash completes --sv of estimate", said[1] == "--svg\n", said)
 
 
+def try_examples(prefix):
+    """What the host's examples say to systemd."""
+    unit = prefix / "share/doc/pageshare/examples/host/pageshare-host@.service"
+    if not has("systemd-analyze"):
+        left_out("the unit of systemd, since there is no systemd-analyze")
+        return
+    code, out, err = run("systemd-analyze", "security", "--offline=true", unit)
+    if "--offline" in err:
+        left_out("the unit of systemd, since this systemd-analyze needs a running one")
+        return
+    level = re.search(r"exposure level for \S+: ([\d.]+)", out)
+    expect("the unit's exposure is at most 3", code == 0 and level and float(level[1]) <= 3, out[-200:] + err)
+
+
 def try_tarball(file, room):
     expect("the tarball unpacks", run("tar", "xf", file, "-C", room)[0] == 0)
     tree = next(it for it in room.iterdir() if it.name.startswith("pageshare-"))
@@ -220,6 +234,7 @@ def try_tarball(file, room):
     try_exports(prefix)
     try_pages(prefix)
     try_completions(prefix)
+    try_examples(prefix)
     said = run(tree / "install.sh", f"--prefix={prefix}", "--uninstall")
     expect("install.sh --uninstall leaves nothing", said[0] == 0 and not root.exists(), said)
 

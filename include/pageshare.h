@@ -329,8 +329,8 @@ static inline uint32_t pageshare_lend_many(struct pageshare *machine, const stru
                                            struct pageshare_answer *answers) {
     size_t i = 0;
     if (!machine->private_live) return PAGESHARE_ERROR_NO_MACHINE;
-    for (; count - i >= PAGESHARE_WIDE_GROUP; i += PAGESHARE_WIDE_GROUP) pageshare_lend_eight(machine, pages + i, answers + i);
-    for (; count - i >= PAGESHARE_GROUP; i += PAGESHARE_GROUP) pageshare_lend_four(machine, pages + i, answers + i);
+    for (; i + PAGESHARE_WIDE_GROUP <= count; i += PAGESHARE_WIDE_GROUP) pageshare_lend_eight(machine, pages + i, answers + i);
+    for (; i + PAGESHARE_GROUP <= count; i += PAGESHARE_GROUP) pageshare_lend_four(machine, pages + i, answers + i);
     for (; i < count; i++) answers[i] = pageshare_lend(machine, pages[i].guest, pages[i].ppn, pages[i].page);
     return PAGESHARE_OK;
 }

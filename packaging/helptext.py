@@ -1,17 +1,19 @@
 """Reads what a program prints for --help, as clap lays it out and programs in C do, whatever its words are.
 
-A help is some lines on what the program does; `Usage: ..`; sections, each a title with a colon and entries below it, indented by two
-to six spaces (a term, and behind two spaces or on lines of their own its text); and last a text, whose lines with four spaces in front
-are to be shown as they are.
+A help is some lines on what the program does; `Usage: ..`, or indented lines that begin with the program's name; sections, each a
+title with a colon and entries below it, indented by two to six spaces (a term, and behind two spaces or on lines of their own its
+text); and last a text, whose lines with four spaces in front are to be shown as they are.
 """
 import re
 import subprocess
 from typing import NamedTuple
 
 ENTRY = re.compile(r"^ {2,6}(\S.*?)(?: {2,}(\S.*))?$")
-TITLE = re.compile(r"^[A-Z][\w ]*:$")
+TITLE = re.compile(r"^[A-Z].*:$")
 FLAG = re.compile(r"--?[A-Za-z][\w-]*")
 VALUES = re.compile(r"\[possible values: ([^\]]*)\]")
+# An option as a usage line has it.
+USED = re.compile(r"(--[a-z][\w-]*)(?:[ =]([A-Z][A-Z=]*))?")
 
 
 class Entry(NamedTuple):
@@ -45,7 +47,14 @@ class Help(NamedTuple):
         return [it for title, entries in self.sections.items() if is_wanted(title) for it in entries]
 
     def options(self):
-        return [it for it in self.entries(lambda title: title not in ("Commands", "Arguments")) if it.flags()]
+        """The options, and those that the usage alone names."""
+        options = [it for it in self.entries(lambda title: title not in ("Commands", "Arguments")) if it.flags()]
+        named = {flag for it in options for flag in it.flags()}
+        for flag, value in USED.findall(" ".join(self.usage)):
+            if flag not in named:
+                options.append(Entry(f"{flag} <{value}>" if value else flag, ""))
+                named.add(flag)
+        return options
 
     def arguments(self):
         return self.sections.get("Arguments", [])
@@ -78,24 +87,36 @@ def read_section(lines, at):
     return [Entry(*it) for it in entries], at
 
 
+def read_usage(lines):
+    """What a program does, its usage lines, and the first line behind them."""
+    named = next((at for at, line in enumerate(lines) if line.lower().startswith("usage:")), None)
+    if named is not None:
+        about = " ".join(line.strip() for line in lines[:named] if line.strip())
+        usage, at = [lines[named].split(":", 1)[1].strip()], named + 1
+        while at < len(lines) and lines[at].strip():
+            usage, at = usage + [lines[at].strip()], at + 1
+        return about, [it for it in usage if it], at
+    name, _, about = lines[0].partition(": ")
+    used = [at for at, line in enumerate(lines) if line.startswith(f"  {name} ")]
+    usage = [re.split(r" {2,}", lines[at].strip())[0] for at in used]
+    return about.strip(), usage, used[-1] + 1 if used else 1
+
+
 def read(text):
     """A program's help."""
     lines = text.rstrip("\n").split("\n")
-    first = next(at for at, line in enumerate(lines) if line.lower().startswith("usage:"))
-    about = " ".join(line.strip() for line in lines[:first] if line.strip())
-    usage, at = [lines[first].split(":", 1)[1].strip()], first + 1
-    while at < len(lines) and lines[at].strip():
-        usage, at = usage + [lines[at].strip()], at + 1
+    about, usage, at = read_usage(lines)
     sections, after = {}, []
     while at < len(lines):
-        if TITLE.match(lines[at]) and not after:
+        is_title = TITLE.match(lines[at]) and at + 1 < len(lines) and begins_entry(lines[at + 1], False)
+        if is_title and not after:
             title = lines[at][:-1]
             sections[title], at = read_section(lines, at + 1)
             continue
         if lines[at].strip() or after:
             after.append(lines[at])
         at += 1
-    return Help(about, [it for it in usage if it], sections, after)
+    return Help(about, usage, sections, after)
 
 
 def of(program, *words):

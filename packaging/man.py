@@ -47,7 +47,10 @@ def write_help(page, name, help_, about):
         page.lines += [".br"] if number else []
         page.raw(synopsis(usage))
     for title, entries in help_.sections.items():
-        page.heading(title)
+        is_long = len(title.split()) > 2
+        if is_long and ".SH \"OPTIONS\"" not in page.lines:
+            page.heading("Options")
+        page.heading(title, 2 if is_long else 1)
         for entry in entries:
             if entry.term != "help" or title != "Commands":
                 page.entry(entry.term, entry.text)

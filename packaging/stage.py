@@ -123,7 +123,10 @@ class Stage:
         for file in sorted((TOP / "docs").iterdir()):
             self.put(file, f"{at}/docs/{file.name}")
         for file in sorted(it for it in (TOP / "examples").rglob("*") if it.is_file() and "__pycache__" not in it.parts):
-            self.put(file, f"{at}/examples/{file.relative_to(TOP / 'examples')}", file.stat().st_mode & 0o755)
+            path = f"{at}/examples/{file.relative_to(TOP / 'examples')}"
+            self.put(file, path, file.stat().st_mode & 0o755)
+            if file.parent.name == "host" and self.prefix:
+                self.write(path, file.read_text().replace("/usr/local/lib/", f"{self.prefix}/{self.libdir}/").replace("/usr/local", self.prefix))
         rust = TOP / "bindings/rust"
         for file in sorted(it for it in rust.rglob("*") if it.is_file() and "target" not in it.parts):
             self.put(file, f"share/pageshare/rust/{file.relative_to(rust)}")
