@@ -81,7 +81,7 @@ enum pageshare_status {
     PAGESHARE_ERROR_CROSSES = 10,   /* the last byte would stand past the page's end */
     PAGESHARE_ERROR_NO_PAGE = 11,   /* there is no such page (of a request it is a verdict) */
     PAGESHARE_ERROR_UNMAPPED = 12,  /* the page has no frame (of a request it is a verdict) */
-    PAGESHARE_ERROR_REGION = 13,    /* the region has too little room for the frames, or isn't aligned to 4,096 (checked after 3) */
+    PAGESHARE_ERROR_REGION = 13,    /* the region has too little room for the frames, or isn't aligned to 4,096 (checked after PAGES) */
     PAGESHARE_ERROR_HASH = 14,      /* there is no such hash */
     /* (15 to 24 are of domains) */
     PAGESHARE_ERROR_PROCESSOR = 25  /* the library is built for a newer processor. Then call pageshare_free at most */
@@ -240,12 +240,13 @@ PAGESHARE_DEPRECATED static inline uint32_t pageshare_make_with(struct pageshare
     return pageshare_make_of(machine, config);
 }
 
-/* Frees the machine. Answers PAGESHARE_OK or PAGESHARE_ERROR_NO_MACHINE; the handle holds none afterwards. */
+/* Frees the machine. Returns PAGESHARE_OK or PAGESHARE_ERROR_NO_MACHINE; the handle holds none afterwards. */
 uint32_t pageshare_free(struct pageshare *machine);
 
 /*
  * The requests of a guest. Guests count from 0, a guest's pages (by their physical page numbers, PPN) from 0, and the bytes of
- * a page from 0. Each answers a status (0, or 6 to 10), and at status 0 a verdict.
+ * a page from 0. Each returns a status: PAGESHARE_OK, and then a verdict, or PAGESHARE_ERROR_NO_MACHINE, _NO_GUEST, _FULL, _LENGTH
+ * or _CROSSES.
  *
  * A page changes its frame at five verdicts alone: MAPPED and COPIED (a frame that was free), JOINED and PAIRED (the frame of
  * the pages with which it is now shared), and RELEASED (none). Every other page keeps its frame. A monitor that maps pages to
@@ -306,7 +307,7 @@ struct pageshare_lending {
 /*
  * Lends four pages, one after the other in this order, as four calls of pageshare_lend do: answers[i] is the answer for pages[i].
  * With SHA-256 the four hashes are computed together, which takes less than half the time; the pages stay where they are, and one
- * page may be named twice. Answers PAGESHARE_OK, or PAGESHARE_ERROR_NO_MACHINE, and then writes no answer.
+ * page may be named twice. Returns PAGESHARE_OK, or PAGESHARE_ERROR_NO_MACHINE, and then writes no answer.
  */
 uint32_t pageshare_lend_four(struct pageshare *machine, const struct pageshare_lending pages[PAGESHARE_GROUP],
                              struct pageshare_answer answers[PAGESHARE_GROUP]);
@@ -323,7 +324,7 @@ uint32_t pageshare_lend_eight(struct pageshare *machine, const struct pageshare_
 
 /*
  * Lends `count` pages, one after the other in this order: in groups of eight, then four, and then one by one. answers[i] is the
- * answer for pages[i]. Answers PAGESHARE_OK, or PAGESHARE_ERROR_NO_MACHINE, and then writes no answer.
+ * answer for pages[i]. Returns PAGESHARE_OK, or PAGESHARE_ERROR_NO_MACHINE, and then writes no answer.
  */
 static inline uint32_t pageshare_lend_many(struct pageshare *machine, const struct pageshare_lending *pages, size_t count,
                                            struct pageshare_answer *answers) {
@@ -340,7 +341,10 @@ struct pageshare_answer pageshare_count(struct pageshare *machine, uint32_t gues
 
 /* The calls below are no requests: they aren't counted, and change no page. */
 
-/* Begins the count of requests anew, for a machine that serves more than 4,294,967,295. Answers 0 or 6. */
+/*
+ * Begins the count of requests anew, for a machine that serves more than 4,294,967,295. Returns PAGESHARE_OK or
+ * PAGESHARE_ERROR_NO_MACHINE.
+ */
 uint32_t pageshare_restart_count(struct pageshare *machine);
 
 /* A page, by its guest and its number. */
@@ -352,13 +356,13 @@ struct pageshare_page_name {
 /*
  * Computes the hashes of `count` pages ahead of their proposals: of SHA-256 four at a time, which takes less than half the time.
  * It skips pages that don't exist, aren't private, or whose hash is known. It is no request and changes no answer, and a store to
- * a page makes its hash unknown again. Answers PAGESHARE_OK or PAGESHARE_ERROR_NO_MACHINE.
+ * a page makes its hash unknown again. Returns PAGESHARE_OK or PAGESHARE_ERROR_NO_MACHINE.
  */
 uint32_t pageshare_hash(struct pageshare *machine, const struct pageshare_page_name *pages, size_t count);
 
 /*
  * Proposes `count` pages, one after the other in this order, with their hashes computed ahead as by pageshare_hash; answers[i] is
- * the answer for pages[i]. Answers PAGESHARE_OK, or PAGESHARE_ERROR_NO_MACHINE, and then writes no answer.
+ * the answer for pages[i]. Returns PAGESHARE_OK, or PAGESHARE_ERROR_NO_MACHINE, and then writes no answer.
  */
 static inline uint32_t pageshare_propose_many(struct pageshare *machine, const struct pageshare_page_name *pages, size_t count,
                                               struct pageshare_answer *answers) {
@@ -367,20 +371,26 @@ static inline uint32_t pageshare_propose_many(struct pageshare *machine, const s
     return PAGESHARE_OK;
 }
 
-/* Gets the machine's totals. Answers 0 or 6. */
+/* Gets the machine's totals. Returns PAGESHARE_OK or PAGESHARE_ERROR_NO_MACHINE. */
 uint32_t pageshare_report(struct pageshare *machine, struct pageshare_totals *totals);
 
-/* Copies a page to the room; an unmapped page reads as zeros. Answers 0, 6 or 11. */
+/*
+ * Copies a page to the room; an unmapped page reads as zeros. Returns PAGESHARE_OK, PAGESHARE_ERROR_NO_MACHINE or
+ * PAGESHARE_ERROR_NO_PAGE.
+ */
 uint32_t pageshare_read(struct pageshare *machine, uint32_t guest, uint32_t ppn,
                         uint8_t room[PAGESHARE_PAGE_BYTES]);
 
-/* Gets the number of a page's frame (its machine page number, MPN), 0 to frames - 1. Answers 0, 6, 11 or 12. */
+/*
+ * Gets the number of a page's frame (its machine page number, MPN), 0 to frames - 1. Returns PAGESHARE_OK,
+ * PAGESHARE_ERROR_NO_MACHINE, PAGESHARE_ERROR_NO_PAGE or PAGESHARE_ERROR_UNMAPPED.
+ */
 uint32_t pageshare_frame(struct pageshare *machine, uint32_t guest, uint32_t ppn, uint32_t *mpn);
 
 /*
  * Gets the address of a page's 4,096 bytes, which may be read, never written, and only until the next call with this handle.
- * Answers 0, 6, 11 or 12; unless it is 0, *at stays as it is. No proof says what is at the address; pageshare_read copies the
- * bytes.
+ * Returns PAGESHARE_OK, PAGESHARE_ERROR_NO_MACHINE, PAGESHARE_ERROR_NO_PAGE or PAGESHARE_ERROR_UNMAPPED; unless it is PAGESHARE_OK,
+ * *at stays as it is. No proof says what is at the address; pageshare_read copies the bytes.
  */
 uint32_t pageshare_page(struct pageshare *machine, uint32_t guest, uint32_t ppn, const uint8_t **at);
 
