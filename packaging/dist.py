@@ -68,7 +68,8 @@ def make_tarball(folder):
 def least_libc(tree):
     """The oldest version of the C library that has what the programs and libraries below a folder need."""
     versions = {(2, 17)}
-    for path in sorted(it for it in tree.rglob("*") if it.is_file() and not it.is_symlink()):
+    folders = [tree / "bin", tree / "lib", tree / "libexec"]
+    for path in sorted(it for folder in folders for it in folder.rglob("*") if it.is_file() and not it.is_symlink()):
         with open(path, "rb") as file:
             if file.read(4) != b"\x7fELF":
                 continue
