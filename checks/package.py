@@ -6,8 +6,8 @@
 FOLDER is by default out/dist; nothing is built here but programs that use the library. The tarball is unpacked in a new folder, and
 its program run with nothing of this repository or the kit on PATH: at both levels, on images whose estimate is known. It is installed
 below a prefix, where C and Rust programs are linked by pkg-config, shared and static; man pages and completions are read by the
-programs that show them; systemd rates the host's unit; the library of x86-64-v3 is run on an emulated processor without AVX2, where it has to refuse; and what is
-uninstalled leaves no file. A second `packaging/dist.py` of the same tree has to make the same bytes. Then the Debian package is
+programs that show them; systemd rates the host's unit; the library of x86-64-v3 is run on an emulated processor without AVX2, where
+it has to refuse; and what is uninstalled leaves no file. A second `packaging/dist.py` of the same tree has to make the same bytes. Then the Debian package is
 installed, run and removed in an empty Debian that debootstrap makes, which needs root and the network.
 
 What this machine has no program for is left out, and named. Prints each case that went wrong, and last `N passed, M failed` (status 0

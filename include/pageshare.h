@@ -32,8 +32,8 @@
  * - malloc, realloc and free are one allocator's, may be called on any thread, and align a block to 16 bytes. No call is made
  *   from a signal handler, nor in the child of a fork of a process with threads.
  *
- * - A region (region of struct pageshare_config) is the library's until the machine is freed: nobody else writes to it, but that the memory of
- *   free frames may be given back to the system while no call runs. No page that is stored or lent lies in it.
+ * - A region (region of struct pageshare_config) is the library's until the machine is freed: nobody else writes to it, but that the
+ *   memory of free frames may be given back to the system while no call runs. No page that is stored or lent lies in it.
  *
  * Making a machine takes all memory that it needs; no other call asks for any.
  */

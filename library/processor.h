@@ -3,9 +3,8 @@
 #define PAGESHARE_PROCESSOR_H
 
 /*
- * The greatest level of x86-64 that this processor and its system support and that pageshare is built for: 3, 2, or 1 for less than
- * that. Level 3 has AVX2. Compilers that don't know the levels' names are asked for vectors and bit operations of the level alone;
- * the processors that were made with all of these have the rest of the level, too.
+ * The level of x86-64 that this processor and its system support: 3 (which has AVX2; or more), 2, or 1. Compilers that don't know the
+ * levels by name are asked for some of what a level has alone: its vectors, and some of its other instructions.
  */
 static inline unsigned processor_level(void) {
     __builtin_cpu_init();
@@ -13,7 +12,9 @@ static inline unsigned processor_level(void) {
     if (__builtin_cpu_supports("x86-64-v3")) return 3;
     if (__builtin_cpu_supports("x86-64-v2")) return 2;
 #else
-    if (__builtin_cpu_supports("avx2") && __builtin_cpu_supports("fma") && __builtin_cpu_supports("bmi") && __builtin_cpu_supports("bmi2")) return 3;
+    if (__builtin_cpu_supports("avx2") && __builtin_cpu_supports("fma") && __builtin_cpu_supports("bmi") &&
+        __builtin_cpu_supports("bmi2"))
+        return 3;
     if (__builtin_cpu_supports("sse4.2") && __builtin_cpu_supports("popcnt")) return 2;
 #endif
     return 1;

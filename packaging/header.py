@@ -95,8 +95,9 @@ def parts(text):
         at = comment.end()
         end = begins[number + 1].start() if number + 1 < len(begins) else len(text)
         code = unattributed(trimmed(declared(text[at:end].split("\n"))))
-        # (what the macro pageshare_make calls is shown under its name)
-        code = list(dict.fromkeys(line.replace("pageshare_make_of(", "pageshare_make(") for line in code)) if "pageshare_make_of(" in "".join(code) else code
+        if "pageshare_make_of(" in "".join(code):
+            # (what the macro pageshare_make calls is shown under its name, and what C++ has beside it once)
+            code = list(dict.fromkeys(line.replace("pageshare_make_of(", "pageshare_make(") for line in code))
         found.append(Part(title_of(code), said(comment[1]), code))
     return found
 

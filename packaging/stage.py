@@ -126,7 +126,8 @@ class Stage:
             path = f"{at}/examples/{file.relative_to(TOP / 'examples')}"
             self.put(file, path, file.stat().st_mode & 0o755)
             if file.parent.name == "host" and self.prefix:
-                self.write(path, file.read_text().replace("/usr/local/lib/", f"{self.prefix}/{self.libdir}/").replace("/usr/local", self.prefix))
+                text = file.read_text().replace("/usr/local/lib/", f"{self.prefix}/{self.libdir}/")
+                self.write(path, text.replace("/usr/local", self.prefix))
         rust = TOP / "bindings/rust"
         for file in sorted(it for it in rust.rglob("*") if it.is_file() and "target" not in it.parts):
             self.put(file, f"share/pageshare/rust/{file.relative_to(rust)}")
