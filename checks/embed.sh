@@ -67,8 +67,6 @@ else
         checks/embed/journal; do
         compile "$source"
     done
-    compile checks/embed/names
-    run names ok
     run three_share "$(cat "$top/checks/embed/three_share.out")"
     run calls ok
     run whole_pages ok
@@ -77,6 +75,8 @@ else
     [ "$("$built/region" 1048576)" = ok ] || fail 'region 1048576 failed'
     echo 'region 1048576: as it should be'
     run lend "$(cat "$top/checks/embed/lend.out")"
+    compile checks/embed/names
+    run names ok
     run refused_memory ok
     if [ -n "${FULL:-}" ]; then
         # shellcheck disable=SC2086
@@ -100,10 +100,6 @@ if has "${CARGO:-cargo}"; then
     cd "$top/bindings/rust" || exit 1
     "${CARGO:-cargo}" test --quiet > "$built/cargo.log" 2>&1 || fail "$(cat "$built/cargo.log")" 'the tests of bindings/rust failed'
     echo 'bindings/rust: its tests and the examples in its documents pass'
-    text=$("${CARGO:-cargo}" build --quiet --release --examples 2>&1) || fail "$text" 'its examples do not compile'
-    text=$("$built/cargo/release/examples/three_share" 2>&1) || fail "$text" 'its example failed'
-    [ "$text" = "$(cat "$top/checks/embed/three_share.out")" ] || fail "its example printed:" "$text"
-    echo 'bindings/rust: its example prints what the C example does'
     if "${CARGO:-cargo}" clippy --version > /dev/null 2>&1; then
         "${CARGO:-cargo}" clippy --quiet --all-targets -- -D warnings > "$built/cargo.log" 2>&1 || fail "$(cat "$built/cargo.log")"
         RUSTDOCFLAGS='-D warnings' "${CARGO:-cargo}" doc --quiet --no-deps > "$built/cargo.log" 2>&1 || fail "$(cat "$built/cargo.log")"
@@ -120,6 +116,10 @@ if has "${CARGO:-cargo}"; then
     else
         echo 'left out: the example vm-memory, which needs the Debian package librust-vm-memory-dev'
     fi
+    text=$("${CARGO:-cargo}" build --quiet --release --examples 2>&1) || fail "$text" 'its examples do not compile'
+    text=$("$built/cargo/release/examples/three_share" 2>&1) || fail "$text" 'its example failed'
+    [ "$text" = "$(cat "$top/checks/embed/three_share.out")" ] || fail "its example printed:" "$text"
+    echo 'bindings/rust: its example prints what the C example does'
 else
     echo 'left out: all of Rust, since there is no cargo'
 fi

@@ -53,9 +53,6 @@ pub(crate) struct Region {
 }
 
 extern "C" {
-    pub(crate) fn pageshare_version() -> *const c_char;
-    pub(crate) fn pageshare_level() -> u32;
-    pub(crate) fn pageshare_check_processor() -> u32;
     pub(crate) fn pageshare_make_in(
         machine: *mut Handle,
         frames: u32,
@@ -141,4 +138,7 @@ extern "C" {
         ppn: u32,
         at: *mut *const u8,
     ) -> u32;
+    pub(crate) fn pageshare_version() -> *const c_char;
+    pub(crate) fn pageshare_level() -> u32;
+    pub(crate) fn pageshare_check_processor() -> u32;
 }
