@@ -206,8 +206,14 @@ def try_completions(prefix):
 
 
 def try_examples(prefix):
-    """What the host's examples say to systemd."""
-    unit = prefix / "share/doc/pageshare/examples/host/pageshare-host@.service"
+    """What the host's examples say to Prometheus and to systemd."""
+    folder = prefix / "share/doc/pageshare/examples/host"
+    if has("promtool"):
+        said = run("promtool", "check", "rules", folder / "pageshare.rules.yml")
+        expect("the rules for Prometheus", said[0] == 0, said)
+    else:
+        left_out("the rules for Prometheus, since there is no promtool")
+    unit = folder / "pageshare-host@.service"
     if not has("systemd-analyze"):
         left_out("the unit of systemd, since there is no systemd-analyze")
         return
