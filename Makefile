@@ -1,4 +1,4 @@
-.PHONY: test edits build demo commands estimate fleet no-thread embed guests fuzz tenants soak hints bench bench-v3
+.PHONY: test edits build demo install uninstall dist package commands estimate fleet no-thread embed guests fuzz tenants soak hints bench bench-v3
 
 # The gate is these two commands. Both say how far they are and what failed, and leave the times of their steps at out/gate.tsv. On
 # a machine that has run none of it all is done from nothing.
@@ -28,6 +28,23 @@ out/pageshare: $(SOURCES)
 
 out/pageshare-v3: $(SOURCES)
 	checks/build.py pageshare_v3 $@ --cpu x86-64-v3
+
+# The program and the library for both levels, with man pages, completions, headers and documents, below DESTDIR and PREFIX;
+# `make uninstall` with the same words removes them. LIBDIR is the libraries' folder below PREFIX. docs/INSTALL.md lists all.
+PREFIX = /usr/local
+LIBDIR = lib
+PRODUCTS = out/pageshare out/pageshare-v3 out/libpageshare.a out/v3/libpageshare.a
+install: $(PRODUCTS)
+	packaging/stage.py out/stage --libdir $(LIBDIR)
+	packaging/install.sh --from=out/stage --prefix=$(PREFIX) --destdir=$(DESTDIR)
+uninstall:
+	packaging/install.sh --uninstall --prefix=$(PREFIX) --destdir=$(DESTDIR)
+
+# A tarball and a Debian package of the same, with their sums, in out/dist; `make package` tries both where nothing else is.
+dist: $(PRODUCTS)
+	packaging/dist.py out/dist
+package: dist
+	checks/package.py out/dist
 
 # A first look: two guests' scans meet, a thread for each; and what sharing would reclaim of two images. The program is built once,
 # and run on each case of a folder: a file is its standard input, and NAME.args has its words.
@@ -99,11 +116,14 @@ embed: out/$(FOLDER)libpageshare.a
 guests: out/libpageshare.a out/pageshare
 	checks/guests.py out/libpageshare.a $(or $(SECONDS),30)
 
-# The proved library, and the kit's three calls of malloc, realloc and free.
-out/libpageshare.a: LEVEL = x86-64-v2
-out/v3/libpageshare.a: LEVEL = x86-64-v3
-out/libpageshare.a out/v3/libpageshare.a: $(SOURCES)
-	checks/build.py pageshare_c $(@D)/proved.a --cpu $(LEVEL)
-	rm -f $@
-	printf 'create $@\naddlib $(@D)/proved.a\naddlib %s/c/liblibc_c.a\nsave\nend\n' "$$(dirname "$$(rt doc)")" | ar -M
-	rm $(@D)/proved.a
+# The library, static and shared: what is proved, and library/library.c.
+LIBRARY = include/pageshare.h $(wildcard library/*)
+out/libpageshare.a: LEVEL = 2
+out/v3/libpageshare.a: LEVEL = 3
+out/libpageshare.a out/v3/libpageshare.a: %/libpageshare.a: %/proved.a $(LIBRARY)
+	library/make.sh $< $(LEVEL) $(@D)
+
+out/proved.a: $(SOURCES)
+	checks/build.py pageshare_c $@
+out/v3/proved.a: $(SOURCES)
+	checks/build.py pageshare_c $@ --cpu x86-64-v3

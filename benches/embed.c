@@ -131,7 +131,8 @@ static double rate(uint32_t hash, bool in_lists, const struct pageshare_lending 
     const uint32_t pages[] = {MANY}, salts[] = {0};
     double least = 1e18;
     struct pageshare machine = PAGESHARE_NONE;
-    if (pageshare_make_hashed(&machine, MANY, pages, 1, salts, 1, hash) != PAGESHARE_OK) exit(1);
+    const struct pageshare_config config = {.frames = MANY, .pages = pages, .salts = salts, .guests = 1, .hash = hash};
+    if (pageshare_make(&machine, &config) != PAGESHARE_OK) exit(1);
     for (int run = 0; run < MANY_RUNS; run++) {
         double start = now();
         if (in_lists) {
@@ -183,13 +184,15 @@ static void time_calls(const char *name, uint32_t (*calls)(struct pageshare *), 
 int main(void) {
     struct pageshare machine = PAGESHARE_NONE;
     const uint32_t pages[] = {512, 512}, salts[] = {0, 0};
-    if (pageshare_make(&machine, 1024, pages, 2, salts, 2) != PAGESHARE_OK) return 1;
+    struct pageshare_config config = {.frames = 1024, .pages = pages, .salts = salts, .guests = 2};
+    if (pageshare_make(&machine, &config) != PAGESHARE_OK) return 1;
     time_calls("store", stores, &machine);
     time_calls("load", loads, &machine);
     time_calls("report", reports, &machine);
     if (pageshare_free(&machine) != PAGESHARE_OK) return 1;
     for (uint32_t hash = PAGESHARE_SHA256; hash <= PAGESHARE_SHA256_WIDE; hash++) {
-        if (pageshare_make_hashed(&machine, 1024, pages, 2, salts, 2, hash) != PAGESHARE_OK) return 1;
+        config.hash = hash;
+        if (pageshare_make(&machine, &config) != PAGESHARE_OK) return 1;
         time_whole_pages(&machine, HASHES[hash]);
         time_hashes(&machine, HASHES[hash]);
         if (pageshare_free(&machine) != PAGESHARE_OK) return 1;

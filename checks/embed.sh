@@ -75,6 +75,8 @@ else
     [ "$("$built/region" 1048576)" = ok ] || fail 'region 1048576 failed'
     echo 'region 1048576: as it should be'
     run lend "$(cat "$top/checks/embed/lend.out")"
+    compile checks/embed/names
+    run names ok
     run refused_memory ok
     if [ -n "${FULL:-}" ]; then
         # shellcheck disable=SC2086
@@ -94,10 +96,26 @@ fi
 
 if has "${CARGO:-cargo}"; then
     checker=
-    export CARGO_TARGET_DIR="$built/cargo" PAGESHARE_LIB="$folder" CARGO_NET_OFFLINE=true
+    export CARGO_TARGET_DIR="$built/cargo" PAGESHARE_LIB_DIR="$folder" CARGO_NET_OFFLINE=true
     cd "$top/bindings/rust" || exit 1
     "${CARGO:-cargo}" test --quiet > "$built/cargo.log" 2>&1 || fail "$(cat "$built/cargo.log")" 'the tests of bindings/rust failed'
     echo 'bindings/rust: its tests and the examples in its documents pass'
+    if "${CARGO:-cargo}" clippy --version > /dev/null 2>&1; then
+        "${CARGO:-cargo}" clippy --quiet --all-targets -- -D warnings > "$built/cargo.log" 2>&1 || fail "$(cat "$built/cargo.log")"
+        RUSTDOCFLAGS='-D warnings' "${CARGO:-cargo}" doc --quiet --no-deps > "$built/cargo.log" 2>&1 || fail "$(cat "$built/cargo.log")"
+        echo 'bindings/rust: clippy and rustdoc have no warning'
+    else
+        echo 'left out: clippy'
+    fi
+    debian=/usr/share/cargo/registry
+    if [ -n "$(find "$debian" -maxdepth 1 -name 'vm-memory-0.10*' 2> /dev/null)" ]; then
+        text=$("${CARGO:-cargo}" run --quiet --manifest-path examples/vm-memory/Cargo.toml --config 'source.crates-io.replace-with="debian"' \
+            --config "source.debian.directory=\"$debian\"" 2>&1) || fail "$text" 'its example vm-memory failed'
+        [ "$text" = "$(cat "$top/checks/embed/vm-memory.out")" ] || fail "its example vm-memory printed:" "$text"
+        echo 'bindings/rust: its example vm-memory prints what it should'
+    else
+        echo 'left out: the example vm-memory, which needs the Debian package librust-vm-memory-dev'
+    fi
     text=$("${CARGO:-cargo}" build --quiet --release --examples 2>&1) || fail "$text" 'its examples do not compile'
     text=$("$built/cargo/release/examples/three_share" 2>&1) || fail "$text" 'its example failed'
     [ "$text" = "$(cat "$top/checks/embed/three_share.out")" ] || fail "its example printed:" "$text"

@@ -21,7 +21,7 @@ WORD = re.compile(r"[A-Za-z_][A-Za-z0-9_]*")
 # The form of a name in code: an underscore within, two words by :: or a capital letter behind a small one.
 NAME = re.compile(r"[A-Za-z_][A-Za-z0-9_]*(?:::[A-Za-z_][A-Za-z0-9_]*)*(?:\(\))?")
 PATH = re.compile(r"(?:\.\./)*[\w.+-]+(?:/[\w.+-]+)+/?")
-FOLDERS = ("crates", "docs", "checks", "examples", "monitor", "fleet", "include", "bindings", "benches", "host", "window", ".ci")
+FOLDERS = ("crates", "docs", "checks", "examples", "monitor", "fleet", "include", "bindings", "benches", "host", "window", "library", "packaging", ".ci")
 TARGET = re.compile(r"(?m)^([a-z][\w-]*):")
 # What is named and isn't of this tree: names of ELF, of Linux, of other monitors and of the kit.
 OTHERS = set(

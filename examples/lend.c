@@ -2,7 +2,7 @@
  * Two guests' pages, a third of them equal, are lent to a machine whose frames are in a memory file, read through a second mapping
  * of it, and half of them taken back; what is free is given back to the system. Prints what the file holds at each step.
  *
- * `make embed` builds and runs it. By hand, on Linux: cc -Iinclude examples/lend.c out/libpageshare.a
+ * `make embed` builds and runs it. By hand, on Linux: cc lend.c $(pkg-config --cflags --libs pageshare)
  */
 #define _GNU_SOURCE
 #include "pageshare.h"
@@ -102,9 +102,9 @@ int main(void) {
     struct memory memory = open_memory();
     struct pageshare machine = PAGESHARE_NONE;
     struct pageshare_config config = {FRAMES, pages, salts, GUESTS, PAGESHARE_FOLD, memory.written, (size_t)FRAMES * PAGE};
-    uint32_t status = pageshare_make_with(&machine, &config);
+    uint32_t status = pageshare_make(&machine, &config);
     if (status != PAGESHARE_OK) {
-        fprintf(stderr, "no machine: status %u\n", (unsigned)status);
+        fprintf(stderr, "no machine: %s\n", pageshare_status_text(status));
         return 1;
     }
     show("before", &machine, &memory);

@@ -1,23 +1,18 @@
 /*
  * Three equal pages of two guests come to share one frame: examples/three-share.journal in calls of the C library.
  *
- * `make embed` builds and runs it. By hand: cc -Iinclude examples/three_share.c out/libpageshare.a
+ * `make embed` builds and runs it. By hand: cc three_share.c $(pkg-config --cflags --libs pageshare)
  */
 #include "pageshare.h"
 #include <stdio.h>
 
-static const char *const VERDICTS[] = {
-    "none",   "no-page",    "unmapped", "already", "joined", "paired", "hinted",   "kept",  "replaced", "ineligible",
-    "mapped", "stored",     "copied",   "taken",   "no-frame", "bytes", "released", "totals", "closed",
-};
-
-/* Prints an answer, and tells whether the request was served. */
+/* Prints an answer, and returns whether the request was served. */
 static bool show(const char *request, struct pageshare_answer answer) {
     if (answer.status != PAGESHARE_OK) {
-        printf("%s: refused, status %u\n", request, (unsigned)answer.status);
+        printf("%s: refused: %s\n", request, pageshare_status_text(answer.status));
         return false;
     }
-    printf("%s: %s", request, VERDICTS[answer.verdict]);
+    printf("%s: %s", request, pageshare_verdict_text(answer.verdict));
     if (answer.verdict == PAGESHARE_VERDICT_JOINED) printf(" %u", (unsigned)answer.count);
     printf("\n");
     return true;
@@ -44,9 +39,10 @@ static bool share(struct pageshare *machine) {
 int main(void) {
     struct pageshare machine = PAGESHARE_NONE;
     const uint32_t pages[] = {2, 1}, salts[] = {0, 0};
-    uint32_t status = pageshare_make(&machine, 3, pages, 2, salts, 2);
+    const struct pageshare_config config = {.frames = 3, .pages = pages, .salts = salts, .guests = 2};
+    uint32_t status = pageshare_make(&machine, &config);
     if (status != PAGESHARE_OK) {
-        fprintf(stderr, "no machine: status %u\n", (unsigned)status);
+        fprintf(stderr, "no machine: %s\n", pageshare_status_text(status));
         return 1;
     }
     bool shared = share(&machine);

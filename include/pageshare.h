@@ -1,5 +1,6 @@
 /*
- * Content-based page sharing for virtual machine monitors, in C11 or C++11: the functions of libpageshare.a.
+ * Content-based page sharing for virtual machine monitors, in C11 or C++11: the functions of libpageshare, a static library
+ * (libpageshare.a) and a shared one (libpageshare.so).
  *
  * A machine has guests with pages of 4,096 bytes, and frames that hold these pages. Pages that are proposed and hold the same
  * bytes come to share one frame; a store to a shared page gives the writer a copy. docs/MODEL.md has the rules, and
@@ -7,14 +8,16 @@
  *
  *     struct pageshare machine = PAGESHARE_NONE;
  *     const uint32_t pages[] = {512, 512}, salts[] = {0, 0};
- *     if (pageshare_make(&machine, 1024, pages, 2, salts, 2) != PAGESHARE_OK) ..
+ *     const struct pageshare_config config = {.frames = 1024, .pages = pages, .salts = salts, .guests = 2};
+ *     uint32_t status = pageshare_make(&machine, &config);
+ *     if (status != PAGESHARE_OK) puts(pageshare_status_text(status));
  *     struct pageshare_answer answer = pageshare_propose(&machine, 0, 17);
  *     ..
  *     pageshare_free(&machine);
  *
- * No call has a condition on its numbers: a wrong one is answered by a status above 0, and then nothing has changed. A status
- * is the first cause that holds, in the order of the numbers; only making a machine checks PAGESHARE_ERROR_IN_USE first, then
- * PAGESHARE_ERROR_HASH, and PAGESHARE_ERROR_REGION before PAGESHARE_ERROR_MEMORY.
+ * No call has a condition on its numbers: if one is wrong, the call returns a status above 0, and nothing has changed. The status
+ * is the first cause that holds, in the order of the numbers. Only making a machine has an order of its own:
+ * PAGESHARE_ERROR_PROCESSOR, _IN_USE, _HASH, _FRAMES, _GUESTS, _PAGES, _REGION, _MEMORY.
  *
  * What the caller owes, and nothing checks:
  *
@@ -29,10 +32,10 @@
  * - malloc, realloc and free are one allocator's, may be called on any thread, and align a block to 16 bytes. No call is made
  *   from a signal handler, nor in the child of a fork of a process with threads.
  *
- * - A region (pageshare_make_with) is the library's until the machine is freed: nobody else writes to it, but that the memory of
- *   free frames may be given back to the system while no call runs. No page that is stored or lent lies in it.
+ * - A region (region of struct pageshare_config) is the library's until the machine is freed: nobody else writes to it, but that the
+ *   memory of free frames may be given back to the system while no call runs. No page that is stored or lent lies in it.
  *
- * pageshare_make takes all memory that a machine needs; no other call asks for any.
+ * Making a machine takes all memory that it needs; no other call asks for any.
  */
 #ifndef PAGESHARE_H
 #define PAGESHARE_H
@@ -40,6 +43,12 @@
 #include <stdbool.h>
 #include <stddef.h>
 #include <stdint.h>
+
+/* The version of this header: MAJOR.MINOR.PATCH. pageshare_version returns that of the library. */
+#define PAGESHARE_VERSION "0.1.0"
+#define PAGESHARE_VERSION_MAJOR 0
+#define PAGESHARE_VERSION_MINOR 1
+#define PAGESHARE_VERSION_PATCH 0
 
 #ifdef __cplusplus
 extern "C" {
@@ -72,8 +81,10 @@ enum pageshare_status {
     PAGESHARE_ERROR_CROSSES = 10,   /* the last byte would stand past the page's end */
     PAGESHARE_ERROR_NO_PAGE = 11,   /* there is no such page (of a request it is a verdict) */
     PAGESHARE_ERROR_UNMAPPED = 12,  /* the page has no frame (of a request it is a verdict) */
-    PAGESHARE_ERROR_REGION = 13,    /* the region has too little room for the frames, or isn't aligned to 4,096 (checked after 3) */
-    PAGESHARE_ERROR_HASH = 14       /* there is no such hash */
+    PAGESHARE_ERROR_REGION = 13,    /* the region has too little room for the frames, or isn't aligned to 4,096 (checked after PAGES) */
+    PAGESHARE_ERROR_HASH = 14,      /* there is no such hash */
+    /* (15 to 24 are of domains) */
+    PAGESHARE_ERROR_PROCESSOR = 25  /* the library is built for a newer processor. Then call pageshare_free at most */
 };
 
 enum pageshare_verdict {
@@ -110,6 +121,21 @@ struct pageshare_answer {
     uint32_t freed;   /* a frame that is free since, which was the named page's, or PAGESHARE_NO_FRAME */
 };
 
+/* Returns the library's version, such as "0.1.0". */
+const char *pageshare_version(void);
+
+/* Returns the level of x86-64 that the library is built for: 2 (x86-64-v2), or 3 (x86-64-v3, with AVX2). */
+uint32_t pageshare_level(void);
+
+/* Returns PAGESHARE_OK if this processor has that level, else PAGESHARE_ERROR_PROCESSOR. Making a machine checks it, too. */
+uint32_t pageshare_check_processor(void);
+
+/* Returns the meaning of a status in a few words of English, such as "no such page"; "unknown status" for other numbers. */
+const char *pageshare_status_text(uint32_t status);
+
+/* Returns a verdict's word, which is that of the program's texts, such as "joined"; "unknown verdict" for other numbers. */
+const char *pageshare_verdict_text(uint32_t verdict);
+
 /* What a machine counts. */
 struct pageshare_totals {
     uint32_t entries;   /* the requests served, whatever their verdicts, since the count began */
@@ -120,14 +146,6 @@ struct pageshare_totals {
     uint32_t hints;     /* the pages that are hints */
 };
 
-/*
- * Makes a machine with `frames` frames (1 to 1,048,576). Guest i has pages[i] pages (1 or more, at most 1,048,576 in total) and
- * the salt salts[i]: pages of guests with different salts are never shared. guests and salts_count are the lengths of the
- * lists, both the same, 1 to 64. Answers PAGESHARE_OK or a status of 1 to 5.
- */
-uint32_t pageshare_make(struct pageshare *machine, uint32_t frames, const uint32_t *pages, size_t guests,
-                        const uint32_t *salts, size_t salts_count);
-
 /* The hash by which a machine finds equal pages. They are compared in full before they share a frame, whatever the hash. */
 enum pageshare_hash_kind {
     PAGESHARE_SHA256 = 0,     /* the first eight bytes of SHA-256 */
@@ -135,9 +153,16 @@ enum pageshare_hash_kind {
     PAGESHARE_SHA256_WIDE = 2 /* PAGESHARE_SHA256 of eight pages at once: for libraries built for x86-64-v3 */
 };
 
-/* The same with a hash of the caller's choice; pageshare_make takes PAGESHARE_SHA256. Answers PAGESHARE_ERROR_HASH besides. */
-uint32_t pageshare_make_hashed(struct pageshare *machine, uint32_t frames, const uint32_t *pages, size_t guests,
-                               const uint32_t *salts, size_t salts_count, uint32_t hash);
+/* What a machine is made of. Set it to zeros first, as an initializer does: a zero is the default of each member from hash on. */
+struct pageshare_config {
+    uint32_t frames;       /* 1 to 1,048,576 */
+    const uint32_t *pages; /* the pages of each guest: 1 or more, at most 1,048,576 in total */
+    const uint32_t *salts; /* the salt of each guest: pages of guests with different salts are never shared */
+    size_t guests;         /* 1 to 64 */
+    uint32_t hash;         /* an enum pageshare_hash_kind */
+    void *region;          /* memory for the frames, aligned to 4,096 bytes, or NULL: the library takes it itself */
+    size_t region_bytes;   /* at least 4,096 for each frame; the library uses no more than that. 0 if there is no region */
+};
 
 /* Memory of the caller's for frames: room for `pages` pages of 4,096 bytes, one after the other, from `at` on. */
 struct pageshare_region {
@@ -146,31 +171,39 @@ struct pageshare_region {
 };
 
 /*
- * The same with frames in the caller's region, which has room for exactly as many pages and is aligned to 4,096 bytes: frame n is
- * the 4,096 bytes at 4096 n of it. Answers PAGESHARE_ERROR_REGION besides. pageshare_make_with is easier to call.
+ * Deprecated: the calls by which 0.1.0 made machines, which the next release drops from this header. Use pageshare_make with a
+ * struct pageshare_config (below). guests and salts_count are the lengths of the lists, both the same. frames, pages, salts and
+ * hash are as in the config, and frames are in memory of the library's unless there is a region. It has room for exactly `frames`
+ * pages and is aligned to 4,096 bytes. With PAGESHARE_WARN_DEPRECATED defined, compilers name each use of them.
  */
-uint32_t pageshare_make_in(struct pageshare *machine, uint32_t frames, const uint32_t *pages, size_t guests,
-                           const uint32_t *salts, size_t salts_count, uint32_t hash, struct pageshare_region region);
-
-/* What a machine is made of. */
-struct pageshare_config {
-    uint32_t frames;
-    const uint32_t *pages; /* the pages of each guest */
-    const uint32_t *salts; /* the salt of each guest */
-    size_t guests;
-    uint32_t hash;       /* an enum pageshare_hash_kind */
-    void *region;        /* memory for the frames, as of pageshare_make_in, or NULL: the library takes it itself */
-    size_t region_bytes; /* at least 4,096 for each frame; the library uses no more than that */
-};
+#if defined(PAGESHARE_WARN_DEPRECATED)
+#define PAGESHARE_DEPRECATED __attribute__((deprecated("use pageshare_make with a struct pageshare_config")))
+#else
+#define PAGESHARE_DEPRECATED
+#endif
+PAGESHARE_DEPRECATED uint32_t pageshare_make(struct pageshare *machine, uint32_t frames, const uint32_t *pages, size_t guests,
+                                             const uint32_t *salts, size_t salts_count);
+PAGESHARE_DEPRECATED uint32_t pageshare_make_hashed(struct pageshare *machine, uint32_t frames, const uint32_t *pages, size_t guests,
+                                                    const uint32_t *salts, size_t salts_count, uint32_t hash);
+PAGESHARE_DEPRECATED uint32_t pageshare_make_in(struct pageshare *machine, uint32_t frames, const uint32_t *pages, size_t guests,
+                                                const uint32_t *salts, size_t salts_count, uint32_t hash,
+                                                struct pageshare_region region);
 
 /*
- * Makes a machine of this description. From then on, and until it is freed, the library alone writes to the region's frames, and
- * the caller reads only those that pages have (it may map them for guests to read). The library never reads a free frame before it
- * has written it whole, so the caller may give a free frame's memory back to the system, as by MADV_REMOVE, while no call runs.
- * After pageshare_free, and after a status above 0, the library doesn't touch the region again.
+ * pageshare_make(machine, config) makes the machine that a struct pageshare_config describes. Returns PAGESHARE_OK, or one of
+ * PAGESHARE_ERROR_PROCESSOR, _IN_USE, _HASH, _FRAMES, _GUESTS, _PAGES, _REGION and _MEMORY: the first cause in this order.
+ *
+ * From then on, and until it is freed, the library alone writes to the region's frames. Frame n is the 4,096 bytes at 4096 n of the
+ * region. The caller reads only those that pages have (it may map them for guests to read). The library never reads a free frame
+ * before it has written it whole, so the caller may give a free frame's memory back to the system, as by MADV_REMOVE, while no call
+ * runs. After pageshare_free, and after a status above 0, the library doesn't touch the region again.
  */
-static inline uint32_t pageshare_make_with(struct pageshare *machine, const struct pageshare_config *config) {
+static inline uint32_t pageshare_make_of(struct pageshare *machine, const struct pageshare_config *config) {
     struct pageshare_region region;
+#if defined(__GNUC__)
+#pragma GCC diagnostic push
+#pragma GCC diagnostic ignored "-Wdeprecated-declarations"
+#endif
     if (config->region == NULL) {
         return pageshare_make_hashed(machine, config->frames, config->pages, config->guests, config->salts, config->guests,
                                      config->hash);
@@ -181,14 +214,39 @@ static inline uint32_t pageshare_make_with(struct pageshare *machine, const stru
     if ((uintptr_t)config->region % PAGESHARE_PAGE_BYTES != 0) region.pages = 0;
     return pageshare_make_in(machine, config->frames, config->pages, config->guests, config->salts, config->guests, config->hash,
                              region);
+#if defined(__GNUC__)
+#pragma GCC diagnostic pop
+#endif
 }
 
-/* Frees the machine. Answers PAGESHARE_OK or PAGESHARE_ERROR_NO_MACHINE; the handle holds none afterwards. */
+#ifdef __cplusplus
+extern "C++" {
+static inline uint32_t pageshare_make(struct pageshare *machine, const struct pageshare_config *config) {
+    return pageshare_make_of(machine, config);
+}
+}
+#else
+/* (For calls with the six arguments of 0.1.0: five behind the machine. A config that is written in the call counts as one argument for
+ * each of its members, unless it is in parentheses.) */
+#define PAGESHARE_NINTH(a, b, c, d, e, f, g, h, ninth, ...) ninth
+#define pageshare_make(machine, ...)                                                                                                  \
+    PAGESHARE_NINTH(__VA_ARGS__, pageshare_make_of, pageshare_make_of, pageshare_make_of, pageshare_make, pageshare_make_of,           \
+                    pageshare_make_of, pageshare_make_of, pageshare_make_of, 0)                                                       \
+    (machine, __VA_ARGS__)
+#endif
+
+/* Deprecated: the same by an older name. */
+PAGESHARE_DEPRECATED static inline uint32_t pageshare_make_with(struct pageshare *machine, const struct pageshare_config *config) {
+    return pageshare_make_of(machine, config);
+}
+
+/* Frees the machine. Returns PAGESHARE_OK or PAGESHARE_ERROR_NO_MACHINE; the handle holds none afterwards. */
 uint32_t pageshare_free(struct pageshare *machine);
 
 /*
  * The requests of a guest. Guests count from 0, a guest's pages (by their physical page numbers, PPN) from 0, and the bytes of
- * a page from 0. Each answers a status (0, or 6 to 10), and at status 0 a verdict.
+ * a page from 0. Each returns a status: PAGESHARE_OK, and then a verdict, or PAGESHARE_ERROR_NO_MACHINE, _NO_GUEST, _FULL, _LENGTH
+ * or _CROSSES.
  *
  * A page changes its frame at five verdicts alone: MAPPED and COPIED (a frame that was free), JOINED and PAIRED (the frame of
  * the pages with which it is now shared), and RELEASED (none). Every other page keeps its frame. A monitor that maps pages to
@@ -249,7 +307,7 @@ struct pageshare_lending {
 /*
  * Lends four pages, one after the other in this order, as four calls of pageshare_lend do: answers[i] is the answer for pages[i].
  * With SHA-256 the four hashes are computed together, which takes less than half the time; the pages stay where they are, and one
- * page may be named twice. Answers PAGESHARE_OK, or PAGESHARE_ERROR_NO_MACHINE, and then writes no answer.
+ * page may be named twice. Returns PAGESHARE_OK, or PAGESHARE_ERROR_NO_MACHINE, and then writes no answer.
  */
 uint32_t pageshare_lend_four(struct pageshare *machine, const struct pageshare_lending pages[PAGESHARE_GROUP],
                              struct pageshare_answer answers[PAGESHARE_GROUP]);
@@ -266,14 +324,14 @@ uint32_t pageshare_lend_eight(struct pageshare *machine, const struct pageshare_
 
 /*
  * Lends `count` pages, one after the other in this order: in groups of eight, then four, and then one by one. answers[i] is the
- * answer for pages[i]. Answers PAGESHARE_OK, or PAGESHARE_ERROR_NO_MACHINE, and then writes no answer.
+ * answer for pages[i]. Returns PAGESHARE_OK, or PAGESHARE_ERROR_NO_MACHINE, and then writes no answer.
  */
 static inline uint32_t pageshare_lend_many(struct pageshare *machine, const struct pageshare_lending *pages, size_t count,
                                            struct pageshare_answer *answers) {
     size_t i = 0;
     if (!machine->private_live) return PAGESHARE_ERROR_NO_MACHINE;
-    for (; count - i >= PAGESHARE_WIDE_GROUP; i += PAGESHARE_WIDE_GROUP) pageshare_lend_eight(machine, pages + i, answers + i);
-    for (; count - i >= PAGESHARE_GROUP; i += PAGESHARE_GROUP) pageshare_lend_four(machine, pages + i, answers + i);
+    for (; i + PAGESHARE_WIDE_GROUP <= count; i += PAGESHARE_WIDE_GROUP) pageshare_lend_eight(machine, pages + i, answers + i);
+    for (; i + PAGESHARE_GROUP <= count; i += PAGESHARE_GROUP) pageshare_lend_four(machine, pages + i, answers + i);
     for (; i < count; i++) answers[i] = pageshare_lend(machine, pages[i].guest, pages[i].ppn, pages[i].page);
     return PAGESHARE_OK;
 }
@@ -283,7 +341,10 @@ struct pageshare_answer pageshare_count(struct pageshare *machine, uint32_t gues
 
 /* The calls below are no requests: they aren't counted, and change no page. */
 
-/* Begins the count of requests anew, for a machine that serves more than 4,294,967,295. Answers 0 or 6. */
+/*
+ * Begins the count of requests anew, for a machine that serves more than 4,294,967,295. Returns PAGESHARE_OK or
+ * PAGESHARE_ERROR_NO_MACHINE.
+ */
 uint32_t pageshare_restart_count(struct pageshare *machine);
 
 /* A page, by its guest and its number. */
@@ -295,13 +356,13 @@ struct pageshare_page_name {
 /*
  * Computes the hashes of `count` pages ahead of their proposals: of SHA-256 four at a time, which takes less than half the time.
  * It skips pages that don't exist, aren't private, or whose hash is known. It is no request and changes no answer, and a store to
- * a page makes its hash unknown again. Answers PAGESHARE_OK or PAGESHARE_ERROR_NO_MACHINE.
+ * a page makes its hash unknown again. Returns PAGESHARE_OK or PAGESHARE_ERROR_NO_MACHINE.
  */
 uint32_t pageshare_hash(struct pageshare *machine, const struct pageshare_page_name *pages, size_t count);
 
 /*
  * Proposes `count` pages, one after the other in this order, with their hashes computed ahead as by pageshare_hash; answers[i] is
- * the answer for pages[i]. Answers PAGESHARE_OK, or PAGESHARE_ERROR_NO_MACHINE, and then writes no answer.
+ * the answer for pages[i]. Returns PAGESHARE_OK, or PAGESHARE_ERROR_NO_MACHINE, and then writes no answer.
  */
 static inline uint32_t pageshare_propose_many(struct pageshare *machine, const struct pageshare_page_name *pages, size_t count,
                                               struct pageshare_answer *answers) {
@@ -310,20 +371,26 @@ static inline uint32_t pageshare_propose_many(struct pageshare *machine, const s
     return PAGESHARE_OK;
 }
 
-/* Gets the machine's totals. Answers 0 or 6. */
+/* Gets the machine's totals. Returns PAGESHARE_OK or PAGESHARE_ERROR_NO_MACHINE. */
 uint32_t pageshare_report(struct pageshare *machine, struct pageshare_totals *totals);
 
-/* Copies a page to the room; an unmapped page reads as zeros. Answers 0, 6 or 11. */
+/*
+ * Copies a page to the room; an unmapped page reads as zeros. Returns PAGESHARE_OK, PAGESHARE_ERROR_NO_MACHINE or
+ * PAGESHARE_ERROR_NO_PAGE.
+ */
 uint32_t pageshare_read(struct pageshare *machine, uint32_t guest, uint32_t ppn,
                         uint8_t room[PAGESHARE_PAGE_BYTES]);
 
-/* Gets the number of a page's frame (its machine page number, MPN), 0 to frames - 1. Answers 0, 6, 11 or 12. */
+/*
+ * Gets the number of a page's frame (its machine page number, MPN), 0 to frames - 1. Returns PAGESHARE_OK,
+ * PAGESHARE_ERROR_NO_MACHINE, PAGESHARE_ERROR_NO_PAGE or PAGESHARE_ERROR_UNMAPPED.
+ */
 uint32_t pageshare_frame(struct pageshare *machine, uint32_t guest, uint32_t ppn, uint32_t *mpn);
 
 /*
  * Gets the address of a page's 4,096 bytes, which may be read, never written, and only until the next call with this handle.
- * Answers 0, 6, 11 or 12; unless it is 0, *at stays as it is. No proof says what is at the address; pageshare_read copies the
- * bytes.
+ * Returns PAGESHARE_OK, PAGESHARE_ERROR_NO_MACHINE, PAGESHARE_ERROR_NO_PAGE or PAGESHARE_ERROR_UNMAPPED; unless it is PAGESHARE_OK,
+ * *at stays as it is. No proof says what is at the address; pageshare_read copies the bytes.
  */
 uint32_t pageshare_page(struct pageshare *machine, uint32_t guest, uint32_t ppn, const uint8_t **at);
 

@@ -5,6 +5,12 @@
 int main() {
     pageshare machine = PAGESHARE_NONE;
     const uint32_t pages[] = {1}, salts[] = {0};
+    pageshare_config described{};
+    described.frames = 1;
+    described.pages = pages;
+    described.salts = salts;
+    described.guests = 1;
+    if (pageshare_make(&machine, &described) != PAGESHARE_OK || pageshare_free(&machine) != PAGESHARE_OK) return 1;
     if (pageshare_make(&machine, 1, pages, 1, salts, 1) != PAGESHARE_OK) return 1;
     const pageshare_answer answer = pageshare_release(&machine, 0, 0);
     if (pageshare_free(&machine) != PAGESHARE_OK || answer.verdict != PAGESHARE_VERDICT_UNMAPPED) return 1;

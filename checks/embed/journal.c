@@ -105,7 +105,7 @@ static void make(struct told *t, bool in_region) {
         config.region = t->region = at;
         config.region_bytes = region_bytes(t);
     }
-    if (pageshare_make_with(&t->machine, &config) != PAGESHARE_OK) stop("no machine");
+    if (pageshare_make(&t->machine, &config) != PAGESHARE_OK) stop("no machine");
 }
 
 /* Gives the memory of each frame that no page has back to the system. */

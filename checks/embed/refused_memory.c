@@ -1,5 +1,5 @@
 /*
- * Refuses each allocation of pageshare_make in turn, and of pageshare_make_with with a region: the status is 4, nothing stays
+ * Refuses each allocation of pageshare_make in turn, with a region and without: the status is 4, nothing stays
  * allocated, and the handle still serves. Once a machine is made, no call asks for memory. Its rattle_alloc, rattle_realloc and rattle_dealloc take the place of
  * the library's own, which call malloc, realloc and free. Prints "ok", or what failed.
  */
@@ -107,7 +107,7 @@ static int refuse_each(uint8_t *region) {
     struct pageshare machine = PAGESHARE_NONE;
     for (long allowed = 0; allowed < 1000; allowed++) {
         left = allowed;
-        uint32_t status = pageshare_make_with(&machine, &config);
+        uint32_t status = pageshare_make(&machine, &config);
         if (status == PAGESHARE_OK) {
             if (allowed < (region == NULL ? 5 : 4) || left != 0) return fail(allowed, "made too early");
             if (!serves(&machine)) return fail(allowed, "it does not serve without more memory");

@@ -52,7 +52,7 @@ static void check_places(uint32_t frames) {
     struct pageshare machine = PAGESHARE_NONE;
     struct pageshare_config config = config_of(frames, pages, salts, 1, region, ((size_t)frames + 1) * PAGE);
     region[(size_t)frames * PAGE] = 0xee;
-    CHECK(pageshare_make_with(&machine, &config) == PAGESHARE_OK);
+    CHECK(pageshare_make(&machine, &config) == PAGESHARE_OK);
     uint32_t wrong = 0;
     for (uint32_t ppn = 0; ppn < frames; ppn++) {
         fill(page, ppn + 1);
@@ -84,7 +84,7 @@ static void check_many_places(uint32_t frames) {
     struct pageshare machine = PAGESHARE_NONE;
     struct pageshare_config config = config_of(frames, pages, salts, 1, region, (size_t)frames * PAGE);
     uint32_t wrong = 0, filled = 0;
-    CHECK(pageshare_make_with(&machine, &config) == PAGESHARE_OK);
+    CHECK(pageshare_make(&machine, &config) == PAGESHARE_OK);
     for (uint32_t ppn = 0; ppn < frames; ppn++) {
         fill(page, ppn + 1);
         if (ppn % 1000000 == 0) CHECK(pageshare_restart_count(&machine) == PAGESHARE_OK);
@@ -109,22 +109,22 @@ static void check_statuses(void) {
     const uint32_t pages[] = {2}, salts[] = {0}, none[] = {0};
     struct pageshare machine = PAGESHARE_NONE;
     struct pageshare_config config = config_of(3, pages, salts, 1, region, sizeof region - 1);
-    CHECK(pageshare_make_with(&machine, &config) == PAGESHARE_ERROR_REGION && pageshare_free(&machine) == PAGESHARE_ERROR_NO_MACHINE);
+    CHECK(pageshare_make(&machine, &config) == PAGESHARE_ERROR_REGION && pageshare_free(&machine) == PAGESHARE_ERROR_NO_MACHINE);
     config.region = region + 1;
     config.region_bytes = 2 * PAGE;
     config.frames = 1;
-    CHECK(pageshare_make_with(&machine, &config) == PAGESHARE_ERROR_REGION);
+    CHECK(pageshare_make(&machine, &config) == PAGESHARE_ERROR_REGION);
     config = config_of(0, pages, salts, 1, region, 0);
-    CHECK(pageshare_make_with(&machine, &config) == PAGESHARE_ERROR_FRAMES);
+    CHECK(pageshare_make(&machine, &config) == PAGESHARE_ERROR_FRAMES);
     config = config_of(3, none, salts, 1, region, 0);
-    CHECK(pageshare_make_with(&machine, &config) == PAGESHARE_ERROR_PAGES);
+    CHECK(pageshare_make(&machine, &config) == PAGESHARE_ERROR_PAGES);
     config.hash = 3;
-    CHECK(pageshare_make_with(&machine, &config) == PAGESHARE_ERROR_HASH);
+    CHECK(pageshare_make(&machine, &config) == PAGESHARE_ERROR_HASH);
     config = config_of(3, pages, salts, 1, region, sizeof region);
-    CHECK(pageshare_make_with(&machine, &config) == PAGESHARE_OK && pageshare_make_with(&machine, &config) == PAGESHARE_ERROR_IN_USE);
+    CHECK(pageshare_make(&machine, &config) == PAGESHARE_OK && pageshare_make(&machine, &config) == PAGESHARE_ERROR_IN_USE);
     CHECK(pageshare_free(&machine) == PAGESHARE_OK);
     config.region = NULL;
-    CHECK(pageshare_make_with(&machine, &config) == PAGESHARE_OK && pageshare_free(&machine) == PAGESHARE_OK);
+    CHECK(pageshare_make(&machine, &config) == PAGESHARE_OK && pageshare_free(&machine) == PAGESHARE_OK);
 }
 
 /* Lists of pages do what as many calls do. */
@@ -218,7 +218,7 @@ static void check_punched(unsigned seed) {
     uint32_t lent[PAGES] = {0}, wrong = 0, punched = 0;
     struct pageshare machine = PAGESHARE_NONE;
     struct pageshare_config config = config_of(FRAMES, pages, salts, 1, region, FRAMES * PAGE);
-    CHECK(pageshare_make_with(&machine, &config) == PAGESHARE_OK);
+    CHECK(pageshare_make(&machine, &config) == PAGESHARE_OK);
     srand(seed);
     for (int round = 0; round < 400; round++) {
         uint32_t ppn = (uint32_t)rand() % PAGES;

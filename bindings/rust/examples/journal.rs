@@ -87,10 +87,10 @@ type Waiting = Vec<(u32, u32, Box<Page>)>;
 fn lend(machine: &mut Machine, waiting: &mut Waiting, out: &mut impl Write) -> Done<()> {
     let pages: Vec<Lending<'_>> = waiting
         .iter()
-        .map(|&(guest, ppn, ref page)| Lending { guest, ppn, page })
+        .map(|(guest, ppn, page)| Lending::new(*guest, *ppn, page))
         .collect();
     for (lending, verdict) in pages.iter().zip(machine.lend_many(&pages)) {
-        writeln!(out, "{} {}", lending.guest, verdict?)?;
+        writeln!(out, "{} {}", lending.guest(), verdict?)?;
     }
     waiting.clear();
     Ok(())

@@ -16,6 +16,8 @@ pub enum MakeError {
     Region,
     /// The memory was refused.
     OutOfMemory,
+    /// The library is built for a newer processor. It is checked before all others.
+    Processor,
     /// A status that this wrapper does not know: it is of another version than the library.
     Unknown(u32),
 }
@@ -28,6 +30,7 @@ impl MakeError {
             3 => MakeError::Pages,
             4 => MakeError::OutOfMemory,
             13 => MakeError::Region,
+            25 => MakeError::Processor,
             _ => MakeError::Unknown(status),
         }
     }
@@ -43,6 +46,7 @@ impl fmt::Display for MakeError {
             }
             MakeError::Region => f.write_str("the region has room for each frame"),
             MakeError::OutOfMemory => f.write_str("out of memory"),
+            MakeError::Processor => f.write_str("the library is built for a newer processor"),
             MakeError::Unknown(status) => write!(f, "unknown status {status}"),
         }
     }

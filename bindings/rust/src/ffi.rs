@@ -1,6 +1,6 @@
-//! The functions of `libpageshare.a`, as `include/pageshare.h` declares them. Nothing compares the two.
+//! The functions of `libpageshare`, as `include/pageshare.h` declares them. Nothing compares the two.
 use crate::machine::Lending;
-use std::ffi::c_void;
+use std::ffi::{c_char, c_void};
 
 #[repr(C)]
 pub(crate) struct Handle {
@@ -95,13 +95,13 @@ extern "C" {
         machine: *mut Handle,
         guest: u32,
         ppn: u32,
-        page: *const [u8; 4096],
+        page: *const u8,
     ) -> Answer;
     pub(crate) fn pageshare_lend(
         machine: *mut Handle,
         guest: u32,
         ppn: u32,
-        page: *const [u8; 4096],
+        page: *const u8,
     ) -> Answer;
     pub(crate) fn pageshare_lend_four(
         machine: *mut Handle,
@@ -138,4 +138,7 @@ extern "C" {
         ppn: u32,
         at: *mut *const u8,
     ) -> u32;
+    pub(crate) fn pageshare_version() -> *const c_char;
+    pub(crate) fn pageshare_level() -> u32;
+    pub(crate) fn pageshare_check_processor() -> u32;
 }

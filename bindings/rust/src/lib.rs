@@ -23,10 +23,28 @@
 //!
 //! The library below is proved to do what the machine's model says (`docs/EMBEDDING.md` of its repository). This wrapper is plain
 //! Rust, which is tested and not proved: it keeps what the library asks of its callers.
+//!
+//! # How a page comes to be shared
+//!
+//! A guest asks, and each request has a verdict. A page that gets its first bytes is *mapped* to a frame of its own. A proposal of a
+//! page for which no equal one is known makes it a *hint*, under a key of its content. A later proposal of an equal page *pairs* the
+//! two: both have one frame then, and further ones *join* them. Pages are compared byte by byte before they share a frame. A store to
+//! a shared page gives the writer a *copy*. The frames that this saves are those [`Report::reclaimed`] counts.
+//!
+//! Monitors whose guests write to their memory unasked *lend* a page that wasn't written lately ([`Machine::lend`]) and *take it back*
+//! at the guest's next write ([`Machine::take_back`]). In between the guest reads the frame, which is mapped from the machine's
+//! [`Region`] for reading alone. `examples/vm-memory` does so with the memory of the crate `vm-memory`.
+//!
+//! # What to link
+//!
+//! The build script takes the first library that it finds: in the folder `PAGESHARE_LIB_DIR`, or the installed one that `pkg-config`
+//! knows (the shared one; with `PAGESHARE_STATIC=1` the static one), or in `out/` of the library's repository. [`library_level`] says
+//! for which processors it was built.
 #![warn(missing_docs)]
 
 mod error;
 mod ffi;
+mod frames;
 mod machine;
 mod region;
 mod verdict;
@@ -38,3 +56,42 @@ pub use verdict::{
     LendVerdict, Lent, LoadVerdict, ProposeVerdict, ReleaseVerdict, Report, ReturnVerdict,
     StoreVerdict,
 };
+
+/// The version of the library that is linked, such as `0.1.0`.
+///
+/// ```
+/// assert_eq!(pageshare::library_version(), env!("CARGO_PKG_VERSION"));
+/// ```
+pub fn library_version() -> &'static str {
+    // SAFETY: the library returns the address of a text that ends with a zero byte, and that nobody changes or frees.
+    let text = unsafe { std::ffi::CStr::from_ptr(ffi::pageshare_version()) };
+    text.to_str().unwrap_or_default()
+}
+
+/// The level of x86-64 that the library is built for: 2 (x86-64-v2), or 3 (x86-64-v3, with AVX2).
+///
+/// ```
+/// assert!(matches!(pageshare::library_level(), 2 | 3));
+/// ```
+pub fn library_level() -> u32 {
+    // SAFETY: the call has no conditions. So below.
+    unsafe { ffi::pageshare_level() }
+}
+
+/// Whether this processor has that level. Where it hasn't, [`Machine::new`] returns [`MakeError::Processor`].
+///
+/// ```
+/// use pageshare::{Guest, Machine, MakeError};
+///
+/// let made = Machine::new(1, &[Guest { pages: 1, salt: 0 }]);
+/// assert_eq!(matches!(made, Err(MakeError::Processor)), !pageshare::is_processor_supported());
+/// ```
+pub fn is_processor_supported() -> bool {
+    // SAFETY: as above.
+    unsafe { ffi::pageshare_check_processor() == 0 }
+}
+
+/// The examples of README.md.
+#[cfg(doctest)]
+#[doc = include_str!("../README.md")]
+struct Readme;

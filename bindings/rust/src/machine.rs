@@ -1,6 +1,7 @@
 //! The machine.
 use crate::error::{MakeError, NoSuchPage, RequestError};
 use crate::ffi::{self, Answer, Handle, PageName, Totals};
+use crate::frames::FramesInUse;
 use crate::region::Region;
 use crate::verdict::{
     LendVerdict, LoadVerdict, ProposeVerdict, ReleaseVerdict, Report, ReturnVerdict, StoreVerdict,
@@ -8,6 +9,7 @@ use crate::verdict::{
 use std::cell::UnsafeCell;
 use std::fmt;
 use std::io;
+use std::marker::PhantomData;
 
 /// The bytes of a page.
 pub const PAGE_BYTES: usize = 4096;
@@ -33,16 +35,76 @@ pub struct Guest {
     pub salt: u32,
 }
 
-/// A page that is to be lent ([`Machine::lend_many`]), and its bytes.
+/// A page that is to be lent ([`Machine::lend_many`]), and where its bytes are.
+///
+/// It holds a pointer and not a reference, so it may also name memory that a guest writes to between calls ([`Lending::at`]).
+///
+/// ```
+/// use pageshare::{Lending, PAGE_BYTES};
+///
+/// let page = [7; PAGE_BYTES];
+/// let lending = Lending::new(0, 17, &page);
+/// assert_eq!((lending.guest(), lending.ppn()), (0, 17));
+/// ```
 #[repr(C)]
 #[derive(Clone, Copy, Debug)]
 pub struct Lending<'a> {
+    guest: u32,
+    ppn: u32,
+    page: *const u8,
+    bytes: PhantomData<&'a Page>,
+}
+
+impl<'a> Lending<'a> {
+    /// A page of this guest and number, with these bytes.
+    pub fn new(guest: u32, ppn: u32, page: &'a Page) -> Lending<'a> {
+        Lending {
+            guest,
+            ppn,
+            page: page.as_ptr(),
+            bytes: PhantomData,
+        }
+    }
+
+    /// The same, with the 4,096 bytes at this address, such as memory that is mapped for a guest.
+    ///
+    /// # Safety
+    ///
+    /// For `'a` the bytes can be read. While a call runs that gets this value, nobody writes to them: not the guest, whose right to
+    /// write is taken before, nor a device, nor another thread.
+    ///
+    /// ```
+    /// use pageshare::{Guest, Lending, Machine, PAGE_BYTES};
+    ///
+    /// # fn main() -> Result<(), Box<dyn std::error::Error>> {
+    /// let mut memory = vec![7_u8; 2 * PAGE_BYTES];
+    /// let start = memory.as_mut_ptr();
+    /// let mut machine = Machine::new(2, &[Guest { pages: 2, salt: 0 }])?;
+    /// // SAFETY: both pages are in the vector, which nobody writes to until they are lent.
+    /// let pages = [0, 1].map(|ppn| unsafe { Lending::at(0, ppn, start.add(ppn as usize * PAGE_BYTES)) });
+    /// assert!(machine.lend_many(&pages).iter().all(Result::is_ok));
+    /// assert_eq!(machine.report().reclaimed, 1);
+    /// # Ok(())
+    /// # }
+    /// ```
+    pub const unsafe fn at(guest: u32, ppn: u32, page: *const u8) -> Lending<'a> {
+        Lending {
+            guest,
+            ppn,
+            page,
+            bytes: PhantomData,
+        }
+    }
+
     /// The page's guest.
-    pub guest: u32,
+    pub const fn guest(&self) -> u32 {
+        self.guest
+    }
+
     /// The page's number.
-    pub ppn: u32,
-    /// The bytes, which stay where they are.
-    pub page: &'a Page,
+    pub const fn ppn(&self) -> u32 {
+        self.ppn
+    }
 }
 
 /// The hash by which a machine finds equal pages. They are compared in full before they share a frame, whatever the hash.
@@ -75,6 +137,16 @@ impl HashKind {
 ///
 /// A machine may go to another thread, and is used by one at a time: it is `Send` and not `Sync`.
 ///
+/// ```
+/// # use pageshare::{Guest, Machine};
+/// # fn main() -> Result<(), Box<dyn std::error::Error>> {
+/// let machine = Machine::new(1, &[Guest { pages: 1, salt: 0 }])?;
+/// let there = std::thread::spawn(move || machine.report().mapped);
+/// assert_eq!(there.join().ok(), Some(0));
+/// # Ok(())
+/// # }
+/// ```
+///
 /// ```compile_fail
 /// # use pageshare::{Guest, Machine};
 /// # let Ok(machine) = Machine::new(1, &[Guest { pages: 1, salt: 0 }]) else { return };
@@ -88,11 +160,25 @@ pub struct Machine {
     /// In a cell, since calls that only read write it too, and leave it as it was. No reference to it outlives a call, and no
     /// other thread has one.
     handle: UnsafeCell<Handle>,
-    /// The frames' memory, if the caller chose it. It is dropped after the machine was freed.
-    region: Option<Region>,
+    /// The frames' memory, if the caller chose it, and which of them are in use. It is dropped after the machine was freed.
+    region: Option<(Region, FramesInUse)>,
 }
 
 /// A machine that is to be made, from [`Machine::builder`].
+///
+/// ```
+/// # fn main() -> Result<(), Box<dyn std::error::Error>> {
+/// use pageshare::{Guest, HashKind, Machine, Region};
+///
+/// let guests = [Guest { pages: 512, salt: 0x51ed_270b }];
+/// let machine = Machine::builder(512, &guests)
+///     .hash(HashKind::Fold)
+///     .region(Region::new(512)?)
+///     .build()?;
+/// assert_eq!(machine.region().map(Region::frames), Some(512));
+/// # Ok(())
+/// # }
+/// ```
 #[derive(Debug)]
 #[must_use = "a builder makes a machine by `build`"]
 pub struct Builder<'a> {
@@ -130,7 +216,10 @@ impl Builder<'_> {
         }
         let machine = Machine {
             handle: UnsafeCell::new(Handle::NONE),
-            region: self.region,
+            region: self.region.map(|region| {
+                let in_use = FramesInUse::new(region.frames());
+                (region, in_use)
+            }),
         };
         let (handle, hash) = (machine.handle.get(), self.hash.number());
         let (pages, salts) = (pages.as_ptr(), salts.as_ptr());
@@ -147,7 +236,7 @@ impl Builder<'_> {
                     count,
                     hash,
                 ),
-                Some(region) => {
+                Some((region, _)) => {
                     let rooms = ffi::Region {
                         at: region.address(),
                         pages: region.frames().min(self.frames) as usize,
@@ -178,6 +267,16 @@ unsafe impl Send for Machine {}
 impl Machine {
     /// Makes a machine with so many frames for the pages of these guests, which finds equal pages by SHA-256.
     ///
+    /// ```
+    /// # fn main() -> Result<(), Box<dyn std::error::Error>> {
+    /// use pageshare::{Guest, Machine};
+    ///
+    /// let machine = Machine::new(1024, &[Guest { pages: 512, salt: 0 }; 2])?;
+    /// assert_eq!(machine.report().frames, 0);
+    /// # Ok(())
+    /// # }
+    /// ```
+    ///
     /// # Errors
     ///
     /// The first of the causes of [`MakeError`], in their order.
@@ -187,6 +286,16 @@ impl Machine {
 
     /// The same with a hash of the caller's choice.
     ///
+    /// ```
+    /// # fn main() -> Result<(), Box<dyn std::error::Error>> {
+    /// use pageshare::{Guest, HashKind, Machine};
+    ///
+    /// let machine = Machine::with_hash(8, &[Guest { pages: 8, salt: 7 }], HashKind::Fold)?;
+    /// assert_eq!(machine.report().mapped, 0);
+    /// # Ok(())
+    /// # }
+    /// ```
+    ///
     /// # Errors
     ///
     /// The first of the causes of [`MakeError`], in their order.
@@ -195,7 +304,7 @@ impl Machine {
     }
 
     /// Begins a machine with so many frames for the pages of these guests. By default it finds equal pages by SHA-256, and its
-    /// frames are in memory of the library's.
+    /// frames are in memory of the library's. [`Builder`] has an example.
     pub fn builder(frames: u32, guests: &[Guest]) -> Builder<'_> {
         Builder {
             frames,
@@ -207,18 +316,42 @@ impl Machine {
 
     /// The region that the machine's frames are in, if it was made with one.
     pub fn region(&self) -> Option<&Region> {
-        self.region.as_ref()
+        self.region.as_ref().map(|(region, _)| region)
     }
 
     /// Gives the memory of a frame in the machine's region back to the system. It is for frames that no page has, such as those
-    /// that verdicts call freed: a page that has it would read as zeros from then on.
+    /// that verdicts call freed.
+    ///
+    /// ```
+    /// # fn main() -> Result<(), Box<dyn std::error::Error>> {
+    /// use pageshare::{Guest, LendVerdict, Machine, Region, ReturnVerdict, PAGE_BYTES};
+    ///
+    /// let mut machine = Machine::builder(1, &[Guest { pages: 1, salt: 0 }])
+    ///     .region(Region::new(1)?)
+    ///     .build()?;
+    /// let LendVerdict::Lent(lent) = machine.lend(0, 0, &[7; PAGE_BYTES])? else {
+    ///     return Err("not lent".into());
+    /// };
+    /// assert!(machine.give_back(lent.frame).is_err());
+    /// let mut page = [0; PAGE_BYTES];
+    /// let returned = machine.take_back(0, 0, &mut page)?;
+    /// assert_eq!(returned, ReturnVerdict::Released { freed: Some(lent.frame) });
+    /// machine.give_back(lent.frame)?;
+    /// # Ok(())
+    /// # }
+    /// ```
     ///
     /// # Errors
     ///
-    /// What the system says, and [`io::ErrorKind::InvalidInput`] for a machine with no region, or a frame that is not in it.
+    /// What the system says, and [`io::ErrorKind::InvalidInput`] for a machine with no region, a frame that is not in it, or one that
+    /// a page has.
     pub fn give_back(&mut self, frame: u32) -> io::Result<()> {
         match &self.region {
-            Some(region) => region.give_back(frame),
+            Some((_, in_use)) if in_use.contains(frame) => Err(io::Error::new(
+                io::ErrorKind::InvalidInput,
+                "a page has this frame",
+            )),
+            Some((region, _)) => region.give_back(frame),
             None => Err(io::Error::new(
                 io::ErrorKind::InvalidInput,
                 "the machine has no region",
@@ -226,17 +359,51 @@ impl Machine {
         }
     }
 
+    /// Notes what an answer says of frames, if they are in a region.
+    fn noted(&mut self, answer: Answer) -> Answer {
+        if let Some((_, in_use)) = &mut self.region {
+            in_use.note(&answer);
+        }
+        answer
+    }
+
     /// Proposes a page for sharing.
+    ///
+    /// ```
+    /// # fn main() -> Result<(), Box<dyn std::error::Error>> {
+    /// use pageshare::{Guest, Machine, ProposeVerdict};
+    ///
+    /// let mut machine = Machine::new(2, &[Guest { pages: 2, salt: 0 }])?;
+    /// for ppn in [0, 1] {
+    ///     let _mapped = machine.store(0, ppn, 0, b"A")?;
+    /// }
+    /// assert_eq!(machine.propose(0, 0)?, ProposeVerdict::Hinted);
+    /// assert_eq!(machine.propose(0, 1)?, ProposeVerdict::Paired);
+    /// # Ok(())
+    /// # }
+    /// ```
     ///
     /// # Errors
     ///
     /// [`RequestError::NoGuest`] and [`RequestError::Full`].
     pub fn propose(&mut self, guest: u32, ppn: u32) -> Result<ProposeVerdict, RequestError> {
         // SAFETY: the handle is this machine's, and nobody else has it during the call. So in each call below.
-        ProposeVerdict::of(unsafe { ffi::pageshare_propose(self.handle.get(), guest, ppn) })
+        let answer = unsafe { ffi::pageshare_propose(self.handle.get(), guest, ppn) };
+        ProposeVerdict::of(self.noted(answer))
     }
 
     /// Stores 1 to 64 bytes in a page, from place `at` on.
+    ///
+    /// ```
+    /// # fn main() -> Result<(), Box<dyn std::error::Error>> {
+    /// use pageshare::{Guest, Machine, StoreVerdict};
+    ///
+    /// let mut machine = Machine::new(1, &[Guest { pages: 2, salt: 0 }])?;
+    /// assert_eq!(machine.store(0, 0, 4090, b"hello")?, StoreVerdict::Mapped);
+    /// assert_eq!(machine.store(0, 1, 0, b"hello")?, StoreVerdict::NoFrame);
+    /// # Ok(())
+    /// # }
+    /// ```
     ///
     /// # Errors
     ///
@@ -249,7 +416,7 @@ impl Machine {
         bytes: &[u8],
     ) -> Result<StoreVerdict, RequestError> {
         // SAFETY: the bytes are lent for the call.
-        StoreVerdict::of(unsafe {
+        let answer = unsafe {
             ffi::pageshare_store(
                 self.handle.get(),
                 guest,
@@ -258,12 +425,26 @@ impl Machine {
                 bytes.as_ptr(),
                 bytes.len(),
             )
-        })
+        };
+        StoreVerdict::of(self.noted(answer))
     }
 
     /// Fills the room, of 1 to 64 bytes, with bytes of a page from place `at` on. An unmapped page holds zeros.
     ///
     /// It is a request, which is counted. [`Machine::read`] is none.
+    ///
+    /// ```
+    /// # fn main() -> Result<(), Box<dyn std::error::Error>> {
+    /// use pageshare::{Guest, LoadVerdict, Machine};
+    ///
+    /// let mut machine = Machine::new(1, &[Guest { pages: 1, salt: 0 }])?;
+    /// let _mapped = machine.store(0, 0, 0, b"AB")?;
+    /// let mut bytes = [0; 3];
+    /// assert_eq!(machine.load(0, 0, 0, &mut bytes)?, LoadVerdict::Bytes);
+    /// assert_eq!(&bytes, b"AB\0");
+    /// # Ok(())
+    /// # }
+    /// ```
     ///
     /// # Errors
     ///
@@ -290,15 +471,39 @@ impl Machine {
 
     /// Releases a page: it has no frame then, and reads as zeros.
     ///
+    /// ```
+    /// # fn main() -> Result<(), Box<dyn std::error::Error>> {
+    /// use pageshare::{Guest, Machine, ReleaseVerdict};
+    ///
+    /// let mut machine = Machine::new(1, &[Guest { pages: 1, salt: 0 }])?;
+    /// let _mapped = machine.store(0, 0, 0, b"A")?;
+    /// assert_eq!(machine.release(0, 0)?, ReleaseVerdict::Released { freed: true });
+    /// assert_eq!(machine.release(0, 0)?, ReleaseVerdict::Unmapped);
+    /// # Ok(())
+    /// # }
+    /// ```
+    ///
     /// # Errors
     ///
     /// [`RequestError::NoGuest`] and [`RequestError::Full`].
     pub fn release(&mut self, guest: u32, ppn: u32) -> Result<ReleaseVerdict, RequestError> {
         // SAFETY: as above.
-        ReleaseVerdict::of(unsafe { ffi::pageshare_release(self.handle.get(), guest, ppn) })
+        let answer = unsafe { ffi::pageshare_release(self.handle.get(), guest, ppn) };
+        ReleaseVerdict::of(self.noted(answer))
     }
 
     /// Stores a whole page, which counts as the 64 stores of 64 bytes that write it. The verdict is that of the first.
+    ///
+    /// ```
+    /// # fn main() -> Result<(), Box<dyn std::error::Error>> {
+    /// use pageshare::{Guest, Machine, StoreVerdict, PAGE_BYTES};
+    ///
+    /// let mut machine = Machine::new(1, &[Guest { pages: 1, salt: 0 }])?;
+    /// assert_eq!(machine.store_page(0, 0, &[7; PAGE_BYTES])?, StoreVerdict::Mapped);
+    /// assert_eq!(machine.report().entries, 64);
+    /// # Ok(())
+    /// # }
+    /// ```
     ///
     /// # Errors
     ///
@@ -309,23 +514,90 @@ impl Machine {
         ppn: u32,
         page: &Page,
     ) -> Result<StoreVerdict, RequestError> {
-        // SAFETY: the page is lent for the call. So in the next one.
-        StoreVerdict::of(unsafe { ffi::pageshare_store_page(self.handle.get(), guest, ppn, page) })
+        // SAFETY: the page is lent for the call.
+        let answer =
+            unsafe { ffi::pageshare_store_page(self.handle.get(), guest, ppn, page.as_ptr()) };
+        StoreVerdict::of(self.noted(answer))
     }
 
     /// Lends a page: stores it whole and then proposes it, which counts as 65 requests. A monitor maps the frame that is
     /// returned for the guest to read, and takes the page back at the guest's write.
     ///
+    /// Memory that a guest writes to is no `&Page`, not even with the guest's right to write taken for the call if the reference
+    /// lives on. Copy the page, or use [`Machine::lend_at`].
+    ///
+    /// ```
+    /// # fn main() -> Result<(), Box<dyn std::error::Error>> {
+    /// use pageshare::{Guest, LendVerdict, Machine, ProposeVerdict, PAGE_BYTES};
+    ///
+    /// let mut machine = Machine::new(2, &[Guest { pages: 1, salt: 0 }; 2])?;
+    /// let _first = machine.lend(0, 0, &[7; PAGE_BYTES])?;
+    /// let LendVerdict::Lent(second) = machine.lend(1, 0, &[7; PAGE_BYTES])? else {
+    ///     return Err("not lent".into());
+    /// };
+    /// assert_eq!(second.proposal, ProposeVerdict::Paired);
+    /// assert_eq!(machine.frame(0, 0)?, Some(second.frame));
+    /// # Ok(())
+    /// # }
+    /// ```
+    ///
     /// # Errors
     ///
     /// [`RequestError::NoGuest`], and [`RequestError::Full`] where fewer than 65 requests are left to count.
     pub fn lend(&mut self, guest: u32, ppn: u32, page: &Page) -> Result<LendVerdict, RequestError> {
-        // SAFETY: as above.
-        LendVerdict::of(unsafe { ffi::pageshare_lend(self.handle.get(), guest, ppn, page) })
+        // SAFETY: nobody writes to the page while it is lent here.
+        unsafe { self.lend_at(guest, ppn, page.as_ptr()) }
+    }
+
+    /// Lends a page as [`Machine::lend`] does, from the 4,096 bytes at this address, such as memory that is mapped for a guest.
+    ///
+    /// # Safety
+    ///
+    /// The bytes can be read, and nobody writes to them while the call runs: not the guest, whose right to write is taken before,
+    /// nor a device, nor another thread. They aren't in the machine's region.
+    ///
+    /// ```
+    /// # fn main() -> Result<(), Box<dyn std::error::Error>> {
+    /// use pageshare::{Guest, LendVerdict, Machine, PAGE_BYTES};
+    ///
+    /// let mut memory = vec![7_u8; PAGE_BYTES];
+    /// let mut machine = Machine::new(1, &[Guest { pages: 1, salt: 0 }])?;
+    /// // SAFETY: the page is in the vector, which nobody writes to during the call.
+    /// let lent = unsafe { machine.lend_at(0, 0, memory.as_mut_ptr()) }?;
+    /// assert!(matches!(lent, LendVerdict::Lent(_)));
+    /// # Ok(())
+    /// # }
+    /// ```
+    ///
+    /// # Errors
+    ///
+    /// Those of [`Machine::lend`].
+    pub unsafe fn lend_at(
+        &mut self,
+        guest: u32,
+        ppn: u32,
+        page: *const u8,
+    ) -> Result<LendVerdict, RequestError> {
+        // SAFETY: as in `propose`; the caller says so of the page.
+        let answer = unsafe { ffi::pageshare_lend(self.handle.get(), guest, ppn, page) };
+        LendVerdict::of(self.noted(answer))
     }
 
     /// Lends these pages, one after the other as [`Machine::lend`] does, and returns the verdict of each. With SHA-256 the hashes of
     /// four are computed together, and with the wide one of eight, which takes less than half the time.
+    ///
+    /// ```
+    /// # fn main() -> Result<(), Box<dyn std::error::Error>> {
+    /// use pageshare::{Guest, Lending, Machine, PAGE_BYTES};
+    ///
+    /// let pages = [[7; PAGE_BYTES], [8; PAGE_BYTES], [7; PAGE_BYTES]];
+    /// let mut machine = Machine::new(3, &[Guest { pages: 3, salt: 0 }])?;
+    /// let lendings: Vec<_> = (0..).zip(&pages).map(|(ppn, page)| Lending::new(0, ppn, page)).collect();
+    /// let words: Vec<_> = machine.lend_many(&lendings).into_iter().flatten().map(|it| it.to_string()).collect();
+    /// assert_eq!(words, ["hinted", "hinted", "paired"]);
+    /// # Ok(())
+    /// # }
+    /// ```
     pub fn lend_many(&mut self, pages: &[Lending<'_>]) -> Vec<Result<LendVerdict, RequestError>> {
         let mut verdicts = Vec::with_capacity(pages.len());
         let eights = pages.chunks_exact(8);
@@ -338,7 +610,7 @@ impl Machine {
             let _status = unsafe {
                 ffi::pageshare_lend_eight(self.handle.get(), group.as_ptr(), answers.as_mut_ptr())
             };
-            verdicts.extend(answers.map(LendVerdict::of));
+            verdicts.extend(answers.map(|answer| LendVerdict::of(self.noted(answer))));
         }
         for group in fours {
             let mut answers = [Answer::default(); 4];
@@ -346,16 +618,30 @@ impl Machine {
             let _status = unsafe {
                 ffi::pageshare_lend_four(self.handle.get(), group.as_ptr(), answers.as_mut_ptr())
             };
-            verdicts.extend(answers.map(LendVerdict::of));
+            verdicts.extend(answers.map(|answer| LendVerdict::of(self.noted(answer))));
         }
         for lending in singles {
-            verdicts.push(self.lend(lending.guest, lending.ppn, lending.page));
+            // SAFETY: whoever made it promised so of its page.
+            verdicts.push(unsafe { self.lend_at(lending.guest, lending.ppn, lending.page) });
         }
         verdicts
     }
 
     /// Takes a page back: copies it to the room and releases it, which counts as the release alone. The room stays as it is
     /// unless the verdict is `Released`.
+    ///
+    /// ```
+    /// # fn main() -> Result<(), Box<dyn std::error::Error>> {
+    /// use pageshare::{Guest, Machine, ReturnVerdict, PAGE_BYTES};
+    ///
+    /// let mut machine = Machine::new(1, &[Guest { pages: 1, salt: 0 }])?;
+    /// let _lent = machine.lend(0, 0, &[7; PAGE_BYTES])?;
+    /// let mut page = [0; PAGE_BYTES];
+    /// assert!(matches!(machine.take_back(0, 0, &mut page)?, ReturnVerdict::Released { .. }));
+    /// assert_eq!(page, [7; PAGE_BYTES]);
+    /// # Ok(())
+    /// # }
+    /// ```
     ///
     /// # Errors
     ///
@@ -367,10 +653,21 @@ impl Machine {
         room: &mut Page,
     ) -> Result<ReturnVerdict, RequestError> {
         // SAFETY: the room is lent for the call.
-        ReturnVerdict::of(unsafe { ffi::pageshare_take_back(self.handle.get(), guest, ppn, room) })
+        let answer = unsafe { ffi::pageshare_take_back(self.handle.get(), guest, ppn, room) };
+        ReturnVerdict::of(self.noted(answer))
     }
 
     /// What the machine counts, this request among the entries. [`Machine::report`] is no request.
+    ///
+    /// ```
+    /// # fn main() -> Result<(), Box<dyn std::error::Error>> {
+    /// use pageshare::{Guest, Machine};
+    ///
+    /// let mut machine = Machine::new(1, &[Guest { pages: 1, salt: 0 }])?;
+    /// assert_eq!(machine.count(0)?.entries, 1);
+    /// # Ok(())
+    /// # }
+    /// ```
     ///
     /// # Errors
     ///
@@ -383,6 +680,18 @@ impl Machine {
     }
 
     /// Begins the count of requests anew, for a machine that serves more than 4,294,967,295. All else stays.
+    ///
+    /// ```
+    /// # fn main() -> Result<(), Box<dyn std::error::Error>> {
+    /// use pageshare::{Guest, Machine};
+    ///
+    /// let mut machine = Machine::new(1, &[Guest { pages: 1, salt: 0 }])?;
+    /// let _mapped = machine.store(0, 0, 0, b"A")?;
+    /// machine.restart_count();
+    /// assert_eq!((machine.report().entries, machine.report().mapped), (0, 1));
+    /// # Ok(())
+    /// # }
+    /// ```
     pub fn restart_count(&mut self) {
         // SAFETY: as above. The status is 0, since the handle holds a machine.
         let _status = unsafe { ffi::pageshare_restart_count(self.handle.get()) };
@@ -391,6 +700,20 @@ impl Machine {
     /// Computes the hashes of these pages, each given by its guest and number, ahead of their proposals: of SHA-256 four at
     /// a time, which takes less than half the time. It changes no answer. Pages that there aren't are passed over, and a store to a page
     /// makes its hash unknown again.
+    ///
+    /// ```
+    /// # fn main() -> Result<(), Box<dyn std::error::Error>> {
+    /// use pageshare::{Guest, Machine, ProposeVerdict};
+    ///
+    /// let mut machine = Machine::new(4, &[Guest { pages: 4, salt: 0 }])?;
+    /// for ppn in 0..4 {
+    ///     let _mapped = machine.store(0, ppn, 0, b"A")?;
+    /// }
+    /// machine.hash_ahead(&[(0, 0), (0, 1), (0, 2), (0, 3)]);
+    /// assert_eq!(machine.propose(0, 0)?, ProposeVerdict::Hinted);
+    /// # Ok(())
+    /// # }
+    /// ```
     pub fn hash_ahead(&mut self, pages: &[(u32, u32)]) {
         let mut names = [PageName { guest: 0, ppn: 0 }; HASHED_TOGETHER];
         for window in pages.chunks(HASHED_TOGETHER) {
@@ -404,6 +727,16 @@ impl Machine {
     }
 
     /// What the machine counts.
+    ///
+    /// ```
+    /// # fn main() -> Result<(), Box<dyn std::error::Error>> {
+    /// use pageshare::{Guest, Machine, Report};
+    ///
+    /// let machine = Machine::new(1, &[Guest { pages: 1, salt: 0 }])?;
+    /// assert_eq!(machine.report(), Report::default());
+    /// # Ok(())
+    /// # }
+    /// ```
     pub fn report(&self) -> Report {
         let mut totals = Totals::default();
         // SAFETY: as above. The status is 0, since the handle holds a machine.
@@ -412,6 +745,19 @@ impl Machine {
     }
 
     /// Copies a page to the room. An unmapped page reads as zeros.
+    ///
+    /// ```
+    /// # fn main() -> Result<(), Box<dyn std::error::Error>> {
+    /// use pageshare::{Guest, Machine, PAGE_BYTES};
+    ///
+    /// let mut machine = Machine::new(1, &[Guest { pages: 1, salt: 0 }])?;
+    /// let _mapped = machine.store(0, 0, 4095, b"A")?;
+    /// let mut page = [0xff; PAGE_BYTES];
+    /// machine.read(0, 0, &mut page)?;
+    /// assert_eq!((page[0], page[4095]), (0, b'A'));
+    /// # Ok(())
+    /// # }
+    /// ```
     ///
     /// # Errors
     ///
@@ -429,6 +775,19 @@ impl Machine {
     /// A page keeps its frame but at the verdicts `Mapped`, `Copied`, `Joined`, `Paired` and `Released` of a request that names
     /// it.
     ///
+    /// ```
+    /// # fn main() -> Result<(), Box<dyn std::error::Error>> {
+    /// use pageshare::{Guest, Machine};
+    ///
+    /// let mut machine = Machine::new(1, &[Guest { pages: 2, salt: 0 }])?;
+    /// let _mapped = machine.store(0, 0, 0, b"A")?;
+    /// assert!(machine.frame(0, 0)?.is_some());
+    /// assert_eq!(machine.frame(0, 1)?, None);
+    /// assert!(machine.frame(0, 2).is_err());
+    /// # Ok(())
+    /// # }
+    /// ```
+    ///
     /// # Errors
     ///
     /// [`NoSuchPage`].
@@ -445,6 +804,18 @@ impl Machine {
     /// The bytes of a page where they stand, `None` where the page is unmapped. The machine is lent as long as they are.
     ///
     /// No proof says what stands there: it is tested alone. [`Machine::read`] copies the bytes.
+    ///
+    /// ```
+    /// # fn main() -> Result<(), Box<dyn std::error::Error>> {
+    /// use pageshare::{Guest, Machine};
+    ///
+    /// let mut machine = Machine::new(1, &[Guest { pages: 1, salt: 0 }])?;
+    /// assert_eq!(machine.page(0, 0)?, None);
+    /// let _mapped = machine.store(0, 0, 0, b"A")?;
+    /// assert_eq!(machine.page(0, 0)?.map(|page| page[0]), Some(b'A'));
+    /// # Ok(())
+    /// # }
+    /// ```
     ///
     /// # Errors
     ///

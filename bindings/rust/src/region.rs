@@ -9,6 +9,8 @@ use std::os::fd::{AsRawFd, FromRawFd};
 /// Memory for the frames of one machine, in a memory file of its own (Linux). Frame n is the 4,096 bytes at 4096 n of the file.
 ///
 /// A machine that was made with a region ([`Builder::region`](crate::Builder::region)) keeps it, and frees it when it is dropped.
+///
+/// It is `Send` and `Sync`: what a shared reference allows is to open the file.
 pub struct Region {
     file: File,
     at: *mut c_void,
@@ -17,6 +19,9 @@ pub struct Region {
 
 // SAFETY: the mapping is this region's alone, and may be used and undone by any thread.
 unsafe impl Send for Region {}
+
+// SAFETY: no call with a shared reference reads or writes the mapped memory.
+unsafe impl Sync for Region {}
 
 const MFD_CLOEXEC: c_uint = 1;
 const PROT_READ_WRITE: c_int = 3;
@@ -40,6 +45,14 @@ extern "C" {
 impl Region {
     /// Makes a region for so many frames. The system gives memory for a frame when it is first written.
     ///
+    /// ```
+    /// # fn main() -> std::io::Result<()> {
+    /// let region = pageshare::Region::new(512)?;
+    /// assert_eq!(region.frames(), 512);
+    /// # Ok(())
+    /// # }
+    /// ```
+    ///
     /// # Errors
     ///
     /// What the system says, and [`io::ErrorKind::InvalidInput`] for no frame.
@@ -51,7 +64,7 @@ impl Region {
             ));
         }
         // SAFETY: the name ends with a zero byte.
-        let number = unsafe { memfd_create(b"frames\0".as_ptr().cast(), MFD_CLOEXEC) };
+        let number = unsafe { memfd_create(c"frames".as_ptr(), MFD_CLOEXEC) };
         if number < 0 {
             return Err(io::Error::last_os_error());
         }
@@ -83,6 +96,24 @@ impl Region {
 
     /// Opens the file for reading alone, so that frames can be read, or mapped for guests to read.
     ///
+    /// ```
+    /// # fn main() -> Result<(), Box<dyn std::error::Error>> {
+    /// use pageshare::{Guest, LendVerdict, Machine, Region, PAGE_BYTES};
+    /// use std::os::unix::fs::FileExt;
+    ///
+    /// let guests = [Guest { pages: 1, salt: 0 }];
+    /// let mut machine = Machine::builder(1, &guests).region(Region::new(1)?).build()?;
+    /// let LendVerdict::Lent(lent) = machine.lend(0, 0, &[7; PAGE_BYTES])? else {
+    ///     return Err("not lent".into());
+    /// };
+    /// let file = machine.region().ok_or("no region")?.open_read_only()?;
+    /// let mut frame = [0; PAGE_BYTES];
+    /// file.read_exact_at(&mut frame, u64::from(lent.frame) * 4096)?;
+    /// assert_eq!(frame, [7; PAGE_BYTES]);
+    /// # Ok(())
+    /// # }
+    /// ```
+    ///
     /// # Errors
     ///
     /// What the system says.
@@ -90,7 +121,7 @@ impl Region {
         File::open(format!("/proc/self/fd/{}", self.file.as_raw_fd()))
     }
 
-    /// Gives a frame's memory back to the system. It reads as zeros until it is written again.
+    /// Gives the memory of a frame that no page has back to the system. It reads as zeros until it is written again.
     pub(crate) fn give_back(&self, frame: u32) -> io::Result<()> {
         if frame >= self.frames {
             return Err(io::Error::new(
@@ -98,7 +129,8 @@ impl Region {
                 "the region has no such frame",
             ));
         }
-        // SAFETY: the frame is within the mapping, and no call of the library runs, which alone reads or writes it.
+        // SAFETY: the frame is within the mapping, and no call of the library runs, which alone reads or writes it. No page has the
+        // frame, as the caller has looked.
         let done = unsafe {
             madvise(
                 self.at.cast::<u8>().add(frame as usize * PAGE_BYTES).cast(),

@@ -1,4 +1,6 @@
 //! What a served request is answered. Each verdict displays as in the machine's texts.
+//!
+//! The enums have each verdict that there is, so that a `match` names all of them. The structs may get further members.
 use crate::error::RequestError;
 use crate::ffi::{Answer, Totals};
 use std::fmt;
@@ -205,6 +207,7 @@ pub enum LendVerdict {
 
 /// A page that was lent.
 #[derive(Clone, Copy, Debug, PartialEq, Eq, Hash)]
+#[non_exhaustive]
 pub struct Lent {
     /// What became of its proposal.
     pub proposal: ProposeVerdict,
@@ -279,6 +282,7 @@ impl fmt::Display for ReturnVerdict {
 
 /// What a machine counts.
 #[derive(Clone, Copy, Debug, Default, PartialEq, Eq, Hash)]
+#[non_exhaustive]
 pub struct Report {
     /// The requests served since the count began.
     pub entries: u32,

@@ -1,6 +1,6 @@
 //! Each call on its happy path, and each error where it is due.
 use pageshare::{
-    Guest, HashKind, LendVerdict, Lending, Lent, LoadVerdict, Machine, MakeError, NoSuchPage,
+    Guest, HashKind, LendVerdict, Lending, LoadVerdict, Machine, MakeError, NoSuchPage,
     ProposeVerdict, Region, ReleaseVerdict, Report, RequestError, ReturnVerdict, StoreVerdict,
     PAGE_BYTES,
 };
@@ -59,25 +59,13 @@ fn shares_and_copies() -> Result<(), Box<dyn std::error::Error>> {
     assert_eq!(m.store(0, 1, 0, b"A")?, StoreVerdict::Taken);
     assert_eq!(m.store(0, 1, 0, b"A")?, StoreVerdict::Stored);
     assert_eq!(m.release(0, 1)?, ReleaseVerdict::Released { freed: true });
-    let report = Report {
-        entries: 15,
-        mapped: 1,
-        shared: 0,
-        frames: 1,
-        reclaimed: 0,
-        hints: 0,
-    };
-    assert_eq!(m.count(1)?, report);
+    let totals = "mapped 1 shared 0 frames 1 reclaimed 0 hints 0";
+    let report = m.count(1)?;
+    assert_eq!(report.to_string(), format!("entries 15 {totals}"));
     m.hash_ahead(&[(0, 0), (1, 0), (0, 1), (0, 99), (256, 0), (1, 0)]);
     assert_eq!(m.report(), report);
     m.restart_count();
-    assert_eq!(
-        m.report(),
-        Report {
-            entries: 0,
-            ..report
-        }
-    );
+    assert_eq!(m.report().to_string(), format!("entries 0 {totals}"));
     assert_eq!(
         format!("{m:?}"),
         format!("Machine {{ report: {:?}, .. }}", m.report())
@@ -155,13 +143,12 @@ fn lends_and_takes_back() -> Result<(), Box<dyn std::error::Error>> {
     assert_eq!(m.frame(0, 0)?, Some(first.frame));
     assert_eq!(m.store_page(1, 0, &twos)?, StoreVerdict::Mapped);
     let own = m.frame(1, 0)?;
+    let LendVerdict::Lent(second) = m.lend(1, 0, &ones)? else {
+        return Err("not lent".into());
+    };
     assert_eq!(
-        m.lend(1, 0, &ones)?,
-        LendVerdict::Lent(Lent {
-            proposal: ProposeVerdict::Paired,
-            frame: first.frame,
-            freed: own
-        })
+        (second.proposal, second.frame, second.freed),
+        (ProposeVerdict::Paired, first.frame, own)
     );
     assert_eq!(
         m.take_back(0, 0, &mut room)?,
@@ -185,26 +172,31 @@ fn lends_and_takes_back() -> Result<(), Box<dyn std::error::Error>> {
 #[test]
 fn lends_lists_in_turn() -> Result<(), Box<dyn std::error::Error>> {
     let (ones, twos) = ([1; PAGE_BYTES], [2; PAGE_BYTES]);
-    let lending = |guest, ppn, page| Lending { guest, ppn, page };
-    let list = [
-        lending(0, 0, &ones),
-        lending(1, 0, &ones),
-        lending(2, 0, &ones),
-        lending(0, 1, &ones),
-        lending(0, 0, &twos),
-        lending(0, 0, &twos),
-        lending(1, 9, &twos),
+    let lending = Lending::new;
+    let wanted = [
+        (0, 0, &ones),
+        (1, 0, &ones),
+        (2, 0, &ones),
+        (0, 1, &ones),
+        (0, 0, &twos),
+        (0, 0, &twos),
+        (1, 9, &twos),
+        // (so that a group of eight and one of four are lent, and one page alone)
+        (0, 0, &ones),
+        (0, 1, &twos),
+        (1, 0, &twos),
+        (0, 1, &ones),
+        (0, 0, &twos),
+        (1, 0, &ones),
     ];
+    let list = wanted.map(|(guest, ppn, page)| lending(guest, ppn, page));
     for hash in [HashKind::Sha256, HashKind::Fold, HashKind::WideSha256] {
         let guests = [Guest { pages: 2, salt: 0 }, Guest { pages: 1, salt: 0 }];
         let mut together = Machine::with_hash(3, &guests, hash)?;
         let mut alone = Machine::with_hash(3, &guests, hash)?;
         let verdicts = together.lend_many(&list);
-        let wanted: Vec<_> = list
-            .iter()
-            .map(|it| alone.lend(it.guest, it.ppn, it.page))
-            .collect();
-        assert_eq!(verdicts, wanted);
+        let singly = wanted.map(|(guest, ppn, page)| alone.lend(guest, ppn, page));
+        assert_eq!(verdicts, singly);
         assert_eq!(together.report(), alone.report());
         assert_eq!(verdicts[2], Err(RequestError::NoGuest));
         assert_eq!(verdicts[6], Ok(LendVerdict::NoPage));
@@ -271,4 +263,88 @@ fn displays() {
         MakeError::Guests.to_string(),
         "a machine has 1 to 64 guests"
     );
+}
+
+/// The frames of a machine in a region that can be given back are those that no page has, whatever gave or took them.
+#[test]
+fn gives_back_free_frames_alone() -> Result<(), Box<dyn std::error::Error>> {
+    let guests = [Guest { pages: 3, salt: 0 }; 2];
+    let mut m = Machine::builder(130, &guests)
+        .region(Region::new(130)?)
+        .build()?;
+    let (ones, twos, mut room) = ([1; PAGE_BYTES], [2; PAGE_BYTES], [0; PAGE_BYTES]);
+    let mut steps = 0;
+    let mut looked_at = |m: &mut Machine| -> Result<(), Box<dyn std::error::Error>> {
+        let mut used = Vec::new();
+        for (guest, ppn) in (0..2).flat_map(|guest| (0..3).map(move |ppn| (guest, ppn))) {
+            used.extend(m.frame(guest, ppn)?);
+        }
+        for frame in 0..130 {
+            assert_eq!(
+                m.give_back(frame).is_err(),
+                used.contains(&frame),
+                "step {steps}, frame {frame}"
+            );
+        }
+        steps += 1;
+        Ok(())
+    };
+    looked_at(&mut m)?;
+    let _mapped = m.store(0, 0, 0, b"A")?;
+    looked_at(&mut m)?;
+    let _lent = m.lend(0, 0, &ones)?;
+    let _paired = m.lend_many(&[
+        Lending::new(1, 0, &ones),
+        Lending::new(0, 1, &ones),
+        Lending::new(1, 1, &twos),
+        Lending::new(0, 2, &twos),
+    ]);
+    looked_at(&mut m)?;
+    let _copied = m.store(0, 0, 0, b"B")?;
+    looked_at(&mut m)?;
+    let _stored = m.store_page(0, 0, &twos)?;
+    let _joined = m.propose(0, 0)?;
+    looked_at(&mut m)?;
+    let _eight = m.lend_many(&[Lending::new(1, 2, &twos); 8]);
+    looked_at(&mut m)?;
+    for (guest, ppn) in [(0, 0), (0, 2), (1, 1)] {
+        let _released = m.release(guest, ppn)?;
+        looked_at(&mut m)?;
+    }
+    for (guest, ppn) in [(0, 1), (1, 0), (1, 2)] {
+        let _returned = m.take_back(guest, ppn, &mut room)?;
+        looked_at(&mut m)?;
+    }
+    assert_eq!(m.report().frames, 0);
+    assert_eq!(
+        m.give_back(130).map_err(|error| error.kind()),
+        Err(std::io::ErrorKind::InvalidInput)
+    );
+    Ok(())
+}
+
+/// What may go to another thread, and what may be used by several: what the documents say, checked as this is compiled.
+#[test]
+fn threads() {
+    fn goes<T: Send>() {}
+    fn is_shared<T: Sync>() {}
+    goes::<Machine>();
+    goes::<Region>();
+    is_shared::<Region>();
+    goes::<pageshare::Builder<'_>>();
+    goes::<Report>();
+    is_shared::<Report>();
+    goes::<LendVerdict>();
+    is_shared::<LendVerdict>();
+    goes::<MakeError>();
+    is_shared::<MakeError>();
+    goes::<RequestError>();
+    is_shared::<RequestError>();
+}
+
+#[test]
+fn says_what_it_links() {
+    assert_eq!(pageshare::library_version(), "0.1.0");
+    assert!(matches!(pageshare::library_level(), 2 | 3));
+    assert!(pageshare::is_processor_supported());
 }

@@ -1,0 +1,193 @@
+#!/usr/bin/env python3
+"""Writes the man pages, from what the programs print for --help, the header and the documents.
+
+    packaging/man.py PROGRAM FOLDER [--host PROGRAM] [--date YYYY-MM-DD]
+
+PROGRAM is the program pageshare. FOLDER gets man1/pageshare.1 and a page for each command, man3/pageshare.3 and a name for each
+function, and man5/pageshare-journal.5 and pageshare-digest.5; with --host, and where docs/HOST.md is there, man8/pageshare-host.8.
+The date is that of the pages, by default the last commit's. Nothing is written twice: a page says what its source says.
+"""
+import argparse
+import pathlib
+import re
+import subprocess
+
+import header
+import helptext
+import roff
+
+TOP = pathlib.Path(__file__).resolve().parent.parent
+DIGESTS = re.compile(r"digest|fleet|pairs", re.I)
+
+
+def last_commit():
+    done = subprocess.run(["git", "log", "-1", "--format=%cs"], cwd=TOP, capture_output=True, text=True, check=False)
+    return done.stdout.strip() or "1970-01-01"
+
+
+def synopsis(usage):
+    """A usage line as roff: the words in front bold, what stands for a value italic."""
+    shown = []
+    is_front = True
+    for word in usage.split():
+        is_front = is_front and re.fullmatch(r"[\w-]+", word) is not None
+        if is_front:
+            shown.append(f"\\fB{roff.plain(word)}\\fR")
+        else:
+            shown.append(re.sub(r"<([^>]*)>", lambda found: f"\\fI{found[1]}\\fR", roff.plain(word)))
+    return " ".join(shown)
+
+
+def write_help(page, name, help_, about):
+    """The sections that a help gives."""
+    page.heading("Name")
+    page.raw(f"{roff.plain(name)} \\- {roff.plain(about.rstrip('.'))}")
+    page.heading("Synopsis")
+    for number, usage in enumerate(help_.usage):
+        page.lines += [".br"] if number else []
+        page.raw(synopsis(usage))
+    for title, entries in help_.sections.items():
+        is_long = len(title.split()) > 2
+        if is_long and ".SH \"OPTIONS\"" not in page.lines:
+            page.heading("Options")
+        page.heading(title, 2 if is_long else 1)
+        for entry in entries:
+            if entry.term != "help" or title != "Commands":
+                page.entry(entry.term, entry.text)
+    if help_.after:
+        page.heading("Description")
+        roff.write_blocks(page, help_.after)
+
+
+def see_also(page, names):
+    page.heading("See also")
+    page.raw(",\n".join(f"\\fB{roff.plain(name)}\\fR({section})" for name, section in names))
+
+
+class Writer:
+    """Writes pages to a folder, each of one date and version."""
+
+    def __init__(self, folder, date, version):
+        self.folder, self.date, self.version = folder, date, version
+
+    def page(self, name, section):
+        return roff.Page(name, section, self.date, self.version)
+
+    def keep(self, page, name, section):
+        file = self.folder / f"man{section}" / f"{name}.{section}"
+        file.parent.mkdir(parents=True, exist_ok=True)
+        file.write_text(page.text())
+
+
+def first_sentence(text):
+    """What a page is known by: one line, without its full stop."""
+    return re.split(r"[.:;] ", text + " ", maxsplit=1)[0].strip().rstrip(".")
+
+
+def write_commands(writer, program):
+    """The program's page, and a page for each of its commands."""
+    top = helptext.of(program)
+    names = [it.term.split()[0] for it in top.commands()]
+    page = writer.page("pageshare", 1)
+    write_help(page, "pageshare", top, first_sentence(top.about))
+    page.heading("Environment")
+    page.entry(
+        "PAGESHARE_LEVEL",
+        "The installed program runs the build for x86-64-v3 if the processor has that level, and else the one for x86-64-v2. "
+        "`v2` or `v3` chooses by hand.",
+    )
+    see_also(page, [*((f"pageshare-{name}", 1) for name in names), ("pageshare-journal", 5), ("pageshare-digest", 5), ("pageshare", 3)])
+    writer.keep(page, "pageshare", 1)
+    for name in names:
+        help_ = helptext.of(program, name)
+        page = writer.page(f"pageshare-{name}", 1)
+        write_help(page, f"pageshare-{name}", help_, first_sentence(help_.about))
+        see_also(page, [("pageshare", 1), ("pageshare-digest" if name in ("digest", "fleet") else "pageshare-journal", 5)])
+        writer.keep(page, f"pageshare-{name}", 1)
+
+
+def sections_of(text, level):
+    """The sections of a document, each with its title and its lines, its heading among them."""
+    found, lines, is_code = [("", [])], text.split("\n"), False
+    for line in lines:
+        is_code = is_code != line.startswith("```")
+        if not is_code and line.startswith("#" * level + " "):
+            found.append((line.lstrip("# "), []))
+        found[-1][1].append(line)
+    return found
+
+
+def write_formats(writer):
+    """The texts that the program reads and writes."""
+    sections = sections_of((TOP / "docs/FORMATS.md").read_text(), 2)[1:]
+    for name, about, other, is_wanted in [
+        ("pageshare-journal", "journals and scripts of page requests, and what the program prints of them", "pageshare-digest", False),
+        ("pageshare-digest", "digests of guests' memory, and the numbers of a fleet", "pageshare-journal", True),
+    ]:
+        page = writer.page(name, 5)
+        page.heading("Name")
+        page.raw(f"{roff.plain(name)} \\- {roff.plain(about)}")
+        for title, lines in sections:
+            if bool(DIGESTS.search(title)) == is_wanted:
+                roff.write_markdown(page, lines)
+        see_also(page, [("pageshare", 1), (other, 5)])
+        writer.keep(page, name, 5)
+
+
+def write_library(writer):
+    """The header's page, and its functions' names."""
+    parts = header.parts((TOP / "include/pageshare.h").read_text())
+    names = header.functions(parts)
+    page = writer.page("pageshare", 3)
+    page.heading("Name")
+    page.raw(f"pageshare, {', '.join(roff.plain(it) for it in names)} \\- content\\-based page sharing for virtual machine monitors")
+    page.heading("Library")
+    page.paragraph("libpageshare: `pkg-config --cflags --libs pageshare`")
+    page.heading("Synopsis")
+    page.shown(["#include <pageshare.h>"])
+    page.heading("Description")
+    for number, part in enumerate(parts):
+        if number and part.title:
+            page.heading(part.title, 2)
+        roff.write_blocks(page, part.text)
+        if part.code:
+            page.shown(part.code)
+    see_also(page, [("pageshare", 1), ("pageshare-journal", 5)])
+    writer.keep(page, "pageshare", 3)
+    for name in names:
+        link = writer.folder / "man3" / f"{name}.3"
+        link.unlink(missing_ok=True)
+        link.symlink_to("pageshare.3")
+
+
+def write_host(writer, program):
+    """The host's page, where the document on it is there: what it prints for help, and the document."""
+    document = TOP / "docs/HOST.md"
+    if not document.is_file():
+        return
+    help_ = helptext.of(program)
+    page = writer.page("pageshare-host", 8)
+    write_help(page, "pageshare-host", help_, first_sentence(help_.about) or "shares memory between the monitors of one machine")
+    for _, lines in sections_of(document.read_text(), 2)[1:]:
+        roff.write_markdown(page, lines)
+    see_also(page, [("pageshare", 1), ("pageshare", 3)])
+    writer.keep(page, "pageshare-host", 8)
+
+
+def main():
+    options = argparse.ArgumentParser(description=__doc__.splitlines()[0])
+    options.add_argument("program")
+    options.add_argument("folder", type=pathlib.Path)
+    options.add_argument("--host")
+    options.add_argument("--date", default=None)
+    given = options.parse_args()
+    writer = Writer(given.folder, given.date or last_commit(), header.version((TOP / "include/pageshare.h").read_text()))
+    write_commands(writer, given.program)
+    write_formats(writer)
+    write_library(writer)
+    if given.host:
+        write_host(writer, given.host)
+
+
+if __name__ == "__main__":
+    main()
