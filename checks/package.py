@@ -14,6 +14,7 @@ What this machine has no program for is left out, and named. Prints each case th
 where all passed, else 1).
 """
 import hashlib
+import json
 import os
 import pathlib
 import re
@@ -24,7 +25,9 @@ import tempfile
 
 TOP = pathlib.Path(__file__).resolve().parent.parent
 ROWS = TOP / "examples/rows"
-ESTIMATE = ["estimate", "--salts", "0,0,5", "first.raw", "second.core", "first.raw"]
+ESTIMATE = ["estimate", "--json", "--salts", "0,0,5", "first.raw", "second.core", "first.raw"]
+# What examples/rows/images.estimate has of these images.
+TOTAL = {"pages": 17, "zero": 6, "shared": 14, "frames": 9, "reclaimed": 8}
 PLAIN = {"PATH": "/usr/bin:/bin", "HOME": "/nonexistent", "LC_ALL": "C.UTF-8"}
 HAS_V3 = "avx2" in pathlib.Path("/proc/cpuinfo").read_text().split()
 SUITE = "bookworm"
@@ -94,13 +97,18 @@ def version_of(program):
     return run(program, "--version")[1]
 
 
+def is_estimate(said):
+    """Whether a run of ESTIMATE printed these totals, and ended well."""
+    code, out, err = said
+    return code == 0 and not err and TOTAL.items() <= json.loads(out or "{}").get("total", {}).items()
+
+
 def try_program(program):
     """The program at each level that this processor has, and at a level that there isn't."""
-    wanted = (ROWS / "images.estimate").read_text()
     for level in ["", "v2", *(["v3"] if HAS_V3 else [])]:
         env = {**PLAIN, "PAGESHARE_LEVEL": level}
         said = run(program, *ESTIMATE, env=env, folder=ROWS)
-        expect(f"estimate at level {level or 'chosen'}", said == (0, wanted, ""), said)
+        expect(f"estimate at level {level or 'chosen'}", is_estimate(said), said)
         shown = run(program, "--version", env=env)
         built = f"built for x86-64-{level or ('v3' if HAS_V3 else 'v2')}\n"
         lines = r"pageshare [\d.]+, .*\ncommit .+\nproved and compiled by .+\n"
@@ -284,7 +292,7 @@ def try_debian(file, room):
     if not expect("dpkg -i", said[0] == 0, said):
         return
     said = inside("sh", "-c", f"cd /tmp && pageshare {' '.join(ESTIMATE)}")
-    expect("estimate in an empty Debian", said[:2] == (0, (ROWS / "images.estimate").read_text()), said)
+    expect("estimate in an empty Debian", is_estimate(said), said)
     said = inside("pageshare", "--version")
     expect("--version in an empty Debian", said[0] == 0 and len(said[1].splitlines()) == 3, said)
     if (room / "shared").is_file():

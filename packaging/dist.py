@@ -24,13 +24,16 @@ import stage
 TOP = stage.TOP
 NAME = f"pageshare-{stage.VERSION}-x86_64-linux"
 MULTIARCH = "x86_64-linux-gnu"
+# In which package of Debian a needed library is.
+LIBC = ("libc.so.6", "libm.so.6", "libpthread.so.0", "libdl.so.2", "librt.so.1", "ld-linux-x86-64.so.2")
+PACKAGES = {**dict.fromkeys(LIBC, "libc6"), "libgcc_s.so.1": "libgcc-s1"}
 CONTROL = """\
 Package: pageshare
 Version: {version}
 Architecture: amd64
 Maintainer: The pageshare authors <maintainers@pageshare.invalid>
 Installed-Size: {size}
-Depends: libc6 (>= {libc})
+Depends: {depends}
 Suggests: qemu-system-x86
 Section: admin
 Priority: optional
@@ -65,17 +68,24 @@ def make_tarball(folder):
     return file
 
 
-def least_libc(tree):
-    """The oldest version of the C library that has what the programs and libraries below a folder need."""
-    versions = {(2, 17)}
+def elf_files(tree):
+    """The programs and libraries below a folder."""
     folders = [tree / "bin", tree / "lib", tree / "libexec"]
     for path in sorted(it for folder in folders for it in folder.rglob("*") if it.is_file() and not it.is_symlink()):
         with open(path, "rb") as file:
-            if file.read(4) != b"\x7fELF":
-                continue
-        shown = subprocess.run(["objdump", "-T", path], capture_output=True, text=True, check=True).stdout
+            if file.read(4) == b"\x7fELF":
+                yield path
+
+
+def depends(tree):
+    """The packages that have what the programs and libraries need: the oldest version of the C library that does, and others."""
+    versions, packages = {(2, 17)}, set()
+    for path in elf_files(tree):
+        shown = subprocess.run(["objdump", "-p", "-T", path], capture_output=True, text=True, check=True).stdout
         versions |= {tuple(map(int, it.split("."))) for it in re.findall(r"GLIBC_(\d+\.\d+)", shown)}
-    return ".".join(map(str, max(versions)))
+        packages |= {PACKAGES[it] for it in re.findall(r"NEEDED +(\S+)", shown)}
+    libc = f"libc6 (>= {'.'.join(map(str, max(versions)))})"
+    return ", ".join([libc, *sorted(packages - {"libc6"})])
 
 
 def write_control(room, tree):
@@ -84,7 +94,7 @@ def write_control(room, tree):
     control.mkdir()
     files = sorted(it for it in tree.rglob("*") if it.is_file() and not it.is_symlink())
     size = sum(-(-it.stat().st_size // 1024) for it in files)
-    (control / "control").write_text(CONTROL.format(version=stage.VERSION, size=size, libc=least_libc(tree)))
+    (control / "control").write_text(CONTROL.format(version=stage.VERSION, size=size, depends=depends(tree)))
     sums = "".join(f"{hashlib.md5(it.read_bytes()).hexdigest()}  {it.relative_to(room)}\n" for it in files)
     (control / "md5sums").write_text(sums)
     (control / "triggers").write_text("activate-noawait ldconfig\n")
