@@ -50,12 +50,13 @@ package: dist
 # and run on each case of a folder: a file is its standard input, and NAME.args has its words.
 CASES = out/demo/cases
 demo:
-	@echo 'This build is for a first look and is not the proved one: make build makes that.'
+	@echo 'This build is for a first look and is not proved; make build makes the proved program. It takes up to 90 s.'
 	@examples/make_images.py out/demo
 	@rm -rf $(CASES) && mkdir $(CASES)
 	@cp examples/scans-meet.script $(CASES)/run && echo run > $(CASES)/run.args
 	@touch $(CASES)/estimate && printf '%s\n' estimate $(CURDIR)/out/demo/web.raw $(CURDIR)/out/demo/database.core > $(CASES)/estimate.args
-	@cd crates/pageshare && rt try --cases $(CURDIR)/$(CASES)
+	@cd crates/pageshare && rt try --cases $(CURDIR)/$(CASES) > $(CURDIR)/out/demo/log 2>&1 || { cat $(CURDIR)/out/demo/log; exit 1; }
+	@sed -n -f examples/demo.sed out/demo/log
 
 # Outside the gate: status, standard output and standard error of each command, on texts, ends and words of each kind.
 commands: out/pageshare

@@ -273,12 +273,12 @@ IMAGE_FAULTS = [
 
 
 def estimates(folder):
-    whole = {"pages": 0, "zero": 0, "shared": 0, "frames": 0, "reclaimed": 0, "zero_reclaimed": 0, "between": 0}
+    whole = {"pages": 0}
     raw, empty, elf = folder / "a.raw", folder / "empty", folder / "elf.core"
     raw.write_bytes(bytes(8192) + b"a" * 4096 + b"b")
     empty.write_bytes(b"")
     elf.write_bytes(core(segment=(4000, 4192)))
-    lines = "Each number in pages of 4,096 bytes, and behind that in MiB.\n"
+    lines = "Each number in MiB.\n"
     for words, pages in [([raw], 4), ([empty], 0), ([elf], 2), (["--raw", elf], 2), ([raw, "--workers", 64, raw], 8)]:
         texts = list(map(str, words))
         done = ran(["estimate", "--json", *texts])
@@ -287,6 +287,7 @@ def estimates(folder):
         is_right = told_of.get("total", whole)["pages"] == pages and ran(["estimate", *texts]).stdout.decode().startswith(lines)
         case(f"estimate {texts}", [] if is_right else [f"{done.stdout}, and {pages} pages were due"])
     salted = ["estimate", "--workers", "2", "--salts", "0,0,5", "first.raw", "second.core", "first.raw"]
+    expect("estimate of images.estimate-pages", [*salted, "--unit", "pages"], "", 0, (ROWS / "images.estimate-pages").read_text(), "", folder=ROWS)
     expect("estimate of images.estimate", salted, "", 0, (ROWS / "images.estimate").read_text(), "", folder=ROWS)
     for n, (data, cause) in enumerate(IMAGE_FAULTS):
         path = folder / f"{n}.core"
@@ -340,7 +341,7 @@ def estimate_ends(folder):
     expect("estimate, little memory", ["estimate", large[0], raw], "", 1, "", f"{large[0]} and 1 more: out of memory\n", limits=little)
     for words in [[], ["--salts", "1", raw, raw], ["--salts", "1,x", raw, raw], ["--salts", "4294967296", raw], ["--workers", "0", raw]]:
         expect(f"estimate {words}", ["estimate", *words], "", 2, "", True)
-    for words in [["--workers", "65", raw], ["--progress", "often", raw], ["--svg"], ["--table", raw]]:
+    for words in [["--workers", "65", raw], ["--progress", "often", raw], ["--svg"], ["--table", raw], ["--unit", "kib", raw], ["--pid", "0"], ["--pid"]]:
         expect(f"estimate {words}", ["estimate", *words], "", 2, "", True)
     expect("estimate --help", ["estimate", "--help"], "", 0, True, "")
     shown = ran(["estimate", "--progress", "always", raw]).stderr.decode()
@@ -423,6 +424,44 @@ def processes():
     case("digest of a process", [] if is_whole and not lacking else [f"{done.returncode}, {done.stderr!r}, {len(lacking)} lacking"])
     expect("digest of a process that has ended", ["digest", "--pid", str(child.pid), "--name", "own"], "", 1, "",
            f"process {child.pid}: No such file or directory (os error 2)\n")
+
+
+def estimates_of_processes(folder):
+    """Two processes that wait, and an image with their pages: by `estimate` as by `digest` and `fleet`."""
+    pages = [(n + 1).to_bytes(8, "little").ljust(4096, b"\0") for n in range(OWN_PAGES)]
+    raw, paths = folder / "own.raw", [folder / f"own-{n}.digest" for n in range(3)]
+    raw.write_bytes(b"".join(pages))
+    children = [subprocess.Popen([sys.executable, "-c", FILLED], stdin=subprocess.PIPE, stdout=subprocess.PIPE) for _ in range(2)]
+    for child in children:
+        child.stdout.readline()
+    words = [str(raw), *(word for child in children for word in ("--pid", str(child.pid)))]
+    sources = [[str(raw)], *(["--pid", str(child.pid)] for child in children)]
+    for path, own in zip(paths, sources):
+        path.write_bytes(ran(["digest", "--name", "own", "--salt", "7", *own]).stdout)
+    done = ran(["estimate", "--json", "--salts", "7,7,7", *words])
+    table = ran(["estimate", "--svg", str(folder / "own.svg"), *words])
+    merged = json.loads(ran(["fleet", "--json", *map(str, paths)]).stdout)
+    for child in children:
+        child.stdin.close()
+        child.wait(SECONDS)
+        child.stdout.close()
+    told = json.loads(done.stdout or b"{}")
+    names = [guest.pop("image") for guest in told.get("guests", [])]
+    for guest in merged["guests"]:
+        guest.pop("guest")
+    pids = [f"process {child.pid}" for child in children]
+    case("estimate of processes", [] if is_clean(done) and told == merged else [f"{done.stderr!r}, {told}, and {merged} was due"])
+    case("estimate of processes, names", [] if names == [str(raw), *pids] else [f"{names}"])
+    parts = told["total"]["parts"]
+    is_whole = sum(parts.values()) == told["total"]["reclaimed"] and parts["between"] >= 2 * OWN_PAGES and parts["within"] >= 2 * OWN_PAGES
+    case("estimate of processes, parts", [] if is_whole else [f"{parts}"])
+    is_told = is_clean(table) and all(name in table.stdout.decode() for name in pids) and (folder / "own.svg").read_text().count("<title>process ") == 2
+    case("estimate of processes, table and picture", [] if is_told else [f"{table}"])
+    ended = children[1].pid
+    missing = "No such file or directory (os error 2)"
+    expect("estimate of a process that has ended", ["estimate", str(raw), "--pid", str(ended)], "", 1, "", f"process {ended}: {missing}\n")
+    expect("estimate of an image that is missing and a process", ["estimate", "none", "--pid", str(ended)], "", 1, "", f"none: {missing}\n", folder=folder)
+    expect("estimate of a process, salts", ["estimate", "--salts", "1", str(raw), "--pid", str(ended)], "", 2, "", True)
 
 
 def digest_ends(folder):
@@ -533,7 +572,7 @@ def fleet_ends(folder):
     with open("/dev/full", "wb") as full:
         fault = "standard output: No space left on device (os error 28)\n"
         expect("fleet, a full device", ["fleet", good], "", 1, None, fault, output=full)
-    for words in [[], ["--json"], ["--workers", "1", good], ["--pairs"], ["--pairs", good], ["--progress", "often", good]]:
+    for words in [[], ["--json"], ["--workers", "1", good], ["--pairs"], ["--pairs", good], ["--progress", "often", good], ["--unit", "kib", good]]:
         expect(f"fleet {words}", ["fleet", *words], "", 2, "", True)
     expect("fleet --help", ["fleet", "--help"], "", 0, True, "")
     shown = ran(["fleet", "--progress", "always", good]).stderr.decode()
@@ -648,6 +687,7 @@ def main():
         estimate_ends(folder)
         digests(folder)
         processes()
+        estimates_of_processes(folder)
         digest_ends(folder)
         fleets(folder)
         fleet_pairs(folder)

@@ -5,8 +5,8 @@
 
 Makes COUNT random images, by default 1,000, a few at a time: raw files and ELF cores with segments out of order, holes, last parts
 and, now and then, the number of program headers in section header 0; empty ones; one image twice; cores read as raw; several salts.
-For each few it compares the object of `--json`, the table's numbers and its last sentence, and that the picture is XML. PROGRAM is
-by default out/pageshare (`make build`). Nothing is built here. Prints each difference, and at the end `N passed, M failed`, of
+For each few it compares the object of `--json`, the whole table in MiB and in pages (plain_table.py), and that the picture is XML.
+PROGRAM is by default out/pageshare (`make build`). Nothing is built here. Prints each difference, and at the end `N passed, M failed`, of
 images (status 0 where all passed, else 1).
 """
 import collections
@@ -19,6 +19,8 @@ import subprocess
 import sys
 import tempfile
 import xml.dom.minidom
+
+import plain_table
 
 TOP = pathlib.Path(__file__).resolve().parent.parent
 PAGE = 4096
@@ -47,6 +49,16 @@ def pages_of_image(data, is_raw):
     return pages
 
 
+def parts_of(images, salts, keys):
+    """What could be reclaimed, in parts: zeros, and of the other contents what sharing between and within guests reclaims."""
+    others = [{key for key, page in zip(own, pages) if page != ZEROS} for own, pages in zip(keys, images)]
+    zeros = [salt for salt, pages in zip(salts, images) for page in pages if page == ZEROS]
+    return {
+        "zeros": len(zeros) - len(set(zeros)), "between": sum(map(len, others)) - len(set().union(*others)),
+        "within": sum(page != ZEROS for pages in images for page in pages) - sum(map(len, others)),
+    }
+
+
 def counted(names, salts, images):
     """What `--json` is to tell of the pages of some images."""
     keys = [[(salt, hashlib.sha256(page).digest()) for page in pages] for salt, pages in zip(salts, images)]
@@ -64,7 +76,7 @@ def counted(names, salts, images):
     total = {
         "pages": len(everything), "zero": zero, "shared": sum(copies[key] > 1 for key in everything),
         "frames": len(copies), "reclaimed": reclaimed, "zero_reclaimed": zero - len(zero_salts),
-        "between": reclaimed - sum(guest["alone"] for guest in guests),
+        "between": reclaimed - sum(guest["alone"] for guest in guests), "parts": parts_of(images, salts, keys),
     }
     classes = []
     for number in range(33):
@@ -75,50 +87,14 @@ def counted(names, salts, images):
     return {"page_bytes": PAGE, "guests": guests, "total": total, "copies": classes}
 
 
-def mebibytes(pages):
-    return (pages + 128) // 256
-
-
-def sentence(total):
-    """The last line of the table."""
-    pages, reclaimed = total["pages"], total["reclaimed"]
-    part = (2000 * reclaimed + pages) // (2 * pages) if pages else 0
-    return (
-        f"{mebibytes(reclaimed)} MiB of {mebibytes(pages)} MiB could be reclaimed ({part // 10}.{part % 10} %): "
-        f"{mebibytes(total['zero_reclaimed'])} MiB are zeros, {mebibytes(total['between'])} MiB are between guests"
-    )
-
-
-def cells(line):
-    """The numbers of pages of a line: each stands before its MiB."""
-    words = line.split()
-    return [int(word) for word in words[1::2] if word.isdigit()]
-
-
-def table_faults(text, due):
+def table_faults(text, due, unit):
     """What is wrong with a table."""
-    lines = text.split("\n")
-    if lines[-2] != sentence(due["total"]):
-        yield f"the sentence is {lines[-2]!r}, and {sentence(due['total'])!r} was due"
-    start = next(n for n, line in enumerate(lines) if line.startswith("guest "))
-    for n, guest in enumerate(due["guests"]):
-        words = lines[start + 1 + n].split(None, 12)
-        told = [int(word) for word in words[:11:2][:1] + words[1:11:2] + words[11:12]]
-        order = [n] + [guest[key] for key in ("pages", "zero", "shared", "distinct", "alone", "salt")]
-        if told != order or words[12] != guest["image"]:
-            yield f"guest {n} is told as {words}, and {order} was due"
-    words = next(line for line in lines if line.startswith("total ")).split()
-    order = [due["total"][key] for key in ("pages", "zero", "shared", "frames", "reclaimed", "zero_reclaimed", "between")]
-    if [int(word) for word in words[1:15:2]] != order:
-        yield f"the total is told as {words}, and {order} was due"
-    rows = lines[next(n for n, line in enumerate(lines) if line.startswith("copies ")) + 1 : -3]
-    if len(rows) != len(due["copies"]):
-        yield f"{len(rows)} classes of copies are told, and {len(due['copies'])} were due"
-    for row, one in zip(rows, due["copies"]):
-        name = str(one["from"]) if one["from"] == one["to"] else f"{one['from']} to {one['to']}"
-        words = row[len(name) :].split()
-        if not row.startswith(name) or [int(words[0]), int(words[1])] != [one["contents"], one["pages"]]:
-            yield f"copies are told as {row!r}, and {one} was due"
+    if sum(due["total"]["parts"].values()) != due["total"]["reclaimed"]:
+        yield f"the parts of {due['total']} don't add up"
+    lines, wanted = text.split("\n"), plain_table.table_text(due, unit).split("\n")
+    if len(lines) != len(wanted):
+        yield f"the table has {len(lines)} lines, and {len(wanted)} were due"
+    yield from [f"{line!r} is told, and {one!r} was due" for line, one in zip(lines, wanted) if line != one][:5]
 
 
 def random_pages(draw, pool, most):
@@ -204,11 +180,12 @@ def faults_of(draw, program, folder, images):
     elif text != json.dumps(due, separators=(",", ":"), ensure_ascii=False) + "\n":
         yield f"the object is {text}, and {json.dumps(due)} was due"
     picture = folder / "picture.svg"
-    text, fault = told(program, [*words, "--svg", str(picture), *names])
-    if fault:
-        yield fault
-        return
-    yield from table_faults(text, due)
+    for unit in ("pages", "mib"):
+        text, fault = told(program, [*words, "--unit", unit, "--svg", str(picture), *names])
+        if fault:
+            yield fault
+            return
+        yield from table_faults(text, due, unit)
     shown = xml.dom.minidom.parse(str(picture)).getElementsByTagName("title")
     if [title.firstChild.data for title in shown][1:] != names:
         yield "the picture's names are others"

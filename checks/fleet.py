@@ -26,6 +26,7 @@ import time
 
 import estimate
 import plain_fleet
+import plain_table
 
 TOP = pathlib.Path(__file__).resolve().parent.parent
 sys.path.insert(0, str(TOP / "examples"))
@@ -128,6 +129,15 @@ def merge_faults(words, paths, due):
     yield from list(differences(json.loads(done.stdout), due))[:5]
 
 
+def table_faults(program, paths, due):
+    """What is wrong with the tables of some digests."""
+    for unit in ("mib", "pages"):
+        done = ran([program, "fleet", "--unit", unit, *paths])
+        text = plain_table.table_text(due, unit)
+        if done.returncode != 0 or done.stderr or done.stdout.decode() != text:
+            yield f"the table in {unit} is {done.stdout.decode()!r}, and {text!r} was due"
+
+
 def pairs_faults(program, folder, paths, texts, due):
     """What is wrong with what is told of each two of some digests, and with the numbers beside it."""
     pairs = folder / "pairs.csv"
@@ -171,6 +181,7 @@ def random_fleets(tally, draw, ways):
             if "fleet" in ways.commands:
                 wrong = pairs_faults(ways.program, pathlib.Path(folder), paths, texts, due)
                 tally.case(f"random fleet {number} with sample {sample}, pairs", wrong)
+                tally.case(f"random fleet {number} with sample {sample}, tables", table_faults(ways.program, paths, due))
 
 
 def python_with_dask():

@@ -86,7 +86,17 @@ def total_of(guests, copies, owners, zeros, sample):
     zero = sum(guest["zero"] for guest in guests)
     known = {"pages": sum(guest["pages"] for guest in guests), "zero": zero, "zero_reclaimed": zero - len(zeros & set(copies))}
     told = members(known, amounts, sample)
-    order = ("pages", "zero", "shared", "frames", "reclaimed", "zero_reclaimed", "between", "errors")
+    others = [(count, owners[word]) for word, count in copies.items() if word not in zeros]
+    told["parts"] = {
+        "zeros": known["zero_reclaimed"], "between": sample * sum(own - 1 for _count, own in others),
+        "within": sample * sum(count - own for count, own in others),
+    }
+    if sample > 1:
+        # (an upper bound: each content's own square is at most the difference of the two)
+        squares = sum((count - 1) ** 2 - (own - 1) ** 2 for count, own in others)
+        assert squares >= sum((count - own) ** 2 for count, own in others)
+        told["errors"]["within"] = math.isqrt(sample * (sample - 1) * squares)
+    order = ("pages", "zero", "shared", "frames", "reclaimed", "zero_reclaimed", "between", "parts", "errors")
     return {name: told[name] for name in order if name in told}
 
 

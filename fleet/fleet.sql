@@ -4,7 +4,9 @@
 --                                                             are BIGINT
 --   zeros(zero_digest)                                        the digest of a page of zeros under each salt, as zeros.py prints it
 --
--- Columns whose names end with _error are standard errors; they are 0 where the sample is 1. They are computed in double precision.
+-- What could be reclaimed (reclaimed) has three parts: zero_reclaimed, between_part and within_part.
+--
+-- Columns whose names end with _error are standard errors (within_error is at least that); they are 0 where the sample is 1. They are computed in double precision.
 
 -- Each content of the fleet: its copies in all guests, how many guests have it, and whether it is zeros. A content of zeros stands
 -- for itself; each other one for as many as the sample says (`weight`), which adds so much to the variance of a sum (`spread`).
@@ -41,8 +43,8 @@ FROM known_lines
 GROUP BY file, guest, salt, pages;
 
 CREATE VIEW total_numbers AS
-SELECT pages, zero_pages, shared_pages, frames, reclaimed, zero_reclaimed, between_guests,
-    shared_error, frames_error, reclaimed_error, between_error
+SELECT pages, zero_pages, shared_pages, frames, reclaimed, zero_reclaimed, between_guests, between_part, within_part,
+    shared_error, frames_error, reclaimed_error, between_error, within_error
 FROM (
     SELECT
         SUM(CASE WHEN all_copies > 1 THEN weight * all_copies ELSE 0 END) AS shared_pages,
@@ -50,10 +52,13 @@ FROM (
         SUM(weight * (all_copies - 1)) AS reclaimed,
         SUM(CASE WHEN zero = 1 THEN all_copies - 1 ELSE 0 END) AS zero_reclaimed,
         SUM(weight * (guests - 1)) AS between_guests,
+        SUM(CASE WHEN zero = 1 THEN 0 ELSE weight * (guests - 1) END) AS between_part,
+        SUM(CASE WHEN zero = 1 THEN 0 ELSE weight * (all_copies - guests) END) AS within_part,
         SQRT(SUM(CASE WHEN all_copies > 1 THEN spread * 1e0 * all_copies * all_copies ELSE 0e0 END)) AS shared_error,
         SQRT(SUM(spread * 1e0)) AS frames_error,
         SQRT(SUM(spread * 1e0 * (all_copies - 1) * (all_copies - 1))) AS reclaimed_error,
-        SQRT(SUM(spread * 1e0 * (guests - 1) * (guests - 1))) AS between_error
+        SQRT(SUM(spread * 1e0 * (guests - 1) * (guests - 1))) AS between_error,
+        SQRT(SUM(spread * 1e0 * ((all_copies - 1) * 1e0 * (all_copies - 1) - (guests - 1) * 1e0 * (guests - 1)))) AS within_error
     FROM contents
 ) AS of_contents
 CROSS JOIN (

@@ -63,6 +63,16 @@ def guest_numbers(head, kinds, sample):
     return with_errors(known, sums, sample)
 
 
+def parts_of(zeros, kinds, sample):
+    """What could be reclaimed in parts that add up to it, and a bound of the standard error of the last one."""
+    others = [(kind, times) for kind, times in kinds if not kind.zero]
+    between = sum((kind.guests - 1) * times for kind, times in others)
+    within = sum((kind.copies - kind.guests) * times for kind, times in others)
+    squares = sum(((kind.copies - 1) ** 2 - (kind.guests - 1) ** 2) * times for kind, times in others)
+    parts = {"zeros": zeros, "between": sample * between, "within": sample * within}
+    return parts, math.isqrt(sample * (sample - 1) * squares)
+
+
 def total_numbers(guests, kinds, sample):
     """The numbers of all guests, from the kinds of contents."""
     zero = sum(guest["zero"] for guest in guests)
@@ -73,8 +83,11 @@ def total_numbers(guests, kinds, sample):
     sums = {name: summed(kinds, sample, worth[name]) for name in IN_TOTAL}
     known = {"pages": sum(guest["pages"] for guest in guests), "zero": zero}
     members = with_errors(known, sums, sample)
-    order = ["pages", "zero", "shared", "frames", "reclaimed", "zero_reclaimed", "between", "errors"]
+    order = ["pages", "zero", "shared", "frames", "reclaimed", "zero_reclaimed", "between", "parts", "errors"]
     members["zero_reclaimed"] = zero - sum(times for kind, times in kinds if kind.zero)
+    members["parts"], error = parts_of(members["zero_reclaimed"], kinds, sample)
+    if sample > 1:
+        members["errors"]["within"] = error
     return {name: members[name] for name in order if name in members}
 
 

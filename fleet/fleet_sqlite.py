@@ -73,6 +73,7 @@ def merged(tables, heads):
         guests[file] = with_errors(row, errors, sample)
     ((total, errors),) = rows_of(tables, "SELECT * FROM total_numbers")
     total = {name: value or 0 for name, value in total.items()}
+    total["parts"] = {"zeros": total["zero_reclaimed"], "between": total.pop("between_part"), "within": total.pop("within_part")}
     copies = []
     for row, class_errors in rows_of(tables, "SELECT * FROM copies_table ORDER BY at_most"):
         most = row.pop("at_most")

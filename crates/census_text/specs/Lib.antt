@@ -1,2 +1,4 @@
 pub mod Amounts
 pub mod Parts
+pub mod Reclaimed
+pub mod Shares

@@ -1,5 +1,5 @@
 //! The numbers as a JSON object, for programs.
-use crate::{Estimate, GuestLine};
+use crate::{Estimate, GuestLine, Reclaimed};
 use page_census::{CopiesClass, TotalNumbers};
 use page_model::PAGE_BYTES;
 use serde::Serialize;
@@ -17,6 +17,13 @@ struct GuestObject<'a> {
 }
 
 #[derive(Drop, Serialize)]
+struct PartsObject {
+    zeros: u64,
+    between: u64,
+    within: u64,
+}
+
+#[derive(Drop, Serialize)]
 struct TotalObject {
     pages: u32,
     zero: u32,
@@ -25,6 +32,7 @@ struct TotalObject {
     reclaimed: u32,
     zero_reclaimed: u32,
     between: u32,
+    parts: PartsObject,
 }
 
 #[derive(Drop, Serialize)]
@@ -48,7 +56,10 @@ pub fn json_text(alloc: Global, estimate: &Estimate<'_>) -> Result<String, Alloc
     let object = EstimateObject {
         page_bytes: PAGE_BYTES,
         guests: guest_objects(alloc, estimate.guests)?,
-        total: total_object(estimate.total),
+        total: total_object(
+            estimate.total,
+            Reclaimed::of(&estimate.total, estimate.guests),
+        ),
         copies: class_objects(alloc, estimate.copies)?,
     };
     // Any numbers and text can be written, so only memory can have been refused.
@@ -74,7 +85,7 @@ fn guest_object<'a>(guest: &GuestLine<'a>) -> GuestObject<'a> {
     }
 }
 
-fn total_object(total: TotalNumbers) -> TotalObject {
+fn total_object(total: TotalNumbers, parts: Reclaimed) -> TotalObject {
     TotalObject {
         pages: total.pages,
         zero: total.zero,
@@ -83,6 +94,11 @@ fn total_object(total: TotalNumbers) -> TotalObject {
         reclaimed: total.reclaimed,
         zero_reclaimed: total.zero_reclaimed,
         between: total.between,
+        parts: PartsObject {
+            zeros: parts.zeros,
+            between: parts.between,
+            within: parts.within,
+        },
     }
 }
 

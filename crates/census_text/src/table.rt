@@ -1,112 +1,143 @@
 //! The numbers as a table for people.
-use crate::{Estimate, GuestLine, PlainName, mebibyte_tenths, mebibytes, per_mille};
+use crate::{
+    Estimate, GuestLine, PlainName, Reclaimed, Summary, Unit, in_units, per_mille, push_sentence,
+    shares_in,
+};
 use page_census::{CopiesClass, TotalNumbers};
 use std::alloc::{AllocError, Allocator};
 
-/// How wide a cell's two numbers are: the pages, and the whole MiB. A decimal of the MiB comes behind them.
+/// In what the numbers of the cells are, and how wide a cell is.
 #[derive(Clone, Copy)]
-struct Widths {
-    pages: usize,
-    mebibytes: usize,
+struct Cells {
+    unit: Unit,
+    width: usize,
 }
 
 /// The columns of a guest's line, and those of the line of the total.
-const OF_GUESTS: [&str; 5] = ["pages", "zero", "shared", "distinct", "alone"];
+const OF_GUESTS: [&str; 5] = ["memory", "zero", "shared", "distinct", "alone"];
 
-const OF_TOTAL: [&str; 7] = [
-    "pages",
+const OF_TOTAL: [&str; 8] = [
+    "memory",
     "zero",
     "shared",
     "frames",
     "reclaimed",
     "zero_reclaimed",
     "between",
+    "within",
 ];
 
 /// The length of the longest of them.
 const LONGEST: usize = 14;
 
-/// Writes the table: a line for each guest and one for the total, then the copies, and last a sentence that sums up the
-/// numbers. Each line ends with a line feed.
+/// The last line: what shares the memory.
+const HOW_TO_SHARE: &str = "docs/MONITOR.md and docs/EMBEDDING.md say how to share it.\n";
+
+/// Writes the table: a line for each guest and one for the total, then the copies, a sentence that sums up the numbers, and
+/// last how to share the memory. Each line ends with a line feed.
 pub fn table_text<A: Allocator>(
     alloc: A,
     estimate: &Estimate<'_>,
+    unit: Unit,
 ) -> Result<String<A>, AllocError> {
     let mut text = String::new(alloc);
-    let widths = widths_of(estimate.total);
-    text.push_str("Each number in pages of 4,096 bytes, and behind that in MiB.\n\n")?;
-    push_guests(&mut text, widths, estimate.guests)?;
-    push_total(&mut text, widths, estimate.total)?;
-    push_copies(&mut text, widths, estimate.copies)?;
+    let cells = cells_of(estimate.total, unit);
+    text.push_str(unit.first_line())?;
+    push_guests(&mut text, cells, estimate.guests)?;
+    push_total(&mut text, cells, estimate)?;
+    push_copies(&mut text, cells, estimate.copies)?;
     text.push_str("\n")?;
-    push_sentence(&mut text, estimate.total)?;
+    push_sentence(&mut text, &Summary::of(estimate))?;
     text.push_str("\n")?;
+    text.push_str(HOW_TO_SHARE)?;
     Ok(text)
 }
 
 /// Returns how many decimal digits a number has.
-fn digits(number: u32) -> usize {
+fn digits(number: u64) -> usize {
     match number.checked_ilog10() {
         Some(power) => power as usize + 1,
         None => 1,
     }
 }
 
-/// Returns widths that fit all numbers: none is greater than the pages in total.
-fn widths_of(total: TotalNumbers) -> Widths {
-    let mebibytes = digits(mebibyte_tenths(total.pages) / 10);
-    let least = LONGEST.saturating_sub(3).saturating_sub(mebibytes);
-    Widths {
-        pages: digits(total.pages).max(least),
-        mebibytes,
+/// Returns cells that fit all numbers: none is greater than the pages in total.
+fn cells_of(total: TotalNumbers, unit: Unit) -> Cells {
+    let width = match unit {
+        Unit::Mebibytes => digits(in_units(1, u64::from(total.pages))).saturating_add(2),
+        Unit::Pages => digits(u64::from(total.pages)),
+    };
+    Cells {
+        unit,
+        width: width.max(LONGEST),
     }
 }
 
-/// Appends a number of pages, and the same in MiB.
+/// Appends a number of pages, in the table's unit.
 fn push_cell<A: Allocator>(
     text: &mut String<A>,
-    widths: Widths,
+    cells: Cells,
     pages: u32,
 ) -> Result<(), AllocError> {
-    let (wide, narrow) = (widths.pages, widths.mebibytes);
-    let tenths = mebibyte_tenths(pages);
-    let (whole, tenth) = (tenths / 10, tenths % 10);
-    write!(text, "  {pages:>wide$} {whole:>narrow$}.{tenth}")
+    push_units(
+        text,
+        cells,
+        match cells.unit {
+            Unit::Mebibytes => in_units(10, u64::from(pages)),
+            Unit::Pages => u64::from(pages),
+        },
+    )
+}
+
+/// Appends a number of units: of tenths of a MiB, with one decimal, or of pages.
+fn push_units<A: Allocator>(
+    text: &mut String<A>,
+    cells: Cells,
+    units: u64,
+) -> Result<(), AllocError> {
+    match cells.unit {
+        Unit::Mebibytes => {
+            let (whole, tenth) = (units / 10, units % 10);
+            let width = cells.width.saturating_sub(2);
+            write!(text, "  {whole:>width$}.{tenth}")
+        }
+        Unit::Pages => {
+            let width = cells.width;
+            write!(text, "  {units:>width$}")
+        }
+    }
 }
 
 /// Appends the headings of columns.
 fn push_headings<A: Allocator>(
     text: &mut String<A>,
-    widths: Widths,
+    cells: Cells,
     headings: &[&str],
 ) -> Result<(), AllocError> {
-    let wide = widths
-        .pages
-        .saturating_add(widths.mebibytes)
-        .saturating_add(3);
+    let width = cells.width;
     for heading in headings {
-        write!(text, "  {heading:>wide$}")?;
+        write!(text, "  {heading:>width$}")?;
     }
     Ok(())
 }
 
 fn push_guests<A: Allocator>(
     text: &mut String<A>,
-    widths: Widths,
+    cells: Cells,
     guests: &[GuestLine<'_>],
 ) -> Result<(), AllocError> {
     text.push_str("guest")?;
-    push_headings(text, widths, &OF_GUESTS)?;
+    push_headings(text, cells, &OF_GUESTS)?;
     text.push_str("        salt  image\n")?;
     for (number, guest) in guests.iter().enumerate() {
-        push_guest(text, widths, number, guest)?;
+        push_guest(text, cells, number, guest)?;
     }
     Ok(())
 }
 
 fn push_guest<A: Allocator>(
     text: &mut String<A>,
-    widths: Widths,
+    cells: Cells,
     number: usize,
     guest: &GuestLine<'_>,
 ) -> Result<(), AllocError> {
@@ -120,83 +151,71 @@ fn push_guest<A: Allocator>(
         told.distinct,
         told.alone,
     ] {
-        push_cell(text, widths, pages)?;
+        push_cell(text, cells, pages)?;
     }
     writeln!(text, "  {salt:>10}  {image}")
 }
 
 fn push_total<A: Allocator>(
     text: &mut String<A>,
-    widths: Widths,
-    total: TotalNumbers,
+    cells: Cells,
+    estimate: &Estimate<'_>,
 ) -> Result<(), AllocError> {
+    let total = estimate.total;
     text.push_str("\n     ")?;
-    push_headings(text, widths, &OF_TOTAL)?;
-    text.push_str("  reclaimed of pages\ntotal")?;
-    for pages in [
-        total.pages,
-        total.zero,
-        total.shared,
-        total.frames,
-        total.reclaimed,
-        total.zero_reclaimed,
-        total.between,
-    ] {
-        push_cell(text, widths, pages)?;
+    push_headings(text, cells, &OF_TOTAL)?;
+    text.push_str("  reclaimed of memory\ntotal")?;
+    for pages in [total.pages, total.zero, total.shared, total.frames] {
+        push_cell(text, cells, pages)?;
     }
-    let part = per_mille(total.reclaimed, total.pages);
+    push_reclaimed(text, cells, &Reclaimed::of(&total, estimate.guests))?;
+    let part = per_mille(u64::from(total.reclaimed), u64::from(total.pages));
     let (whole, tenth) = (part / 10, part % 10);
-    writeln!(text, "  {whole:>14}.{tenth} %")
+    writeln!(text, "  {whole:>15}.{tenth} %")
+}
+
+/// Appends what could be reclaimed, and its parts, which add up to it in the table's unit.
+fn push_reclaimed<A: Allocator>(
+    text: &mut String<A>,
+    cells: Cells,
+    parts: &Reclaimed,
+) -> Result<(), AllocError> {
+    let shares = shares_in(cells.unit, parts);
+    for units in [shares.whole, shares.zeros, shares.between, shares.within] {
+        push_units(text, cells, units)?;
+    }
+    Ok(())
 }
 
 fn push_copies<A: Allocator>(
     text: &mut String<A>,
-    widths: Widths,
+    cells: Cells,
     copies: &[CopiesClass],
 ) -> Result<(), AllocError> {
     let heading = "copies";
     let contents = "contents";
     write!(text, "\n{heading:<24}{contents:>12}")?;
-    push_headings(text, widths, &["pages"])?;
+    push_headings(text, cells, &["memory"])?;
     text.push_str("\n")?;
     for class in copies {
-        push_class(text, widths, class)?;
+        push_class(text, cells, class)?;
     }
     Ok(())
 }
 
 fn push_class<A: Allocator>(
     text: &mut String<A>,
-    widths: Widths,
+    cells: Cells,
     class: &CopiesClass,
 ) -> Result<(), AllocError> {
     let (from, to, contents) = (class.from, class.to, class.contents);
     if from == to {
         write!(text, "{from:<24}{contents:>12}")?;
     } else {
-        let start = digits(from).saturating_add(4);
+        let start = digits(u64::from(from)).saturating_add(4);
         let left = 24usize.saturating_sub(start);
         write!(text, "{from} to {to:<left$}{contents:>12}")?;
     }
-    push_cell(text, widths, class.pages)?;
+    push_cell(text, cells, class.pages)?;
     text.push_str("\n")
-}
-
-/// Appends the sentence that sums up the numbers, in whole MiB, without a line feed.
-pub(crate) fn push_sentence<A: Allocator>(
-    text: &mut String<A>,
-    total: TotalNumbers,
-) -> Result<(), AllocError> {
-    let part = per_mille(total.reclaimed, total.pages);
-    let (whole, tenth) = (part / 10, part % 10);
-    let (reclaimed, pages) = (mebibytes(total.reclaimed), mebibytes(total.pages));
-    let (zeros, between) = (mebibytes(total.zero_reclaimed), mebibytes(total.between));
-    write!(
-        text,
-        "{reclaimed} MiB of {pages} MiB could be reclaimed ({whole}.{tenth} %): "
-    )?;
-    write!(
-        text,
-        "{zeros} MiB are zeros, {between} MiB are between guests"
-    )
 }

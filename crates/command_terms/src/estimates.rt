@@ -1,6 +1,6 @@
 //! What is asked of an estimate, and what it calls its images.
-ghost use Rattle.std.specs.Prelude.{◌≡◌, ◌-◌, min, max, unwrap_or, slice_get, vec_len};
-ghost use Rattle.command_terms.specs.Estimates.{image_named};
+ghost use Rattle.std.specs.Prelude.{◌≡◌, ◌+◌, ◌-◌, ◌^◌, min, max, unwrap_or, slice_get, vec_len};
+ghost use Rattle.command_terms.specs.Estimates.{image_named, process_numbered};
 
 use progress_line::Drawn;
 
@@ -12,13 +12,17 @@ pub const MOST_WORKERS: u32 = 64;
 pub struct EstimateWords<'a> {
     /// The paths of the images, guest 0's first.
     pub images: Vec<&'a str>,
-    /// A salt for each of them; none where all are 0.
+    /// The numbers of the processes, whose guests come behind those of the images.
+    pub processes: Vec<u32>,
+    /// A salt for each guest; none where all are 0.
     pub salts: Vec<u32>,
     /// How many threads read, where that is told.
     pub workers: Option<u32>,
     /// Whether each image is raw, whatever it begins with.
     pub raw: bool,
     pub json: bool,
+    /// Whether the table is in pages, and not in MiB.
+    pub in_pages: bool,
     /// Where the picture goes.
     pub svg: Option<&'a str>,
     pub progress: Drawn,
@@ -39,11 +43,26 @@ impl<'a> EstimateWords<'a> {
         self.images.get(guest).copied().unwrap_or("estimate")
     }
 
-    /// Returns how many images there are behind the first.
-    pub fn others(&self) -> usize
-        ensures { result ≡ vec_len self.now.images - 1 }
+    /// Returns the number of the process that a guest runs in, if it is no image's.
+    pub fn process_of(&self, guest: usize) -> Option<u32>
+        ensures { result ≡ process_numbered (vec_len self.now.images) self.now.processes.items guest }
     {
-        self.images.len().saturating_sub(1)
+        let at = guest.checked_sub(self.images.len())?;
+        self.processes.get(at).copied()
+    }
+
+    /// Returns how many guests there are.
+    pub fn guests(&self) -> usize
+        ensures { result ≡ min (vec_len self.now.images + vec_len self.now.processes) (2 ^ 64 - 1) }
+    {
+        self.images.len().saturating_add(self.processes.len())
+    }
+
+    /// Returns how many guests there are behind the first.
+    pub fn others(&self) -> usize
+        ensures { result ≡ min (vec_len self.now.images + vec_len self.now.processes) (2 ^ 64 - 1) - 1 }
+    {
+        self.guests().saturating_sub(1)
     }
 }
 

@@ -10,6 +10,8 @@ pub struct FleetWords<'a> {
     /// The paths of the digests, guest 0's first.
     pub digests: Vec<&'a str>,
     pub json: bool,
+    /// Whether the table is in pages, and not in MiB.
+    pub in_pages: bool,
     /// Where what each two guests have in common goes.
     pub pairs: Option<&'a str>,
     pub progress: Drawn,

@@ -7,6 +7,7 @@
 mod digest_words;
 mod estimate_words;
 mod fleet_words;
+mod help;
 mod parts;
 mod progress_words;
 mod words;

@@ -1,5 +1,6 @@
 //! The option `--progress`.
-use crate::parts::option;
+use crate::help::PROGRESS;
+use crate::parts::{choice, option};
 use clap::{Arg, ArgMatches};
 use progress_line::Drawn;
 use std::alloc::Global;
@@ -7,14 +8,13 @@ use std::alloc::Global;
 /// When the progress is drawn: the words that `Drawn::of_word` knows.
 const WHEN: [&str; 3] = ["auto", "always", "never"];
 
-/// What it is for where images or digests are read.
-pub const READING: &str =
-    "Tell on standard error how much was read; on auto where that is a terminal";
+/// The option.
+pub fn progress_option<'a>(alloc: Global) -> Arg<'a> {
+    choice(when_option(alloc), "auto")
+}
 
-/// The option, with what it is for.
-pub fn progress_option<'a>(alloc: Global, help: &'a str) -> Arg<'a> {
-    let progress = option(alloc, "progress", "WHEN", help);
-    progress.value_parser(WHEN.as_slice()).default_value("auto")
+fn when_option<'a>(alloc: Global) -> Arg<'a> {
+    option(alloc, "progress", "WHEN", PROGRESS).value_parser(WHEN.as_slice())
 }
 
 /// What the words ask for.

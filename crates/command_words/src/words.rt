@@ -2,105 +2,59 @@
 use crate::digest_words::{digest_command, digest_words};
 use crate::estimate_words::{estimate_command, estimate_words};
 use crate::fleet_words::{fleet_command, fleet_words};
-use crate::parts::{described, flag, positional};
+use crate::help::{
+    ABOUT, JOURNAL, JOURNAL_FILE, PROGRAM, REPLAY, RUN, RUN_JOURNAL, SCRIPT, SCRIPT_FILE, SERIAL,
+};
+use crate::parts::{described, flag, positional, with};
 use crate::progress_words::{progress_of, progress_option};
-use clap::{Arg, ArgMatches, Command, Error};
+use clap::{ArgMatches, Command, Error};
 use command_terms::{Asked, Task, Work};
 use std::alloc::{AllocError, Global};
 
-/// What stands below the help: the format, an example, and where to read on.
-const FORMAT: &str = "\
-A journal is a text; each line ends with a line feed, and one space parts its words:
-
-    pageshare journal 1
-    frames 2
-    pages 1 1
-    0 store 0 0 41
-    1 store 0 0 41
-    0 propose 0
-    1 propose 0
-    end 4
-
-Machine memory has 2 frames; guests 0 and 1 have 1 page each. Both store the byte 0x41 at place 0 of their page 0, and propose it for sharing: the second proposal answers `1 paired`, and the report tells that 1 frame is reclaimed.
-
-docs/FORMATS.md has each line, verdict and fault; examples/ has more journals, as
-
-    pageshare replay examples/three-share.journal
-
-The status is 0 where the work was done, 1 where input, output or memory was at fault, and 2 for a bad command line.";
-
-/// What stands below the help of `run` and `serial`.
-const SCRIPT: &str = "\
-A script says what each guest asks; each line ends with a line feed, and one space parts its words:
-
-    pageshare script 1
-    frames 2
-    pages 1
-    ring 1
-    journal 5
-    0 store 0 0 41
-    0 scan random 7 2
-    0 release 0
-    end 3
-
-Machine memory has 2 frames, and guest 0 has 1 page; its rings hold 1 request and 1 verdict, and the journal holds 5 requests. The guest stores the byte 0x41, proposes 2 pages drawn at random by the seed 7, and releases page 0; its close follows by itself.
-
-`serial` serves one request of each guest in turn. `run` gives each guest a thread of its own, and in which order the guests are served depends on these. With --journal that order is written as a journal, which replays to the same verdicts:
-
-    pageshare run --journal examples/two-guests.script > two.journal
-    pageshare replay two.journal
-
-docs/FORMATS.md has each line, verdict and fault. The status is 0 where the work was done, 1 where input, output, memory or a thread was at fault, and 2 for a bad command line.";
-
-const ABOUT: &str =
-    "Content-based page sharing: journals of page requests, their verdicts and the memory reclaimed; and what sharing would reclaim of real guests' memory";
-
-const SERIAL: &str =
-    "Serve a script on one thread, one request of each guest in turn: print a verdict for each request, then the report";
-
-const JOURNAL_FILE: &str = "The journal; without it, standard input is read";
-
-const SCRIPT_FILE: &str = "The script; without it, standard input is read";
-
-const RUNNING: &str = "Tell on standard error how far the run is; on auto where that is a terminal";
-
 fn replay_command<'a>(alloc: Global) -> Result<Command<'a>, AllocError> {
-    let about = "Replay a journal: print a verdict for each request, then the report";
-    described(alloc, "replay", about, FORMAT).arg(file_word(alloc, JOURNAL_FILE))
+    let replay = described(alloc, "replay", REPLAY, JOURNAL);
+    with(replay, positional(alloc, "FILE", JOURNAL_FILE))
 }
 
 fn serial_command<'a>(alloc: Global) -> Result<Command<'a>, AllocError> {
-    described(alloc, "serial", SERIAL, SCRIPT).arg(file_word(alloc, SCRIPT_FILE))
+    let serial = described(alloc, "serial", SERIAL, SCRIPT);
+    with(serial, positional(alloc, "FILE", SCRIPT_FILE))
 }
 
 fn run_command<'a>(alloc: Global) -> Result<Command<'a>, AllocError> {
-    let about =
-        "Run a script, a thread for each guest: print each guest's verdicts, then the report";
-    let help = "Print the journal of the run in place of verdicts and report";
-    described(alloc, "run", about, SCRIPT)
-        .arg(flag(alloc, "journal", help))?
-        .arg(progress_option(alloc, RUNNING))?
-        .arg(file_word(alloc, SCRIPT_FILE))
+    let run = described(alloc, "run", RUN, SCRIPT);
+    let run = with(run, flag(alloc, "journal", RUN_JOURNAL))?;
+    let run = with(run, progress_option(alloc))?;
+    with(run, positional(alloc, "FILE", SCRIPT_FILE))
 }
 
-fn file_word<'a>(alloc: Global, help: &'a str) -> Arg<'a> {
-    positional(alloc, "FILE", help)
-}
-
+/// The program's command: the commands of operators come first.
 fn command<'a>(alloc: Global, version: &'a str) -> Result<Command<'a>, AllocError> {
-    whole_command(alloc, version)
-        .subcommand(replay_command(alloc)?)?
-        .subcommand(serial_command(alloc)?)?
-        .subcommand(run_command(alloc)?)?
-        .subcommand(estimate_command(alloc)?)?
-        .subcommand(digest_command(alloc)?)?
-        .subcommand(fleet_command(alloc)?)
+    let command = with_command(whole_command(alloc, version), estimate_command(alloc)?)?;
+    let command = with_command(command, digest_command(alloc)?)?;
+    let command = with_command(command, fleet_command(alloc)?)?;
+    with_texts(alloc, command)
+}
+
+/// The command with those on texts.
+fn with_texts<'a>(alloc: Global, command: Command<'a>) -> Result<Command<'a>, AllocError> {
+    let command = with_command(command, replay_command(alloc)?)?;
+    let command = with_command(command, serial_command(alloc)?)?;
+    with_command(command, run_command(alloc)?)
+}
+
+/// A command with one command more below it.
+fn with_command<'a>(command: Command<'a>, below: Command<'a>) -> Result<Command<'a>, AllocError> {
+    command.subcommand(below)
 }
 
 /// The program's command, so far with none of its own.
 fn whole_command<'a>(alloc: Global, version: &'a str) -> Command<'a> {
-    let pageshare = described(alloc, "pageshare", ABOUT, FORMAT);
-    pageshare.version(version).subcommand_required(true)
+    versioned(alloc, version).subcommand_required(true)
+}
+
+fn versioned<'a>(alloc: Global, version: &'a str) -> Command<'a> {
+    described(alloc, "pageshare", ABOUT, PROGRAM).version(version)
 }
 
 /// What these words ask for; the first is the program's own name. `version` is what `--version` shows behind that name: the
@@ -126,13 +80,7 @@ pub fn asked_of<'a>(
 /// What is to be done with a text.
 fn task_of<'a>(matches: &ArgMatches<'a>) -> Task<'a> {
     if let Some(run) = matches.subcommand_matches("run") {
-        return Task {
-            work: Work::Run {
-                is_journal: run.get_flag("journal"),
-                progress: progress_of(run),
-            },
-            file: run.get_str("FILE"),
-        };
+        return run_task(run);
     }
     if let Some(serial) = matches.subcommand_matches("serial") {
         return Task {
@@ -148,5 +96,15 @@ fn task_of<'a>(matches: &ArgMatches<'a>) -> Task<'a> {
     Task {
         work: Work::Replay,
         file,
+    }
+}
+
+fn run_task<'a>(run: &ArgMatches<'a>) -> Task<'a> {
+    Task {
+        work: Work::Run {
+            is_journal: run.get_flag("journal"),
+            progress: progress_of(run),
+        },
+        file: run.get_str("FILE"),
     }
 }

@@ -1,12 +1,12 @@
 //! The option `--workers`.
+use crate::help::WORKERS;
 use crate::parts::option;
 use clap::{Arg, ArgMatches, value_parser};
 use std::alloc::Global;
 
 /// The option.
 pub fn workers_option<'a>(alloc: Global) -> Arg<'a> {
-    let help = "How many threads read, 1 to 64 [default: the number of processors]";
-    let workers = option(alloc, "workers", "N", help);
+    let workers = option(alloc, "workers", "N", WORKERS);
     workers.value_parser(value_parser!(u32).range(1..=64))
 }
 

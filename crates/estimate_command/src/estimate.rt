@@ -1,10 +1,12 @@
 //! The command `estimate`.
+use crate::counted::Counted;
 use crate::faults::EstimateFault;
 use crate::images::{Images, check_images, open_images};
-use census_text::{Estimate, guest_lines, json_text, picture_text, table_text};
+use crate::live::count_live;
+use census_text::{Estimate, Unit, guest_lines, json_text, picture_text, table_text};
 use command_terms::{CommandEnd, EstimateWords, ImageCause};
 use image_files::{FileCause, Reading, workers_of};
-use page_census::{CensusFault, CensusNumbers, census};
+use page_census::{CensusFault, census};
 use page_digest::FoldHash;
 use progress_line::line_where;
 use std::alloc::{AllocError, Global};
@@ -13,7 +15,7 @@ use std::io::{self, Eprint, Write};
 use std::thread::Threads;
 use std::time::Clock;
 
-/// Counts the pages of the images, writes the picture, and then the table or the JSON object. Returns how that ended: a
+/// Counts the pages of the images and the processes, writes the picture, and then the table or the JSON object. Returns how that ended: a
 /// fault is reported in a line on standard error, and then nothing was written to the output unless that is what
 /// failed.
 pub fn do_estimate<R: Threads + Sync + Files<File = File> + Eprint + Clock, W: Write + Drop>(
@@ -38,10 +40,12 @@ fn estimate<'a, R: Threads + Sync + Files<File = File> + Eprint + Clock, W: Writ
     mut output: W,
     is_terminal: bool,
 ) -> Result<(), EstimateFault<'a>> {
-    let images = open_images(rt, alloc, words)?;
-    let numbers = count(rt, alloc, words, &images, is_terminal)?;
-    check_images(rt, words, &images)?;
-    let texts = texts_of(alloc, words, &numbers).map_err(|_refused| EstimateFault::of_all(
+    let counted = if words.processes.is_empty() {
+        count_images(rt, alloc, words, is_terminal)?
+    } else {
+        count_live(rt, alloc, words, is_terminal)?
+    };
+    let texts = texts_of(alloc, words, &counted).map_err(|_refused| EstimateFault::of_all(
         words,
         ImageCause::OutOfMemory,
     ))?;
@@ -54,6 +58,19 @@ fn estimate<'a, R: Threads + Sync + Files<File = File> + Eprint + Clock, W: Writ
     ))
 }
 
+/// Counts the pages of the images, whose bytes are compared.
+fn count_images<'a, R: Threads + Sync + Files<File = File> + Eprint + Clock>(
+    rt: &R,
+    alloc: Global,
+    words: &EstimateWords<'a>,
+    is_terminal: bool,
+) -> Result<Counted, EstimateFault<'a>> {
+    let images = open_images(rt, alloc, words)?;
+    let counted = count(rt, alloc, words, &images, is_terminal)?;
+    check_images(rt, words, &images)?;
+    Ok(counted)
+}
+
 /// Counts the pages, and draws how much was read if asked to.
 fn count<'a, R: Threads + Sync + Eprint + Clock>(
     rt: &R,
@@ -61,14 +78,14 @@ fn count<'a, R: Threads + Sync + Eprint + Clock>(
     words: &EstimateWords<'a>,
     images: &Images,
     is_terminal: bool,
-) -> Result<CensusNumbers<Global>, EstimateFault<'a>> {
+) -> Result<Counted, EstimateFault<'a>> {
     let line = line_where(rt, words.progress, is_terminal);
     let reading = Reading::new(line, images.pages);
     let workers = workers_of(rt, words.workers);
     let told = census(rt, alloc, workers, &FoldHash, &images.guests, &reading);
     reading.end();
     match told {
-        Ok(numbers) => Ok(numbers),
+        Ok(numbers) => Ok(Counted::from(numbers)),
         Err(CensusFault::OutOfMemory) => {
             Err(EstimateFault::of_all(words, ImageCause::OutOfMemory))
         }
@@ -91,43 +108,77 @@ struct Texts {
 fn texts_of(
     alloc: Global,
     words: &EstimateWords<'_>,
-    numbers: &CensusNumbers<Global>,
+    counted: &Counted,
 ) -> Result<Texts, AllocError> {
     let salts = guest_salts(alloc, words)?;
-    let guests = guest_lines(alloc, &words.images, &salts, &numbers.guests)?;
+    let processes = process_names(alloc, words)?;
+    let names = guest_names(alloc, words, &processes)?;
+    let guests = guest_lines(alloc, &names, &salts, &counted.guests)?;
     let estimate = Estimate {
         guests: &guests,
-        total: numbers.total,
-        copies: &numbers.copies,
+        total: counted.total,
+        copies: &counted.copies,
     };
     let picture = match words.svg {
         Some(_path) => Some(picture_text(alloc, &estimate)?),
         None => None,
     };
     Ok(Texts {
-        output: output_text(alloc, words.json, &estimate)?,
+        output: output_text(alloc, words, &estimate)?,
         picture,
     })
 }
 
 /// Returns the salt of each guest.
 fn guest_salts(alloc: Global, words: &EstimateWords<'_>) -> Result<Vec<u32>, AllocError> {
-    (0..words.images.len())
-        .map(|n| words.salt_of(n))
-        .collect(alloc)
+    (0..words.guests()).map(|n| words.salt_of(n)).collect(alloc)
+}
+
+/// Returns what each process is called.
+fn process_names(alloc: Global, words: &EstimateWords<'_>) -> Result<Vec<String>, AllocError> {
+    let mut names = Vec::new(alloc);
+    for pid in &words.processes {
+        names.push(format!(in alloc; "process {pid}")?)?;
+    }
+    Ok(names)
+}
+
+/// Returns what each guest is called: the path of its image, or its process.
+fn guest_names<'a>(
+    alloc: Global,
+    words: &EstimateWords<'a>,
+    processes: &'a [String],
+) -> Result<Vec<&'a str>, AllocError> {
+    let mut names = Vec::new(alloc);
+    for path in &words.images {
+        names.push(*path)?;
+    }
+    for name in processes {
+        names.push(name.as_str())?;
+    }
+    Ok(names)
 }
 
 fn output_text(
     alloc: Global,
-    is_json: bool,
+    words: &EstimateWords<'_>,
     estimate: &Estimate<'_>,
 ) -> Result<String, AllocError> {
-    if is_json {
+    if words.json {
         let mut text = json_text(alloc, estimate)?;
         text.push_str("\n")?;
         Ok(text)
     } else {
-        table_text(alloc, estimate)
+        table_text(alloc, estimate, unit_of(words.in_pages))
+    }
+}
+
+/// Returns what the table's numbers are.
+fn unit_of(in_pages: bool) -> Unit {
+    if in_pages {
+        Unit::Pages
+    } else {
+        Unit::Mebibytes
     }
 }
 

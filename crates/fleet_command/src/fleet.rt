@@ -2,6 +2,7 @@
 use crate::faults::{Cause, Fault};
 use crate::opened::{Digest, OpenedFiles, fault_of_rest, open_files, read_headers};
 use crate::reading::Reading;
+use census_text::Unit;
 use command_terms::{CommandEnd, FleetWords};
 use digest_text::{DigestHead, DigestReader};
 use fleet_census::{FleetFault, FleetNumbers, Pairs, merge};
@@ -117,7 +118,7 @@ fn tell<'a, R: Files<File = File>, T: Eprint + Clock, W: Write + Drop>(
         total: numbers.total,
         copies: &numbers.copies,
     };
-    let text = text_of(alloc, words.json, &fleet).map_err(out_of_memory)?;
+    let text = text_of(alloc, words, &fleet).map_err(out_of_memory)?;
     if let Some(path) = words.pairs {
         write_file(rt, alloc, path, &fleet, numbers).map_err(|cause| Fault::of(
             path,
@@ -127,13 +128,22 @@ fn tell<'a, R: Files<File = File>, T: Eprint + Clock, W: Write + Drop>(
     write_all(&mut output, &text).map_err(|cause| Fault::of("standard output", Cause::File(cause)))
 }
 
-fn text_of(alloc: Global, is_json: bool, fleet: &Fleet<'_>) -> Result<String, AllocError> {
-    if is_json {
+fn text_of(alloc: Global, words: &FleetWords<'_>, fleet: &Fleet<'_>) -> Result<String, AllocError> {
+    if words.json {
         let mut text = json_text(alloc, fleet)?;
         text.push_str("\n")?;
         Ok(text)
     } else {
-        table_text(alloc, fleet)
+        table_text(alloc, fleet, unit_of(words.in_pages))
+    }
+}
+
+/// Returns what the table's numbers are.
+fn unit_of(in_pages: bool) -> Unit {
+    if in_pages {
+        Unit::Pages
+    } else {
+        Unit::Mebibytes
     }
 }
 

@@ -1,16 +1,17 @@
 //! The cells of the table.
+use crate::Fleet;
 use crate::told::Told;
-use crate::{Fleet, mebibyte_tenths};
+use census_text::{Unit, in_units};
 use fleet_census::{Amount, FleetClass};
 use std::alloc::{AllocError, Allocator};
 
-/// How wide a cell's two numbers are: the pages, and the whole MiB. A decimal of the MiB comes behind them. If the numbers are
-/// estimates, the cell of the standard error comes behind each cell of one.
+/// In what the numbers of the cells are, and how wide a cell is. If the numbers are estimates, the cell of the standard error comes
+/// behind each cell of one.
 #[derive(Clone, Copy)]
 pub(crate) struct Cells {
     sample: u32,
-    pages: usize,
-    mebibytes: usize,
+    pub(crate) unit: Unit,
+    width: usize,
     /// How wide the copies of a class are, and how many contents it has.
     pub(crate) copies: usize,
     contents: usize,
@@ -46,22 +47,19 @@ fn copies_width(copies: &[FleetClass]) -> usize {
 
 impl Cells {
     /// Returns cells that fit all numbers.
-    pub(crate) fn new(fleet: &Fleet<'_>) -> Cells {
+    pub(crate) fn new(fleet: &Fleet<'_>, unit: Unit) -> Cells {
         let most = greatest(fleet);
-        let mebibytes = digits(mebibyte_tenths(most) / 10);
-        let least = LONGEST.saturating_sub(3).saturating_sub(mebibytes);
+        let width = match unit {
+            Unit::Mebibytes => digits(in_units(1, most)).saturating_add(2),
+            Unit::Pages => digits(most),
+        };
         Cells {
             sample: fleet.sample,
-            pages: digits(most).max(least),
-            mebibytes,
+            unit,
+            width: width.max(LONGEST),
             copies: copies_width(fleet.copies),
             contents: digits(most).saturating_add(2).max(12),
         }
-    }
-
-    /// Returns how wide a cell is.
-    fn wide(&self) -> usize {
-        self.pages.saturating_add(self.mebibytes).saturating_add(3)
     }
 }
 
@@ -71,7 +69,7 @@ pub(crate) fn push_heading<A: Allocator>(
     cells: Cells,
     heading: &str,
 ) -> Result<(), AllocError> {
-    let wide = cells.wide();
+    let wide = cells.width;
     write!(text, "  {heading:>wide$}")
 }
 
@@ -88,16 +86,51 @@ pub(crate) fn push_told_heading<A: Allocator>(
     Ok(())
 }
 
-/// Appends a number of pages, and the same in MiB.
+/// Appends a number of pages, in the table's unit.
 pub(crate) fn push_pages<A: Allocator>(
     text: &mut String<A>,
     cells: Cells,
     pages: u64,
 ) -> Result<(), AllocError> {
-    let (wide, narrow) = (cells.pages, cells.mebibytes);
-    let tenths = mebibyte_tenths(pages);
-    let (whole, tenth) = (tenths / 10, tenths % 10);
-    write!(text, "  {pages:>wide$} {whole:>narrow$}.{tenth}")
+    push_units(
+        text,
+        cells,
+        match cells.unit {
+            Unit::Mebibytes => in_units(10, pages),
+            Unit::Pages => pages,
+        },
+    )
+}
+
+/// Appends a number of units: of tenths of a MiB, with one decimal, or of pages.
+pub(crate) fn push_units<A: Allocator>(
+    text: &mut String<A>,
+    cells: Cells,
+    units: u64,
+) -> Result<(), AllocError> {
+    match cells.unit {
+        Unit::Mebibytes => {
+            let (whole, tenth) = (units / 10, units % 10);
+            let wide = cells.width.saturating_sub(2);
+            write!(text, "  {whole:>wide$}.{tenth}")
+        }
+        Unit::Pages => {
+            let wide = cells.width;
+            write!(text, "  {units:>wide$}")
+        }
+    }
+}
+
+/// Appends a standard error in pages, if the numbers are estimates.
+pub(crate) fn push_error<A: Allocator>(
+    text: &mut String<A>,
+    cells: Cells,
+    pages: u64,
+) -> Result<(), AllocError> {
+    if cells.sample > 1 {
+        push_pages(text, cells, pages)?;
+    }
+    Ok(())
 }
 
 /// Appends a sum over contents in pages, and its standard error if it is an estimate.
@@ -108,10 +141,7 @@ pub(crate) fn push_told<A: Allocator>(
 ) -> Result<(), AllocError> {
     let told = Told::of(amount, cells.sample);
     push_pages(text, cells, told.value)?;
-    if cells.sample > 1 {
-        push_pages(text, cells, told.error)?;
-    }
-    Ok(())
+    push_error(text, cells, told.error)
 }
 
 /// Appends the headings of a class's columns.
@@ -125,7 +155,7 @@ pub(crate) fn push_class_headings<A: Allocator>(
     if cells.sample > 1 {
         write!(text, "{error:>wide$}")?;
     }
-    push_told_heading(text, cells, "pages")?;
+    push_told_heading(text, cells, "memory")?;
     text.push_str("\n")
 }
 

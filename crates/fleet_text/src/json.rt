@@ -1,9 +1,12 @@
 //! The numbers as a JSON object, for programs.
 use crate::members::{
-    ClassErrors, ClassObject, FleetObject, GuestErrors, GuestObject, TotalErrors, TotalObject,
+    ClassErrors, ClassObject, FleetObject, GuestErrors, GuestObject, PartsObject, TotalErrors,
+    TotalObject,
 };
+use crate::parts::{errors_of, parts_of};
 use crate::told::Told;
 use crate::{Fleet, FleetLine};
+use census_text::Reclaimed;
 use fleet_census::{FleetClass, FleetTotal};
 use page_model::PAGE_BYTES;
 use std::alloc::{AllocError, Global};
@@ -71,6 +74,7 @@ fn total_object(sample: u32, total: FleetTotal) -> TotalObject {
         frames: frames.error,
         reclaimed: reclaimed.error,
         between: between.error,
+        within: errors_of(&total, sample).within,
     };
     TotalObject {
         pages: total.pages,
@@ -80,7 +84,16 @@ fn total_object(sample: u32, total: FleetTotal) -> TotalObject {
         reclaimed: reclaimed.value,
         zero_reclaimed: total.zero_reclaimed,
         between: between.value,
+        parts: parts_object(&parts_of(&total, sample)),
         errors: if_sampled(sample, errors),
+    }
+}
+
+fn parts_object(parts: &Reclaimed) -> PartsObject {
+    PartsObject {
+        zeros: parts.zeros,
+        between: parts.between,
+        within: parts.within,
     }
 }
 

@@ -4,16 +4,15 @@
 //! may be long, and is written one guest after the other.
 #![tactic(auto)]
 
-mod amounts;
 mod cells;
 mod fleet;
 mod json;
 mod members;
 mod pairs;
+mod parts;
 mod table;
 mod told;
 
-pub use amounts::{mebibyte_tenths, mebibytes, per_mille};
 pub use fleet::{Fleet, FleetLine, fleet_lines};
 pub use json::json_text;
 pub use pairs::write_pairs;

@@ -22,11 +22,19 @@ pub(crate) struct GuestObject<'a> {
 }
 
 #[derive(Drop, Serialize)]
+pub(crate) struct PartsObject {
+    pub(crate) zeros: u64,
+    pub(crate) between: u64,
+    pub(crate) within: u64,
+}
+
+#[derive(Drop, Serialize)]
 pub(crate) struct TotalErrors {
     pub(crate) shared: u64,
     pub(crate) frames: u64,
     pub(crate) reclaimed: u64,
     pub(crate) between: u64,
+    pub(crate) within: u64,
 }
 
 #[derive(Drop, Serialize)]
@@ -38,6 +46,7 @@ pub(crate) struct TotalObject {
     pub(crate) reclaimed: u64,
     pub(crate) zero_reclaimed: u64,
     pub(crate) between: u64,
+    pub(crate) parts: PartsObject,
     #[serde(skip_serializing_if = "Option::is_none")]
     pub(crate) errors: Option<TotalErrors>,
 }

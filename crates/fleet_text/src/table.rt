@@ -1,40 +1,50 @@
 //! The numbers as a table for people.
 use crate::cells::{
-    Cells, digits, push_class_headings, push_contents, push_heading, push_pages, push_told,
-    push_told_heading,
+    Cells, digits, push_class_headings, push_contents, push_error, push_heading, push_pages,
+    push_told, push_told_heading, push_units,
 };
-use crate::told::Told;
-use crate::{Fleet, FleetLine, mebibytes, per_mille};
-use fleet_census::{Amount, FleetClass, FleetTotal};
+use crate::parts::{errors_of, summary_of};
+use crate::{Fleet, FleetLine};
+use census_text::{Summary, Unit, per_mille, push_sentence, shares_in};
+use fleet_census::FleetClass;
 use std::alloc::{AllocError, Allocator};
 
 /// Writes the table: a line for each guest and one for the total, then the copies, and last a sentence that sums up the
 /// numbers. Each line ends with a line feed. If not all contents were kept, the first line says so, and each number that is an
 /// estimate has its standard error behind it.
-pub fn table_text<A: Allocator>(alloc: A, fleet: &Fleet<'_>) -> Result<String<A>, AllocError> {
+pub fn table_text<A: Allocator>(
+    alloc: A,
+    fleet: &Fleet<'_>,
+    unit: Unit,
+) -> Result<String<A>, AllocError> {
     let mut text = String::new(alloc);
-    let cells = Cells::new(fleet);
-    push_first(&mut text, fleet)?;
+    let cells = Cells::new(fleet, unit);
+    let summary = summary_of(fleet);
+    push_first(&mut text, fleet, unit)?;
     push_guests(&mut text, cells, fleet.guests)?;
     push_total_headings(&mut text, cells)?;
-    push_total(&mut text, cells, fleet.total, fleet.sample)?;
+    push_total(&mut text, cells, fleet, &summary)?;
     push_copies(&mut text, cells, fleet.copies)?;
     text.push_str("\n")?;
-    push_sentence(&mut text, fleet)?;
+    push_sentence(&mut text, &summary)?;
     text.push_str("\n")?;
     Ok(text)
 }
 
 /// Appends what the numbers are.
-fn push_first<A: Allocator>(text: &mut String<A>, fleet: &Fleet<'_>) -> Result<(), AllocError> {
+fn push_first<A: Allocator>(
+    text: &mut String<A>,
+    fleet: &Fleet<'_>,
+    unit: Unit,
+) -> Result<(), AllocError> {
     if fleet.is_sampled() {
         let (kept, sample) = (fleet.kept(), fleet.sample);
         writeln!(
             text,
-            "An estimate by {kept} contents: zeros, and of the others one of {sample}. Behind each number under \"+-\" its standard error."
+            "An estimate from {kept} contents: zeros, and one in {sample} of the others. Each estimate is followed by its standard error, under \"+-\"."
         )?;
     }
-    text.push_str("Each number in pages of 4,096 bytes, and behind that in MiB.\n\n")
+    text.push_str(unit.first_line())
 }
 
 fn push_guests<A: Allocator>(
@@ -43,7 +53,7 @@ fn push_guests<A: Allocator>(
     guests: &[FleetLine<'_>],
 ) -> Result<(), AllocError> {
     text.push_str("guest")?;
-    push_heading(text, cells, "pages")?;
+    push_heading(text, cells, "memory")?;
     push_heading(text, cells, "zero")?;
     for heading in ["shared", "distinct", "alone"] {
         push_told_heading(text, cells, heading)?;
@@ -81,33 +91,51 @@ fn push_name<A: Allocator>(text: &mut String<A>, guest: &FleetLine<'_>) -> Resul
 
 fn push_total_headings<A: Allocator>(text: &mut String<A>, cells: Cells) -> Result<(), AllocError> {
     text.push_str("\n     ")?;
-    push_heading(text, cells, "pages")?;
+    push_heading(text, cells, "memory")?;
     push_heading(text, cells, "zero")?;
     push_told_heading(text, cells, "shared")?;
     push_told_heading(text, cells, "frames")?;
     push_told_heading(text, cells, "reclaimed")?;
     push_heading(text, cells, "zero_reclaimed")?;
     push_told_heading(text, cells, "between")?;
-    text.push_str("  reclaimed of pages\n")
+    push_told_heading(text, cells, "within")?;
+    text.push_str("  reclaimed of memory\n")
 }
 
 fn push_total<A: Allocator>(
     text: &mut String<A>,
     cells: Cells,
-    total: FleetTotal,
-    sample: u32,
+    fleet: &Fleet<'_>,
+    summary: &Summary,
 ) -> Result<(), AllocError> {
+    let total = fleet.total;
     text.push_str("total")?;
     push_pages(text, cells, total.pages)?;
     push_pages(text, cells, total.zero)?;
     push_told(text, cells, total.shared)?;
     push_told(text, cells, total.frames)?;
-    push_told(text, cells, total.reclaimed)?;
-    push_pages(text, cells, total.zero_reclaimed)?;
-    push_told(text, cells, total.between)?;
-    let part = per_mille(Told::of(total.reclaimed, sample).value, total.pages);
+    push_reclaimed(text, cells, fleet, summary)?;
+    let part = per_mille(summary.parts.whole(), total.pages);
     let (whole, tenth) = (part / 10, part % 10);
-    writeln!(text, "  {whole:>14}.{tenth} %")
+    writeln!(text, "  {whole:>15}.{tenth} %")
+}
+
+/// Appends what could be reclaimed, and its parts, which add up to it in the table's unit.
+fn push_reclaimed<A: Allocator>(
+    text: &mut String<A>,
+    cells: Cells,
+    fleet: &Fleet<'_>,
+    summary: &Summary,
+) -> Result<(), AllocError> {
+    let shares = shares_in(cells.unit, &summary.parts);
+    let errors = errors_of(&fleet.total, fleet.sample);
+    push_units(text, cells, shares.whole)?;
+    push_error(text, cells, errors.whole)?;
+    push_units(text, cells, shares.zeros)?;
+    push_units(text, cells, shares.between)?;
+    push_error(text, cells, errors.between)?;
+    push_units(text, cells, shares.within)?;
+    push_error(text, cells, errors.within)
 }
 
 fn push_copies<A: Allocator>(
@@ -138,34 +166,4 @@ fn push_class<A: Allocator>(
     push_contents(text, cells, class.contents)?;
     push_told(text, cells, class.pages)?;
     text.push_str("\n")
-}
-
-/// Appends the sentence that sums up the numbers, in whole MiB, without a line feed.
-fn push_sentence<A: Allocator>(text: &mut String<A>, fleet: &Fleet<'_>) -> Result<(), AllocError> {
-    let total = fleet.total;
-    let part = per_mille(Told::of(total.reclaimed, fleet.sample).value, total.pages);
-    let (whole, tenth) = (part / 10, part % 10);
-    let (pages, zeros) = (mebibytes(total.pages), mebibytes(total.zero_reclaimed));
-    push_mebibytes(text, fleet, total.reclaimed)?;
-    write!(
-        text,
-        " of {pages} MiB could be reclaimed ({whole}.{tenth} %): {zeros} MiB are zeros, "
-    )?;
-    push_mebibytes(text, fleet, total.between)?;
-    text.push_str(" are between guests")
-}
-
-/// Appends a sum over contents in whole MiB, and its standard error if it is an estimate.
-fn push_mebibytes<A: Allocator>(
-    text: &mut String<A>,
-    fleet: &Fleet<'_>,
-    amount: Amount,
-) -> Result<(), AllocError> {
-    let Told { value, error } = Told::of(amount, fleet.sample);
-    let (told, beside) = (mebibytes(value), mebibytes(error));
-    if fleet.is_sampled() {
-        write!(text, "{told} MiB (+- {beside})")
-    } else {
-        write!(text, "{told} MiB")
-    }
 }

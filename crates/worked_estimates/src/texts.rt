@@ -3,5 +3,7 @@ mod amounts;
 mod names;
 mod numbers;
 mod parts;
+mod reclaimed;
 mod refused;
+mod shares;
 mod written;

@@ -21,6 +21,7 @@ fn words(alloc: Global, line: &str) -> Result<Vec<String>, AllocError> {
 fn fleet(
     alloc: Global,
     json: bool,
+    in_pages: bool,
     pairs: Option<&'static str>,
     progress: Drawn,
 ) -> Result<Asked<'static>, AllocError> {
@@ -30,6 +31,7 @@ fn fleet(
     Ok(Asked::Fleet(FleetWords {
         digests,
         json,
+        in_pages,
         pairs,
         progress,
     }))
@@ -38,19 +40,21 @@ fn fleet(
 #[test]
 fn reads_the_words_of_a_fleet(rt: HostRuntime) -> Result<(), Fail> {
     let alloc = rt.alloc();
-    for (line, json, pairs, progress) in [
-        ("a b", false, None, Drawn::Auto),
-        ("--json a b", true, None, Drawn::Auto),
-        ("--pairs c a b", false, Some("c"), Drawn::Auto),
+    for (line, json, in_pages, pairs, progress) in [
+        ("a b", false, false, None, Drawn::Auto),
+        ("--json a b", true, false, None, Drawn::Auto),
+        ("--unit pages a b", false, true, None, Drawn::Auto),
+        ("--pairs c a b", false, false, Some("c"), Drawn::Auto),
         (
-            "--progress=always --json --pairs=c a b",
+            "--progress=always --json --unit=mib --pairs=c a b",
             true,
+            false,
             Some("c"),
             Drawn::Always,
         ),
     ] {
         let given = words(alloc, line)?;
-        let due = fleet(alloc, json, pairs, progress)?;
+        let due = fleet(alloc, json, in_pages, pairs, progress)?;
         assert_eq!(rt; asked_of(alloc, &given, VERSION).ok(), Some(due));
     }
     Ok(())
@@ -63,6 +67,7 @@ fn refuses_other_words_of_a_fleet(rt: HostRuntime) -> Result<(), Fail> {
         ("--json", ErrorKind::MissingRequiredArgument),
         ("--pairs a", ErrorKind::MissingRequiredArgument),
         ("--progress often a", ErrorKind::InvalidValue),
+        ("--unit kib a", ErrorKind::InvalidValue),
         ("--workers 2 a", ErrorKind::UnknownArgument),
     ] {
         let given = words(rt.alloc(), line)?;

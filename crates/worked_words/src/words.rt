@@ -56,7 +56,7 @@ fn reads_the_words(rt: HostRuntime) -> Result<(), Fail> {
         let due = Asked::Text(Task { work, file });
         assert_eq!(rt; asked_of(alloc, &given, VERSION).ok(), Some(due));
     }
-    let mistakes: [(&[&str], ErrorKind); 21] = [
+    let mistakes: [(&[&str], ErrorKind); 25] = [
         (&[], ErrorKind::MissingSubcommand),
         (&["journal"], ErrorKind::InvalidSubcommand),
         (
@@ -99,6 +99,13 @@ fn reads_the_words(rt: HostRuntime) -> Result<(), Fail> {
             ErrorKind::InvalidValue,
         ),
         (&["estimate", "--table", "a"], ErrorKind::UnknownArgument),
+        (&["estimate", "--unit", "kib", "a"], ErrorKind::InvalidValue),
+        (&["estimate", "--pid", "0"], ErrorKind::ValueValidation),
+        (&["estimate", "--pid", "web"], ErrorKind::ValueValidation),
+        (
+            &["estimate", "--salts", "1", "--pid", "7", "a"],
+            ErrorKind::WrongNumberOfValues,
+        ),
     ];
     for (texts, kind) in mistakes {
         let given = words(alloc, texts)?;
@@ -122,9 +129,9 @@ fn reads_the_words_of_an_estimate(rt: HostRuntime) -> Result<(), Fail> {
     assert_eq!(rt; asked.images.len(), 2);
     assert_eq!(rt; asked.images.first().copied(), Some("a.raw"));
     assert_eq!(rt; asked.images.last().copied(), Some("b.core"));
-    assert!(rt; asked.salts.is_empty());
+    assert!(rt; asked.salts.is_empty() && asked.processes.is_empty());
     assert_eq!(rt; asked.workers, None);
-    assert!(rt; !asked.raw && !asked.json);
+    assert!(rt; !asked.raw && !asked.json && !asked.in_pages);
     assert_eq!(rt; asked.svg, None);
     assert_eq!(rt; asked.progress, Drawn::Auto);
     Ok(())
@@ -155,5 +162,30 @@ fn reads_the_options_of_an_estimate(rt: HostRuntime) -> Result<(), Fail> {
     assert!(rt; asked.raw && asked.json);
     assert_eq!(rt; asked.svg, Some("a.svg"));
     assert_eq!(rt; asked.progress, Drawn::Never);
+    Ok(())
+}
+
+#[test]
+fn reads_the_processes_of_an_estimate(rt: HostRuntime) -> Result<(), Fail> {
+    let options = [
+        "estimate",
+        "--pid",
+        "4711",
+        "a.raw",
+        "--unit=pages",
+        "--salts",
+        "1,2,3",
+        "--pid=4294967295",
+    ];
+    let given = words(rt.alloc(), &options)?;
+    let asked = estimate_of(rt.alloc(), &given)?;
+    assert_eq!(rt; asked.images.as_slice(), ["a.raw"].as_slice());
+    assert_eq!(rt; asked.processes.as_slice(), [4711, u32::MAX].as_slice());
+    assert_eq!(rt; asked.salts.as_slice(), [1, 2, 3].as_slice());
+    assert!(rt; asked.in_pages);
+    assert_eq!(rt; (asked.guests(), asked.others()), (3, 2));
+    assert_eq!(rt; asked.process_of(0), None);
+    assert_eq!(rt; asked.process_of(2), Some(u32::MAX));
+    assert_eq!(rt; asked.process_of(3), None);
     Ok(())
 }

@@ -1,5 +1,5 @@
 //! Amounts of memory, checked against a calculator.
-use census_text::{mebibyte_tenths, mebibytes, per_mille};
+use census_text::{in_units, per_mille, scale_for};
 
 #[test]
 fn pages_in_mebibytes(rt: HostRuntime) {
@@ -15,10 +15,11 @@ fn pages_in_mebibytes(rt: HostRuntime) {
         (90_813, 355, 3547),
         (108_751, 425, 4248),
         (131_072, 512, 5120),
-        (u32::MAX, 16_777_216, 167_772_160),
+        (4_294_967_295, 16_777_216, 167_772_160),
+        (u64::MAX, 72_057_594_037_927_936, 720_575_940_379_279_360),
     ] {
-        assert_eq!(rt; mebibytes(pages), whole, "{pages}");
-        assert_eq!(rt; mebibyte_tenths(pages), tenths, "{pages}");
+        assert_eq!(rt; in_units(1, pages), whole, "{pages}");
+        assert_eq!(rt; in_units(10, pages), tenths, "{pages}");
     }
 }
 
@@ -34,8 +35,16 @@ fn parts_of_a_thousand(rt: HostRuntime) {
         (1, 2000, 1),
         (1, 2001, 0),
         (108_751, 131_072, 830),
-        (u32::MAX, u32::MAX, 1000),
+        (u64::MAX, u64::MAX, 1000),
+        (u64::MAX, 1, 18_446_744_073_709_551_615_000),
     ] {
         assert_eq!(rt; per_mille(part, whole), thousandths, "{part} of {whole}");
+    }
+}
+
+#[test]
+fn tenths_below_10_mebibytes(rt: HostRuntime) {
+    for (pages, scale) in [(0, 10), (2559, 10), (2560, 1), (u64::MAX, 1)] {
+        assert_eq!(rt; scale_for(pages), scale, "{pages}");
     }
 }

@@ -1,6 +1,6 @@
 //! Memory that is refused.
 use crate::texts::numbers::{COPIES, GUESTS, TOTAL};
-use census_text::{Estimate, guest_lines, picture_text, table_text};
+use census_text::{Estimate, Unit, guest_lines, picture_text, table_text};
 use refusing::Refusing;
 use std::alloc::{AllocError, Allocator};
 use std::test::Fail;
@@ -16,7 +16,7 @@ fn texts<A: Allocator + Clone>(alloc: &A) -> Result<usize, AllocError> {
         total: TOTAL,
         copies: &COPIES,
     };
-    let table = table_text(alloc, &estimate)?;
+    let table = table_text(alloc, &estimate, Unit::Mebibytes)?;
     let picture = picture_text(alloc, &estimate)?;
     Ok(table.len().saturating_add(picture.len()))
 }
