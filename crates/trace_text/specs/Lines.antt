@@ -50,28 +50,61 @@ content_at left = do
   _ ← nothing_at word.1
   Ok content
 
--- nothing comes after an event
-abbrev pub alone : Event → Option (List ℕ) → Result Step Cause
-alone event left = nothing_at left >>= λ _. Ok (Happens event)
+-- the event of a line that has no third word, by its name and its page
+abbrev pub page_event : List ℕ → ℕ → Option Event
+page_event name page =
+    if bytes_eq name (codes "guard") then Some (Guard page)
+    else if bytes_eq name (codes "unguard") then Some (Unguard page)
+    else if bytes_eq name (codes "copy") then Some (Copy page)
+    else if bytes_eq name (codes "map") then Some (Map page)
+    else if bytes_eq name (codes "release") then Some (Release page)
+    else if bytes_eq name (codes "discard") then Some (Discard page)
+    else None
 
--- what comes after a line's name and its first number, by its name
-unfoldable pub named : List ℕ → ℕ → Option (List ℕ) → Result Step Cause
-named name n left =
-    if bytes_eq name (codes "write") then content_at left >>= λ x. Ok (Happens (Write n x))
-    else if bytes_eq name (codes "guard") then alone (Guard n) left
-    else if bytes_eq name (codes "unguard") then alone (Unguard n) left
-    else if bytes_eq name (codes "copy") then alone (Copy n) left
-    else if bytes_eq name (codes "lend") then last_number left >>= λ frame. Ok (Happens (Lend n frame))
-    else if bytes_eq name (codes "map") then alone (Map n) left
-    else if bytes_eq name (codes "release") then alone (Release n) left
-    else if bytes_eq name (codes "trim") then content_at left >>= λ x. Ok (Happens (Trim n x))
-    else if bytes_eq name (codes "discard") then alone (Discard n) left
-    else if bytes_eq name (codes "shows") then content_at left >>= λ x. Ok (Shows n x)
+-- nothing comes after such an event
+unfoldable pub alone : Event → Option (List ℕ) → Result Step Cause
+alone event left = do
+  _ ← nothing_at left
+  Ok (Happens event)
+
+-- what a third word says, by the line's name
+unfoldable pub write_at : ℕ → Option (List ℕ) → Result Step Cause
+write_at page left = do
+  content ← content_at left
+  Ok (Happens (Write page content))
+
+unfoldable pub lend_at : ℕ → Option (List ℕ) → Result Step Cause
+lend_at page left = do
+  frame ← last_number left
+  Ok (Happens (Lend page frame))
+
+unfoldable pub trim_at : ℕ → Option (List ℕ) → Result Step Cause
+trim_at frame left = do
+  content ← content_at left
+  Ok (Happens (Trim frame content))
+
+unfoldable pub shows_at : ℕ → Option (List ℕ) → Result Step Cause
+shows_at page left = do
+  content ← content_at left
+  Ok (Shows page content)
+
+-- what comes after the name and the number of a line that has a third word
+unfoldable pub third_at : List ℕ → ℕ → Option (List ℕ) → Result Step Cause
+third_at name n left =
+    if bytes_eq name (codes "write") then write_at n left
+    else if bytes_eq name (codes "lend") then lend_at n left
+    else if bytes_eq name (codes "trim") then trim_at n left
+    else if bytes_eq name (codes "shows") then shows_at n left
     else Err causes.Form
+
+-- what comes after a line's name and its first number, with the event that they are, if there is no third word
+abbrev pub rest_at : Option Event → List ℕ → ℕ → Option (List ℕ) → Result Step Cause
+rest_at (Some event) name n left = alone event left
+rest_at None name n left = third_at name n left
 
 -- a line after the first two
 unfoldable pub step_of : List ℕ → Result Step Cause
 step_of line = do
   name ← word_at (Some line)
   n ← number_at name.1
-  named name.0 n.0 n.1
+  rest_at (page_event name.0 n.0) name.0 n.0 n.1

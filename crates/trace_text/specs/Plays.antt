@@ -1,5 +1,5 @@
 -- What becomes of a trace that is played by the protocol of windows.
-use Rattle.std.specs.Prelude.{◌≡◌, ◌≢◌, ℕ, ◌+◌, ◌<◌, List, [], ◌∷◌, length, take, replicate, filter_map, Option, Some, None, slice_get}
+use Rattle.std.specs.Prelude.{◌≡◌, ◌≢◌, ℕ, ◌+◌, ◌<◌, ◌==◌, Bool, true, false, if◌then◌else◌, is_some, unwrap_or, List, [], ◌∷◌, length, take, replicate, filter_map, Option, Some, None, slice_get}
 use Rattle.window_events.specs.declared.event.Event.{Event}
 use Rattle.window_events.specs.Windows.{Mappings, step, run, start, shown}
 use Rattle.window_events.specs.Played.{refused_from}
@@ -48,3 +48,32 @@ EndsAs w steps (Right events looks) = AreRight w steps (length steps) × (events
 EndsAs w steps (NotPossible place) = AreRight w steps place × IsNotPossible w steps place
 EndsAs w steps (Differs place page seen said) = AreRight w steps place × IsOther w steps place page said (Some seen)
 EndsAs w steps (NoPage place page) = AreRight w steps place × ((content : ℕ) × IsOther w steps place page content None)
+
+-- what is wrong with a page of which this content is said, by what it shows
+abbrev pub compared : ℕ → ℕ → ℕ → Option ℕ → Option Outcome
+compared place page said None = Some (NoPage place page)
+compared place page said (Some seen) = if seen == said then None else Some (Differs place page seen said)
+
+-- what is wrong with the step with this place, if anything
+abbrev pub verdict : ℕ → Mappings → Step → Option Outcome
+verdict place w (Happens event) = if is_some (step w event) then None else Some (NotPossible place)
+verdict place w (Shows page content) = compared place page content (shown w page)
+
+-- the mappings after a step
+abbrev pub after : Mappings → Step → Mappings
+after w (Happens event) = unwrap_or (step w event) w
+after w (Shows page content) = w
+
+abbrev pub or_later : Option Outcome → Option Outcome → Option Outcome
+or_later None later = later
+or_later (Some outcome) later = Some outcome
+
+-- what is wrong with the first of some steps that isn't right, where the first of them has place n
+abbrev pub first_wrong : ℕ → Mappings → List Step → Option Outcome
+first_wrong n w [] = None
+first_wrong n w (s ∷ steps) = or_later (verdict n w s) (first_wrong (n + 1) (after w s) steps)
+
+-- the step is an event
+abbrev pub is_event : Step → Bool
+is_event (Happens event) = true
+is_event (Shows page content) = false

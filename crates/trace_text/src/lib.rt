@@ -6,14 +6,14 @@
 
 mod line;
 mod outcome;
-mod play;
+mod playing;
 mod print;
 mod reader;
 mod step;
 mod trace;
 
 pub use outcome::Outcome;
-pub use play::play;
+pub use playing::play;
 pub use print::outcome_line;
 pub use reader::read_trace;
 pub use step::Step;

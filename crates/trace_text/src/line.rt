@@ -1,7 +1,8 @@
 //! The lines of a trace.
 ghost use Rattle.std.specs.Prelude.{◌≡◌, Some, None};
 ghost use Rattle.journal_text.specs.Cursor.{left};
-ghost use Rattle.trace_text.specs.Lines.{header_of, in_limits, sizes_of, last_number, content_at, alone, named, step_of};
+ghost use Rattle.trace_text.specs.Lines.{header_of, in_limits, sizes_of, last_number, content_at, page_event, alone};
+ghost use Rattle.trace_text.specs.Lines.{write_at, lend_at, trim_at, shows_at, third_at, rest_at, step_of};
 
 use crate::{MAX_TRACE_FRAMES, Step};
 use journal_text::Cause;
@@ -14,7 +15,7 @@ use window_events::Event;
 pub(crate) fn check_header(line: &[u8]) -> Result<(), Cause>
     ensures { result ≡ header_of line.now }
 {
-    if line == b"pageshare trace 1" {
+    if line == b"pageshare trace 1".as_slice() {
         Ok(())
     } else {
         Err(Cause::Header)
@@ -70,7 +71,29 @@ fn content(rest: Left<'_>) -> Result<u64, Cause>
     Ok(content)
 }
 
+/// Returns the event of a line that has no third word.
+fn page_event(name: &[u8], page: u32) -> Option<Event>
+    ensures { result ≡ page_event name.now page }
+{
+    if name == b"guard".as_slice() {
+        Some(Event::Guard(page))
+    } else if name == b"unguard".as_slice() {
+        Some(Event::Unguard(page))
+    } else if name == b"copy".as_slice() {
+        Some(Event::Copy(page))
+    } else if name == b"map".as_slice() {
+        Some(Event::Map(page))
+    } else if name == b"release".as_slice() {
+        Some(Event::Release(page))
+    } else if name == b"discard".as_slice() {
+        Some(Event::Discard(page))
+    } else {
+        None
+    }
+}
+
 /// Returns the step of an event that nothing comes after.
+#[tactic(auto, unfolding(crate::specs::Lines::alone))]
 fn alone(event: Event, rest: Left<'_>) -> Result<Step, Cause>
     ensures { result ≡ alone event (left rest.entry) }
 {
@@ -78,33 +101,63 @@ fn alone(event: Event, rest: Left<'_>) -> Result<Step, Cause>
     Ok(Step::Happens(event))
 }
 
-/// Reads what comes after a line's name and its first number, which is `n`.
-#[tactic(auto, unfolding(crate::specs::Lines::named))]
-fn named(name: &[u8], n: u32, rest: Left<'_>) -> Result<Step, Cause>
-    ensures { result ≡ named name.now n (left rest.entry) }
+#[tactic(auto, unfolding(crate::specs::Lines::write_at))]
+fn write(page: u32, rest: Left<'_>) -> Result<Step, Cause>
+    ensures { result ≡ write_at page (left rest.entry) }
+{
+    let content = content(rest)?;
+    Ok(Step::Happens(Event::Write(page, content)))
+}
+
+#[tactic(auto, unfolding(crate::specs::Lines::lend_at))]
+fn lend(page: u32, rest: Left<'_>) -> Result<Step, Cause>
+    ensures { result ≡ lend_at page (left rest.entry) }
+{
+    let frame = last_number(rest)?;
+    Ok(Step::Happens(Event::Lend(page, frame)))
+}
+
+#[tactic(auto, unfolding(crate::specs::Lines::trim_at))]
+fn trim(frame: u32, rest: Left<'_>) -> Result<Step, Cause>
+    ensures { result ≡ trim_at frame (left rest.entry) }
+{
+    let content = content(rest)?;
+    Ok(Step::Happens(Event::Trim(frame, content)))
+}
+
+#[tactic(auto, unfolding(crate::specs::Lines::shows_at))]
+fn shows(page: u32, rest: Left<'_>) -> Result<Step, Cause>
+    ensures { result ≡ shows_at page (left rest.entry) }
+{
+    let content = content(rest)?;
+    Ok(Step::Shows(page, content))
+}
+
+/// Reads what comes after the name and the number of a line that has a third word.
+#[tactic(auto, unfolding(crate::specs::Lines::third_at))]
+fn third(name: &[u8], n: u32, rest: Left<'_>) -> Result<Step, Cause>
+    ensures { result ≡ third_at name.now n (left rest.entry) }
 {
     if name == b"write".as_slice() {
-        Ok(Step::Happens(Event::Write(n, content(rest)?)))
-    } else if name == b"guard".as_slice() {
-        alone(Event::Guard(n), rest)
-    } else if name == b"unguard".as_slice() {
-        alone(Event::Unguard(n), rest)
-    } else if name == b"copy".as_slice() {
-        alone(Event::Copy(n), rest)
+        write(n, rest)
     } else if name == b"lend".as_slice() {
-        Ok(Step::Happens(Event::Lend(n, last_number(rest)?)))
-    } else if name == b"map".as_slice() {
-        alone(Event::Map(n), rest)
-    } else if name == b"release".as_slice() {
-        alone(Event::Release(n), rest)
+        lend(n, rest)
     } else if name == b"trim".as_slice() {
-        Ok(Step::Happens(Event::Trim(n, content(rest)?)))
-    } else if name == b"discard".as_slice() {
-        alone(Event::Discard(n), rest)
+        trim(n, rest)
     } else if name == b"shows".as_slice() {
-        Ok(Step::Shows(n, content(rest)?))
+        shows(n, rest)
     } else {
         Err(Cause::Form)
+    }
+}
+
+/// Reads what comes after a line's name and its first number.
+fn behind(event: Option<Event>, name: &[u8], n: u32, rest: Left<'_>) -> Result<Step, Cause>
+    ensures { result ≡ rest_at event name.now n (left rest.entry) }
+{
+    match event {
+        Some(event) => alone(event, rest),
+        None => third(name, n, rest),
     }
 }
 
@@ -113,7 +166,8 @@ fn named(name: &[u8], n: u32, rest: Left<'_>) -> Result<Step, Cause>
 pub(crate) fn read_step(line: &[u8]) -> Result<Step, Cause>
     ensures { result ≡ step_of line.now }
 {
-    let (name, rest) = word(Some(line))?;
-    let (n, rest) = next_number(rest)?;
-    named(name, n, rest)
+    let (name, left) = word(Some(line))?;
+    let (n, left) = next_number(left)?;
+    let event = page_event(name, n);
+    behind(event, name, n, left)
 }

@@ -12,7 +12,7 @@ use page_model::MAX_TEXT_BYTES;
 use std::alloc::Allocator;
 
 /// The number of the first line that is a step.
-const FIRST_STEP: u32 = 3;
+pub(crate) const FIRST_STEP: u32 = 3;
 
 /// Reads the steps of the lines from the third on.
 fn read_steps<A: Allocator>(alloc: A, text: &[u8]) -> Result<Vec<Step, A>, TextFault>

@@ -1,5 +1,5 @@
 -- A domain and mappings before anything happened.
-use Rattle.std.proofs.Common.{◌≡◌, ℕ, zero, suc, ◌*◌, ◌<◌, List, [], ◌∷◌, length, map, replicate, get_or, Option, Some, None, refl, ap, sym, ◌∙◌, arith}
+use Rattle.std.proofs.Common.{◌≡◌, ℕ, zero, suc, ◌*◌, ◌<◌, List, [], ◌∷◌, length, map, replicate, get_or, Option, None, refl, ap, sym, ◌∙◌, arith}
 use Rattle.std.proofs.lemmas.List.{length-replicate}
 use Rattle.std.proofs.lemmas.List.Elements.{All-replicate}
 use Rattle.machine_frames.specs.FrameMap.{frame}
@@ -7,8 +7,7 @@ use Rattle.lent_slots.specs.declared.holding.Holding.{Holding}
 use Rattle.lent_slots.specs.Slots.{MachineView, holding}
 use Rattle.lent_slots.specs.Totals.{empty_machine}
 use Rattle.share_domain.specs.declared.config.DomainConfig.{DomainConfig}
-use Rattle.share_domain.specs.declared.holding.Slot.{Slot}
-use Rattle.share_domain.specs.Domains.{DomainView, machine_at, no_machine, held_in}
+use Rattle.share_domain.specs.Domains.{DomainView, machine_at}
 use Rattle.share_domain.specs.Made.{empty_domain}
 use Rattle.window_events.specs.declared.page.Page.{Page}
 use Rattle.window_events.specs.Windows.{start, fresh}

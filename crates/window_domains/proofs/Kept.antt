@@ -1,12 +1,11 @@
 -- What keeps the agreement of a domain and mappings, and what a page shows where they agree.
-use Rattle.std.proofs.Common.{◌≡◌, ℕ, zero, suc, ◌+◌, ◌*◌, ◌<◌, Bool, true, false, cond, List, [], ◌∷◌, length, map, Option, Some, None, IsSome, refl, ap, sym, ◌∙◌, ◌⊎◌, inl, inr, subst, arith}
-use Rattle.std.specs.Prelude.{slice_get, slice_set, slice_index, unwrap_or}
+use Rattle.std.proofs.Common.{◌≡◌, ℕ, ◌<◌, Bool, true, false, cond, List, [], ◌∷◌, length, Option, Some, None, refl, ap, sym, ◌∙◌, arith}
+use Rattle.std.specs.Prelude.{slice_get, slice_set, unwrap_or}
 use Rattle.std.specs.Option.{option_map, option_and_then}
-use Rattle.std.proofs.lemmas.Bool.{false≢true, cases_Bool}
+use Rattle.std.proofs.lemmas.Bool.{false≢true}
 use Rattle.std.proofs.lemmas.List.{length-set}
 use Rattle.std.proofs.lemmas.Option.{get_or_from_slice_get}
 use Rattle.std.proofs.Math.Seq.{map-set_same}
-use Rattle.machine_frames.specs.FrameMap.{frame, IsTaken}
 use Rattle.machine_frames.proofs.Used.{taken_within}
 use Rattle.lent_slots.specs.declared.holding.Holding.{Holding}
 use Rattle.share_domain.specs.declared.holding.Slot.{Slot}
@@ -18,11 +17,11 @@ use Rattle.window_events.specs.declared.page.View.{View}
 use Rattle.window_events.specs.declared.page.View.TheVariants.{Own, Over}
 use Rattle.window_events.specs.Windows.{Mappings, shown_in, overwritten, lifted, written, guarded, unguarded, copied, mapped, discarded, is_held, at_page, with_page, step, run, start, shown, last, view_of}
 use Rattle.window_events.proofs.Whole.{holds_shown, shows_last}
-use Rattle.window_domains.specs.Agreement.{bytes_at, frame_in, frame_by, Agrees, Plays}
+use Rattle.window_domains.specs.Agreement.{bytes_at, frame_by, Agrees, Plays}
 use Rattle.window_domains.specs.Calls.{is_own, ShowsFrameOf}
 use Rattle.window_domains.proofs.Frames as frames
 use Rattle.window_domains.proofs.Frames.{none_some, some_same, the, is_there, same_machine, same_frame, frame_within, machine_within}
-use Rattle.window_domains.proofs.Pages.{one_plays, page_holds, Holder, holder, trim_possible}
+use Rattle.window_domains.proofs.Pages.{one_plays, page_holds, holder, trim_possible}
 
 pub enters : (number : List ℕ → ℕ) (d : DomainView) (slots : List (Option Slot)) (w : Mappings) (client : Option ℕ) → Agrees number d slots w → Agrees number (entered d client) slots w
 enters number d slots w None agrees = agrees
@@ -154,7 +153,7 @@ shows_by number d slots w p n page agrees at held view is =
     let b = the (bytes_at d h.slot.machine h.h.frame) (agrees.in_use h.slot h.h h.held) in
     let there : slice_get w.frames n ≡ Some (number b.0) = ap (slice_get w.frames) h.frame ∙ agrees.contains h.slot.machine h.h.frame b.0 b.1 in
     let wrote : last w p ≡ Some (number b.0) =
-      sym is ∙ ap (option_map (λ (x : Page). shown_in w.frames x.view)) at ∙ ap (λ (v : View). Some (shown_in w.frames v)) view ∙ ap (λ (k : ℕ). Some k) (get_or_from_slice_get w.frames n (number b.0) 0 there) in
+    sym is ∙ ap (option_map (λ (x : Page). shown_in w.frames x.view)) at ∙ ap (λ (v : View). Some (shown_in w.frames v)) view ∙ ap (λ (k : ℕ). Some k) (get_or_from_slice_get w.frames n (number b.0) 0 there) in
     record {
       slot = h.slot;
       has = h.at;

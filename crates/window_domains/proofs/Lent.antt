@@ -1,11 +1,11 @@
 -- A domain and mappings after a page was lent.
-use Rattle.std.proofs.Common.{◌≡◌, ◌≢◌, ℕ, zero, suc, ◌+◌, ◌*◌, ◌<◌, ◌≤◌, Bool, true, false, List, [], ◌∷◌, length, map, Option, Some, None, IsSome, refl, ap, sym, ◌∙◌, ◌⊎◌, inl, inr, subst, arith}
+use Rattle.std.proofs.Common.{◌≡◌, ◌≢◌, ℕ, ◌*◌, ◌<◌, Bool, true, false, List, [], ◌∷◌, length, map, Option, Some, None, refl, ap, sym, ◌∙◌, ◌⊎◌, inl, inr, subst, arith}
 use Rattle.std.specs.Prelude.{slice_get, slice_set, All}
 use Rattle.std.specs.Option.{option_map}
-use Rattle.std.proofs.lemmas.Bool.{false≢true, cases_eq, cases_Bool}
+use Rattle.std.proofs.lemmas.Bool.{cases_eq, cases_Bool}
 use Rattle.std.proofs.lemmas.List.{length-set, map-set, get_or-set_same, get_or-set_other}
 use Rattle.std.proofs.lemmas.List.Elements.{All-set, All-weaker, All-head, All-tail}
-use Rattle.machine_frames.specs.FrameMap.{FrameMap, frame, IsTaken}
+use Rattle.machine_frames.specs.FrameMap.{frame, IsTaken}
 use Rattle.machine_frames.proofs.Used.{taken_within}
 use Rattle.lent_slots.specs.declared.holding.Holding.{Holding}
 use Rattle.lent_slots.specs.Slots.{MachineView, holding, lent_slots}
@@ -13,16 +13,15 @@ use Rattle.lent_slots.proofs.SlotLists.{got_holding, got_within, set_same, set_o
 use Rattle.share_domain.specs.declared.holding.Slot.{Slot}
 use Rattle.share_domain.specs.declared.holding.Loan.{Loan}
 use Rattle.share_domain.specs.Domains.{DomainView, LendsIn, with_machines, machine_at, no_machine, held_in, region_frame}
-use Rattle.window_events.specs.declared.event.Event.{Event}
 use Rattle.window_events.specs.declared.event.Event.TheVariants.{Lend, Trim}
 use Rattle.window_events.specs.declared.page.Page.{Page}
 use Rattle.window_events.specs.Windows as windows
 use Rattle.window_events.specs.Windows.{Mappings, is_held, run, step}
-use Rattle.window_domains.specs.Agreement.{bytes_at, frame_in, frame_by, HasHeld, Agrees, Plays}
+use Rattle.window_domains.specs.Agreement.{bytes_at, frame_by, HasHeld, Agrees, Plays}
 use Rattle.window_domains.specs.Calls.{IsToBeLent, filled}
 use Rattle.window_domains.proofs.Frames as frames
 use Rattle.window_domains.proofs.Frames.{none_some, some_same, the, is_there, same_machine, same_frame, frame_within, machine_within}
-use Rattle.window_domains.proofs.Pages.{one_plays, none_plays, holds_none, Holder, holder, lend_possible, trim_possible}
+use Rattle.window_domains.proofs.Pages.{one_plays, none_plays, holds_none, holder, lend_possible, trim_possible}
 
 -- A page was lent in machine m: its slot was free, and its frame was free or had these bytes.
 module _ (number : List ℕ → ℕ) (d : DomainView) (slots : List (Option Slot)) (w : Mappings) (m client ppn mpn : ℕ) (bytes : List ℕ)
@@ -157,7 +156,7 @@ module _ (number : List ℕ → ℕ) (d : DomainView) (slots : List (Option Slot
     used : (slot : Slot) (h : Holding) → held_in machines slot ≡ Some h → (((slot.machine ≡ m) × (slot.ppn ≡ ppn)) ⊎ (slot.machine ≡ m → slot.ppn ≡ ppn → ⊥)) → IsTaken (machine_at machines slot.machine).frames h.frame
     used slot h held (inl e) =
         let same : record { client = client; frame = mpn } ≡ h = some_same (record { client = client; frame = mpn }) h
-          (sym own_slot ∙ ap (λ i. holding (machine_at machines i).slots ppn) (sym e.0) ∙ ap (λ i. holding (machine_at machines slot.machine).slots i) (sym e.1) ∙ held) in
+        (sym own_slot ∙ ap (λ i. holding (machine_at machines i).slots ppn) (sym e.0) ∙ ap (λ i. holding (machine_at machines slot.machine).slots i) (sym e.1) ∙ held) in
         is_there (frame (machine_at machines slot.machine).frames h.frame) bytes
         (ap (λ i. frame (machine_at machines i).frames h.frame) e.0 ∙ ap (λ (x : Holding). frame (machine_at machines m).frames x.frame) (sym same) ∙ own_frame)
     used slot h held (inr apart) =
@@ -234,18 +233,18 @@ lends number d new slots w m client p bytes loan agrees l to = made (is_lent d n
       let may : (is_held n w.pages ≡ false) ⊎ (y.0 ≡ number bytes) = choose n y.0 y.1 (cases_Bool (is_held n w.pages)) (has_number number d slots w m client loan.slot.ppn i.mpn bytes agrees i.free i.within i.had) in
       let after = after number d slots w m client loan.slot.ppn i.mpn bytes agrees i.free i.within in
       let owned : held_in after.machines loan.slot ≡ Some (record { client = client; frame = i.mpn }) =
-        ap (λ k. holding (machine_at after.machines k).slots loan.slot.ppn) i.machine_is ∙ own_slot number d slots w m client loan.slot.ppn i.mpn bytes agrees i.free i.within in
+      ap (λ k. holding (machine_at after.machines k).slots loan.slot.ppn) i.machine_is ∙ own_slot number d slots w m client loan.slot.ppn i.mpn bytes agrees i.free i.within in
       let then : Agrees number after (slice_set slots p (Some loan.slot)) (record { pages = slice_set w.pages p (windows.holding n to.page); frames = slice_set w.frames n (number bytes) }) =
-        page_agrees number after slots w.pages (slice_set w.frames n (number bytes)) p n to.page loan.slot (record { client = client; frame = i.mpn })
-        (lent_agrees number d slots w m client loan.slot.ppn i.mpn bytes agrees i.free i.within) owned (ap (λ k. region_frame d.frames k i.mpn) (sym i.machine_is)) in
+      page_agrees number after slots w.pages (slice_set w.frames n (number bytes)) p n to.page loan.slot (record { client = client; frame = i.mpn })
+      (lent_agrees number d slots w m client loan.slot.ppn i.mpn bytes agrees i.free i.within) owned (ap (λ k. region_frame d.frames k i.mpn) (sym i.machine_is)) in
       subst (λ k. Plays w (Lend p k ∷ []) (Agrees number new (slice_set slots p (Some loan.slot)))) (sym i.frame_is)
       (one_plays w (record { pages = slice_set w.pages p (windows.holding n to.page); frames = slice_set w.frames n (number bytes) }) (Lend p n) (Agrees number new (slice_set slots p (Some loan.slot)))
-        (lend_possible w p n (number bytes) y.0 to.page to.at to.buffer none y.1 may)
-        (subst (λ (x : DomainView). Agrees number x (slice_set slots p (Some loan.slot)) (record { pages = slice_set w.pages p (windows.holding n to.page); frames = slice_set w.frames n (number bytes) })) (sym i.now) then)) where
-          choose : (n y : ℕ) → slice_get w.frames n ≡ Some y → ((is_held n w.pages ≡ true) ⊎ (is_held n w.pages ≡ false)) → (is_held n w.pages ≡ true → slice_get w.frames n ≡ Some (number bytes))
-              → (is_held n w.pages ≡ false) ⊎ (y ≡ number bytes)
-          choose n y is (inl held) has = inr (some_same y (number bytes) (sym is ∙ has held))
-          choose n y is (inr free) has = inl free
+      (lend_possible w p n (number bytes) y.0 to.page to.at to.buffer none y.1 may)
+      (subst (λ (x : DomainView). Agrees number x (slice_set slots p (Some loan.slot)) (record { pages = slice_set w.pages p (windows.holding n to.page); frames = slice_set w.frames n (number bytes) })) (sym i.now) then)) where
+        choose : (n y : ℕ) → slice_get w.frames n ≡ Some y → ((is_held n w.pages ≡ true) ⊎ (is_held n w.pages ≡ false)) → (is_held n w.pages ≡ true → slice_get w.frames n ≡ Some (number bytes))
+            → (is_held n w.pages ≡ false) ⊎ (y ≡ number bytes)
+        choose n y is (inl held) has = inr (some_same y (number bytes) (sym is ∙ has held))
+        choose n y is (inr free) has = inl free
 
 pub lends_early : (number : List ℕ → ℕ) (d new : DomainView) (slots : List (Option Slot)) (w : Mappings) (m client : ℕ) (bytes : List ℕ) (loan : Loan)
     → Agrees number d slots w → LendsIn m client bytes loan d new → Plays w (filled w loan.frame (number bytes)) (Agrees number new slots)
@@ -254,18 +253,18 @@ lends_early number d new slots w m client bytes loan agrees l = made (is_lent d 
   made i =
       let n : ℕ = region_frame d.frames m i.mpn in
       let then : Agrees number new slots (record { pages = w.pages; frames = slice_set w.frames n (number bytes) }) =
-        subst (λ (x : DomainView). Agrees number x slots (record { pages = w.pages; frames = slice_set w.frames n (number bytes) })) (sym i.now)
-        (lent_agrees number d slots w m client loan.slot.ppn i.mpn bytes agrees i.free i.within) in
+      subst (λ (x : DomainView). Agrees number x slots (record { pages = w.pages; frames = slice_set w.frames n (number bytes) })) (sym i.now)
+      (lent_agrees number d slots w m client loan.slot.ppn i.mpn bytes agrees i.free i.within) in
       subst (λ k. Plays w (filled w k (number bytes)) (Agrees number new slots)) (sym i.frame_is)
       (pick n (is_held n w.pages) refl (number_fits number d slots w m client loan.slot.ppn i.mpn bytes agrees i.free i.within)
-        (has_number number d slots w m client loan.slot.ppn i.mpn bytes agrees i.free i.within i.had) then) where
-          pick : (n : ℕ) (b : Bool) → is_held n w.pages ≡ b → n < length w.frames → (is_held n w.pages ≡ true → slice_get w.frames n ≡ Some (number bytes))
-              → Agrees number new slots (record { pages = w.pages; frames = slice_set w.frames n (number bytes) }) → Plays w (filled w n (number bytes)) (Agrees number new slots)
-          pick n true held fits has then =
-              let same : slice_set w.frames n (number bytes) ≡ w.frames = frames.set_same w.frames n (number bytes) (has held) in
-              rw held (none_plays w (Agrees number new slots) (subst (λ (fs : List ℕ). Agrees number new slots (record { pages = w.pages; frames = fs })) same then))
-          pick n false held fits has then =
-              rw held (one_plays w (record { pages = w.pages; frames = slice_set w.frames n (number bytes) }) (Trim n (number bytes)) (Agrees number new slots) (trim_possible w n (number bytes) fits held) then)
+      (has_number number d slots w m client loan.slot.ppn i.mpn bytes agrees i.free i.within i.had) then) where
+        pick : (n : ℕ) (b : Bool) → is_held n w.pages ≡ b → n < length w.frames → (is_held n w.pages ≡ true → slice_get w.frames n ≡ Some (number bytes))
+            → Agrees number new slots (record { pages = w.pages; frames = slice_set w.frames n (number bytes) }) → Plays w (filled w n (number bytes)) (Agrees number new slots)
+        pick n true held fits has then =
+            let same : slice_set w.frames n (number bytes) ≡ w.frames = frames.set_same w.frames n (number bytes) (has held) in
+            rw held (none_plays w (Agrees number new slots) (subst (λ (fs : List ℕ). Agrees number new slots (record { pages = w.pages; frames = fs })) same then))
+        pick n false held fits has then =
+            rw held (one_plays w (record { pages = w.pages; frames = slice_set w.frames n (number bytes) }) (Trim n (number bytes)) (Agrees number new slots) (trim_possible w n (number bytes) fits held) then)
 
 pub compares : (number : List ℕ → ℕ) (d : DomainView) (slots : List (Option Slot)) (w : Mappings) (p : ℕ) (bytes : List ℕ) (slot : Slot) (h : Holding)
     → Agrees number d slots w → held_in d.machines slot ≡ Some h → bytes_at d slot.machine h.frame ≡ Some bytes → IsToBeLent slots w p (number bytes)
@@ -276,7 +275,7 @@ compares number d slots w p bytes slot h agrees held has to =
     let none : to.page.held ≡ None = holds_none d w.pages slots p to.page agrees.holds to.at to.no_slot in
     let same : slice_set w.frames n (number bytes) ≡ w.frames = frames.set_same w.frames n (number bytes) is in
     let then : Agrees number d (slice_set slots p (Some slot)) (record { pages = slice_set w.pages p (windows.holding n to.page); frames = w.frames }) =
-      page_agrees number d slots w.pages w.frames p n to.page slot h agrees held refl in
+    page_agrees number d slots w.pages w.frames p n to.page slot h agrees held refl in
     one_plays w (record { pages = slice_set w.pages p (windows.holding n to.page); frames = slice_set w.frames n (number bytes) }) (Lend p n) (Agrees number d (slice_set slots p (Some slot)))
     (lend_possible w p n (number bytes) (number bytes) to.page to.at to.buffer none is (inr refl))
     (subst (λ (fs : List ℕ). Agrees number d (slice_set slots p (Some slot)) (record { pages = slice_set w.pages p (windows.holding n to.page); frames = fs })) (sym same) then)

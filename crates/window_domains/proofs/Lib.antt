@@ -5,3 +5,4 @@ pub mod Lent
 pub mod Shrinks
 pub mod Released
 pub mod Kept
+pub mod Histories

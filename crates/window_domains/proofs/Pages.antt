@@ -1,7 +1,7 @@
 -- Events, and the frames that pages hold by their slots.
-use Rattle.std.proofs.Common.{◌≡◌, ℕ, zero, suc, ◌+◌, ◌<◌, Bool, true, false, cond, not, ◌&&◌, ◌||◌, List, [], ◌∷◌, length, map, Option, Some, None, IsSome, refl, ap, sym, ◌∙◌, ◌⊎◌, inl, inr, subst, arith}
-use Rattle.std.specs.Prelude.{slice_get, slice_set, nat_eq, nat_lt, unwrap_or, is_some, is_none}
-use Rattle.std.specs.Option.{option_map, option_and_then}
+use Rattle.std.proofs.Common.{◌≡◌, ℕ, ◌<◌, Bool, true, false, cond, not, ◌&&◌, ◌||◌, List, [], ◌∷◌, length, map, Option, Some, None, refl, ap, sym, ◌∙◌, ◌⊎◌, inl, inr, subst}
+use Rattle.std.specs.Prelude.{slice_get, slice_set, nat_eq, unwrap_or, is_some, is_none}
+use Rattle.std.specs.Option.{option_map}
 use Rattle.std.specs.List.{list_any}
 use Rattle.std.proofs.lemmas.Bool.{false≢true, eqb-true, eq-eqb, lt-ltb}
 use Rattle.std.proofs.lemmas.Option.{slice_get-map}
@@ -11,10 +11,9 @@ use Rattle.share_domain.specs.Domains.{DomainView, held_in, region_frame}
 use Rattle.window_events.specs.declared.event.Event.{Event}
 use Rattle.window_events.specs.declared.event.Event.TheVariants.{Lend, Trim}
 use Rattle.window_events.specs.declared.page.Page.{Page}
-use Rattle.window_events.specs.Windows.{Mappings, is_frame, is_held, holding, lent, step, run}
-use Rattle.window_events.specs.Played.{refused_from}
+use Rattle.window_events.specs.Windows.{Mappings, is_frame, is_held, holding, step}
 use Rattle.window_events.proofs.Played.{refused_on}
-use Rattle.window_domains.specs.Agreement.{frame_in, frame_by, Agrees, Plays}
+use Rattle.window_domains.specs.Agreement.{frame_by, Plays}
 use Rattle.window_domains.proofs.Frames.{none_some, some_same}
 
 -- one event that is possible

@@ -1,8 +1,7 @@
 -- Pages after slots were released: each page whose slot nobody holds now is released.
-use Rattle.std.proofs.Common.{◌≡◌, ℕ, zero, suc, ◌+◌, ◌*◌, ◌<◌, Bool, true, false, cond, List, [], ◌∷◌, ◌++◌, length, map, Option, Some, None, IsSome, refl, ap, sym, ◌∙◌, ◌⊎◌, inl, inr, subst, append_assoc, arith}
-use Rattle.std.specs.Prelude.{slice_get, slice_set, unwrap_or, is_some, is_none}
-use Rattle.std.specs.Option.{option_map, option_and_then}
-use Rattle.std.proofs.lemmas.Bool.{false≢true, true≢false}
+use Rattle.std.proofs.Common.{◌≡◌, ℕ, suc, ◌+◌, ◌*◌, Bool, true, false, cond, List, [], ◌∷◌, ◌++◌, length, map, Option, Some, None, refl, ap, sym, ◌∙◌, ◌⊎◌, inl, inr, subst, append_assoc, arith}
+use Rattle.std.specs.Prelude.{slice_get, unwrap_or, is_some, is_none}
+use Rattle.std.specs.Option.{option_map}
 use Rattle.std.proofs.lemmas.List.{length-map, set_at, length_push}
 use Rattle.std.proofs.lemmas.List.Elements.{All-map}
 use Rattle.lent_slots.specs.declared.holding.Holding.{Holding}
@@ -13,13 +12,13 @@ use Rattle.share_domain.specs.Leaving.{Leaves}
 use Rattle.window_events.specs.declared.event.Event.{Event}
 use Rattle.window_events.specs.declared.event.Event.TheVariants.{Release}
 use Rattle.window_events.specs.declared.page.Page.{Page}
-use Rattle.window_events.specs.Windows.{Mappings, is_bare, released, with_page, at_page, step, run}
+use Rattle.window_events.specs.Windows.{Mappings, is_bare, step, run}
 use Rattle.window_events.specs.Played.{refused_from}
 use Rattle.window_events.proofs.Played.{refused_on}
-use Rattle.window_domains.specs.Agreement.{frame_in, frame_by, HasHeld, Agrees, Plays}
+use Rattle.window_domains.specs.Agreement.{frame_by, HasHeld, Agrees, Plays}
 use Rattle.window_domains.specs.Calls.{is_lost, left, releases, NoneShown}
-use Rattle.window_domains.proofs.Frames.{none_some, some_same, is_there}
-use Rattle.window_domains.proofs.Shrinks.{AreInUse, Shrinks, release_shrinks, release_frames, leave_shrinks}
+use Rattle.window_domains.proofs.Frames.{none_some, is_there}
+use Rattle.window_domains.proofs.Shrinks.{Shrinks, release_shrinks, release_frames, leave_shrinks}
 
 -- a page that holds nothing
 abbrev given_up : Page → Page
@@ -78,9 +77,9 @@ releases_played d frames (slot ∷ slots) (page ∷ pages) front all p n e at sa
           → Played n (record { pages = all; frames = frames }) (cond b (Release p ∷ releases d (p + 1) slots) (releases d (p + 1) slots)) (record { pages = front ++ cond b (given_up page) page ∷ pages_left d slots pages; frames = frames })
       pick true shows rest =
           let whole : Played (n + 1) (record { pages = front ++ given_up page ∷ pages; frames = frames }) (releases d (p + 1) slots) (record { pages = front ++ given_up page ∷ pages_left d slots pages; frames = frames }) =
-            subst (λ (l : List Page). Played (n + 1) (record { pages = front ++ given_up page ∷ pages; frames = frames }) (releases d (p + 1) slots) (record { pages = l; frames = frames })) (append_assoc front (given_up page ∷ []) (pages_left d slots pages)) (rest (given_up page) (n + 1)) in
+          subst (λ (l : List Page). Played (n + 1) (record { pages = front ++ given_up page ∷ pages; frames = frames }) (releases d (p + 1) slots) (record { pages = l; frames = frames })) (append_assoc front (given_up page ∷ []) (pages_left d slots pages)) (rest (given_up page) (n + 1)) in
           let first : step (record { pages = all; frames = frames }) (Release p) ≡ Some (record { pages = front ++ given_up page ∷ pages; frames = frames }) =
-            ap (λ l. step (record { pages = l; frames = frames }) (Release p)) e ∙ ap (λ i. step (record { pages = front ++ page ∷ pages; frames = frames }) (Release i)) at ∙ release_page front pages frames page (shows refl) in
+          ap (λ l. step (record { pages = l; frames = frames }) (Release p)) e ∙ ap (λ i. step (record { pages = front ++ page ∷ pages; frames = frames }) (Release i)) at ∙ release_page front pages frames page (shows refl) in
           played_first n (record { pages = all; frames = frames }) (record { pages = front ++ given_up page ∷ pages; frames = frames }) (record { pages = front ++ given_up page ∷ pages_left d slots pages; frames = frames }) (Release p) (releases d (p + 1) slots) first whole
       pick false shows rest =
           subst (λ (l : List Page). Played n (record { pages = l; frames = frames }) (releases d (p + 1) slots) (record { pages = front ++ page ∷ pages_left d slots pages; frames = frames })) (sym e)
@@ -125,7 +124,7 @@ released_by_events : (number : List ℕ → ℕ) (d new : DomainView) (slots : L
 released_by_events number d new slots w s same agrees shown =
     let sizes : length slots ≡ length w.pages = sym (length-map slots (frame_by d)) ∙ ap (λ (l : List (Option ℕ)). length l) (sym agrees.holds) ∙ length-map w.pages (λ (x : Page). x.held) in
     let p : Played 0 (record { pages = w.pages; frames = w.frames }) (releases new 0 slots) (record { pages = pages_left new slots w.pages; frames = w.frames }) =
-      releases_played new w.frames slots w.pages [] w.pages 0 0 refl refl sizes (none_bare new slots w.pages shown) in
+    releases_played new w.frames slots w.pages [] w.pages 0 0 refl refl sizes (none_bare new slots w.pages shown) in
     record {
       possible = p.possible;
       after = subst (Agrees number new (map (left new) slots)) (sym p.is) (record {

@@ -1,17 +1,16 @@
 -- Machines after slots were released: a slot is free or as it was, and a frame that is in use has the bytes that it had.
-use Rattle.std.proofs.Common.{◌≡◌, ◌≢◌, ℕ, zero, suc, ◌+◌, ◌<◌, ◌≤◌, ◌==◌, Bool, true, false, cond, List, [], ◌∷◌, length, Option, Some, None, IsSome, refl, ap, sym, ◌∙◌, ◌⊎◌, inl, inr, subst, arith}
-use Rattle.std.specs.Prelude.{slice_get, slice_set}
-use Rattle.std.proofs.lemmas.Bool.{false≢true, cases_eq, cases_lt, eqb-true}
-use Rattle.std.proofs.lemmas.List.{length-set, get_or-set_same, get_or-set_other, get_or_past, set_past}
+use Rattle.std.proofs.Common.{◌≡◌, ℕ, zero, suc, ◌<◌, ◌≤◌, ◌==◌, Bool, true, false, cond, List, ◌∷◌, length, Option, Some, None, refl, ap, sym, ◌∙◌, ◌⊎◌, inl, inr, subst}
+use Rattle.std.specs.Prelude.{slice_set}
+use Rattle.std.proofs.lemmas.Bool.{cases_eq, cases_lt, eqb-true}
+use Rattle.std.proofs.lemmas.List.{length-set, get_or-set_same, get_or-set_other, set_past}
 use Rattle.machine_frames.specs.FrameMap.{FrameMap, frame, IsTaken}
-use Rattle.machine_frames.proofs.Used.{taken_within}
 use Rattle.lent_slots.specs.declared.holding.Holding.{Holding}
 use Rattle.lent_slots.specs.Slots.{MachineView, holding, is_of, sharers, left_free, with_free, without, released_by, released}
 use Rattle.lent_slots.proofs.SlotLists.{held_within, set_same, set_other, unshared}
 use Rattle.share_domain.specs.declared.holding.Slot.{Slot}
 use Rattle.share_domain.specs.Domains.{DomainView, with_machines, with_released, freed_in, machine_at, no_machine, held_in, after_release}
-use Rattle.share_domain.specs.Leaving.{Left, at_first, first_slot, left_by, told}
-use Rattle.window_domains.proofs.Frames.{none_some, some_same, the, is_there}
+use Rattle.share_domain.specs.Leaving.{at_first, first_slot, left_by, told}
+use Rattle.window_domains.proofs.Frames.{none_some, the, is_there}
 
 -- the frame of each slot that is held is in use
 pub record AreInUse (machines : List MachineView) : Type 0 where
@@ -148,7 +147,7 @@ unfolding left_by
 leave_shrinks frames client zero machines = stays machines
 leave_shrinks frames client (suc n) machines =
     elim (first_slot client machines) as (λ (o : Option Slot). Shrinks machines (at_first o machines
-      (λ slot. let rest = left_by frames client n (with_released slot machines) in record { told = told (freed_in frames slot machines) ∷ rest.told; machines = rest.machines })).machines) [
+    (λ slot. let rest = left_by frames client n (with_released slot machines) in record { told = told (freed_in frames slot machines) ∷ rest.told; machines = rest.machines })).machines) [
       | None ↦ stays machines
       | Some slot ↦ further machines (with_released slot machines) (left_by frames client n (with_released slot machines)).machines (slot_released slot machines) (leave_shrinks frames client n (with_released slot machines))
     ]

@@ -1,5 +1,5 @@
 -- A domain beside the protocol of windows: the slots that pages have in the one are the frames that they hold in the other.
-use Rattle.std.specs.Prelude.{◌≡◌, ◌<◌, ℕ, ◌*◌, ◌+◌, Bool, true, false, List, [], ◌∷◌, length, map, All, Option, Some, None, IsSome, is_none, slice_get}
+use Rattle.std.specs.Prelude.{◌≡◌, ◌<◌, ℕ, ◌*◌, List, length, map, All, Option, Some, None, IsSome, slice_get}
 use Rattle.std.specs.Option.{option_map, option_and_then}
 use Rattle.machine_frames.specs.FrameMap.{frame, IsTaken}
 use Rattle.lent_slots.specs.declared.holding.Holding.{Holding}

@@ -1,5 +1,5 @@
 -- Which events a domain's calls are.
-use Rattle.std.specs.Prelude.{◌≡◌, ◌<◌, ◌*◌, ℕ, ◌+◌, Bool, true, false, if◌then◌else◌, List, [], ◌∷◌, length, map, replicate, Option, Some, None, is_none, is_some, slice_get, slice_set, unwrap_or}
+use Rattle.std.specs.Prelude.{◌≡◌, ◌<◌, ◌*◌, ℕ, ◌+◌, Bool, true, false, if◌then◌else◌, List, [], ◌∷◌, length, map, replicate, Option, Some, None, is_none, slice_get, slice_set, unwrap_or}
 use Rattle.lent_slots.specs.declared.holding.Holding.{Holding}
 use Rattle.share_domain.specs.declared.config.DomainConfig.{DomainConfig}
 use Rattle.share_domain.specs.declared.holding.Slot.{Slot}

@@ -6,6 +6,13 @@
 
 ghost use Rattle.window_domains.specs.Calls.{BeginsInAgreement, LendsByEvent, LendsEarly, ComparesByEvent, ReleasesByEvents, LeavesByEvents};
 ghost use Rattle.window_domains.specs.Calls.{TrimsByEvent, EntersByNone, KeepsAgreement, ShowsBytes};
+ghost use Rattle.window_domains.specs.Agreement.{Agrees};
+ghost use Rattle.window_domains.specs.Histories.{EveryHistoryIsRight};
+ghost use Rattle.window_domains.specs.Example.{same_bytes, no_loan, one_loan, two_loans, slot_of, loan_of, both_shown};
+ghost use Rattle.share_domain.specs.Domains.{LendsIn};
+ghost use Rattle.window_events.specs.Windows.{shown, view_of};
+ghost use Rattle.window_events.specs.declared.page.View.TheVariants as View;
+ghost use Rattle.std.specs.Prelude.{◌≡◌, [], ◌∷◌, Some, None, sum};
 
 /// A domain with no client in and pages of which none was lent agree.
 pub fn begin_law()
@@ -41,4 +48,20 @@ pub fn keep_law()
 /// The bytes of a frame that a page shows, in the domain, are what the page's guest wrote last.
 pub fn show_law()
     ensures { ShowsBytes }
+{}
+
+/// After every history of guests, lenders and a domain, each event was possible, and each page shows what its guest wrote last. If
+/// it shows a frame itself, the domain holds these bytes in that frame.
+pub fn history_law()
+    ensures { EveryHistoryIsRight }
+{}
+
+/// Two clients lend equal pages, and both pages show one frame of the domain.
+pub fn shared_frame()
+    ensures first { LendsIn 0 0 same_bytes (loan_of 0) no_loan one_loan }
+    ensures second { LendsIn 0 1 same_bytes (loan_of 1) one_loan two_loans }
+    ensures agrees { Agrees sum two_loans (Some (slot_of 0) ∷ Some (slot_of 1) ∷ []) both_shown }
+    ensures shows_first { view_of both_shown 0 ≡ Some (View.Over 1 None) }
+    ensures shows_second { view_of both_shown 1 ≡ Some (View.Over 1 None) }
+    ensures shown { shown both_shown 1 ≡ Some (sum same_bytes) }
 {}

@@ -1,0 +1,23 @@
+-- The line that tells how a trace's play ended. Lines are counted from 1, and the first step is on line 3.
+use Rattle.std.specs.Prelude.{ℕ, ◌+◌, List, ◌++◌, codes, decimal}
+use Rattle.trace_text.specs.declared.outcome.Outcome.{Outcome}
+use Rattle.trace_text.specs.declared.outcome.Outcome.TheVariants.{Right, NotPossible, Differs, NoPage}
+
+-- the words that begin what is told of a step
+abbrev pub at_step : ℕ → List ℕ
+at_step place = codes "line " ++ (decimal (place + 3) ++ codes ": ")
+
+-- what is told of a play in which each step was right
+abbrev pub looks_told : ℕ → List ℕ
+looks_told looks = codes " events, each possible; " ++ (decimal looks ++ codes " pages shown right")
+
+abbrev pub right_told : ℕ → ℕ → List ℕ
+right_told events looks = decimal events ++ looks_told looks
+
+-- the line, without a line feed
+unfoldable pub outcome_line : Outcome → List ℕ
+outcome_line (Right events looks) = right_told events looks
+outcome_line (NotPossible place) = at_step place ++ codes "not possible"
+outcome_line (Differs place page seen said) =
+    at_step place ++ (codes "page " ++ (decimal page ++ (codes " shows " ++ (decimal seen ++ (codes ", not " ++ decimal said)))))
+outcome_line (NoPage place page) = at_step place ++ (codes "no page " ++ decimal page)
