@@ -1,7 +1,7 @@
 -- What a text says from a line on, by its first line.
 use Rattle.std.proofs.Common.{◌≡◌, ℕ, ◌+◌, ◌<◌, ◌==◌, Bool, true, false, cond, List, [], ◌∷◌, ◌++◌, length, refl, sym, ap, ◌∙◌, arith, Result, Ok, Err, append-nil}
 use Rattle.std.specs.List.{position_or_len, before_first, after_first}
-use Rattle.std.proofs.lemmas.Bool.{eqb-true, false≢true}
+use Rattle.std.proofs.lemmas.Bool.{eqb-true, ne_eqb, false≢true}
 use Rattle.journal_text.specs.Headers.{is_feed}
 use Rattle.journal_text.specs.Words.{◌>>=◌, with_front}
 use Rattle.journal_text.specs.Texts.{lines_of, is_whole, onto_line}
@@ -44,7 +44,7 @@ not_whole (b ∷ []) none e = one (is_feed b) none where
   one : (t : Bool) → cond {A = List (List ℕ)} t ([] ∷ []) [] ≡ [] → t ≡ false
   one true h = cc
   one false h = refl
-not_whole (b ∷ c ∷ text) none e = not_whole (c ∷ text) (more (is_feed b) none) refl where
+not_whole (b ∷ c ∷ text) none e = not_whole (c ∷ text) (more (is_feed b) none) (ne_eqb (length (c ∷ text)) 0 (λ k. omega arith)) where
   more : (t : Bool) → cond {A = List (List ℕ)} t ([] ∷ lines_of (c ∷ text)) (onto_line b (lines_of (c ∷ text))) ≡ [] → lines_of (c ∷ text) ≡ []
   more true h = cc
   more false h = none_onto b (lines_of (c ∷ text)) h

@@ -8,11 +8,14 @@ abbrev pub at_step : ℕ → List ℕ
 at_step place = codes "line " ++ (decimal (place + 3) ++ codes ": ")
 
 -- what is told of a play in which each step was right
-abbrev pub looks_told : ℕ → List ℕ
-looks_told looks = codes " events, each possible; " ++ (decimal looks ++ codes " pages shown right")
+unfoldable pub possible_words : List ℕ
+possible_words = codes " events, each possible; "
+
+unfoldable pub shown_words : List ℕ
+shown_words = codes " pages shown right"
 
 abbrev pub right_told : ℕ → ℕ → List ℕ
-right_told events looks = decimal events ++ looks_told looks
+right_told events looks = decimal events ++ (possible_words ++ (decimal looks ++ shown_words))
 
 -- the line, without a line feed
 unfoldable pub outcome_line : Outcome → List ℕ

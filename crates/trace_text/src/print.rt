@@ -1,6 +1,6 @@
 //! How the play of a trace ended, as a line.
 ghost use Rattle.std.specs.Prelude.{◌≡◌, ◌<◌, ◌^◌, ◌++◌, codes, decimal, string_bytes, IfOk, OnOk};
-ghost use Rattle.trace_text.specs.Printed.{at_step, looks_told, right_told, outcome_line};
+ghost use Rattle.trace_text.specs.Printed.{at_step, possible_words, shown_words, right_told, outcome_line};
 ghost use Rattle.trace_text.specs.declared.outcome.Outcome.TheVariants as Outcome;
 
 use crate::Outcome;
@@ -34,11 +34,19 @@ fn push_step<A: Allocator>(out: &mut String<A>, place: usize) -> Result<(), Allo
     out.push_str(": ")
 }
 
-/// Appends how many pages showed what is said of them.
-fn push_looks<A: Allocator>(out: &mut String<A>, looks: usize) -> Result<(), AllocError>
-    ensures { OnOk result (string_bytes out.new ≡ string_bytes out.old ++ looks_told looks) }
+/// Appends that each event was possible.
+#[tactic(auto, unfolding(crate::specs::Printed::possible_words))]
+fn push_possible<A: Allocator>(out: &mut String<A>) -> Result<(), AllocError>
+    ensures { OnOk result (string_bytes out.new ≡ string_bytes out.old ++ possible_words) }
 {
-    push_counted(out, " events, each possible; ", looks as u64)?;
+    out.push_str(" events, each possible; ")
+}
+
+/// Appends that each page showed what is said of it.
+#[tactic(auto, unfolding(crate::specs::Printed::shown_words))]
+fn push_shown<A: Allocator>(out: &mut String<A>) -> Result<(), AllocError>
+    ensures { OnOk result (string_bytes out.new ≡ string_bytes out.old ++ shown_words) }
+{
     out.push_str(" pages shown right")
 }
 
@@ -51,7 +59,9 @@ fn push_right<A: Allocator>(
     ensures { OnOk result (string_bytes out.new ≡ string_bytes out.old ++ right_told events looks) }
 {
     push_number(out, events as u64)?;
-    push_looks(out, looks)
+    push_possible(out)?;
+    push_number(out, looks as u64)?;
+    push_shown(out)
 }
 
 /// Appends what is told of a page that shows something else.
