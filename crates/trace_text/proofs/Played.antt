@@ -1,6 +1,6 @@
 -- Steps that are played one after the other.
-use Rattle.std.proofs.Common.{◌≡◌, ℕ, zero, suc, ◌+◌, ◌-◌, ◌<◌, ◌≤◌, Bool, true, false, cond, List, [], ◌∷◌, ◌++◌, length, take, drop, Option, Some, None, refl, ap, sym, ◌∙◌, ◌⊎◌, inl, inr, subst, arith}
-use Rattle.std.specs.Prelude.{slice_get, unwrap_or, is_some, nat_eq, filter_map, count_by}
+use Rattle.std.proofs.Common.{◌≡◌, ℕ, zero, suc, ◌+◌, ◌-◌, ◌<◌, Bool, true, false, cond, List, [], ◌∷◌, ◌++◌, length, take, drop, Option, Some, None, refl, ap, sym, ◌∙◌, ◌⊎◌, inl, inr, subst, arith}
+use Rattle.std.specs.Prelude.{slice_get, unwrap_or, is_some, nat_eq, count_by}
 use Rattle.std.specs.Option.{option_map_or}
 use Rattle.std.proofs.lemmas.Bool.{cases_eq, eqb-true, eqb-false, false≢true}
 use Rattle.std.proofs.lemmas.List.Sums.{sum_by-cons, count_by-le-length}
@@ -11,8 +11,8 @@ use Rattle.window_events.specs.Played.{refused_from}
 use Rattle.trace_text.specs.declared.step.Step.{Step}
 use Rattle.trace_text.specs.declared.step.Step.TheVariants.{Happens, Shows}
 use Rattle.trace_text.specs.declared.outcome.Outcome.{Outcome}
-use Rattle.trace_text.specs.declared.outcome.Outcome.TheVariants.{Right, NotPossible, Differs, NoPage}
-use Rattle.trace_text.specs.Plays.{event_of, events_of, before, AreRight, IsNotPossible, IsOther, EndsAs, compared, verdict, after, or_later, first_wrong, is_event}
+use Rattle.trace_text.specs.declared.outcome.Outcome.TheVariants.{Right, NotPossible, Differs}
+use Rattle.trace_text.specs.Plays.{event_of, events_of, before, AreRight, EndsAs, compared, verdict, after, or_later, first_wrong, is_event}
 
 none_some : (x : ℕ) → None ≡ Some x → ⊥
 none_some x e = cc

@@ -1,6 +1,5 @@
 -- A trace's text: what it says, or its first fault.
-use Rattle.std.specs.Prelude.{◌≡◌, ℕ, ◌+◌, ◌^◌, nat_lt, Bool, if◌then◌else◌, List, [], ◌∷◌, Result, Ok, Err, length}
-use Rattle.journal_text.specs.declared.fault.Cause.{Cause}
+use Rattle.std.specs.Prelude.{ℕ, ◌+◌, ◌^◌, nat_lt, Bool, if◌then◌else◌, List, [], ◌∷◌, Result, Ok, Err, length}
 use Rattle.journal_text.specs.declared.fault.TextFault.{TextFault}
 use Rattle.journal_text.specs.declared.fault.TextFault.TheVariants as faults
 use Rattle.journal_text.specs.Words.{◌>>=◌}

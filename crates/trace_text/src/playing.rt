@@ -16,11 +16,7 @@ fn zeros<A: Allocator>(alloc: A, count: u32) -> Result<Vec<u64, A>, AllocError>
 }
 
 /// Makes pages and frames of zeros.
-fn blank<A: Allocator + Clone>(
-    alloc: A,
-    pages: u32,
-    frames: u32,
-) -> Result<Mappings<A>, AllocError>
+fn blank<A: Allocator + Clone>(alloc: A, pages: u32, frames: u32) -> Result<Mappings<A>, AllocError>
     ensures { IfOk result (λ mappings. mappings ≡ blank pages frames) }
 {
     let contents = zeros(alloc.clone()?, pages)?;
@@ -45,12 +41,7 @@ fn play_event<A: Allocator>(
 }
 
 /// Compares what a page shows with what is said of it, and returns what is wrong, if anything.
-fn look<A: Allocator>(
-    mappings: &Mappings<A>,
-    place: usize,
-    page: u32,
-    said: u64,
-) -> Option<Outcome>
+fn look<A: Allocator>(mappings: &Mappings<A>, place: usize, page: u32, said: u64) -> Option<Outcome>
     ensures { result ≡ compared place page said (shown mappings.now page) }
 {
     match mappings.shown(page) {
@@ -66,11 +57,7 @@ fn look<A: Allocator>(
 }
 
 /// Plays a step, and returns what is wrong with it, if anything.
-fn play_step<A: Allocator>(
-    mappings: &mut Mappings<A>,
-    place: usize,
-    step: &Step,
-) -> Option<Outcome>
+fn play_step<A: Allocator>(mappings: &mut Mappings<A>, place: usize, step: &Step) -> Option<Outcome>
     ensures verdict { result ≡ verdict place mappings.old step.now }
     ensures mappings { mappings.new ≡ after mappings.old step.now }
 {

@@ -7,14 +7,13 @@
 use journal_text::{TextFault, fault_line};
 use page_model::MAX_TEXT_BYTES;
 use std::alloc::Global;
-use std::env;
-use std::fs;
 use std::io::{self, ErrorKind, Read};
 use std::process::ExitCode;
+use std::{env, fs};
 use trace_text::{Outcome, outcome_line, play, read_trace};
 
 /// Reads a whole text, or one byte more than a text has at most.
-fn read_all<R: Read>(alloc: Global, source: R) -> Result<Vec<u8>, TextFault> {
+fn read_all<R: Read + Drop>(alloc: Global, source: R) -> Result<Vec<u8>, TextFault> {
     let mut text = Vec::new(alloc);
     match source
         .take(MAX_TEXT_BYTES as u64 + 1)
@@ -27,11 +26,7 @@ fn read_all<R: Read>(alloc: Global, source: R) -> Result<Vec<u8>, TextFault> {
 }
 
 /// Reads the text of the file that the first argument names, or of standard input.
-fn read_input(
-    rt: &HostRuntime,
-    alloc: Global,
-    words: &[String],
-) -> Result<Vec<u8>, TextFault> {
+fn read_input(rt: &HostRuntime, alloc: Global, words: &[String]) -> Result<Vec<u8>, TextFault> {
     let Some(path) = words.get(1) else {
         return read_all(alloc, rt.stdin());
     };
@@ -42,11 +37,7 @@ fn read_input(
 }
 
 /// Reads a trace and plays it.
-fn outcome_of(
-    rt: &HostRuntime,
-    alloc: Global,
-    words: &[String],
-) -> Result<Outcome, TextFault> {
+fn outcome_of(rt: &HostRuntime, alloc: Global, words: &[String]) -> Result<Outcome, TextFault> {
     let text = read_input(rt, alloc, words)?;
     let trace = read_trace(alloc, &text)?;
     Ok(play(alloc, &trace)?)

@@ -1,4 +1,4 @@
-use Rattle.std.proofs.Common.{◌≡◌, sym, ◌∙◌}
+use Rattle.std.proofs.Common.{sym, ◌∙◌}
 use Rattle.trace_text.proofs.Played.{ends_wrong, ends_right}
 use Rattle.trace_text.proofs.playing.play_steps.Goals as goal
 

@@ -1,4 +1,4 @@
-use Rattle.std.proofs.Common.{◌≡◌, ◌+◌, ◌≤◌, ◌==◌, ◌++◌, true, false, [], ◌∷◌, length, Ok, Err, sym, ◌∙◌, arith}
+use Rattle.std.proofs.Common.{◌≡◌, ◌==◌, ◌++◌, true, false, [], ◌∷◌, length, Ok, Err, sym, ◌∙◌, arith}
 use Rattle.trace_text.specs.Lines.{step_of}
 use Rattle.trace_text.proofs.Steps.{next_step, fault_step, last_step, cut_step}
 use Rattle.trace_text.proofs.reader.read_steps.Goals as goal
