@@ -4,6 +4,7 @@
 //! `specs/` defines them independently of the code. `window_events` defines what is possible and what it does.
 #![tactic(auto)]
 
+pub mod laws;
 mod line;
 mod outcome;
 mod playing;
