@@ -1,9 +1,14 @@
 pub mod Access
 pub mod Codes
 pub mod Found
+pub mod Given
 pub mod Framed
 pub mod Hashed
 pub mod Held
+pub mod HeldDomain
+pub mod HostedCode
+pub mod Asked
+pub mod Begun
 pub mod InTurn
 pub mod Kept
 pub mod Made

@@ -13,6 +13,9 @@ ghost use Rattle.std.specs.Option.{option_map};
 ghost use Rattle.page_model.specs.Limits.{shapes};
 ghost use Rattle.page_model.specs.Replay.{empty_state};
 ghost use Rattle.pageshare_c.specs.Access.{store_of, load_of};
+ghost use Rattle.page_digest.specs.Hashes.{fold_hash};
+ghost use Rattle.pageshare_c.specs.Asked.{domain_status, free_status, seen_after, asked};
+ghost use Rattle.pageshare_c.specs.Begun.{Begins};
 ghost use Rattle.pageshare_c.specs.Codes.{held_status, status_told};
 ghost use Rattle.pageshare_c.specs.Found.{text_of, frame_found, HoldsText};
 ghost use Rattle.pageshare_c.specs.Framed.{frame_freed, frame_left, LeftFree};
@@ -26,10 +29,16 @@ ghost use Rattle.pageshare_c.specs.Told.{answer_to, store_answer, lend_answer, c
 
 mod ahead;
 mod answer;
+mod ask;
+mod begin;
+mod domain_handle;
+mod domain_slot;
 mod find;
 mod framed;
+mod given;
 mod group;
 mod hashed_core;
+mod hosted;
 mod machine;
 mod make;
 mod parcel;
@@ -40,12 +49,20 @@ mod whole;
 pub use ahead::PageName;
 pub use answer::{Answer, NO_FRAME, Refusal, Totals};
 use answer::{refuse, status_of};
+use ask::ask;
+use begin::begin;
+pub use domain_handle::DomainHandle;
+pub use domain_slot::DomainSlot;
+pub use given::GivenFrames;
 pub use group::Lending;
 pub use hashed_core::HashedCore;
+pub use hosted::{Begun, DomainShape, Hosted};
 pub use machine::Machine;
 pub use machine_frames::Region;
 use make::{SHA256, make};
+use page_digest::{FoldHash, PageHash};
 use page_model::Request;
+use recent_fingerprints::PageName as AskedPage;
 use serve::{load_request, serve, serve_count, serve_load, store_request};
 pub use slot::Slot;
 use std::alloc::Global;
@@ -446,6 +463,74 @@ pub extern "C" fn pageshare_page(
                 Err(refusal) => status_of(refusal),
                 Ok(_) => 0,
             }
+        }
+    }
+}
+
+/// Begins a domain, whose machines' frames come in regions: `pages` is how many pages these have room for.
+///
+/// The status is 0 if it is begun, 5 if the handle holds a domain already, and else 14 (no such hash), 16 (machines), 17 (slots), 1
+/// (frames), 18 (clients), 19 (recent), 13 (other than as many pages as all machines have frames) or 4 (memory was refused).
+#[unsafe(no_mangle)]
+pub extern "C" fn pageshare_domain_begin(
+    alloc: Global,
+    domain: &mut DomainHandle,
+    shape: &DomainShape,
+    hash: u32,
+    pages: usize,
+) -> u32
+    ensures { Begins shape.now hash pages domain.old.slot.domain domain.new.slot.domain result }
+{
+    begin(alloc, domain, shape, hash, pages)
+}
+
+/// Frees the domain. The status is 6 if the handle holds none.
+#[unsafe(no_mangle)]
+pub extern "C" fn pageshare_domain_free(alloc: Global, domain: &mut DomainHandle) -> u32
+    ensures none { domain.new.slot.domain ≡ None }
+    ensures status { result ≡ free_status domain.old.slot.domain }
+{
+    match domain.take(alloc) {
+        None => 6,
+        Some(_hosted) => 0,
+    }
+}
+
+/// Returns a page's fingerprint under a salt: its fast hash, whatever hash a domain has.
+#[unsafe(no_mangle)]
+pub extern "C" fn pageshare_domain_fingerprint(salt: u32, page: &[u8; 4096]) -> u64
+    ensures { result ≡ fold_hash salt page.now }
+{
+    FoldHash.hash(salt, page)
+}
+
+/// Asks about a page of a client: `seen` is then 1 where another page was asked about with this fingerprint, within the last
+/// questions that the domain remembers, and else 0.
+///
+/// The status is 6 if the handle holds no domain, and then `seen` stays as it is.
+#[unsafe(no_mangle)]
+pub extern "C" fn pageshare_domain_ask(
+    alloc: Global,
+    domain: &mut DomainHandle,
+    client: u32,
+    page: u64,
+    fingerprint: u64,
+    seen: &mut u8,
+) -> u32
+    ensures status { result ≡ domain_status domain.old.slot.domain }
+    ensures seen { seen.new ≡ seen_after domain.old.slot.domain (record { client = client; number = page }) fingerprint seen.old }
+    ensures noted { domain.new.slot.domain ≡ asked domain.old.slot.domain (record { client = client; number = page }) fingerprint }
+{
+    match domain.take(alloc) {
+        None => 6,
+        Some(mut hosted) => {
+            let page = AskedPage {
+                client,
+                number: page,
+            };
+            let status = ask(&mut hosted, page, fingerprint, seen);
+            domain.put(hosted);
+            status
         }
     }
 }
