@@ -1,9 +1,15 @@
-.PHONY: test build demo commands estimate fleet no-thread embed guests fuzz soak hints bench bench-v3
+.PHONY: test edits build demo commands estimate fleet no-thread embed guests fuzz tenants soak hints bench bench-v3
 
-# The gate: every proof, the tests, the edits that must be refused, and the proved program on worked texts. On a machine that has
-# run none of it that is from nothing. It leaves the times of all steps at out/gate.tsv, whose dearest checks/gate.py prints.
+# The gate is these two commands. Both say how far they are and what failed, and leave the times of their steps at out/gate.tsv. On
+# a machine that has run none of it all is done from nothing.
+
+# Every proof, every test, each program, and the runs of the proved program.
 test:
-	checks/gate.py run
+	checks/gate.py test
+
+# The wrong bodies that the prover must refuse, tried over what `make test` proved.
+edits:
+	checks/gate.py edits
 
 # The processor level that `make build` and `make embed` build for: x86-64-v2, which runs everywhere, or x86-64-v3 (AVX2).
 CPU = x86-64-v2
@@ -11,21 +17,17 @@ SUFFIX = $(patsubst -v2,,$(patsubst x86-64-%,-%,$(CPU)))
 # (Rust links a library by its name alone, so that the one for x86-64-v3 has a folder of its own)
 FOLDER = $(patsubst -%,%/,$(SUFFIX))
 
-# The proved program, left at out/pageshare, or for x86-64-v3 at out/pageshare-v3.
+# The proved program, left at out/pageshare, or for x86-64-v3 at out/pageshare-v3. What a gate on this machine has proved of the
+# same files is taken from it, and what is proved here is kept for it.
 build: out/pageshare$(SUFFIX)
 
 SOURCES = $(shell find crates -path '*/out' -prune -o -type f -print) crates.txt
 
 out/pageshare: $(SOURCES)
-	cd crates/pageshare && rt run -- --help > /dev/null
-	mkdir -p out
-	cp crates/pageshare/out/pageshare $@
+	checks/build.py pageshare $@
 
-# (where the processor lacks what it was built for, a program ends with 127)
 out/pageshare-v3: $(SOURCES)
-	cd crates/pageshare_v3 && { rt run --cpu x86-64-v3 -- --help > /dev/null || [ $$? = 127 ]; }
-	mkdir -p out
-	cp crates/pageshare_v3/out/pageshare_v3 $@
+	checks/build.py pageshare_v3 $@ --cpu x86-64-v3
 
 # A first look: two guests' scans meet, a thread for each; and what sharing would reclaim of two images. The program is built once,
 # and run on each case of a folder: a file is its standard input, and NAME.args has its words.
@@ -57,18 +59,18 @@ no-thread: out/thread_bench out/store_bench out/pageshare
 	checks/no_thread.sh out
 
 out/%_bench: $(SOURCES)
-	cd crates/$*_bench && rt run > /dev/null
-	mkdir -p out
-	cp crates/$*_bench/out/$*_bench $@
+	checks/build.py $*_bench $@
 
 out/%_bench-v3: $(SOURCES)
-	cd crates/$*_bench && { rt run --cpu x86-64-v3 > /dev/null || [ $$? = 127 ]; }
-	mkdir -p out
-	cp crates/$*_bench/out/$*_bench $@
+	checks/build.py $*_bench $@ --cpu x86-64-v3
 
 # Outside the gate: 100,000 broken texts, each of which must get its output or one fault line (COUNT and SEED may be given).
 fuzz: out/pageshare
 	checks/fuzz.py $(or $(COUNT),100000) $(SEED)
+
+# Outside the gate: 1,000 random journals of two tenants, with and without the second one's entries (COUNT and SEED may be given).
+tenants: out/pageshare
+	checks/tenants.py $(or $(COUNT),1000) $(SEED)
 
 # Outside the gate: random scripts through threads, their journals replayed, for ten minutes (SECONDS and SEED may be given).
 soak: out/pageshare
@@ -101,7 +103,7 @@ guests: out/libpageshare.a out/pageshare
 out/libpageshare.a: LEVEL = x86-64-v2
 out/v3/libpageshare.a: LEVEL = x86-64-v3
 out/libpageshare.a out/v3/libpageshare.a: $(SOURCES)
-	cd crates/pageshare_c && rt lib --cpu $(LEVEL) > /dev/null
-	mkdir -p $(dir $@)
+	checks/build.py pageshare_c $(@D)/proved.a --cpu $(LEVEL)
 	rm -f $@
-	printf 'create $@\naddlib crates/pageshare_c/out/libpageshare_c.a\naddlib %s/c/liblibc_c.a\nsave\nend\n' "$$(dirname "$$(rt doc)")" | ar -M
+	printf 'create $@\naddlib $(@D)/proved.a\naddlib %s/c/liblibc_c.a\nsave\nend\n' "$$(dirname "$$(rt doc)")" | ar -M
+	rm $(@D)/proved.a

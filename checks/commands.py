@@ -30,8 +30,11 @@ import struct
 import subprocess
 import sys
 import tempfile
+import threading
+import time
 
 import faults
+import plain_fleet
 from soak import Differs, by_guest, look, requests_of
 
 TOP = pathlib.Path(__file__).resolve().parent.parent
@@ -134,6 +137,7 @@ def many_requests():
     for what, lines, verdict in [
         ("requests", "0 load 0 0 1\n" * count + f"end {count}\n", "bytes 00"),
         ("proposals of one scan", f"0 scan sequential {count}\nend 1\n", "unmapped"),
+        ("proposals of one random scan", f"0 scan random 7 {count}\nend 1\n", "unmapped"),
     ]:
         due = f"0 {verdict}\n" * count + f"0 closed\nreport entries {count + 1} {zeros}"
         for command in ["serial", "run"]:
@@ -451,6 +455,19 @@ def digest_ends(folder):
     case("digest, progress", [] if is_drawn else [f"{shown!r}"])
 
 
+def rounded(folder):
+    """The digests of two guests whose numbers in total are rounded to different MiB: pages 1,067, to reclaim 863, between guests 152,
+    zeros 128, and of these 127 to reclaim."""
+    zeros, both = plain_fleet.digest(0, plain_fleet.ZEROS), "1" * 32
+    once = [f"{n:032x}" for n in range(200)]
+    one = {zeros: 100, both: 300, "2" * 32: 5, **dict.fromkeys(once, 1)}
+    other = {zeros: 28, both: 84, "3" * 32: 200, **dict.fromkeys(once[50:], 1)}
+    paths = [folder / "one.digest", folder / "other.digest"]
+    for path, copies in zip(paths, [one, other]):
+        path.write_text(plain_fleet.text_of_copies(path.stem, 0, 1, copies))
+    return list(map(str, paths))
+
+
 def fleets(folder):
     paths = [str(folder / f"guest-{n}.digest") for n in range(3)]
     for path, image, salt in zip(paths, ["first.raw", "second.core", "first.raw"], [0, 0, 5]):
@@ -458,6 +475,8 @@ def fleets(folder):
     expect("fleet of images.fleet", ["fleet", *paths], "", 0, (ROWS / "images.fleet").read_text(), "")
     sampled = ["fleet", "sampled-web.digest", "sampled-database.digest"]
     expect("fleet of sampled.fleet", sampled, "", 0, (ROWS / "sampled.fleet").read_text(), "", folder=ROWS)
+    expect("fleet of sampled.json", [*sampled, "--json"], "", 0, (ROWS / "sampled.json").read_text(), "", folder=ROWS)
+    expect("fleet of rounded.fleet", ["fleet", *rounded(folder)], "", 0, (ROWS / "rounded.fleet").read_text(), "")
     counted = json.loads(ran(["estimate", "--json", "--salts", "0,0,5", *(str(ROWS / name) for name in ["first.raw", "second.core", "first.raw"])]).stdout)
     told = json.loads(ran(["fleet", "--json", *paths]).stdout)
     for guest in [*counted["guests"], *told["guests"]]:
@@ -529,6 +548,31 @@ def fleet_ends(folder):
         case(f"fleet, progress {how} on a terminal", [] if is_right else [f"{status}, {given!r}"])
 
 
+SLOW_LINES = 150
+
+
+def feed(path, lines):
+    """Writes lines into a pipe, a hundred a second."""
+    with open(path, "w") as pipe:
+        for line in lines:
+            pipe.write(line)
+            pipe.flush()
+            time.sleep(0.01)
+
+
+def progress_of_slow_reads(folder):
+    """A digest that comes slowly through a pipe: the line is drawn several times meanwhile, and at most eleven times a second."""
+    path = str(folder / "slow.digest")
+    os.mkfifo(path)
+    lines = [f"slow,0,{SLOW_LINES},1,{n:032x},1\n" for n in range(SLOW_LINES)]
+    threading.Thread(target=feed, args=(path, [DIGEST_HEADER, *lines]), daemon=True).start()
+    begun = time.monotonic()
+    done = ran(["fleet", "--progress", "always", path])
+    seconds, drawn = time.monotonic() - begun, done.stderr.count(b"\r")
+    is_right = done.returncode == 0 and 5 <= drawn <= 11 * seconds + 1
+    case("fleet, progress of slow reads", [] if is_right else [f"{done.returncode}, {drawn} drawings in {seconds:.2f} s, {done.stderr[-200:]!r}"])
+
+
 def terminals(folder):
     none = str(folder / "none")
     cases = [
@@ -555,7 +599,9 @@ def long_script():
 
 def progress_of_a_long_run():
     """What is drawn while a run shares pages: requests that never fall, and in the end all of them and the report's numbers."""
+    begun = time.monotonic()
     done = ran(["run", "--progress", "always"], long_script().encode())
+    seconds = time.monotonic() - begun
     drawn = [LINE.fullmatch(line) for line in done.stderr.decode().rstrip("\n").split("\r")[1:]]
     seen = [tuple(map(int, line.groups())) for line in drawn if line]
     due = "report entries 9026 mapped 512 shared 512 frames 1 reclaimed 511 hints 0"
@@ -566,6 +612,7 @@ def progress_of_a_long_run():
         and seen == sorted(seen, key=lambda it: it[0])
         and all(it[1] == 9026 and it[4] <= it[3] <= it[2] <= 512 for it in seen)
         and seen[-1:] == [(9026, 9026, 512, 512, 511)]
+        and len(seen) <= 11 * seconds + 1
     )
     case("run, progress of a long run", [] if is_right else [f"{done.returncode}, {done.stderr[-400:]!r}"])
 
@@ -605,6 +652,7 @@ def main():
         fleets(folder)
         fleet_pairs(folder)
         fleet_ends(folder)
+        progress_of_slow_reads(folder)
         progress_of_runs()
         progress_of_a_long_run()
     print(f"{passed} passed, {failed} failed")

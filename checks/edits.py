@@ -3,7 +3,7 @@
 
     checks/edits.py [--anew] [CRATE ..]
 
-To be run at the repository's top after `rt ci`, over the libraries that it left in out/. An edit is a file as in must-fail/: a
+To be run at the repository's top after `make test`, over the libraries that it left in out/. An edit is a file as in must-fail/: a
 line 'file: PATH', and then pairs of lines 'old: TEXT' and 'new: TEXT'. Prints each edit with its first error, how long each
 check took, and last 'N passed, M failed' (status 0 where M is 0, else 1).
 
@@ -13,7 +13,7 @@ but with --anew.
 
 A function is proved from the contracts of what it calls and never from their bodies. So edits of different functions can stand in
 one copy of the crate, which is checked once, and each edited function must be refused by itself: an error in its own proof, or a
-goal of its own that isn't proved. That it calls a function that isn't proved is no refusal. An edit that isn't refused so is
+goal of its own that isn't proved. That it calls a function that isn't proved, or passes the impl of one, is no refusal. An edit that isn't refused so is
 tried once more among others, and then alone, and one that stands outside of all functions is tried alone. Where a function that
 nobody edited is refused by itself, the edits of that check are tried again in two halves, down to one. An edit that is known to
 bring that about has a line 'alone: WHY', and is tried alone. Of an edit that is tried alone it is enough that any function is
@@ -37,11 +37,15 @@ import time
 
 FLAGS = ["--jobs", "1"]
 HEAD = re.compile(r'^(\s*)(?:pub(?:\([a-z ]+\))? )?(?:unsafe )?(?:extern "C" )?(?:const )?fn (\w+)')
-# The type and the trait of an impl, with the trait's first argument; a trait's own methods stand under its name.
-IMPL = re.compile(r"^impl(?:<.*?>)?\s+(?:(?P<trait>[\w:]+)(?:<\(?(?:\w+::)*(?P<argument>\w+)?.*>)?\s+for\s+)?&?(?:'\w+ )?(?P<type>\w+)")
+# The type and the trait of an impl, with the parameters of the impl, the trait's first argument and the type's arguments; a
+# trait's own methods stand under its name.
+IMPL = re.compile(
+    r"^impl(?:<(?P<parameters>.*?)>)?\s+(?:(?P<trait>[\w:]+)(?:<\(?(?:\w+::)*(?P<argument>\w+)?.*>)?\s+for\s+)?&?(?:'\w+ )?"
+    r"(?P<type>\w+)(?:<(?P<arguments>[\w, ]+)>)?"
+)
 TRAIT = re.compile(r"^(?:pub(?:\([a-z ]+\))? )?(?:unsafe )?trait (?P<type>\w+)")
 TYPE = re.compile(r"(?m)^(?:pub(?:\([a-z ]+\))? )?(?:struct|enum|trait) (\w+)")
-OF_A_CALL = re.compile(r"it calls [^;]*, which (?:is|are) not proved")
+OF_A_CALL = re.compile(r"it (?:calls|passes the block) [^;]*, which (?:is|are) not proved")
 # What a proof file says where an edit took away a name that the proof cites.
 NAMES = re.compile(r"(\./)?proofs/.*(has no field|is not in scope|has no `|was not admitted)")
 
@@ -63,13 +67,15 @@ class Function:
     """A function by its place: its module, the type that it is a method of, with the trait, and its name.
 
     A type's own methods stand in the type's module, wherever the impl is. Where a type has a trait more than once, as From, the
-    checker puts the trait's argument behind the owner.
+    checker puts the trait's argument behind the owner. It names the impl of a trait for Simd<u32, N> as one of SimdU32.
     """
 
     module: tuple
     owner: str
     name: str
     argument: str = ""
+    # how the checker may also spell the owner
+    spelled: str = ""
 
     def is_named(self, path):
         """Whether the checker means this function, or a closure in it, by these words of a path."""
@@ -77,7 +83,8 @@ class Function:
         if path[: len(self.module)] != self.module or self.name not in rest:
             return False
         before = [it for it in rest[: rest.index(self.name)] if it != "fn"]
-        return before in ([[self.owner], [self.owner + self.argument]] if self.owner else [[]])
+        owners = [it + more for it in (self.owner, self.spelled) if it for more in ("", self.argument)]
+        return before in ([[it] for it in owners] if owners else [[]])
 
 
 @dataclasses.dataclass
@@ -105,20 +112,28 @@ def homes_of(crate):
     return homes
 
 
+def owners_of(words):
+    """The owner of the methods of an impl or a trait, and how the checker may also spell it: with the type's own arguments."""
+    trait = (words.get("trait") or "").split("::")[-1]
+    parameters = set(re.findall(r"(?:const )?(\w+)(?:\s*:|,|$)", words.get("parameters") or ""))
+    arguments = [it for it in re.findall(r"\w+", words.get("arguments") or "") if it not in parameters]
+    return words["type"] + trait, words["type"] + "".join(it[0].upper() + it[1:] for it in arguments) + trait
+
+
 def functions_of(file, text, homes):
     """The functions of a file, each with the places of its first letter and behind its last one. The layout is that of rt fmt."""
-    found, owner, module, argument, open_one, at = [], "", (), "", None, 0
+    found, owner, spelled, module, argument, open_one, at = [], "", "", (), "", None, 0
     for line in text.split("\n"):
         after = at + len(line) + 1
         block = IMPL.match(line) or TRAIT.match(line)
         if block:
             words = block.groupdict()
-            owner = words["type"] + (words.get("trait") or "").split("::")[-1]
+            owner, spelled = owners_of(words)
             module = module_of(file) if words.get("trait") else homes.get(words["type"], module_of(file))
             argument = words.get("argument") or ""
         head = HEAD.match(line)
         if head:
-            own = Function(module, owner, head[2], argument) if head[1] else Function(module_of(file), "", head[2])
+            own = Function(module, owner, head[2], argument, spelled) if head[1] else Function(module_of(file), "", head[2])
             open_one = (own, at, head[1])
         if open_one and (line in (open_one[2] + "}", open_one[2] + "{}") or head and line.endswith("}")):
             found.append((open_one[0], open_one[1], after))
@@ -255,7 +270,7 @@ class Trial:
         ran = self.kit.checked(self.crate, texts, flags, self.kept)
         self.lines.append(f"{self.crate.name}: {what}, {time.time() - begun:.0f} s")
         if self.kit.rtlib.STALE.search(ran.stdout):
-            raise RuntimeError(f"{self.crate.name}: the libraries in out/ can't be used: run rt ci first")
+            raise RuntimeError(f"{self.crate.name}: the libraries in out/ can't be used: run make test first")
         said = Said(self.kit, ran, texts)
         self.paths = self.paths or said.paths
         return said
@@ -281,6 +296,8 @@ class Trial:
         said = self.check(self.merged(batch), f"{len(batch)} edits in one check", self.paths_of(edited))
         strays = [it for it in said.refused if not any(function.is_named(it) for function in edited)]
         if not said.was_judged or strays:
+            why = f"{'::'.join(strays[0])} is refused too" if strays else f"it was not judged: {(said.unread or said.lines[0])[:120]}"
+            self.lines.append(f"{self.crate.name}: these {len(batch)} edits are tried in halves: {why}")
             self.split(batch)
             return
         for edit in batch:

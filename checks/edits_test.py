@@ -8,6 +8,7 @@ that must be told as refused, as not refused, and as bad ones. Prints what went 
 """
 import os
 import pathlib
+import re
 import secrets
 import subprocess
 import sys
@@ -43,6 +44,40 @@ pub fn odd(half: u32) -> u32
 pub fn guess() -> u32 {
     4
 }
+
+/// What has a width.
+pub trait Wide {
+    /// One more than the number.
+    fn width(&self, number: u32) -> u32
+        requires { number ≤ 10 }
+        ensures { result ≡ number + 1 };
+}
+
+/// Two values.
+pub struct Pair<A, B> {
+    pub first: A,
+    pub second: B,
+}
+
+impl<B> Wide for Pair<u32, B> {
+    fn width(&self, number: u32) -> u32 {
+        number.wrapping_add(1)
+    }
+}
+
+/// The width of anything.
+pub fn width_of<W: Wide>(wide: &W) -> u32
+    ensures { result ≡ 4 }
+{
+    wide.width(3)
+}
+
+/// The width of a pair. It passes the pair's impl to the function that it calls.
+pub fn width_of_pair(pair: &Pair<u32, u8>) -> u32
+    ensures { result ≡ 4 }
+{
+    width_of(pair)
+}
 """
 
 # An edit's name, what it changes, and how what is told of it begins.
@@ -50,6 +85,7 @@ EDITS = [
     ("twice_of_one", "let other = number;", "let other = 1;", "refused, as it must be"),
     ("once", "number + other", "other", "refused, as it must be"),
     ("one_too_few", "twice(half) + 1", "twice(half)", "refused, as it must be"),
+    ("width_two_more", "number.wrapping_add(1)", "number.wrapping_add(2)", "refused, as it must be"),
     ("the_same_sum", "twice(half) + 1", "1 + twice(half)", "NOT REFUSED"),
     ("another_guess", "    4", "    5", "NOT REFUSED"),
     ("not_there", "number * other", "number", "BAD EDIT: an 'old:' text is in src/lib.rt 0 times"),
@@ -71,8 +107,9 @@ def write_crate(room, text, edits):
         (crate / f"edits/{name}.edit").write_text(f"file: src/lib.rt\nold: {old}\nnew: {new}\n")
 
 
-def looked_at(text, edits, old, *words):
-    """Runs the script over the crate with this text and these edits, and returns what is wrong. So many edits are to be known."""
+def looked_at(text, edits, old, *words, checks=None):
+    """Runs the script over the crate with this text and these edits, and returns what is wrong. So many edits are to be known, and
+    so many checks are to be made, if that is given."""
     with tempfile.TemporaryDirectory(prefix="edits-test-") as room:
         write_crate(pathlib.Path(room), text, edits)
         ran = subprocess.run(
@@ -90,6 +127,9 @@ def looked_at(text, edits, old, *words):
     known = f"sums: {old} of {len(edits)} edits were refused by an earlier run of the same on this machine"
     if (known in lines) != (old > 0):
         wrong.append(f"{known!r} is {'not ' * (old > 0)}told")
+    made = [it for it in lines if re.match(r"sums: .* (in one check|alone|the whole crate), \d+ s$", it)]
+    if checks is not None and len(made) != checks:
+        wrong.append(f"{len(made)} checks were made where {checks} suffice")
     if wrong:
         print("\n".join([*wrong, *lines, ran.stderr]))
     return wrong
@@ -101,7 +141,10 @@ def main():
     keeps = os.path.isdir(load_kit().STORE)
     wrong += looked_at(CRATE, REFUSED, len(REFUSED) if keeps else 0)
     wrong += looked_at(CRATE.replace("    4", f"    {secrets.randbelow(2**32)}"), REFUSED[:1], 0)
-    print(f"{len(EDITS) + len(REFUSED) + 4 - len(wrong)} passed, {len(wrong)} failed")
+    # (functions that call an edited one, or pass its impl, aren't refused by themselves: one check is enough)
+    together = [it for it in REFUSED if it[0] in ("twice_of_one", "width_two_more")]
+    wrong += looked_at(CRATE, together, 0, "--anew", checks=1)
+    print(f"{len(EDITS) + len(REFUSED) + len(together) + 6 - len(wrong)} passed, {len(wrong)} failed")
     return 1 if wrong else 0
 
 

@@ -1,16 +1,23 @@
 #!/usr/bin/env python3
-"""The gate, timed; and where its time goes.
+"""The gate, in two commands; and where its time goes.
 
-    checks/gate.py run     runs all steps of the gate, and writes out/gate.tsv (`make test`)
-    checks/gate.py         prints the ten dearest steps of out/gate.tsv, and the sums by kind
+    checks/gate.py test [--anew]    every proof, every test and the runs of the proved program (`make test`)
+    checks/gate.py edits [--anew]   the wrong bodies that the prover must refuse, and the test of the script that tries them
+                                    (`make edits`, after `make test`)
+    checks/gate.py sum              the ten dearest steps of both, and how much passed and failed in both
+    checks/gate.py                  the ten dearest steps of both, and the sums by kind
 
-The steps: `rt ci` (every proof, every test, one edit a crate, each program), the test of the script that tries edits, all other
-edits, and the checks of the proved program. All run even where one fails; status 1 where any does. The last line is 'N passed,
-M failed', over all steps. On a machine that has run none of it all is done from nothing; what an earlier run there has proved or
-seen refused, of the same files, is taken from it.
+A command runs all its steps even where one fails, and exits with status 1 where any does. On a terminal it redraws one line that
+shows how far it is; elsewhere it prints a line for each crate. What failed is printed at the end, each with the command that
+repeats it alone. The last line is 'N passed, M failed'. All that the steps print is kept in out/gate-test.log or
+out/gate-edits.log.
 
-out/gate.tsv has a line for each step: its kind, its crate, when it started, its wall seconds and its processor seconds. They
-are read off /proc once a second, so a step's are a second or two short; the sum at the end is the system's own.
+On a machine that has run none of it all is done from nothing. What an earlier run there has proved or seen refused, of the same
+files, is taken from it, but with --anew.
+
+out/gate.tsv has a line for each step of both commands: the command, the kind, the crate or the step, when it started, its wall
+seconds and its processor seconds, and of a step how much passed and failed. Those of a crate are read off /proc once a second, so
+they are a second or two short; the sum at the end is the system's own.
 """
 import collections
 import os
@@ -25,17 +32,31 @@ import time
 
 TOP = pathlib.Path(__file__).resolve().parent.parent
 TABLE = TOP / "out/gate.tsv"
+HEAD = ["command", "kind", "name", "start", "wall", "processor", "passed", "failed"]
 PROGRAM = "crates/pageshare/out/pageshare"
 # The most memory that a check takes, in KiB, with some room.
 CHECK = 5_000_000
-STEPS = [
-    ("rt ci", ["rt", "ci"]),
-    ("edits' test", ["checks/edits_test.py"]),
-    ("edits", ["checks/edits.py"]),
-    ("runs", ["checks/quick.py", PROGRAM]),
-]
+# Of each command: its steps, each with the words that run it, and whether these take --anew.
+COMMANDS = {
+    "test": [
+        ("rt ci", ["rt", "ci"], True),
+        ("runs", ["checks/quick.py", PROGRAM], False),
+        ("documents", ["checks/names.py"], False),
+        ("map of crates", ["checks/map.py", "--check"], False),
+    ],
+    "edits": [("edits' test", ["checks/edits_test.py"], False), ("edits", ["checks/edits.py"], True)],
+}
+# What each command takes from nothing, in processor minutes (measured on processors of 2.5 GHz).
+MINUTES = {"test": 131, "edits": 121}
 TICKS = os.sysconf("SC_CLK_TCK")
 CLOSING = re.compile(r"^(\d+) passed, (\d+) failed$")
+# What the steps say of a crate that is done, of one that failed, and of each name that failed at the end.
+DONE = re.compile(r"^rt: (\w+) (?:proved$|is kept)")
+TESTED = re.compile(r"^rt: (\w+): its tests are proved$")
+TRIED = re.compile(r"^edit (\w+)/")
+SECTION = re.compile(r"^== (\w+)")
+FAILED = re.compile(r"^rt: FAILED: (.*)$")
+FAILED_EDIT = re.compile(r"^FAILED: (?:edit )?(\w+)[/:]")
 
 
 class Step:
@@ -45,7 +66,7 @@ class Step:
         self.start, self.end, self.used = start, start, {}
 
     def row(self, begun):
-        return [f"{self.start - begun:.0f}", f"{self.end - self.start:.0f}", f"{sum(self.used.values()):.0f}"]
+        return [f"{self.start - begun:.0f}", f"{self.end - self.start:.0f}", f"{sum(self.used.values()):.0f}", "", ""]
 
 
 class Watch(threading.Thread):
@@ -83,6 +104,64 @@ class Watch(threading.Thread):
         return "tests" if "--test" in words else "proof"
 
 
+class Progress:
+    """Shows how far a step is, and keeps what it said of failures."""
+
+    def __init__(self, name, log):
+        self.name, self.log, self.begun = name, log, time.time()
+        self.proved, self.tested, self.edits = set(), set(), 0
+        self.crates = sum(":" in line.partition("#")[0] for line in (TOP / "crates.txt").read_text().splitlines())
+        self.of_edits = len([*TOP.glob("crates/*/edits/*.edit")])
+        self.is_drawn, self.section, self.sections, self.last, self.wrong = sys.stdout.isatty(), [], {}, [], []
+
+    def hear(self, line):
+        """Takes a line that the step printed."""
+        print(line, file=self.log, flush=True)
+        self.last = [*self.last[-29:], line]
+        self.note_section(line)
+        for found, heard, what in ((DONE.match(line), self.proved, ""), (TESTED.match(line), self.tested, ": its tests")):
+            if found:
+                heard.add(found[1])
+                self.show(f"{found[1]}{what} {'kept from an earlier run' if 'is kept' in line else 'proved'}")
+        if TRIED.match(line):
+            self.edits += 1
+            self.show(line if not self.is_drawn else "")
+        elif FAILED.match(line):
+            self.wrong += re.split(r"\s(?!\()", FAILED.match(line)[1])
+        elif FAILED_EDIT.match(line):
+            self.wrong.append(FAILED_EDIT.match(line)[1])
+
+    def note_section(self, line):
+        """Keeps what `rt ci` printed of each crate, until its next one."""
+        found = SECTION.match(line)
+        if found:
+            self.section = self.sections.setdefault(found[1], [])
+        self.section.append(line)
+
+    def show(self, what):
+        """Says how far the step is: in a line that is redrawn on a terminal, and in one for each crate or edit elsewhere."""
+        if self.name == "edits":
+            far = f"{self.edits} of {self.of_edits} edits"
+        else:
+            far = f"{len(self.proved)} of {self.crates} crates, tests of {len(self.tested)}"
+        if self.is_drawn:
+            print(f"\r\x1b[K{self.name}: {far}, {time.time() - self.begun:.0f} s", end="", flush=True)
+        else:
+            print(f"{self.name}: {far}: {what}", flush=True)
+
+    def end(self):
+        if self.is_drawn:
+            print("\r\x1b[K", end="")
+
+    def failures(self, words):
+        """What to print of what failed: of each crate its last lines and the command that repeats it; else the step's own."""
+        told = []
+        for name in dict.fromkeys(re.match(r"\w+", it)[0] for it in self.wrong if re.match(r"\w+", it)):
+            told += [f"-- {it}" for it in self.sections.get(name, [])[-30:]] if self.name == "rt ci" else []
+            told.append(f"FAILED: {name}: repeat it by `{'rt ci' if self.name == 'rt ci' else 'checks/edits.py'} {name}`")
+        return told or [f"-- {it}" for it in self.last] + [f"FAILED: {self.name}: repeat it by `{' '.join(words)}`"]
+
+
 def lanes():
     """How many checks `rt ci` is to run side by side, each with one job, since each further job of a check reads all libraries anew."""
     free = int(re.search(r"MemAvailable:\s+(\d+)", pathlib.Path("/proc/meminfo").read_text())[1])
@@ -94,18 +173,19 @@ def used_so_far():
     return used.ru_utime + used.ru_stime
 
 
-def run_step(words):
-    """Runs a step, passes on what it prints, and returns how many passed and how many failed by its last line."""
-    counts, how = None, {"cwd": TOP, "stdin": subprocess.DEVNULL, "stdout": subprocess.PIPE, "text": True, "errors": "replace"}
+def run_step(name, words, log):
+    """Runs a step. Returns how many passed and how many failed by its last line, and what to print of what failed."""
+    counts, progress = None, Progress(name, log)
+    how = {"cwd": TOP, "stdin": subprocess.DEVNULL, "stdout": subprocess.PIPE, "stderr": subprocess.STDOUT, "text": True, "errors": "replace"}
     with subprocess.Popen(words, env={**os.environ, "RT_JOBS": str(lanes())}, **how) as ran:
         for line in ran.stdout:
             found = CLOSING.match(line.rstrip("\n"))
-            if found:
-                counts = int(found[1]), int(found[2])
-            else:
-                print(line, end="", flush=True)
+            counts = (int(found[1]), int(found[2])) if found else counts
+            progress.hear(line.rstrip("\n"))
+    progress.end()
     passed, failed = counts or (0, 1)
-    return passed, max(failed, int(ran.returncode != 0))
+    failed = max(failed, int(ran.returncode != 0))
+    return passed, failed, progress.failures(words) if failed else []
 
 
 def remove_libraries():
@@ -114,51 +194,77 @@ def remove_libraries():
         shutil.rmtree(built)
 
 
-def write_table(begun, rows, steps):
-    rows = [*rows, *([*key, *step.row(begun)] for key, step in sorted(steps.items()))]
+def read_table():
+    lines = TABLE.read_text().splitlines()[1:] if TABLE.exists() else []
+    return [row for row in (line.split("\t") for line in lines) if len(row) == len(HEAD)]
+
+
+def write_table(command, begun, rows, steps):
+    """Writes this command's rows in the place of those that an earlier run of it wrote."""
+    others = [row for row in read_table() if row[0] != command]
+    own = [*rows, *([command, *key, *step.row(begun)] for key, step in sorted(steps.items()))]
+    TABLE.write_text("".join("\t".join(it) + "\n" for it in [HEAD, *others, *own]))
+
+
+def run_command(command, is_anew):
+    begun, watch, rows, sums, failures = time.time(), Watch(), [], [0, 0], []
+    print(f"make {command}: from nothing this takes some {MINUTES[command]} processor minutes, {MINUTES[command] / lanes():.0f} minutes here")
+    if command == "test":
+        remove_libraries()
     TABLE.parent.mkdir(exist_ok=True)
-    TABLE.write_text("".join("\t".join(it) + "\n" for it in [["kind", "name", "start", "wall", "processor"], *rows]))
-
-
-def run_gate():
-    begun, watch, rows, sums = time.time(), Watch(), [], [0, 0]
-    remove_libraries()
     watch.start()
-    for name, words in STEPS:
-        print(f"== {name}", flush=True)
-        watch.phase, start, before = name, time.time(), used_so_far()
-        passed, failed = run_step(words)
-        sums = [sums[0] + passed, sums[1] + failed]
-        rows.append(["step", name, f"{start - begun:.0f}", f"{time.time() - start:.0f}", f"{used_so_far() - before:.0f}"])
-        print(f"{name}: {passed} passed and {failed} failed in {time.time() - start:.0f} s", flush=True)
-        # (once a step has ended no prover runs, so nothing is put into the steps meanwhile)
-        write_table(begun, rows, watch.steps)
+    with open(TABLE.parent / f"gate-{command}.log", "w", encoding="utf-8") as log:
+        for name, words, takes_anew in COMMANDS[command]:
+            watch.phase, start, before = name, time.time(), used_so_far()
+            passed, failed, said = run_step(name, [*words, *(["--anew"] if is_anew and takes_anew else [])], log)
+            sums, failures = [sums[0] + passed, sums[1] + failed], failures + said
+            wall, used = time.time() - start, used_so_far() - before
+            rows.append([command, "step", name, f"{start - begun:.0f}", f"{wall:.0f}", f"{used:.0f}", str(passed), str(failed)])
+            print(f"{name}: {passed} passed and {failed} failed in {wall:.0f} s", flush=True)
+            # (once a step has ended no prover runs, so nothing is put into the steps meanwhile)
+            write_table(command, begun, rows, watch.steps)
     watch.is_over.set()
     watch.join()
-    show()
-    print(f"the gate took {time.time() - begun:.0f} s, and {used_so_far():.0f} s of processors ({used_so_far() / 60:.0f} minutes)")
+    print(f"make {command} took {time.time() - begun:.0f} s, and {used_so_far() / 60:.0f} processor minutes")
+    print("".join(f"{it}\n" for it in failures), end="")
     print(f"{sums[0]} passed, {sums[1]} failed")
     return 1 if sums[1] else 0
 
 
 def show():
-    rows = [line.split("\t") for line in TABLE.read_text().splitlines()[1:]]
-    dearest = sorted((it for it in rows if it[0] != "step"), key=lambda it: -int(it[4]))[:10]
+    rows = read_table()
+    dearest = sorted((it for it in rows if it[1] != "step"), key=lambda it: -int(it[5]))[:10]
     kinds = collections.Counter()
-    for kind, _name, _start, _wall, used in rows:
-        kinds[kind] += int(used)
-    print("the ten dearest (kind, name, start, wall and processor seconds):")
+    for row in rows:
+        kinds[row[1]] += int(row[5])
+    print("the ten dearest (command, kind, name, start, wall and processor seconds):")
     for row in dearest:
-        print("  {:12} {:24} {:>6} {:>6} {:>6}".format(*row))
+        print("  {:6} {:10} {:20} {:>6} {:>6} {:>6}".format(*row[:6]))
     for kind, used in kinds.most_common():
         if kind != "step":
             print(f"  all of {kind}: {used} processor seconds")
+    return [row for row in rows if row[1] == "step"]
+
+
+def show_sum():
+    """Prints what both commands took and did. A command that didn't run, or a step that didn't, has failed."""
+    steps = show()
+    passed, failed = (sum(int(row[at]) for row in steps) for at in (6, 7))
+    wanted = {(command, step[0]) for command, of in COMMANDS.items() for step in of}
+    lacking = wanted - {(row[0], row[2]) for row in steps}
+    for command, name in sorted(lacking):
+        print(f"FAILED: {name} of `make {command}` didn't run")
+    print(f"{passed} passed, {failed + len(lacking)} failed")
+    return 1 if failed or lacking else 0
 
 
 def main(words):
-    if words == ["run"]:
-        return run_gate()
-    if words:
+    is_anew, words = "--anew" in words, [it for it in words if it != "--anew"]
+    if len(words) == 1 and words[0] in COMMANDS:
+        return run_command(words[0], is_anew)
+    if words == ["sum"] and not is_anew:
+        return show_sum()
+    if words or is_anew:
         print(__doc__, file=sys.stderr)
         return 2
     show()

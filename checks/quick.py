@@ -3,9 +3,9 @@
 
     checks/quick.py [PROGRAM]
 
-PROGRAM is by default out/pageshare. Nothing is built here. Runs commands.py, 1,000 texts of fuzz.py, ten seconds of soak.py and 100
-images of estimate.py, and prints what they print. The last line is `N passed, M failed`, of all of them (status 0 where all
-passed, else 1).
+PROGRAM is by default out/pageshare. Nothing is built here. Runs commands.py, 1,000 texts of fuzz.py, 200 journals of tenants.py, ten
+seconds of soak.py, 100 images of estimate.py and the live process of live.py, and prints what they print. The last line is
+`N passed, M failed`, of all of them (status 0 where all passed, else 1).
 """
 import pathlib
 import re
@@ -14,7 +14,14 @@ import sys
 
 TOP = pathlib.Path(__file__).resolve().parent.parent
 SEED = "1"
-CHECKS = [("commands.py", []), ("fuzz.py", ["1000", SEED]), ("soak.py", ["10", SEED]), ("estimate.py", ["100", SEED])]
+CHECKS = [
+    ("commands.py", []),
+    ("fuzz.py", ["1000", SEED]),
+    ("tenants.py", ["200", SEED]),
+    ("soak.py", ["10", SEED]),
+    ("estimate.py", ["100", SEED]),
+    ("live.py", []),
+]
 CLOSING = re.compile(r"^(\d+) passed, (\d+) failed\n\Z", re.M)
 
 

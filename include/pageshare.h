@@ -265,16 +265,27 @@ struct pageshare_lending {
 uint32_t pageshare_lend_four(struct pageshare *machine, const struct pageshare_lending pages[PAGESHARE_GROUP],
                              struct pageshare_answer answers[PAGESHARE_GROUP]);
 
+/* How many pages pageshare_lend_eight lends. */
+#define PAGESHARE_WIDE_GROUP 8
+
 /*
- * Lends `count` pages, one after the other in this order, in groups of four and then one by one; answers[i] is the answer for
- * pages[i]. Answers PAGESHARE_OK, or PAGESHARE_ERROR_NO_MACHINE, and then writes no answer.
+ * Lends eight pages as pageshare_lend_four lends four. PAGESHARE_SHA256_WIDE hashes all eight together, and PAGESHARE_SHA256 four
+ * and four.
+ */
+uint32_t pageshare_lend_eight(struct pageshare *machine, const struct pageshare_lending pages[PAGESHARE_WIDE_GROUP],
+                              struct pageshare_answer answers[PAGESHARE_WIDE_GROUP]);
+
+/*
+ * Lends `count` pages, one after the other in this order: in groups of eight, then four, and then one by one. answers[i] is the
+ * answer for pages[i]. Answers PAGESHARE_OK, or PAGESHARE_ERROR_NO_MACHINE, and then writes no answer.
  */
 static inline uint32_t pageshare_lend_many(struct pageshare *machine, const struct pageshare_lending *pages, size_t count,
                                            struct pageshare_answer *answers) {
-    size_t grouped = count - count % PAGESHARE_GROUP;
+    size_t i = 0;
     if (!machine->private_live) return PAGESHARE_ERROR_NO_MACHINE;
-    for (size_t i = 0; i < grouped; i += PAGESHARE_GROUP) pageshare_lend_four(machine, pages + i, answers + i);
-    for (size_t i = grouped; i < count; i++) answers[i] = pageshare_lend(machine, pages[i].guest, pages[i].ppn, pages[i].page);
+    for (; count - i >= PAGESHARE_WIDE_GROUP; i += PAGESHARE_WIDE_GROUP) pageshare_lend_eight(machine, pages + i, answers + i);
+    for (; count - i >= PAGESHARE_GROUP; i += PAGESHARE_GROUP) pageshare_lend_four(machine, pages + i, answers + i);
+    for (; i < count; i++) answers[i] = pageshare_lend(machine, pages[i].guest, pages[i].ppn, pages[i].page);
     return PAGESHARE_OK;
 }
 

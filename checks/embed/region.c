@@ -132,9 +132,10 @@ static void check_lists(void) {
     uint8_t first[PAGE], second[PAGE];
     const uint32_t pages[] = {2, 1}, salts[] = {0, 0};
     struct pageshare machine = PAGESHARE_NONE;
-    struct pageshare_answer answers[3], unasked[PAGESHARE_GROUP];
+    struct pageshare_answer answers[3], unasked[PAGESHARE_WIDE_GROUP];
     const struct pageshare_lending lendings[] = {{0, 0, first}, {0, 1, second}, {1, 0, first}};
-    const struct pageshare_lending group[] = {{0, 0, first}, {0, 1, second}, {1, 0, first}, {0, 0, first}};
+    const struct pageshare_lending group[PAGESHARE_WIDE_GROUP] = {{0, 0, first}, {0, 1, second}, {1, 0, first}, {0, 0, first},
+                                                                  {0, 0, first}, {0, 1, second}, {1, 0, first}, {0, 0, first}};
     const struct pageshare_page_name names[] = {{0, 0}, {0, 1}, {1, 0}};
     fill(first, 1);
     fill(second, 2);
@@ -142,6 +143,7 @@ static void check_lists(void) {
     CHECK(pageshare_propose_many(&machine, names, 3, answers) == PAGESHARE_ERROR_NO_MACHINE);
     memset(unasked, 0xee, sizeof unasked);
     CHECK(pageshare_lend_four(&machine, group, unasked) == PAGESHARE_ERROR_NO_MACHINE && unasked[0].status == 0xeeeeeeee);
+    CHECK(pageshare_lend_eight(&machine, group, unasked) == PAGESHARE_ERROR_NO_MACHINE && unasked[0].status == 0xeeeeeeee);
     CHECK(pageshare_make(&machine, 3, pages, 2, salts, 2) == PAGESHARE_OK);
     CHECK(pageshare_lend_many(&machine, lendings, 3, answers) == PAGESHARE_OK);
     CHECK(answers[0].verdict == PAGESHARE_VERDICT_HINTED && answers[1].verdict == PAGESHARE_VERDICT_HINTED);
@@ -161,8 +163,8 @@ static bool make_small(struct pageshare *machine, uint32_t hash) {
 }
 
 /*
- * Random groups of four, of few pages and contents, do what four lends in their order do, answer by answer: with pages that are
- * named twice, pages and guests that there aren't, and no frame left; with either hash.
+ * Random groups of four or eight, of few pages and contents, do what as many lends in their order do, answer by answer: with pages
+ * that are named twice, pages and guests that there aren't, and no frame left; with each hash.
  */
 static void check_groups(uint32_t hash, unsigned seed) {
     static uint8_t contents[3][PAGE];
@@ -173,12 +175,13 @@ static void check_groups(uint32_t hash, unsigned seed) {
     for (uint32_t i = 0; i < 3; i++) fill(contents[i], i + 1);
     srand(seed);
     for (int round = 0; round < 50; round++) {
-        struct pageshare_lending pages[PAGESHARE_GROUP];
-        struct pageshare_answer answers[PAGESHARE_GROUP];
-        for (int i = 0; i < PAGESHARE_GROUP; i++)
+        struct pageshare_lending pages[PAGESHARE_WIDE_GROUP];
+        struct pageshare_answer answers[PAGESHARE_WIDE_GROUP];
+        const int count = round % 2 == 0 ? PAGESHARE_GROUP : PAGESHARE_WIDE_GROUP;
+        for (int i = 0; i < count; i++)
             pages[i] = (struct pageshare_lending){(uint32_t)(rand() % 20 == 0 ? 300 : rand() % 3), (uint32_t)rand() % 5, contents[rand() % 3]};
-        CHECK(pageshare_lend_four(&grouped, pages, answers) == PAGESHARE_OK);
-        for (int i = 0; i < PAGESHARE_GROUP; i++) {
+        CHECK((count == PAGESHARE_GROUP ? pageshare_lend_four : pageshare_lend_eight)(&grouped, pages, answers) == PAGESHARE_OK);
+        for (int i = 0; i < count; i++) {
             struct pageshare_answer alone = pageshare_lend(&single, pages[i].guest, pages[i].ppn, pages[i].page);
             differs += memcmp(&alone, &answers[i], sizeof alone) != 0;
             refused += alone.status == PAGESHARE_ERROR_NO_GUEST;

@@ -180,6 +180,11 @@ extern "C" {
         pages: *const Lending<'_>,
         answers: *mut Answer,
     ) -> u32;
+    pub(crate) fn pageshare_lend_eight(
+        machine: *mut Handle,
+        pages: *const Lending<'_>,
+        answers: *mut Answer,
+    ) -> u32;
     pub(crate) fn pageshare_take_back(
         machine: *mut Handle,
         guest: u32,

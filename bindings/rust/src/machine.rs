@@ -24,9 +24,6 @@ const TOO_MANY_GUESTS: usize = 65;
 /// How many pages are handed to the library together to be hashed.
 const HASHED_TOGETHER: usize = 64;
 
-/// How many pages are lent together.
-const LENT_TOGETHER: usize = 4;
-
 /// A guest of a new machine.
 #[derive(Clone, Copy, Debug, PartialEq, Eq, Hash)]
 pub struct Guest {
@@ -328,20 +325,30 @@ impl Machine {
     }
 
     /// Lends these pages, one after the other as [`Machine::lend`] does, and returns the verdict of each. With SHA-256 the hashes of
-    /// four are computed together, which takes less than half the time.
+    /// four are computed together, and with the wide one of eight, which takes less than half the time.
     pub fn lend_many(&mut self, pages: &[Lending<'_>]) -> Vec<Result<LendVerdict, RequestError>> {
         let mut verdicts = Vec::with_capacity(pages.len());
-        let mut groups = pages.chunks_exact(LENT_TOGETHER);
-        for group in &mut groups {
-            let mut answers = [Answer::default(); LENT_TOGETHER];
-            // SAFETY: the pages and the answers' room are lent for the call, and are four each. The status is 0, since the handle
+        let eights = pages.chunks_exact(8);
+        let fours = eights.remainder().chunks_exact(4);
+        let singles = fours.remainder();
+        for group in eights {
+            let mut answers = [Answer::default(); 8];
+            // SAFETY: the pages and the answers' room are lent for the call, and are eight each. The status is 0, since the handle
             // holds a machine.
+            let _status = unsafe {
+                ffi::pageshare_lend_eight(self.handle.get(), group.as_ptr(), answers.as_mut_ptr())
+            };
+            verdicts.extend(answers.map(LendVerdict::of));
+        }
+        for group in fours {
+            let mut answers = [Answer::default(); 4];
+            // SAFETY: as above, but four each.
             let _status = unsafe {
                 ffi::pageshare_lend_four(self.handle.get(), group.as_ptr(), answers.as_mut_ptr())
             };
             verdicts.extend(answers.map(LendVerdict::of));
         }
-        for lending in groups.remainder() {
+        for lending in singles {
             verdicts.push(self.lend(lending.guest, lending.ppn, lending.page));
         }
         verdicts

@@ -10,6 +10,7 @@ mod estimates;
 mod failures;
 mod fleets;
 mod image_causes;
+pub mod laws;
 mod script_faults;
 
 pub use asked::{Asked, Task, Work};

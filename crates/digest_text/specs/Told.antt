@@ -1,6 +1,7 @@
 -- What a reader of a digest's text has yet to tell.
 use Rattle.std.specs.Prelude.{◌≡◌, ℕ, List, [], ◌∷◌, Option, Some, None, Result, Ok, Err}
 use Rattle.std.specs.Option.{option_map}
+use Rattle.std.specs.declared.io.Error.{Error}
 use Rattle.page_digests.specs.declared.line.DigestLine.{DigestLine}
 use Rattle.digest_text.specs.Fields.{Row}
 use Rattle.digest_text.specs.Left.{left}
@@ -19,6 +20,17 @@ module _ {R A : Type 0} where
   -- what all lines begin with, once a line was read
   abbrev pub head_of : DigestReader R A → Option DigestHead
   head_of reader = option_map (λ so_far. so_far.head) reader.so_far
+
+  -- the error of the last read of a line that failed
+  abbrev pub failure_of : DigestReader R A → Option Error
+  failure_of reader = reader.failure
+
+-- the error of the last read that failed, after a line was read
+abbrev pub failure_after : Option Error → Result (Option DigestLine) ReadFault → Option Error
+failure_after failure (Ok line) = failure
+failure_after failure (Err (Read error)) = Some error
+failure_after failure (Err OutOfMemory) = failure
+failure_after failure (Err (Line fault)) = failure
 
 -- a reader of a whole text has yet to tell all that the text says, or the text's first line is at fault
 abbrev pub IsFirst : {T : Type 0} → (T → Option (Result (List Row) LineFault)) → List ℕ → Result T ReadFault → Type 0

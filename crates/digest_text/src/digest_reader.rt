@@ -5,6 +5,7 @@ use crate::buffered::Lines;
 use crate::row::Front;
 use crate::so_far::SoFar;
 use std::alloc::Allocator;
+use std::io;
 
 /// A digest's text that is read a line at a time, in memory that doesn't grow.
 #[derive(Drop)]
@@ -15,5 +16,7 @@ pub struct DigestReader<R, A: Allocator> {
     pub(crate) front: Front,
     /// The number of the last line that was read.
     pub(crate) line: u64,
+    /// The error of the last read of a line that failed.
+    pub(crate) failure: Option<io::Error>,
     ghost repeats: { IsFront so_far front.items },
 }

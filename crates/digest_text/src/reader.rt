@@ -3,7 +3,7 @@ ghost use Rattle.std.specs.Prelude.{◌≡◌, IfSome};
 ghost use Rattle.std.specs.Option.{option_map};
 ghost use Rattle.digest_text.specs.Noted.{IsEnd};
 ghost use Rattle.digest_text.specs.Rows.{check_header};
-ghost use Rattle.digest_text.specs.Told.{IsFirst, IsNext, head_of, told};
+ghost use Rattle.digest_text.specs.Told.{IsFirst, IsNext, failure_after, failure_of, head_of, told};
 
 use crate::buffered::{Found, Lines};
 use crate::row::{Front, MAX_LINE_BYTES};
@@ -12,7 +12,7 @@ use crate::taken::take_line;
 use crate::{Cause, DigestHead, DigestReader, LineFault, ReadFault};
 use page_digests::DigestLine;
 use std::alloc::Allocator;
-use std::io::Read;
+use std::io::{self, Read};
 
 const HEADER: &[u8] = b"guest,salt,pages,sample,digest,copies";
 
@@ -45,6 +45,21 @@ fn check_end(so_far: &Option<SoFar>, line: u64) -> Result<(), LineFault>
     }
 }
 
+/// Returns the error of the last read that failed, by what it was before a line was read and how that ended.
+fn failure_after(
+    failure: Option<io::Error>,
+    told: &Result<Option<DigestLine>, ReadFault>,
+) -> Option<io::Error>
+    ensures { result ≡ failure_after failure told.now }
+{
+    match told {
+        Ok(_line) => failure,
+        Err(ReadFault::Read(error)) => Some(*error),
+        Err(ReadFault::OutOfMemory) => failure,
+        Err(ReadFault::Line(_fault)) => failure,
+    }
+}
+
 impl<R: Read + Drop, A: Allocator> DigestReader<R, A> {
     /// Makes a reader of a digest's text, and reads its header.
     pub fn new(alloc: A, source: R) -> Result<DigestReader<R, A>, ReadFault>
@@ -64,6 +79,7 @@ impl<R: Read + Drop, A: Allocator> DigestReader<R, A> {
             so_far: None,
             front: Front::new(),
             line: 1,
+            failure: None,
         })
     }
 
@@ -77,10 +93,28 @@ impl<R: Read + Drop, A: Allocator> DigestReader<R, A> {
         }
     }
 
+    /// Returns the error of the last read of a line that failed.
+    pub fn failure(&self) -> Option<&io::Error>
+        ensures { option_map (λ error. error.now) result ≡ failure_of self.now }
+    {
+        self.failure.as_ref()
+    }
+
     /// Reads the next line; `None` at the end. After a fault of a line or the end the reader returns the same again, and after
     /// a read that failed it goes on where it was.
     pub fn next_line(&mut self) -> Result<Option<DigestLine>, ReadFault>
-        ensures { IfSome (told R.remaining self.old) (λ rows. IsNext rows (told R.remaining self.new) (head_of self.new) result) }
+        ensures next { IfSome (told R.remaining self.old) (λ rows. IsNext rows (told R.remaining self.new) (head_of self.new) result) }
+        ensures failure { failure_of self.new ≡ failure_after (failure_of self.old) result }
+    {
+        let told = self.read_line();
+        self.failure = failure_after(self.failure, &told);
+        told
+    }
+
+    /// Reads the next line, and notes nothing of a read that fails.
+    fn read_line(&mut self) -> Result<Option<DigestLine>, ReadFault>
+        ensures next { IfSome (told R.remaining self.old) (λ rows. IsNext rows (told R.remaining self.new) (head_of self.new) result) }
+        ensures failure { failure_of self.new ≡ failure_of self.old }
     {
         let line = self.line.saturating_add(1);
         match self.lines.find()? {

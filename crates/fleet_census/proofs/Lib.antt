@@ -15,3 +15,4 @@ mod Firsts
 mod Opened
 mod Raised
 mod Settled
+mod Failed

@@ -1,13 +1,14 @@
 //! All contents, counted one after the other.
-ghost use Rattle.std.specs.Prelude.{◌≡◌, ◌<◌, ◌≤◌, ℕ, List, length, map, vec_capacity, vec_len};
+ghost use Rattle.std.specs.Prelude.{◌≡◌, ◌<◌, ◌≤◌, ℕ, List, length, map, vec_capacity, vec_len, IfErr};
 ghost use Rattle.digest_text.specs.Fields.{Row};
-ghost use Rattle.digest_text.specs.Told.{told};
+ghost use Rattle.digest_text.specs.Told.{told, failure_of};
 ghost use Rattle.fleet_census.specs.Gathers.{AreZeros};
 ghost use Rattle.fleet_census.specs.Merged.{IsCounted};
 ghost use Rattle.fleet_census.specs.Pairs.{row_lengths, rows_of};
 ghost use Rattle.fleet_census.specs.States.{AreBehind, AreChained, AreOwn, IsToldWhole, Said};
 ghost use Rattle.fleet_census.specs.Tallies.{AreTallied};
 ghost use Rattle.fleet_census.specs.Tournaments.{leaves};
+ghost use Rattle.fleet_census.specs.Faults.{HasFailed};
 
 use crate::FleetFault;
 use crate::content::Holder;
@@ -40,6 +41,7 @@ pub(crate) fn count_all<R: Read + Drop, A: Allocator>(
     ensures guests { vec_len tally.new.guests ≡ length readers.old }
     ensures classes { vec_len tally.new.classes ≡ 65 }
     ensures lengths { row_lengths (rows_of tally.new.pairs.items) ≡ row_lengths (rows_of tally.old.pairs.items) }
+    ensures failed { IfErr result (HasFailed (map failure_of readers.new)) }
     ensures told { (files : List Said) → length files ≡ length readers.old → AreChained files (length files)
         (leaves tournament.old.files tournament.old.entries.items) (map (told R.remaining) readers.old) → IsToldWhole files result }
     ensures counted { (fleet : List (List Row)) → length fleet ≡ length readers.old → AreZeros fleet zeros.now

@@ -1,8 +1,8 @@
 //! Files that are read on, one line at a time.
-ghost use Rattle.std.specs.Prelude.{◌≡◌, ◌<◌, ◌≤◌, ℕ, IfOk, length, map};
-ghost use Rattle.digest_text.specs.Told.{told};
+ghost use Rattle.std.specs.Prelude.{◌≡◌, ◌<◌, ◌≤◌, ℕ, IfOk, length, map, IfErr};
+ghost use Rattle.digest_text.specs.Told.{told, failure_of};
 ghost use Rattle.fleet_census.specs.States.{IsOwn, IsReadOn};
-ghost use Rattle.fleet_census.specs.Faults.{fault_of};
+ghost use Rattle.fleet_census.specs.Faults.{fault_of, HasFailed};
 
 use crate::FleetFault;
 use crate::entry::{AT_END, Entry};
@@ -29,6 +29,7 @@ pub(crate) fn read_entry<R: Read + Drop, A: Allocator>(
     requires within { file < length readers.old }
     requires few { length readers.old ≤ 65536 }
     ensures own { IfOk result (λ entry. IsOwn file entry) }
+    ensures failed { IfErr result (HasFailed (map failure_of readers.new)) }
     ensures read { IsReadOn file (map (told R.remaining) readers.old) (map (told R.remaining) readers.new) result }
 {
     match readers[file].next_line() {

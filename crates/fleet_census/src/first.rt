@@ -1,8 +1,9 @@
 //! The first line of a file.
-ghost use Rattle.std.specs.Prelude.{◌≡◌, ◌<◌, ℕ, IfOk, IfSome};
-ghost use Rattle.digest_text.specs.Told.{told};
+ghost use Rattle.std.specs.Prelude.{◌≡◌, ◌<◌, ℕ, IfOk, IfSome, IfErr};
+ghost use Rattle.digest_text.specs.Told.{told, failure_of};
 ghost use Rattle.fleet_census.specs.Openings.{IsFirstRead};
 ghost use Rattle.fleet_census.specs.States.{IsOwn};
+ghost use Rattle.fleet_census.specs.Faults.{IsFailureOf};
 
 use crate::FleetFault;
 use crate::entry::{AT_END, Entry};
@@ -50,6 +51,7 @@ pub(crate) fn read_first<R: Read + Drop, A: Allocator>(
 ) -> Result<First, FleetFault>
     requires { file < 65536 }
     ensures own { IfOk result (λ first. IsOwn file first.entry) }
+    ensures failed { IfErr result (IsFailureOf file (failure_of reader.new)) }
     ensures read { IfSome (told R.remaining reader.old) (λ said. IsFirstRead file said (told R.remaining reader.new) result) }
 {
     match reader.next_line() {

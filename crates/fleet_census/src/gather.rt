@@ -1,10 +1,11 @@
 //! All that the files tell of one digest.
-ghost use Rattle.std.specs.Prelude.{◌≡◌, ◌+◌, ◌<◌, ◌≤◌, ◌^◌, ℕ, List, All, IfOk, MatchOption, length, map, vec_capacity};
+ghost use Rattle.std.specs.Prelude.{◌≡◌, ◌+◌, ◌<◌, ◌≤◌, ◌^◌, ℕ, List, All, IfOk, MatchOption, length, map, vec_capacity, IfErr};
 ghost use Rattle.digest_text.specs.Fields.{Row};
-ghost use Rattle.digest_text.specs.Told.{told};
+ghost use Rattle.digest_text.specs.Told.{told, failure_of};
 ghost use Rattle.fleet_census.specs.States.{AreBehind, AreChained, AreOwn, IsToldOn, Said};
 ghost use Rattle.fleet_census.specs.Gathers.{AreZeros, IsGathered};
 ghost use Rattle.fleet_census.specs.Tournaments.{leaves};
+ghost use Rattle.fleet_census.specs.Faults.{HasFailed};
 
 use crate::FleetFault;
 use crate::content::{Content, Holder};
@@ -52,6 +53,7 @@ pub(crate) fn gather<R: Read + Drop, A: Allocator>(
     ensures own { AreOwn (leaves tournament.new.files tournament.new.entries.items) }
     ensures room { vec_capacity holders.new ≡ vec_capacity holders.old }
     ensures holders { All (λ holder. holder.file < length readers.old) holders.new.items }
+    ensures failed { IfErr result (HasFailed (map failure_of readers.new)) }
     ensures told { (files : List Said) → length files ≡ length readers.old → AreChained files (length files)
         (leaves tournament.old.files tournament.old.entries.items) (map (told R.remaining) readers.old)
         → IsToldOn files (length files) (leaves tournament.new.files tournament.new.entries.items) (map (told R.remaining) readers.new) result }

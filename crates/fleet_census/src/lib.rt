@@ -11,6 +11,7 @@ mod files;
 mod first;
 mod gather;
 mod guest;
+pub mod laws;
 mod merging;
 mod numbers;
 mod open;

@@ -1,8 +1,8 @@
 //! The merge.
-ghost use Rattle.std.specs.Prelude.{◌≡◌, ◌<◌, ◌≤◌, ℕ, List, Err, IfOk, Some, [], length, map, replicate, vec_capacity, vec_len};
+ghost use Rattle.std.specs.Prelude.{◌≡◌, ◌<◌, ◌≤◌, ℕ, List, Err, IfOk, Some, [], length, map, replicate, vec_capacity, vec_len, IfErr};
 ghost use Rattle.std.specs.List.{range_with_len};
 ghost use Rattle.digest_text.specs.Fields.{Row};
-ghost use Rattle.digest_text.specs.Told.{told};
+ghost use Rattle.digest_text.specs.Told.{told, failure_of};
 ghost use Rattle.fleet_census.specs.Classes.{no_contents};
 ghost use Rattle.fleet_census.specs.Numbers.{IsAllCounted, IsMerged};
 ghost use Rattle.fleet_census.specs.Openings.{AreWhole};
@@ -12,6 +12,7 @@ ghost use Rattle.fleet_census.specs.Tallies.{IsNew};
 ghost use Rattle.fleet_census.specs.Tournaments.{leaves};
 ghost use Rattle.fleet_census.specs.declared.entry.TheConstants.{AT_END};
 ghost use Rattle.fleet_census.specs.declared.fault.FleetFault.{FleetFault};
+ghost use Rattle.fleet_census.specs.Faults.{HasFailed};
 
 use crate::all::count_all;
 use crate::class::{CLASSES, push_classes};
@@ -39,6 +40,7 @@ pub fn merge<R: Read + Drop, A: Allocator + Copy>(
 ) -> Result<FleetNumbers<A>, FleetFault>
     requires some { 1 ≤ length readers.old }
     ensures few { MAX_DIGESTS < length readers.old → result ≡ Err FleetFault.TooManyDigests }
+    ensures failed { IfErr result (HasFailed (map failure_of readers.new)) }
     ensures merged { (files : List Said) → map (told R.remaining) readers.old ≡ map Some files → IsMerged files pairs result }
 {
     let files = readers.len();
@@ -81,6 +83,7 @@ fn count_files<R: Read + Drop, A: Allocator>(
     requires new { IsNew (length readers.old) tally.old }
     ensures lens { IfOk result (λ _. (vec_len tally.new.guests ≡ length readers.old) × (vec_len tally.new.classes ≡ CLASSES)) }
     ensures lengths { IfOk result (λ _. row_lengths (rows_of tally.new.pairs.items) ≡ row_lengths (rows_of tally.old.pairs.items)) }
+    ensures failed { IfErr result (HasFailed (map failure_of readers.new)) }
     ensures told { (files : List Said) → map (told R.remaining) readers.old ≡ map Some files → IsToldWhole files result }
     ensures counted { (fleet : List (List Row)) → length fleet ≡ length readers.old → AreWhole fleet (map (told R.remaining) readers.old)
         → IsAllCounted fleet tally.new result }

@@ -1,12 +1,13 @@
 //! The first lines of all files.
-ghost use Rattle.std.specs.Prelude.{◌≡◌, ◌+◌, ◌<◌, ◌≤◌, ℕ, List, [], IfOk, length, map, max, slice_index_or, vec_capacity, vec_len};
+ghost use Rattle.std.specs.Prelude.{◌≡◌, ◌+◌, ◌<◌, ◌≤◌, ℕ, List, [], IfOk, length, map, max, slice_index_or, vec_capacity, vec_len, IfErr};
 ghost use Rattle.digest_text.specs.Fields.{Row};
-ghost use Rattle.digest_text.specs.Told.{told};
+ghost use Rattle.digest_text.specs.Told.{told, failure_of};
 ghost use Rattle.page_digests.specs.Samples.{zeros_digest};
 ghost use Rattle.fleet_census.specs.Fleets.{lines_of};
 ghost use Rattle.fleet_census.specs.Openings.{AreWhole, IsJoined, IsOpen, IsOpenTo};
 ghost use Rattle.fleet_census.specs.States.{AreChained, AreOwn, From, IsToldOn, Said};
 ghost use Rattle.fleet_census.specs.Tournaments.{leaves};
+ghost use Rattle.fleet_census.specs.Faults.{HasFailed};
 
 use crate::first::{First, read_first};
 use crate::tournament::Tournament;
@@ -79,6 +80,7 @@ fn open_next<R: Read + Drop, A: Allocator>(
     ensures own { AreOwn (leaves tournament.new.files tournament.new.entries.items) }
     ensures lens { IfOk result (λ opening. (vec_len zeros.new ≡ file + 1) × (vec_len guests.new ≡ file + 1)) }
     ensures room { (vec_capacity zeros.new ≡ vec_capacity zeros.old) × (vec_capacity guests.new ≡ vec_capacity guests.old) }
+    ensures failed { IfErr result (HasFailed (map failure_of readers.new)) }
     ensures told { (files : List Said) → length files ≡ length readers.old → AreChained files file
         (leaves tournament.old.files tournament.old.entries.items) (map (told R.remaining) readers.old)
         → IsToldOn files (file + 1) (leaves tournament.new.files tournament.new.entries.items) (map (told R.remaining) readers.new) result }
@@ -121,6 +123,7 @@ pub(crate) fn open<R: Read + Drop, A: Allocator>(
     ensures files { tournament.new.files ≡ tournament.old.files }
     ensures own { AreOwn (leaves tournament.new.files tournament.new.entries.items) }
     ensures lens { IfOk result (λ opening. (vec_len zeros.new ≡ length readers.old) × (vec_len guests.new ≡ length readers.old)) }
+    ensures failed { IfErr result (HasFailed (map failure_of readers.new)) }
     ensures told { (files : List Said) → length files ≡ length readers.old → AreChained files 0
         (leaves tournament.old.files tournament.old.entries.items) (map (told R.remaining) readers.old)
         → IsToldOn files (length files) (leaves tournament.new.files tournament.new.entries.items) (map (told R.remaining) readers.new) result }

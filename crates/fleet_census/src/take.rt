@@ -1,9 +1,10 @@
 //! The files that tell of one digest.
-ghost use Rattle.std.specs.Prelude.{◌≡◌, ◌<◌, ◌≤◌, ◌==◌, ℕ, List, IfOk, IfSome, if◌then◌else◌, length, map, slice_index};
+ghost use Rattle.std.specs.Prelude.{◌≡◌, ◌<◌, ◌≤◌, ◌==◌, ℕ, List, IfOk, IfSome, if◌then◌else◌, length, map, slice_index, IfErr};
 ghost use Rattle.digest_text.specs.Fields.{Row};
-ghost use Rattle.digest_text.specs.Told.{told};
+ghost use Rattle.digest_text.specs.Told.{told, failure_of};
 ghost use Rattle.fleet_census.specs.States.{AreBehind, AreChained, AreOwn, IsTaken, IsToldOn, Said, passed};
 ghost use Rattle.fleet_census.specs.Tournaments.{leaves};
+ghost use Rattle.fleet_census.specs.Faults.{HasFailed};
 
 use crate::FleetFault;
 use crate::content::Holder;
@@ -51,6 +52,7 @@ pub(crate) fn take_holder<R: Read + Drop, A: Allocator>(
     ensures files { tournament.new.files ≡ tournament.old.files }
     ensures own { AreOwn (leaves tournament.new.files tournament.new.entries.items) }
     ensures holder { IfOk result (λ found. IfSome found (λ holder. (holder.file < length readers.old) × (holder.zero ≤ holder.copies))) }
+    ensures failed { IfErr result (HasFailed (map failure_of readers.new)) }
     ensures told { (files : List Said) → length files ≡ length readers.old → AreChained files (length files)
         (leaves tournament.old.files tournament.old.entries.items) (map (told R.remaining) readers.old)
         → IsToldOn files (length files) (leaves tournament.new.files tournament.new.entries.items) (map (told R.remaining) readers.new) result }

@@ -41,7 +41,11 @@ impl<'a, R: Eprint + Clock> Reading<'a, R> {
 }
 
 impl<R> Told for Reading<'_, R> {
+    ghost use Rattle.std.specs.Prelude.{◌≡◌};
+
     type Shown = ReadSoFar;
+
+    ghost tells = { λ _ elapsed shown. shown.elapsed ≡ elapsed };
 
     /// Tells the bytes in pages of 4,096, rounded up.
     fn told(&self, elapsed: u64) -> ReadSoFar {

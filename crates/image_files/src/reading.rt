@@ -31,7 +31,11 @@ impl<'a, R: Eprint + Clock> Reading<'a, R> {
 }
 
 impl<R> Told for Reading<'_, R> {
+    ghost use Rattle.std.specs.Prelude.{◌≡◌};
+
     type Shown = ReadSoFar;
+
+    ghost tells = { λ reading elapsed shown. (shown.total ≡ reading.total) × (shown.elapsed ≡ elapsed) };
 
     fn told(&self, elapsed: u64) -> ReadSoFar {
         ReadSoFar {

@@ -1,6 +1,7 @@
 -- The text of /proc/PID/maps: where the pages lie that are to be read, or the number of the first line that isn't of its form.
-use Rattle.std.specs.Prelude.{◌≡◌, ℕ, ◌+◌, ◌==◌, Bool, if◌then◌else◌, List, [], ◌∷◌, ◌++◌, Option, Some, None, Result, Ok, Err}
+use Rattle.std.specs.Prelude.{◌≡◌, ℕ, ◌+◌, ◌<◌, ◌==◌, Bool, if◌then◌else◌, List, [], ◌∷◌, ◌++◌, Option, Some, None, Result, Ok, Err}
 use Rattle.std.specs.List.{slice_split}
+use Rattle.memory_images.specs.Pages.{count_of}
 use Rattle.memory_images.specs.declared.segment.Segment.{Segment}
 use Rattle.live_memory.specs.Mappings.{is_kept, mapping_in, segment_of}
 use Rattle.live_memory.specs.declared.fault.LiveFault.{LiveFault}
@@ -50,3 +51,17 @@ IsPushed n old new bytes (Err (Line k)) = (mapping_in bytes ≡ None) × (k ≡ 
 IsPushed n old new bytes (Err OutOfMemory) = Unit {0}
 IsPushed n old new bytes (Err (System error)) = ⊥
 IsPushed n old new bytes (Err TooManyPages) = ⊥
+
+-- the text says segments that have more than 4,294,967,295 pages
+pub record HasTooMany (text : Result (List Segment) ℕ) : Type 0 where
+  pub segments : List Segment
+  pub said : text ≡ Ok segments
+  pub many : 4294967295 < count_of segments
+
+-- a call answers the image of the segments that the text says, unless memory was refused or they have too many pages
+abbrev pub IsImage : {A : Type 0} → (A → List Segment) → Result (List Segment) ℕ → Result A LiveFault → Type 0
+IsImage view text (Ok image) = text ≡ Ok (view image)
+IsImage view text (Err (Line n)) = text ≡ Err n
+IsImage view text (Err TooManyPages) = HasTooMany text
+IsImage view text (Err OutOfMemory) = Unit {0}
+IsImage view text (Err (System error)) = Unit {0}

@@ -1,5 +1,4 @@
 //! Why a process's memory can't be read.
-use memory_images::ImageFault;
 use std::alloc::{AllocError, AllocFailed};
 use std::io;
 use thiserror::Error;
@@ -49,17 +48,6 @@ impl From<io::Error> for LiveFault {
             LiveFault::OutOfMemory
         } else {
             LiveFault::System(error)
-        }
-    }
-}
-
-impl From<ImageFault<io::Error>> for LiveFault {
-    fn from(fault: ImageFault<io::Error>) -> LiveFault {
-        match fault {
-            ImageFault::OutOfMemory => LiveFault::OutOfMemory,
-            ImageFault::Read(error) => LiveFault::from(error),
-            // The form of segments that are given is their number of pages.
-            ImageFault::Form(_) => LiveFault::TooManyPages,
         }
     }
 }

@@ -14,4 +14,4 @@ mod process;
 pub use fault::LiveFault;
 pub use maps::writable_segments;
 pub use memory::LiveMemory;
-pub use process::{LiveImage, open_process};
+pub use process::{LiveImage, image_of_maps, open_process};

@@ -1,13 +1,28 @@
 -- What the calls of a publisher do.
-use Rattle.std.specs.Prelude.{◌≡◌, ◌≤◌, ◌<◌, Bool, [], ◌∷◌, ◌++◌, length, Contains, IsTrue, Decides}
+use Rattle.std.specs.Prelude.{ℕ, ◌≡◌, ◌≤◌, ◌<◌, ◌^◌, Bool, [], ◌∷◌, ◌++◌, length, Contains, IsTrue, Decides}
 use Rattle.page_model.specs.Parts.{Totals}
 use Rattle.merge_reports.specs.declared.told.Told.{Told}
 use Rattle.merge_reports.specs.declared.publisher.Publisher.{Publisher}
+use Rattle.merge_reports.specs.declared.publisher.PublishFault.{PublishFault}
+use Rattle.merge_reports.specs.declared.publisher.PublishFault.TheVariants.{Full, OutOfMemory}
 use Rattle.merge_reports.specs.declared.watch.Watch.{Watch}
 use Rattle.merge_reports.specs.Reports.{StartsWith, NeverFalls, last_of}
 use Rattle.merge_reports.specs.Lists.{published, publisher_id, list_told, told_id, seen, heard, watch_id}
 
+-- the most reports that a publisher publishes
+abbrev pub most_published : ℕ
+most_published = 2 ^ 62
+
 module _ {A : Type 0} where
+  -- one more report may be published
+  abbrev pub HasRoom : Publisher A → Type 0
+  HasRoom p = length (published p) < most_published
+
+  -- full exactly where there is no room, and out of memory only where there is
+  abbrev pub RefusedFor : Publisher A → PublishFault → Type 0
+  RefusedFor p Full = most_published ≤ length (published p)
+  RefusedFor p OutOfMemory = HasRoom p
+
   -- the `Told` is of the whole list as it is, and in it the entry counts never fall
   pub record TellsAll (p : Publisher A) (t : Told) : Type 0 where
     pub list : list_told t ≡ published p

@@ -14,6 +14,6 @@ mod shown;
 mod told;
 mod watch;
 
-pub use publisher::{OutOfMemory, Publisher};
+pub use publisher::{OutOfMemory, PublishFault, Publisher};
 pub use told::Told;
 pub use watch::{NoWatch, Watch};

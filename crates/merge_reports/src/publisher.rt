@@ -17,15 +17,26 @@ use std::alloc::{AllocError, Allocator, Global};
 use std::sync::Wait;
 use thiserror::Error;
 
-/// Memory was refused. Nothing has changed, and the call may be made again.
+/// Memory was refused, and there is no publisher.
 #[derive(Clone, Copy, Debug, PartialEq, Eq, Error)]
-#[error("out of memory, and nothing has changed: free some, then call again")]
+#[error("out of memory, and there is no publisher: free some, then call again")]
 pub struct OutOfMemory;
 
 impl From<AllocError> for OutOfMemory {
     fn from(_refused: AllocError) -> OutOfMemory {
         OutOfMemory
     }
+}
+
+/// Why a report wasn't published. Nothing has changed.
+#[derive(Clone, Copy, Debug, PartialEq, Eq, Error)]
+pub enum PublishFault {
+    /// The publisher has published 2^62 reports, and publishes no more.
+    #[error("the publisher has published 2^62 reports, and publishes no more: make another one")]
+    Full,
+    /// Memory was refused.
+    #[error("out of memory, and nothing has changed: free some, then call again")]
+    OutOfMemory,
 }
 
 /// Publishes reports. Use it up by [`Publisher::end`], since it can't be dropped.
@@ -72,7 +83,7 @@ fn nothing_shown(history: &History) -> Shown
 
 impl<A: Allocator> Publisher<A> {
     ghost use Rattle.merge_reports.specs.Lists.{published, publisher_id, told_id};
-    ghost use Rattle.merge_reports.specs.Publishing.{Publishes, Unchanged, TellsAll, IsNewWatch, Confirms};
+    ghost use Rattle.merge_reports.specs.Publishing.{Publishes, Unchanged, TellsAll, IsNewWatch, Confirms, HasRoom, RefusedFor};
 
     /// Makes a publisher with an empty list, and room for 8 watches, which see all zeros before the first publish.
     ///
@@ -103,25 +114,28 @@ impl<A: Allocator> Publisher<A> {
 
     /// Publishes a report, and returns a [`Told`] of the whole list. May wait for a watch that is reading.
     ///
-    /// An `Err` changes nothing. It comes when memory is refused, and after 2^62 calls.
-    pub fn publish<R: Wait>(&mut self, rt: &R, report: Report) -> Result<Told, OutOfMemory>
+    /// # Errors
+    ///
+    /// `Full` exactly after 2^62 reports, and otherwise `OutOfMemory` when memory is refused. Nothing has changed then.
+    pub fn publish<R: Wait>(&mut self, rt: &R, report: Report) -> Result<Told, PublishFault>
         requires not_older { (last_of (published self.old)).entries ≤ report.entries }
         ensures same { publisher_id self.new ≡ publisher_id self.old }
         ensures published { MatchResult result (Publishes self.old self.new report) (λ _. published self.new ≡ published self.old) }
+        ensures fault { MatchResult result (λ _. HasRoom self.old) (RefusedFor self.old) }
     {
         let count = self.told.count;
         if count >= MAX_REPORTS {
-            return Err(OutOfMemory);
+            return Err(PublishFault::Full);
         }
         // Memory comes first: once there is room for an operation that shows the same again, there is room for the next one.
         let same = self.writer.published().again();
         let Ok(()) = self.writer.append(same) else {
-            return Err(OutOfMemory);
+            return Err(PublishFault::OutOfMemory);
         };
         // Nobody else has the counter, so it always holds what was last put there; no clause can say so.
         let mut history = self.told.history.again();
         if !add_report(&self.counter, &mut history, count, report) {
-            return Err(OutOfMemory);
+            return Err(PublishFault::OutOfMemory);
         }
         let told = Told {
             count: count + 1,
@@ -132,7 +146,7 @@ impl<A: Allocator> Publisher<A> {
             told: told.again(),
         };
         let Ok(()) = self.writer.append(next) else {
-            return Err(OutOfMemory);
+            return Err(PublishFault::OutOfMemory);
         };
         let shown = replace_with(&mut self.writer, rt, |writer, rt| {
             writer.publish_as::<Replaced, R>(rt)

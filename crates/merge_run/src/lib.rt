@@ -1,7 +1,7 @@
 //! Whole runs: a thread for each guest sends a script of requests and takes its verdicts, and the merger serves them on
 //! the calling thread.
 //!
-//! This crate has the whole interface of machines with threads, so that users need only this one. [`open_machine`] makes a
+//! This crate has the whole interface of machines with threads, so that users need only this one. [`Machine::new`] makes a
 //! [`Merger`] and one port for each guest (`merge_machine`). Each [`Merger::step`] serves one request of one guest, and each
 //! [`Merger::round`] serves the waiting requests of all guests, up to its limit. Once every guest has closed its port and
 //! received its `Closed`, [`settle`] takes the merger and all ports together (`merge_settle`): each guest has then received
@@ -14,6 +14,7 @@ mod finished;
 mod gate;
 mod guest_thread;
 mod inbox;
+mod machine;
 mod observer;
 mod patience;
 mod rounds;
@@ -25,7 +26,8 @@ mod whole_run;
 
 pub use finished::Finished;
 pub use gate::{Gate, OpenGate};
-pub use merge_machine::{Config, Fault, JournalFull, MAX_ROUND, Merger, Step, open_machine};
+pub use machine::Machine;
+pub use merge_machine::{Config, Fault, JournalFull, MAX_ROUND, Merger, Step};
 pub use merge_settle::{SettleFault, Settled, Unsettled, settle};
 pub use observer::Observer;
 pub use page_model::laws::schedule_law;

@@ -1,6 +1,6 @@
 //! A core, by the hash that its machine was made with.
-ghost use Rattle.std.specs.Prelude.{◌≡◌, Some, IsSome, Ok, IfOk, IfErr, IsTrue, ◌↔◌};
-ghost use Rattle.page_digest.specs.Hashes.{four_hashes};
+ghost use Rattle.std.specs.Prelude.{◌≡◌, map, Some, IsSome, Ok, IfOk, IfErr, IsTrue, ◌↔◌};
+ghost use Rattle.page_digest.specs.Hashes.{four_hashes, eight_hashes};
 ghost use Rattle.page_model.specs.Pages.{page_at};
 ghost use Rattle.page_model.specs.Stored.{text_at};
 ghost use Rattle.page_model.specs.declared.request.Request.TheVariants.{Release};
@@ -17,7 +17,7 @@ ghost use Rattle.pageshare_c.specs.Told.{answer_to, store_answer, lend_answer, l
 use crate::ahead::{PageName, note_hashes};
 use crate::answer::{Answer, Refusal, Totals, totals_of};
 use crate::find::{copy_page, find_frame, put_address};
-use crate::group::{Lending, lend_each, lend_together};
+use crate::group::{Lending, lend_each, lend_eight, lend_together};
 use crate::serve::{answer, answer_count, answer_load};
 use crate::whole::{lend, lend_hashed, salt_of, store_page, take_back};
 use merge_core::{Core, SaltedHash};
@@ -141,6 +141,13 @@ impl HashedCore {
         }
     }
 
+    /// Lends eight pages, one after the other. Their hashes are computed first, together if that is faster.
+    pub(crate) fn lend_eight(&mut self, pages: &[Lending<'_>; 8], answers: &mut [Answer; 8])
+        ensures { LendInTurn pages.now answers.new (Some self.old) (Some self.new) }
+    {
+        lend_eight(self, pages, answers);
+    }
+
     /// Whether four hashes together take less time than four, one by one.
     fn hashes_together(&self) -> bool {
         match self {
@@ -174,6 +181,17 @@ impl HashedCore {
             HashedCore::Sha256(core) => core.hash_four(salts, a, b, c, d),
             HashedCore::Fold(core) => core.hash_four(salts, a, b, c, d),
             HashedCore::WideSha256(core) => core.hash_four(salts, a, b, c, d),
+        }
+    }
+
+    /// Returns the hashes of eight pages' bytes, each under the salt at its place.
+    pub(crate) fn hash_eight(&self, salts: [u32; 8], pages: [&Page; 8]) -> [u64; 8]
+        ensures { result ≡ eight_hashes (hash_in self.now) salts (map (λ page. page.now) pages.entry) }
+    {
+        match self {
+            HashedCore::Sha256(core) => core.hash_eight(salts, pages),
+            HashedCore::Fold(core) => core.hash_eight(salts, pages),
+            HashedCore::WideSha256(core) => core.hash_eight(salts, pages),
         }
     }
 

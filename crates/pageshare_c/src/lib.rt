@@ -39,6 +39,7 @@ mod given;
 mod group;
 mod hashed_core;
 mod hosted;
+mod laws;
 mod machine;
 mod make;
 mod parcel;
@@ -57,6 +58,7 @@ pub use given::GivenFrames;
 pub use group::Lending;
 pub use hashed_core::HashedCore;
 pub use hosted::{Begun, DomainShape, Hosted};
+pub use laws::numbers_law;
 pub use machine::Machine;
 pub use machine_frames::Region;
 use make::{SHA256, make};
@@ -278,6 +280,28 @@ pub extern "C" fn pageshare_lend_four(
         None => 6,
         Some(mut core) => {
             core.lend_four(pages, answers);
+            machine.put(core);
+            0
+        }
+    }
+}
+
+/// Lends eight pages as [`pageshare_lend_four`] lends four. With the wide SHA-256 eight hashes are computed together, and with
+/// SHA-256 four and four.
+#[unsafe(no_mangle)]
+pub extern "C" fn pageshare_lend_eight(
+    alloc: Global,
+    machine: &mut Machine,
+    pages: &[Lending<'_>; 8],
+    answers: &mut [Answer; 8],
+) -> u32
+    ensures lends { LendsGroup pages.now answers.old answers.new machine.old.slot.core machine.new.slot.core }
+    ensures status { result ≡ held_status machine.old.slot.core }
+{
+    match machine.take(alloc) {
+        None => 6,
+        Some(mut core) => {
+            core.lend_eight(pages, answers);
             machine.put(core);
             0
         }

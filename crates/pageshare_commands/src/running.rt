@@ -55,7 +55,11 @@ impl<'a, R: Eprint + Clock> Running<'a, R> {
 }
 
 impl<R> Told for Running<'_, R> {
+    ghost use Rattle.std.specs.Prelude.{◌≤◌};
+
     type Shown = RunSoFar;
+
+    ghost tells = { λ _ elapsed shown. shown.elapsed ≤ elapsed };
 
     fn told(&self, elapsed: u64) -> RunSoFar {
         RunSoFar {

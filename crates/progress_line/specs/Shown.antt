@@ -1,5 +1,5 @@
 -- What the line says.
-use Rattle.std.specs.Prelude.{ℕ, ◌/◌, ◌^◌, ◌-◌, List, [], ◌++◌, codes, decimal, Option, Some, None}
+use Rattle.std.specs.Prelude.{ℕ, ◌/◌, ◌^◌, ◌-◌, List, [], ◌∷◌, ◌++◌, codes, decimal, Option, Some, None}
 use Rattle.std.specs.Fmt.{styled_decimal, format_spec}
 use Rattle.progress_line.specs.declared.reading.ReadSoFar.{ReadSoFar}
 use Rattle.progress_line.specs.declared.running.RunSoFar.{RunSoFar}
@@ -37,3 +37,8 @@ pages_text r =
 
 abbrev pub run_text : RunSoFar → List ℕ
 run_text r = served_text r ++ pages_text r
+
+-- A line as it is drawn: first what puts it at the line's start (a carriage return), last what removes what stood behind it (the
+-- escape `[K`).
+abbrev pub drawing_text : List ℕ → List ℕ
+drawing_text shown = 13 ∷ (shown ++ (27 ∷ codes "[K"))

@@ -1,6 +1,7 @@
 -- When the line is drawn.
-use Rattle.std.specs.Prelude.{Bool, true, false, List, ℕ, codes, Option, Some, None, if◌then◌else◌}
+use Rattle.std.specs.Prelude.{Bool, true, false, List, ℕ, ◌+◌, nat_le, codes, Option, Some, None, if◌then◌else◌}
 use Rattle.std.specs.Str.{bytes_eq}
+use Rattle.progress_line.specs.declared.drawing.TheConstants.{PAUSE}
 use Rattle.progress_line.specs.declared.when.Drawn.{Drawn}
 use Rattle.progress_line.specs.declared.when.Drawn.TheVariants.{Auto, Always, Never}
 
@@ -17,3 +18,7 @@ drawn_of word =
     else if bytes_eq word (codes "always") then Some Always
     else if bytes_eq word (codes "never") then Some Never
     else None
+
+-- when the line was drawn last, by the milliseconds at which it was drawn before and those of now
+abbrev pub last_after : ℕ → ℕ → ℕ
+last_after last now = if nat_le (last + PAUSE) now then now else last

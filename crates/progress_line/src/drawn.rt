@@ -1,15 +1,13 @@
 //! A line on standard error that is redrawn.
-ghost use Rattle.std.specs.Prelude.{◌≡◌, ◌+◌, ◌≤◌, ◌↔◌, false, IsTrue, IsNone};
+ghost use Rattle.std.specs.Prelude.{◌≡◌, false, IsNone};
 ghost use Rattle.progress_line.specs.When.{is_on};
 
+use crate::drawing::{Pace, draw};
+use crate::told::Told;
 use crate::when::Drawn;
-use std::fmt::Display;
 use std::io;
 use std::sync::atomic::{AtomicBool, AtomicU64, Ordering};
 use std::time::{Clock, Instant};
-
-/// The least number of milliseconds between two drawings.
-const PAUSE: u64 = 100;
 
 /// A line on standard error that several threads may redraw, each over what was there. It is drawn at most ten times a
 /// second, by whichever thread comes first.
@@ -43,37 +41,25 @@ impl<'a, R: Eprint + Clock> DrawnLine<'a, R> {
     }
 
     /// Draws the line if it is due and no other thread is drawing it: what `text` shows for the milliseconds since the
-    /// start.
+    /// start. A failed write is ignored: the work goes on without it.
     pub fn draw_if_due<T: Told>(&self, text: &T) {
-        let now = self.elapsed();
-        if !is_due(self.last.load(Ordering::SeqCst), now) {
+        if self.is_taken.swap(true, Ordering::SeqCst) {
             return;
         }
-        if !self.is_taken.swap(true, Ordering::SeqCst) {
-            self.last.store(now, Ordering::SeqCst);
-            self.draw(text, now);
-            self.is_taken.store(false, Ordering::SeqCst);
+        let mut pace = Pace {
+            last: self.last.load(Ordering::SeqCst),
+        };
+        if let Some(drawing) = pace.draw_if_due(text, self.elapsed()) {
+            let _ = self.rt.eprint(drawing);
         }
+        self.last.store(pace.last, Ordering::SeqCst);
+        self.is_taken.store(false, Ordering::SeqCst);
     }
 
     /// Draws the line for the last time, and ends it.
     pub fn end<T: Told>(&self, text: &T) {
-        self.draw(text, self.elapsed());
-        let _ = eprintln!(self.rt);
+        let _ = self.rt.eprintln(draw(text, self.elapsed()));
     }
-
-    /// Ignores a failed write: the work goes on without it.
-    fn draw<T: Told>(&self, text: &T, elapsed: u64) {
-        let shown = text.told(elapsed);
-        let _ = eprint!(self.rt; "\r{shown}\x1b[K");
-    }
-}
-
-/// Returns whether a line may be drawn again, by the milliseconds at which it was drawn last and those of now.
-fn is_due(last: u64, now: u64) -> bool
-    ensures { IsTrue result ↔ (last + PAUSE ≤ now) }
-{
-    now.saturating_sub(last) >= PAUSE
 }
 
 /// Makes a line if one should be drawn, where standard error is a terminal or not. Without a clock there is none.
@@ -89,12 +75,4 @@ pub fn line_where<R: Eprint + Clock>(
     } else {
         None
     }
-}
-
-/// What a line shows.
-pub trait Told {
-    type Shown: Display + Drop;
-
-    /// Returns what it shows after this many milliseconds.
-    fn told(&self, elapsed: u64) -> Self::Shown;
 }

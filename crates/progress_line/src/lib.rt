@@ -2,12 +2,16 @@
 #![tactic(auto)]
 
 mod amounts;
+mod drawing;
 mod drawn;
+pub mod laws;
 mod reading;
 mod running;
+mod told;
 mod when;
 
-pub use drawn::{DrawnLine, Told, line_where};
+pub use drawn::{DrawnLine, line_where};
 pub use reading::ReadSoFar;
 pub use running::RunSoFar;
+pub use told::Told;
 pub use when::Drawn;

@@ -9,14 +9,14 @@ use Rattle.merge_machine.specs.Machines.{opening, IsReplayOf}
 use Rattle.merge_reports.specs.Lists.{published}
 use Rattle.merge_reports.specs.Reports.{last_of}
 use Rattle.merge_reports.specs.Publishing.{Publishes}
-use Rattle.merge_reports.specs.declared.publisher.OutOfMemory.{OutOfMemory}
+use Rattle.merge_reports.specs.declared.publisher.PublishFault.{PublishFault}
 use Rattle.merge_reports.specs.declared.publisher.Publisher.{Publisher}
 use Rattle.merge_reports.specs.declared.told.Told.{Told}
 use Rattle.merge_run.specs.Fronts.{IsOfFront, AreOfFronts}
 use Rattle.merge_run.proofs.Fronts.{counts_all, with_whole}
 
 -- whether it was published or refused, each published report is that of a front
-pub fronts_after : {A : Type 0} (hash : ℕ → List ℕ → ℕ) (s : State) (journal : List Entry) (before after : Publisher A) (r : Totals) (answer : Result Told OutOfMemory)
+pub fronts_after : {A : Type 0} (hash : ℕ → List ℕ → ℕ) (s : State) (journal : List Entry) (before after : Publisher A) (r : Totals) (answer : Result Told PublishFault)
     → IsReplayOf hash s journal → r ≡ totals s.entries s.guests → AreOfFronts hash (opening s) journal (published before)
     → MatchResult answer (Publishes before after r) (λ _. published after ≡ published before) → AreOfFronts hash (opening s) journal (published after)
 fronts_after hash s journal before after r (Ok told) replayed is fronts answered =

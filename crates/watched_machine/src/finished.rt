@@ -5,8 +5,9 @@ ghost use Rattle.merge_machine.specs.Machines.{opening};
 ghost use Rattle.merge_settle.specs.View.{settled_core, settled_journal};
 ghost use Rattle.merge_reports.specs.Lists.{published};
 ghost use Rattle.merge_run.specs.Fronts.{AreOfFronts};
+ghost use Rattle.watched_machine.specs.Publishing.{publisher_of};
 
-use merge_reports::Publisher;
+use crate::machine_publisher::MachinePublisher;
 use merge_settle::Settled;
 use page_digest::PageHash;
 use page_model::Verdict;
@@ -20,10 +21,10 @@ pub struct Finished<H: PageHash, A: Allocator = Global> {
     /// The machine, with all its ports.
     pub settled: Settled<H, A>,
     /// The publisher of its reports.
-    pub publisher: Publisher<A>,
+    pub publisher: MachinePublisher<A>,
     /// Each guest's verdicts in the order in which they came, guest 0's list first.
     pub verdicts: Vec<Vec<Verdict, A>, A>,
-    pub ghost fronts: { AreOfFronts H.hash_of (opening (state_of (settled_core settled))) (settled_journal settled) (published publisher) },
+    pub ghost fronts: { AreOfFronts H.hash_of (opening (state_of (settled_core settled))) (settled_journal settled) (published (publisher_of publisher)) },
 }
 
 impl<H: PageHash, A: Allocator> Finished<H, A> {

@@ -11,6 +11,7 @@ ghost use Rattle.merge_run.specs.Runs.{CanBeRun, IsWholeRun, NotRunFor};
 use crate::causes::find_cause;
 use crate::finished::Finished;
 use crate::lent_publisher::LentPublisher;
+use crate::machine_publisher::MachinePublisher;
 use crate::plan::Plan;
 use crate::view::{end_view, view};
 use crate::viewer::Viewer;
@@ -73,7 +74,7 @@ pub fn run<
             viewer.show(&settled.report());
             Ok(Finished {
                 settled,
-                publisher,
+                publisher: MachinePublisher { publisher },
                 verdicts,
             })
         }

@@ -4,7 +4,8 @@ use crate::hashes::Counted;
 use merge_core::{Core, Returned, SaltedHash};
 use page_digest::{FirstByteHash, PageHash};
 use page_model::Page;
-use std::alloc::Global;
+use refusing::Refusing;
+use std::alloc::{Allocator, Global};
 use std::process::Abort;
 use std::sync::atomic::{AtomicU32, Ordering};
 use worked_answers::{Answer, answer_of};
@@ -43,7 +44,7 @@ fn is_own(rt: &impl Abort, freed: Option<u32>, own: Option<u32>) -> bool {
 }
 
 /// Returns the frame of a page that may not exist.
-fn frame_of<H: PageHash>(core: &Core<H>, guest: u8, ppn: u32) -> Option<u32> {
+fn frame_of<H: PageHash, A: Allocator>(core: &Core<H, A>, guest: u8, ppn: u32) -> Option<u32> {
     if guest < core.guests() && ppn < core.pages(guest) {
         core.frame(guest, ppn)
     } else {
@@ -51,7 +52,13 @@ fn frame_of<H: PageHash>(core: &Core<H>, guest: u8, ppn: u32) -> Option<u32> {
     }
 }
 
-fn lend<H: PageHash>(rt: &impl Abort, core: &mut Core<H>, guest: u8, ppn: u32, byte: u8) -> Seen {
+fn lend<H: PageHash, A: Allocator>(
+    rt: &impl Abort,
+    core: &mut Core<H, A>,
+    guest: u8,
+    ppn: u32,
+    byte: u8,
+) -> Seen {
     assert!(rt; guest < core.guests());
     assert!(rt; core.entries() < 1_000_000);
     let own = frame_of(core, guest, ppn);
@@ -63,9 +70,9 @@ fn lend<H: PageHash>(rt: &impl Abort, core: &mut Core<H>, guest: u8, ppn: u32, b
     )
 }
 
-fn lend_hashed<H: PageHash>(
+fn lend_hashed<H: PageHash, A: Allocator>(
     rt: &impl Abort,
-    core: &mut Core<H>,
+    core: &mut Core<H, A>,
     guest: u8,
     ppn: u32,
     byte: u8,
@@ -88,14 +95,25 @@ fn lend_hashed<H: PageHash>(
     )
 }
 
-fn store<H: PageHash>(rt: &impl Abort, core: &mut Core<H>, guest: u8, ppn: u32, byte: u8) -> Seen {
+fn store<H: PageHash, A: Allocator>(
+    rt: &impl Abort,
+    core: &mut Core<H, A>,
+    guest: u8,
+    ppn: u32,
+    byte: u8,
+) -> Seen {
     assert!(rt; guest < core.guests());
     assert!(rt; core.entries() < 1_000_000);
     let verdict = core.store_page(guest, ppn, &page_of(byte));
     (answer_of(&verdict), false, NO_ROOM)
 }
 
-fn take_back<H: PageHash>(rt: &impl Abort, core: &mut Core<H>, guest: u8, ppn: u32) -> Seen {
+fn take_back<H: PageHash, A: Allocator>(
+    rt: &impl Abort,
+    core: &mut Core<H, A>,
+    guest: u8,
+    ppn: u32,
+) -> Seen {
     assert!(rt; guest < core.guests());
     assert!(rt; core.entries() < 1_000_000);
     let own = frame_of(core, guest, ppn);
@@ -115,7 +133,12 @@ fn take_back<H: PageHash>(rt: &impl Abort, core: &mut Core<H>, guest: u8, ppn: u
     }
 }
 
-fn seen<H: PageHash>(rt: &impl Abort, core: &mut Core<H>, guest: u8, step: Step) -> Seen {
+fn seen<H: PageHash, A: Allocator>(
+    rt: &impl Abort,
+    core: &mut Core<H, A>,
+    guest: u8,
+    step: Step,
+) -> Seen {
     match step {
         Step::Store(ppn, byte) => store(rt, core, guest, ppn, byte),
         Step::Lend(ppn, byte) => lend(rt, core, guest, ppn, byte),
@@ -124,7 +147,7 @@ fn seen<H: PageHash>(rt: &impl Abort, core: &mut Core<H>, guest: u8, step: Step)
     }
 }
 
-fn serve<H: PageHash>(rt: &impl Abort, core: &mut Core<H>, lines: &[Line]) {
+fn serve<H: PageHash, A: Allocator>(rt: &impl Abort, core: &mut Core<H, A>, lines: &[Line]) {
     for (at, (guest, step, wanted)) in lines.iter().enumerate() {
         let found = seen(rt, core, *guest, *step);
         assert!(rt; found == *wanted, "line {at}");
@@ -132,11 +155,14 @@ fn serve<H: PageHash>(rt: &impl Abort, core: &mut Core<H>, lines: &[Line]) {
 }
 
 /// Returns the report of a machine of guests with two pages and one, once these lines are served, and how often pages were
-/// hashed.
+/// hashed. None of them asks for memory.
 fn report_of(rt: &impl Abort, alloc: Global, frames: u32, lines: &[Line]) -> ([u32; 6], u32) {
+    let heap = Refusing::new(alloc, u64::MAX, 0);
     let calls = AtomicU32::new(0);
-    let mut core = core_of(rt, alloc, frames, &[2, 1], Counted(&calls));
+    let mut core = core_of(rt, &heap, frames, &[2, 1], Counted(&calls));
+    heap.refuse_all();
     serve(rt, &mut core, lines);
+    assert!(rt; !heap.has_refused(), "a line took memory");
     (numbers(&core), calls.load(Ordering::SeqCst))
 }
 

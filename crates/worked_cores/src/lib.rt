@@ -15,6 +15,8 @@ mod frames;
 #[cfg(test)]
 mod hashes;
 #[cfg(test)]
+mod known;
+#[cfg(test)]
 mod lending;
 #[cfg(test)]
 mod limits;

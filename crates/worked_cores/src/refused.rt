@@ -1,5 +1,5 @@
 //! Each growth of memory refused in turn.
-use crate::asks::{Ask, serve, share_three};
+use crate::asks::{Ask, Line, serve, share_three};
 use merge_core::{Core, CoreFault};
 use page_digest::Sha256Hash;
 use refusing::Refusing;
@@ -9,6 +9,20 @@ use worked_answers::Answer;
 
 const MOST_GROWTHS: u64 = 100;
 
+/// What follows three pages that share a frame, on a machine of three frames.
+const LATER: [Line; 10] = [
+    (1, Ask::Store(0, b'B'), Answer::Copied),
+    (1, Ask::Propose(0), Answer::Hinted),
+    (1, Ask::Propose(0), Answer::Kept),
+    (1, Ask::Store(0, b'C'), Answer::Stored),
+    (1, Ask::Release(0), Answer::Released(true)),
+    (0, Ask::Propose(0), Answer::Already),
+    (0, Ask::Release(1), Answer::Released(false)),
+    (0, Ask::Store(0, b'D'), Answer::Taken),
+    (0, Ask::Propose(1), Answer::Unmapped),
+    (0, Ask::Count, Answer::Totals([16, 1, 0, 1, 0, 0])),
+];
+
 /// Makes a machine with memory from this allocator, and serves it once every later growth is refused. Returns its fault
 /// if there is no machine, and whether a growth was refused before that.
 fn served<B: Allocator>(rt: &impl Abort, heap: &Refusing<B>) -> (Option<CoreFault>, bool) {
@@ -17,14 +31,15 @@ fn served<B: Allocator>(rt: &impl Abort, heap: &Refusing<B>) -> (Option<CoreFaul
             let has_refused = heap.has_refused();
             heap.refuse_all();
             share_three(rt, &mut core);
-            serve(rt, &mut core, &[(1, Ask::Store(0, b'B'), Answer::Copied)]);
+            serve(rt, &mut core, &LATER);
             (None, has_refused)
         }
         Err(fault) => (Some(fault), heap.has_refused()),
     }
 }
 
-/// Growth number n is refused, with n counting up until a run has no refusal; afterwards every growth is.
+/// Growth number n is refused, with n counting up until a run has no refusal; afterwards every growth is, and none is asked
+/// for.
 #[test]
 fn refused_growth(rt: HostRuntime) {
     for n in 0..MOST_GROWTHS {
@@ -33,6 +48,7 @@ fn refused_growth(rt: HostRuntime) {
         assert!(rt; heap.holds_nothing(), "at {n}");
         if !has_refused {
             assert!(rt; fault.is_none());
+            assert!(rt; !heap.has_refused(), "a request took memory");
             return;
         }
         assert!(rt; fault == Some(CoreFault::OutOfMemory), "at {n}");

@@ -1,6 +1,7 @@
 //! The counted digests of pages.
 mod changing;
 mod known;
+mod many;
 mod pages;
 mod samples;
 mod together;

@@ -1,4 +1,5 @@
 //! The texts of digests.
 mod faults;
+mod long;
 mod sources;
 mod written;

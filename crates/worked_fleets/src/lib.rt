@@ -6,8 +6,12 @@
 #[cfg(test)]
 mod faults;
 #[cfg(test)]
+mod many;
+#[cfg(test)]
 mod merged;
 #[cfg(test)]
 mod numbers;
+#[cfg(test)]
+mod reads;
 #[cfg(test)]
 mod refused;

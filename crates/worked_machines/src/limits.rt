@@ -3,7 +3,7 @@ use crate::answers::Reply::{Busy, Done, Ended, Full, Got, Nothing, Number, Sent}
 use crate::course::Call::{Close, Entries, Guest, Step};
 use crate::course::{made, play, play_to_end};
 use crate::ports::Ask::{Count, Load, Verdict};
-use merge_run::{Config, Fault, open_machine};
+use merge_run::{Config, Fault, Machine};
 use page_digest::Sha256Hash;
 use page_model::{MAX_ENTRIES, MAX_FRAMES, MAX_PAGES, MAX_RING_CAPACITY};
 use std::alloc::{AllocError, Global};
@@ -42,7 +42,7 @@ fn cause_of(alloc: Global, numbers: Numbers) -> Option<Fault> {
     let Ok(config) = config_of(alloc, numbers) else {
         return Some(Fault::OutOfMemory);
     };
-    match open_machine(alloc, &config, Sha256Hash) {
+    match Machine::new(alloc, &config, Sha256Hash) {
         Ok(_) => None,
         Err(fault) => Some(fault),
     }

@@ -4,7 +4,7 @@ ghost use Rattle.share_rings.specs.Ends.{port_name};
 ghost use Rattle.merge_run.specs.View.{end_names, port_names, ends_of};
 
 use crate::answers::{Reply, got, sent, stepped};
-use merge_run::{Config, Fault, Merger, open_machine};
+use merge_run::{Config, Fault, Machine, Merger};
 use page_digest::Sha256Hash;
 use share_rings::Port;
 use std::alloc::Allocator;
@@ -30,7 +30,7 @@ pub fn new_machine<A: Allocator + Copy>(
         ring,
         journal,
     };
-    open_machine(alloc, &config, Sha256Hash)
+    Machine::new(alloc, &config, Sha256Hash)
 }
 
 /// Serves one request of a guest.

@@ -7,13 +7,14 @@ use crate::memory::{byte, byte_so_far, frame, sizes};
 use crate::ports::Ask::{Load, Propose, Store, Verdict};
 use merge_run::Settled;
 use page_digest::Sha256Hash;
-use std::alloc::Global;
+use refusing::Refusing;
+use std::alloc::Allocator;
 use std::process::Abort;
 use worked_answers::Answer::{Byte, Closed, Copied, Hinted, Joined, Mapped, Paired};
 use worked_answers::numbers;
 
 /// Lets three pages of the same content come to share one frame.
-fn share(rt: &impl Abort, course: Course) -> Course {
+fn share<A: Allocator>(rt: &impl Abort, course: Course<A>) -> Course<A> {
     let course = play(
         rt,
         course,
@@ -45,7 +46,7 @@ fn share(rt: &impl Abort, course: Course) -> Course {
 }
 
 /// Stores through the second guest's page, which copies the frame: the first guest's pages keep their bytes.
-fn copy(rt: &impl Abort, course: Course) -> Course {
+fn copy<A: Allocator>(rt: &impl Abort, course: Course<A>) -> Course<A> {
     let course = play(
         rt,
         course,
@@ -71,7 +72,7 @@ fn copy(rt: &impl Abort, course: Course) -> Course {
 }
 
 /// Closes both, and settles the machine after the closes are served in turn.
-fn close_both(rt: &impl Abort, course: Course) -> Settled<Sha256Hash> {
+fn close_both<A: Allocator>(rt: &impl Abort, course: Course<A>) -> Settled<Sha256Hash, A> {
     let course = play(
         rt,
         course,
@@ -88,7 +89,7 @@ fn close_both(rt: &impl Abort, course: Course) -> Settled<Sha256Hash> {
 }
 
 /// Returns the bytes of the three pages at a place.
-fn bytes_so_far(rt: &impl Abort, merger: &Merging<Global>, at: u32) -> [u8; 3] {
+fn bytes_so_far<A: Allocator>(rt: &impl Abort, merger: &Merging<A>, at: u32) -> [u8; 3] {
     [
         byte_so_far(rt, merger, 0, 0, at),
         byte_so_far(rt, merger, 0, 1, at),
@@ -97,7 +98,7 @@ fn bytes_so_far(rt: &impl Abort, merger: &Merging<Global>, at: u32) -> [u8; 3] {
 }
 
 /// Returns the same bytes of a settled machine.
-fn bytes(rt: &impl Abort, settled: &Settled<Sha256Hash>, at: u32) -> [u8; 3] {
+fn bytes<A: Allocator>(rt: &impl Abort, settled: &Settled<Sha256Hash, A>, at: u32) -> [u8; 3] {
     [
         byte(rt, settled, 0, 0, at),
         byte(rt, settled, 0, 1, at),
@@ -106,7 +107,7 @@ fn bytes(rt: &impl Abort, settled: &Settled<Sha256Hash>, at: u32) -> [u8; 3] {
 }
 
 /// Whether the three pages have the same frame.
-fn is_one_frame(rt: &impl Abort, settled: &Settled<Sha256Hash>) -> bool {
+fn is_one_frame<A: Allocator>(rt: &impl Abort, settled: &Settled<Sha256Hash, A>) -> bool {
     let first = frame(rt, settled, 0, 0);
     first.is_some() && frame(rt, settled, 0, 1) == first && frame(rt, settled, 1, 0) == first
 }
@@ -123,7 +124,7 @@ struct Seen {
     is_one_frame: bool,
 }
 
-fn look(rt: &impl Abort, settled: &Settled<Sha256Hash>) -> Seen {
+fn look<A: Allocator>(rt: &impl Abort, settled: &Settled<Sha256Hash, A>) -> Seen {
     Seen {
         numbers: numbers(&settled.report()),
         sizes: [sizes(rt, settled, 0), sizes(rt, settled, 1)],
@@ -134,7 +135,7 @@ fn look(rt: &impl Abort, settled: &Settled<Sha256Hash>) -> Seen {
 }
 
 /// Returns the first bytes of the three pages, and what is seen once both guests have closed.
-fn look_at_end(rt: &impl Abort, course: Course) -> ([u8; 3], Seen) {
+fn look_at_end<A: Allocator>(rt: &impl Abort, course: Course<A>) -> ([u8; 3], Seen) {
     let before = bytes_so_far(rt, course.merger(), 0);
     let settled = close_both(rt, course);
     (before, look(rt, &settled))
@@ -152,10 +153,14 @@ fn equal_pages_of_two_guests(rt: HostRuntime) {
     assert!(rt; seen.is_one_frame);
 }
 
+// Neither a store nor a proposal nor a load asks for memory, so none is refused.
 #[test]
 fn a_store_copies_a_shared_page(rt: HostRuntime) {
-    let course = share(&rt, made(&rt, rt.alloc(), 3, &[2, 1], 8, 16));
-    let (before, seen) = look_at_end(&rt, copy(&rt, course));
+    let heap = Refusing::new(rt.alloc(), u64::MAX, 0);
+    let course = made(&rt, &heap, 3, &[2, 1], 8, 16);
+    heap.refuse_all();
+    let (before, seen) = look_at_end(&rt, copy(&rt, share(&rt, course)));
+    assert!(rt; !heap.has_refused());
     assert_eq!(rt; before, [b'A', b'A', b'B']);
     assert_eq!(rt; seen.numbers, [12, 3, 2, 2, 1, 0]);
     assert_eq!(rt; seen.sizes, [(2, 2), (2, 1)]);

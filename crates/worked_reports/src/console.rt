@@ -4,7 +4,7 @@ ghost use Rattle.merge_reports.specs.Reports.{last_of};
 ghost use Rattle.merge_reports.specs.Lists.{published, told_id, watch_id};
 
 use crate::makes::{mixed, one_page};
-use merge_reports::{OutOfMemory, Publisher, Told, Watch};
+use merge_reports::{Publisher, Told, Watch};
 use page_model::Report;
 use std::sync::Wait;
 use std::test::Fail;
@@ -60,7 +60,7 @@ fn publish_all<R: Wait>(rt: &R, publisher: &mut Publisher) -> u32
     for before in 0..PUBLISHED {
         match publisher.publish(rt, mixed(before + 1)) {
             Ok(_told) => done = done.wrapping_add(1),
-            Err(OutOfMemory) => {}
+            Err(_) => {}
         }
     }
     done

@@ -4,13 +4,13 @@ ghost use Rattle.merge_reports.specs.Reports.{last_of};
 ghost use Rattle.merge_reports.specs.Lists.{published, publisher_id, told_id, watch_id};
 
 use crate::makes::{mixed, one_page};
-use merge_reports::{OutOfMemory, Publisher, Told, Watch};
+use merge_reports::{Publisher, Told, Watch};
 use page_model::Report;
 use std::sync::Wait;
 use std::test::Fail;
 use std::thread::{Threads, join};
 
-const MANY: u32 = 100_000;
+const MANY: u32 = 1_100_000;
 
 /// Returns what the watch reads, if the publisher confirms all that the watch has seen: it is among what was published.
 fn read_published(publisher: &Publisher, watch: &mut Watch) -> Option<Report>
@@ -40,14 +40,14 @@ fn publish_each<R: Wait>(rt: &R, publisher: &mut Publisher, watch: &mut Watch) -
                     done = done.wrapping_add(1);
                 }
             }
-            Err(OutOfMemory) => {}
+            Err(_) => {}
         }
     }
     done
 }
 
 #[test]
-fn a_hundred_thousand_reports(rt: HostRuntime) -> Result<(), Fail> {
+fn a_million_reports(rt: HostRuntime) -> Result<(), Fail> {
     let mut publisher = Publisher::new(rt.alloc(), &rt).expect(&rt, "memory");
     let mut watch = publisher.watch().expect(&rt, "a watch");
     let done = publish_each(&rt, &mut publisher, &mut watch);

@@ -1,4 +1,4 @@
-//! The most guests that there can be, with a thousand requests each.
+//! The most guests that there can be, with 256,000 requests together.
 use crate::makes::{Ask, Numbers};
 use crate::plain::replayed;
 use merge_run::OpenGate;
@@ -7,9 +7,9 @@ use std::test::Fail;
 
 const GUESTS: u32 = 64;
 
-const REQUESTS: u32 = 1000;
+const REQUESTS: u32 = 4000;
 
-const RUNS: u32 = 10;
+const RUNS: u32 = 3;
 
 const PAGES: u32 = 4;
 

@@ -8,6 +8,8 @@ mod console;
 #[cfg(test)]
 mod guests;
 #[cfg(test)]
+mod long;
+#[cfg(test)]
 mod refused;
 #[cfg(test)]
 mod runs;

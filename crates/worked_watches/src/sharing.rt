@@ -40,8 +40,8 @@ impl Viewer for Comparing {
 }
 
 impl Gate for Comparing {
-    fn before(&self, _guest: u8, nth: u32) {
-        if nth < 2 {
+    fn before(&self, guest: u8, nth: u32) {
+        if nth < requests_of(guest) {
             return;
         }
         for _ in 0..TRIES {
@@ -56,28 +56,37 @@ impl Gate for Comparing {
     fn after(&self, _guest: u8, _nth: u32) {}
 }
 
-fn store() -> Request
-    ensures { is_close result ≡ false }
-{
-    Request::store(0, 0, &[0x41]).unwrap_or(Request::Count)
+/// Returns how many requests a guest has: a store and a proposal for each of its pages.
+fn requests_of(guest: u8) -> u32 {
+    if guest == 0 { 2 } else { 8 }
 }
 
-fn stored_and_proposed<A: Allocator>(alloc: A) -> Result<Vec<Request, A>, AllocError>
+fn store(ppn: u32) -> Request
+    ensures { is_close result ≡ false }
+{
+    let byte = [0x41, 0x42, 0x43, 0x44][(ppn % 4) as usize];
+    Request::store(ppn, 0, &[byte]).unwrap_or(Request::Count)
+}
+
+/// Makes a script that stores to each page and proposes it. Each page of a guest has another content.
+fn stored_and_proposed<A: Allocator>(alloc: A, pages: u32) -> Result<Vec<Request, A>, AllocError>
     ensures { IfOk result (λ script. has_close script.items ≡ false) }
 {
-    let mut script = Vec::with_capacity(alloc, 2)?;
-    script.push_reserved(store());
-    script.push_reserved(Request::Propose(0));
+    let mut script = Vec::new(alloc);
+    for ppn in 0..pages {
+        script.push(store(ppn))?;
+        script.push(Request::Propose(ppn))?;
+    }
     Ok(script)
 }
 
-/// Makes the scripts of two guests: each stores the same bytes, and then proposes its page.
-fn two_alike<A: Allocator + Copy>(alloc: A) -> Result<Vec<Vec<Request, A>, A>, AllocError>
+/// Makes the scripts of two guests, of one page and of four. Their first pages are equal.
+fn two_scripts<A: Allocator + Copy>(alloc: A) -> Result<Vec<Vec<Request, A>, A>, AllocError>
     ensures each { IfOk result (λ scripts. length scripts.items ≡ 2) }
     ensures plain { IfOk result (λ scripts. All (λ script. has_close script.items ≡ false) scripts.items) }
 {
-    let first = stored_and_proposed(alloc)?;
-    let second = stored_and_proposed(alloc)?;
+    let first = stored_and_proposed(alloc, 1)?;
+    let second = stored_and_proposed(alloc, 4)?;
     let mut scripts = Vec::with_capacity(alloc, 2)?;
     scripts.push_reserved(first);
     scripts.push_reserved(second);
@@ -90,8 +99,8 @@ fn report_of_run<R: Threads + Wait + Abort + Sync, A: Allocator + Copy + Send + 
     alloc: A,
     comparing: &Comparing,
 ) -> Report {
-    let config = config_of(alloc, 2, &[1, 1], 3, 6).expect(rt, "memory");
-    let scripts = two_alike(alloc).expect(rt, "memory");
+    let config = config_of(alloc, 5, &[1, 4], 9, 12).expect(rt, "memory");
+    let scripts = two_scripts(alloc).expect(rt, "memory");
     match run(
         rt, alloc, &config, Sha256Hash, scripts, comparing, comparing,
     ) {
@@ -100,12 +109,13 @@ fn report_of_run<R: Threads + Wait + Abort + Sync, A: Allocator + Copy + Send + 
     }
 }
 
-// Both pages share a frame before the closes are sent, whoever was served first, and so they do at the end.
+// Two pages share a frame before the closes are sent, whoever was served first, and three are hints; so it is at the end. Each of
+// the six numbers is another.
 #[test]
 fn viewer_compares_six_numbers(rt: HostRuntime) -> Result<(), Fail> {
     let comparing = Comparing {
-        before: Report::new(4, 2, 2, 1, 0),
-        whole: Report::new(6, 2, 2, 1, 0),
+        before: Report::new(10, 5, 2, 4, 3),
+        whole: Report::new(12, 5, 2, 4, 3),
         saw_before: AtomicBool::new(false),
         saw_whole: AtomicBool::new(false),
         failed: AtomicBool::new(false),

@@ -16,10 +16,9 @@ use watched_machine::{Gate, Viewer, run};
 // Enough tries for some seconds.
 const TRIES: u64 = 1 << 24;
 
-/// Notes what it is shown, and if that falls. The guest sends its close only after all that came before was shown.
+/// Notes what it is shown, and if that falls. The guest sends each request only after all that came before was shown.
 #[derive(Drop)]
 struct Showing {
-    awaited: u32,
     entries: AtomicU32,
     failed: AtomicBool,
 }
@@ -35,11 +34,8 @@ impl Viewer for Showing {
 
 impl Gate for Showing {
     fn before(&self, _guest: u8, nth: u32) {
-        if nth < self.awaited {
-            return;
-        }
         for _ in 0..TRIES {
-            if self.entries.load(Ordering::SeqCst) == self.awaited {
+            if self.entries.load(Ordering::SeqCst) == nth {
                 return;
             }
             thread::yield_now();
@@ -78,13 +74,11 @@ fn entries_of_run<R: Threads + Wait + Abort + Sync, A: Allocator + Copy + Send +
     }
 }
 
-// The guest waits with its close until the viewer was shown the requests before it, so the run ends only if its reports
-// are published while it works and another thread reads them. Its ring holds all verdicts, and it takes no more then.
-// The last report is that of the whole run.
+// The guest waits with each request until the viewer was shown all those before it, so the run ends only if each of its reports
+// is published while it works, and another thread reads them and shows them all. The last report is that of the whole run.
 #[test]
 fn viewer_is_shown_a_run_that_goes_on(rt: HostRuntime) {
     let showing = Showing {
-        awaited: 3,
         entries: AtomicU32::new(0),
         failed: AtomicBool::new(false),
     };

@@ -5,19 +5,19 @@ ghost use Rattle.page_digest.specs.Hashes.{sha256_hash};
 ghost use Rattle.watched_machine.specs.Publishing.{AreReportsOf};
 
 use crate::config::config_of;
-use merge_run::{Fault, JournalFull, Merger, Step, open_machine};
+use merge_run::{Fault, JournalFull, Machine, Merger, Step};
 use page_digest::Sha256Hash;
 use page_model::Report;
 use share_rings::Port;
 use std::alloc::{Allocator, Global};
 use std::sync::Wait;
 use std::thread::Threads;
-use watched_machine::{OutOfMemory, Publisher, Told, publish};
+use watched_machine::{MachinePublisher, OutOfMemory, PublishFault, Told};
 
 /// A merger that its owner drives, and the publisher of its reports. Use it up by [`Watched::end`].
 pub struct Watched<A: Allocator = Global> {
     pub merger: Merger<Sha256Hash, A>,
-    pub publisher: Publisher<A>,
+    pub publisher: MachinePublisher<A>,
     pub ghost reports: { AreReportsOf sha256_hash merger publisher },
 }
 
@@ -34,8 +34,8 @@ pub fn new_machine<R: Wait, A: Allocator + Copy>(
     ensures guests { IfOk result (λ (watched, _). guest_count watched.merger ≡ length pages.now) }
 {
     let config = config_of(alloc, frames, pages, ring, journal)?;
-    let (merger, ports) = open_machine(alloc, &config, Sha256Hash)?;
-    match Publisher::new(alloc, rt) {
+    let (merger, ports) = Machine::new(alloc, &config, Sha256Hash)?;
+    match MachinePublisher::new(alloc, rt) {
         Ok(publisher) => Ok((Watched { merger, publisher }, ports)),
         Err(OutOfMemory) => Err(Fault::OutOfMemory),
     }
@@ -45,6 +45,7 @@ impl<A: Allocator> Watched<A> {
     ghost use Rattle.std.specs.Prelude.{◌≡◌, ◌<◌, ◌≤◌, IfOk};
     ghost use Rattle.merge_run.specs.View.{end_names, ends_of, guest_count};
     ghost use Rattle.merge_reports.specs.Lists.{publisher_id, told_id};
+    ghost use Rattle.watched_machine.specs.Publishing.{publisher_of};
 
     /// Serves one request of a guest.
     pub fn step(&mut self, guest: u8) -> Result<Step, JournalFull>
@@ -57,12 +58,12 @@ impl<A: Allocator> Watched<A> {
     }
 
     /// Publishes the report of the whole journal.
-    pub fn publish<R: Wait>(&mut self, rt: &R) -> Result<Told, OutOfMemory>
+    pub fn publish<R: Wait>(&mut self, rt: &R) -> Result<Told, PublishFault>
         ensures merger { self.new.merger ≡ self.old.merger }
-        ensures same { publisher_id self.new.publisher ≡ publisher_id self.old.publisher }
-        ensures told { IfOk result (λ told. told_id told ≡ publisher_id self.old.publisher) }
+        ensures same { publisher_id (publisher_of self.new.publisher) ≡ publisher_id (publisher_of self.old.publisher) }
+        ensures told { IfOk result (λ told. told_id told ≡ publisher_id (publisher_of self.old.publisher)) }
     {
-        publish(rt, &self.merger, &mut self.publisher)
+        self.publisher.publish(rt, &self.merger)
     }
 
     /// Serves what waits, at most `limit` requests, on the calling thread.

@@ -2,6 +2,7 @@
 ghost use Rattle.std.specs.Prelude.{◌≡◌, ◌<◌};
 ghost use Rattle.merge_run.specs.View.{guest_count};
 ghost use Rattle.merge_reports.specs.Lists.{publisher_id, told_id, watch_id};
+ghost use Rattle.watched_machine.specs.Publishing.{publisher_of};
 
 use crate::watched::{Watched, all_zeros, new_machine, one_page, only};
 use merge_run::Step;
@@ -11,7 +12,7 @@ use std::alloc::{Allocator, Global};
 use std::process::Abort;
 use std::sync::Wait;
 use std::thread::Threads;
-use watched_machine::{OutOfMemory, Told, Watch};
+use watched_machine::{Told, Watch};
 
 // Reads, and checks what is read.
 fn expect_read<A: Allocator>(rt: &impl Abort, watch: &mut Watch<A>, wanted: Option<Report>)
@@ -27,11 +28,11 @@ fn publish_for_sure<R: Abort + Wait, A: Allocator>(
     watch: &mut Watch<A>,
     before: Report,
 ) -> Told
-    requires same { watch_id watch.old ≡ publisher_id watched.old.publisher }
+    requires same { watch_id watch.old ≡ publisher_id (publisher_of watched.old.publisher) }
     ensures merger { watched.new.merger ≡ watched.old.merger }
-    ensures publisher { publisher_id watched.new.publisher ≡ publisher_id watched.old.publisher }
+    ensures publisher { publisher_id (publisher_of watched.new.publisher) ≡ publisher_id (publisher_of watched.old.publisher) }
     ensures watch { watch_id watch.new ≡ watch_id watch.old }
-    ensures told { told_id result ≡ publisher_id watched.old.publisher }
+    ensures told { told_id result ≡ publisher_id (publisher_of watched.old.publisher) }
 {
     if let Ok(told) = watched.publish(rt) {
         return told;
@@ -40,7 +41,7 @@ fn publish_for_sure<R: Abort + Wait, A: Allocator>(
     expect_read(rt, watch, Some(before));
     match watched.publish(rt) {
         Ok(told) => told,
-        Err(OutOfMemory) => panic!(rt; "refused with memory"),
+        Err(_) => panic!(rt; "refused with memory"),
     }
 }
 
@@ -71,7 +72,7 @@ fn watch_late<R: Abort + Wait, A: Allocator>(
     watch: &mut Watch<A>,
 )
     requires guest { 0 < guest_count watched.old.merger }
-    requires same { watch_id watch.old ≡ publisher_id watched.old.publisher }
+    requires same { watch_id watch.old ≡ publisher_id (publisher_of watched.old.publisher) }
 {
     let first = watched.publisher.tell();
     let third = watched.publisher.tell();
@@ -102,9 +103,9 @@ fn watch_store<R: Abort + Wait, A: Allocator>(
     watch: &mut Watch<A>,
 )
     requires guest { 0 < guest_count watched.old.merger }
-    requires same { watch_id watch.old ≡ publisher_id watched.old.publisher }
+    requires same { watch_id watch.old ≡ publisher_id (publisher_of watched.old.publisher) }
     ensures guests { guest_count watched.new.merger ≡ guest_count watched.old.merger }
-    ensures same { watch_id watch.new ≡ publisher_id watched.new.publisher }
+    ensures same { watch_id watch.new ≡ publisher_id (publisher_of watched.new.publisher) }
 {
     expect_read(rt, watch, Some(all_zeros()));
     serve_store(rt, watched, port);
@@ -164,13 +165,14 @@ fn watch_round<R: Threads + Wait + Sync + Abort>(
     watched: &mut Watched,
     watch: &mut Watch,
 )
-    requires { watch_id watch.old ≡ publisher_id watched.old.publisher }
+    requires { watch_id watch.old ≡ publisher_id (publisher_of watched.old.publisher) }
 {
     assert_eq!(rt; watched.round(rt, alloc, 4), Ok(3));
     expect_read(rt, watch, Some(all_zeros()));
     let told = watched.publish(rt).expect(rt, "memory");
     watch.learn(told);
     expect_read(rt, watch, Some(one_page(3)));
+    assert!(rt; watched.publisher.has_published(&watch.tell()));
 }
 
 // A round serves three requests, and until its report is published nobody reads of them.

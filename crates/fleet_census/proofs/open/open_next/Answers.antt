@@ -1,11 +1,12 @@
 use Rattle.std.proofs.Common.{◌+◌, ◌<◌, length, map, set, length-drop, refl, sym, arith, ◌∙◌}
 use Rattle.std.proofs.lemmas.List.{get_or-map, length-map}
 use Rattle.std.specs.Prelude.{None, Ok, Err}
-use Rattle.digest_text.specs.Told.{told}
+use Rattle.digest_text.specs.Told.{failure_of, told}
 use Rattle.fleet_census.specs.Tournaments.{leaves}
 use Rattle.fleet_census.proofs.Opened.{first_on, first_opened, if_ok, joined_told, open_joined, open_read_fault}
 use Rattle.fleet_census.proofs.ReadOn.{on}
 use Rattle.fleet_census.proofs.Takes.{chained_more, fault_told, no_other, own_put}
+use Rattle.fleet_census.proofs.Failed.{failed_on, joined_failed}
 use Rattle.fleet_census.proofs.open.open_next.Goals as goal
 
 pub returns-in-Ok-clause-own : goal.returns-in-Ok-clause-own
@@ -56,3 +57,10 @@ returns-in-Err-clause-opened g c fleet long rise so_far =
     let read = on say readers c.args.file c.requires.within c.index-readers-file.result c.read_first.new.reader (Err c.in-Err.fault) (c.in-Err.ensures {u = tt}).read in
     open_read_fault fleet (c.args.file + 1) (leaves t.files t.entries.items) (map say (set readers c.args.file c.read_first.new.reader)) c.args.zeros.now.items c.args.guests.now.items c.in-Err.fault
     (no_other c.args.file (map say readers) _ c.in-Err.fault (Ok _) (so_far.unread c.args.file (omega arith) (omega (arith, long, c.requires.within))) read)
+
+pub returns-in-Ok-clause-failed : goal.returns-in-Ok-clause-failed
+returns-in-Ok-clause-failed g c = joined_failed _ c.args.opening c.in-Ok.first c.args.file c.with.result c.with.ensures
+
+pub returns-in-Err-clause-failed : goal.returns-in-Err-clause-failed
+returns-in-Err-clause-failed g c =
+    failed_on failure_of c.args.readers.now c.args.file c.requires.within c.index-readers-file.result c.read_first.new.reader c.in-Err.fault (c.in-Err.ensures {u = tt}).failed

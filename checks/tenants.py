@@ -1,0 +1,151 @@
+#!/usr/bin/env python3
+"""Looks that one tenant's guests get the same verdicts whether or not another tenant's guests ask anything (`salts_apart_law`).
+
+    checks/tenants.py [COUNT [SEED [PROGRAM]]]
+
+COUNT random journals, by default 1,000, follow from SEED, by default 1. In each the guests of two tenants have two salts. The journal
+is replayed whole, and without the second tenant's entries. Where both premises of the law hold, the lines of the first tenant's
+guests must be the same, but for the numbers of `totals`. The premises are worked out here, from the requests and their verdicts:
+
+- none of these lines is `no-frame`;
+- no key under which one of these guests proposed a private page is one under which a guest of the second tenant did. A key is
+  the low half of the first eight bytes of SHA-256 over salt and page (docs/MODEL.md, *Hash types*), and the page is what the
+  stores and releases before have left.
+
+At the end of each journal the first tenant's guests load, propose and release each page, so that its state is compared, too. Other
+journals aren't compared; how many of them have other lines is told. PROGRAM is by default out/pageshare (`make build`). Leaves the
+first journal with a wrong line at out/tenants.journal. The last line is `N passed, M failed`, of journals that met both premises
+(status 0 where there are some and all passed, else 1).
+"""
+import collections
+import concurrent.futures
+import hashlib
+import os
+import pathlib
+import random
+import subprocess
+import sys
+
+from random_texts import header, request, text_of
+
+TOP = pathlib.Path(__file__).resolve().parent.parent
+PAGE = 4096
+# For two salts the first bytes of pages, zeros behind them, that have different hashes and one key.
+CLASH = {0: bytes.fromhex("0000aa3c"), 7: bytes.fromhex("0000a6aa")}
+DONE = {"mapped", "stored", "copied", "taken"}
+NOT_PRIVATE = {"no-page", "unmapped", "already"}
+
+
+def hash_of(salt, page):
+    salted = (salt.to_bytes(4, "big") if salt else b"") + page
+    return int.from_bytes(hashlib.sha256(salted).digest()[:8], "big")
+
+
+def key_of(salt, page):
+    return hash_of(salt, page) % 2**32
+
+
+def guest_of(line):
+    return int(line.split(" ", 1)[0])
+
+
+def case(seed, nth):
+    """Journal number nth: its first lines, its requests, its salts, and the first tenant's guests."""
+    rng = random.Random(f"{seed} {nth}")
+    tenants = rng.sample(sorted(CLASH), 2) if rng.random() < 0.5 else rng.sample(range(2**32), 2)
+    owners = [0, 1] + [rng.randrange(2) for _ in range(rng.randrange(5))]
+    rng.shuffle(owners)
+    salts = [tenants[owner] for owner in owners]
+    pages = [rng.randint(1, 4) for _ in owners]
+    frames = sum(pages) if rng.random() < 0.5 else rng.randint((sum(pages) + 1) // 2, sum(pages))
+    requests = []
+    for _ in range(rng.choice([20, 60, 200])):
+        line = request(rng, pages)
+        guest = guest_of(line)
+        if salts[guest] in CLASH and rng.random() < 0.04:
+            line = f"{guest} store {rng.randrange(pages[guest])} 0 {CLASH[salts[guest]].hex()}"
+        requests.append(line)
+    first = {guest for guest, owner in enumerate(owners) if owner == 0}
+    for guest in sorted(first):
+        for ppn in range(pages[guest]):
+            requests += [f"{guest} load {ppn} 0 64", f"{guest} propose {ppn}", f"{guest} release {ppn}"]
+    return header("journal", True, frames, pages, salts), requests, salts, first
+
+
+def replayed(program, text):
+    """A verdict for each request, without the guest's number; without the numbers of `totals`, which count both tenants' pages."""
+    done = subprocess.run([program, "replay"], input=text, capture_output=True, text=True, timeout=60, check=False)
+    if done.returncode != 0:
+        return [f"status {done.returncode}"]
+    verdicts = [line.split(" ", 1)[1] for line in done.stdout.splitlines()[:-1]]
+    return ["totals" if verdict.startswith("totals ") else verdict for verdict in verdicts]
+
+
+def keys_proposed(requests, verdicts, salts):
+    """For each salt the keys under which its guests proposed private pages."""
+    pages, keys = collections.defaultdict(lambda: bytes(PAGE)), collections.defaultdict(set)
+    for line, verdict in zip(requests, verdicts):
+        guest, kind, *words = line.split()
+        page, salt = (guest, words[0] if words else None), salts[int(guest)]
+        if kind == "store" and verdict in DONE:
+            at, data = int(words[1]), bytes.fromhex(words[2])
+            pages[page] = pages[page][:at] + data + pages[page][at + len(data) :]
+        elif kind == "release" and verdict.startswith("released"):
+            del pages[page]
+        elif kind == "propose" and verdict not in NOT_PRIVATE:
+            keys[salt].add(key_of(salt, pages[page]))
+    return keys
+
+
+def failing_premises(lines, requests, verdicts, salts, first):
+    """The premises of the law that fail, in words."""
+    own = {salts[guest] for guest in first}
+    keys = keys_proposed(requests, verdicts, salts)
+    ours = set().union(*(it for salt, it in keys.items() if salt in own))
+    theirs = set().union(*(it for salt, it in keys.items() if salt not in own))
+    if any(guest_of(line) in first and verdict == "no-frame" for line, verdict in zip(requests, verdicts)):
+        yield "a store of the first tenant's got no frame"
+    if ours & theirs:
+        yield "a key is both tenants'"
+
+
+def main(count=1000, seed=1, program=str(TOP / "out/pageshare")):
+    count = int(count)
+    zero, seven = ((salt, start + bytes(PAGE - len(start))) for salt, start in CLASH.items())
+    assert key_of(*zero) == key_of(*seven) and hash_of(*zero) != hash_of(*seven)
+    unmet, other, passed, failed = collections.Counter(), collections.Counter(), 0, 0
+
+    def tried(nth):
+        lines, requests, salts, first = case(seed, nth)
+        verdicts = replayed(program, text_of(lines, requests))
+        own = [line for line in requests if guest_of(line) in first]
+        whole = [verdict for line, verdict in zip(requests, verdicts) if guest_of(line) in first]
+        same = len(verdicts) == len(requests) and whole == replayed(program, text_of(lines, own))
+        return nth, " and ".join(failing_premises(lines, requests, verdicts, salts, first)), same
+
+    with concurrent.futures.ThreadPoolExecutor(os.cpu_count()) as pool:
+        for nth, fails, same in pool.map(tried, range(count)):
+            if fails:
+                unmet[fails] += 1
+                other[fails] += not same
+                continue
+            passed += same
+            failed += not same
+            if failed == 1 and not same:
+                left = TOP / "out/tenants.journal"
+                left.parent.mkdir(exist_ok=True)
+                lines, requests, _salts, first = case(seed, nth)
+                left.write_text(text_of(lines, requests))
+                print(f"journal {nth} of seed {seed}: guests {sorted(first)} get other lines without the others; it is at {left}")
+    print(f"{count} journals of seed {seed}: {passed + failed} met both premises, and {sum(unmet.values())} didn't")
+    for fails, times in sorted(unmet.items()):
+        print(f"{times:8} where {fails}; in {other[fails]} of them lines are others")
+    if passed + failed == 0:
+        print("no journal met both premises")
+        failed = 1
+    print(f"{passed} passed, {failed} failed")
+    return 1 if failed else 0
+
+
+if __name__ == "__main__":
+    sys.exit(main(*sys.argv[1:4]))

@@ -1,0 +1,12 @@
+//! The numbers that C reads, as include/pageshare.h has them.
+ghost use Rattle.std.specs.Prelude.{◌≡◌};
+ghost use Rattle.pageshare_c.specs.declared.answer.TheConstants.{NO_FRAME};
+ghost use Rattle.pageshare_c.specs.declared.make.TheConstants.{SHA256, FOLD, WIDE_SHA256};
+
+/// Each constant is this number.
+pub fn numbers_law()
+    ensures no_frame { NO_FRAME ≡ 4294967295 }
+    ensures sha256 { SHA256 ≡ 0 }
+    ensures fold { FOLD ≡ 1 }
+    ensures wide { WIDE_SHA256 ≡ 2 }
+{}

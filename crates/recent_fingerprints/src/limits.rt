@@ -1,0 +1,2 @@
+/// The most places.
+pub const MAX_PLACES: u32 = 1 << 24;

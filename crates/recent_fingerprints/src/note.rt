@@ -1,0 +1,27 @@
+//! What is noted.
+
+/// A page, by its client and by a number that the caller gives to each of the client's pages.
+#[derive(Clone, Copy, Debug, PartialEq, Eq)]
+pub struct PageName {
+    /// The client's number.
+    pub client: u32,
+    /// The page's number, of the caller's choice.
+    pub number: u64,
+}
+
+/// That a page was asked about or lent, with its fingerprint.
+#[derive(Clone, Copy, Debug, PartialEq, Eq)]
+pub struct Note {
+    /// The fingerprint of the page's content.
+    pub fingerprint: u64,
+    /// The page.
+    pub page: PageName,
+}
+
+// A note in its place, and how many notes stand between it and the next older one of its chain. Where that would be out of
+// the places, the chain ends.
+#[derive(Clone, Copy)]
+pub(crate) struct Place {
+    pub(crate) note: Note,
+    pub(crate) between: u32,
+}

@@ -1,0 +1,83 @@
+//! The last notes, as callers see them.
+ghost use Rattle.std.specs.Prelude.{◌≡◌, ◌≤◌, IfOk};
+ghost use Rattle.recent_fingerprints.specs.Notes.{nothing_noted, was_noted, with_note};
+ghost use Rattle.recent_fingerprints.specs.declared.limits.TheConstants.{MAX_PLACES};
+
+use crate::buckets::{Buckets, bucket_count};
+use crate::chain::Chains;
+use crate::{Note, PageName};
+use std::alloc::{AllocError, Allocator, Global};
+use std::collections::VecDeque;
+use std::marker::Model;
+
+/// The last notes of pages with their fingerprints, as many as there are places. It says whether another page was noted with a
+/// fingerprint.
+///
+/// `new` takes all memory.
+#[derive(Drop)]
+pub struct RecentFingerprints<A: Allocator = Global> {
+    chains: Chains<A>,
+}
+
+impl<A: Allocator> Model for RecentFingerprints<A> {
+    ghost use Rattle.std.specs.Prelude.{map};
+    ghost use Rattle.std.specs.VecDeque.{deque_capacity};
+    ghost use Rattle.recent_fingerprints.specs.Notes.{Recent};
+    ghost use Rattle.recent_fingerprints.specs.Chains.{AreKept, note_in};
+
+    ghost Value = { Recent };
+
+    ghost view = { λ r. record { places = r.chains.places; factor = r.chains.buckets.factor; notes = map note_in r.chains.ring.items } };
+
+    ghost invariant = { λ r. AreKept r.chains.ring.items r.chains.heads.items r.chains.buckets.factor r.chains.buckets.shift r.chains.places r.chains.newest (deque_capacity r.chains.ring) };
+}
+
+impl<A: Allocator + Clone> RecentFingerprints<A> {
+    ghost use Rattle.recent_fingerprints.specs.declared.limits.TheConstants.{MAX_PLACES};
+
+    /// Makes an empty list of notes with `places` places, 32 bytes each, and 4 to 8 more for the buckets. The seed is drawn at
+    /// random and kept secret: who knows it can choose fingerprints that take long to look up. No result depends on it.
+    pub fn new(alloc: A, places: u32, seed: u64) -> Result<RecentFingerprints<A>, AllocError>
+        requires some { 1 ≤ places }
+        requires limit { places ≤ MAX_PLACES }
+        ensures { IfOk result (λ recent. recent ≡ nothing_noted places seed) }
+    {
+        let (count, shift) = bucket_count(places);
+        let mut heads = Vec::new(alloc.clone()?);
+        heads.resize(count as usize, 0)?;
+        let ring = VecDeque::with_capacity(alloc, places as usize)?;
+        let buckets = Buckets {
+            factor: seed | 1,
+            shift,
+        };
+        Ok(RecentFingerprints {
+            chains: Chains {
+                ring,
+                heads,
+                buckets,
+                places,
+                newest: 0,
+            },
+        })
+    }
+}
+
+impl<A: Allocator> RecentFingerprints<A> {
+    /// Whether another page was noted with this fingerprint, within the last notes. Notes this page with it.
+    pub fn ask(&mut self, page: PageName, fingerprint: u64) -> bool
+        ensures answered { result ≡ was_noted page fingerprint self.old.notes }
+        ensures noted { self.new ≡ with_note page fingerprint self.old }
+    {
+        let asked = Note { fingerprint, page };
+        let seen = self.chains.has_other(asked);
+        self.chains.put(asked);
+        seen
+    }
+
+    /// Notes a page with its fingerprint, as for one that is lent.
+    pub fn note(&mut self, page: PageName, fingerprint: u64)
+        ensures { self.new ≡ with_note page fingerprint self.old }
+    {
+        self.chains.put(Note { fingerprint, page });
+    }
+}

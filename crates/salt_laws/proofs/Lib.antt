@@ -1,0 +1,4 @@
+mod Hiding
+mod Listed
+mod Requests
+mod Apart

@@ -1,0 +1,6 @@
+//! Worked domains, served by the public calls of `share_domain`: clients that come and go, and what is counted. This crate has only
+//! tests.
+#![tactic(auto)]
+
+#[cfg(test)]
+mod clients;

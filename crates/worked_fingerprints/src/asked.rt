@@ -1,0 +1,83 @@
+use recent_fingerprints::{PageName, RecentFingerprints};
+use refusing::Refusing;
+use std::alloc::Allocator;
+use std::process::Abort;
+use std::test::Fail;
+
+/// What is asked: the client, the page's number, the fingerprint, and whether another page was noted with it.
+const ASKED: [(u32, u64, u64, bool); 9] = [
+    (1, 10, 5, false),
+    // the same page is no other one
+    (1, 10, 5, false),
+    (1, 11, 5, true),
+    // another client's page may have the same number
+    (2, 10, 5, true),
+    (2, 10, 6, false),
+    (3, 10, 7, false),
+    // the oldest note that is left is of client 2, page 10, fingerprint 5
+    (3, 10, 5, true),
+    // the oldest note that is left is the one with fingerprint 6
+    (2, 10, 6, false),
+    (4, 0, 6, true),
+];
+
+// Asks about each, in a list of three places.
+fn ask_all<A: Allocator>(rt: &impl Abort, recent: &mut RecentFingerprints<A>) {
+    for (client, number, fingerprint, expected) in ASKED {
+        let page = PageName { client, number };
+        assert_eq!(rt; recent.ask(page, fingerprint), expected);
+    }
+}
+
+#[test]
+fn three_places(rt: HostRuntime) -> Result<(), Fail> {
+    let mut recent = RecentFingerprints::new(rt.alloc(), 3, 0x9e37_79b9_7f4a_7c15)?;
+    ask_all(&rt, &mut recent);
+    Ok(())
+}
+
+// A lent page is noted as one that was asked about.
+#[test]
+fn lent(rt: HostRuntime) -> Result<(), Fail> {
+    let mut recent = RecentFingerprints::new(rt.alloc(), 1, 0)?;
+    let page = PageName {
+        client: 1,
+        number: 0,
+    };
+    let other = PageName {
+        client: 1,
+        number: 1,
+    };
+    recent.note(page, 5);
+    assert!(rt; recent.ask(other, 5));
+    assert!(rt; !recent.ask(other, 5));
+    Ok(())
+}
+
+/// Asks about each, with no more memory once the list is made. Returns whether there was memory for the list.
+fn asks(rt: &impl Abort, heap: &Refusing) -> bool {
+    let Ok(mut recent) = RecentFingerprints::new(heap, 3, 7) else {
+        return false;
+    };
+    assert!(rt; !heap.has_refused());
+    heap.refuse_all();
+    ask_all(rt, &mut recent);
+    true
+}
+
+// Request number n is refused, with n counting up until there is no refusal. Nothing is asked for later.
+#[test]
+fn new_refused_in_turn(rt: HostRuntime) {
+    let mut whole_at = None;
+    for n in 0..100 {
+        let heap = Refusing::new(rt.alloc(), n, 0);
+        let is_whole = asks(&rt, &heap);
+        assert!(rt; heap.has_refused() != is_whole, "at {n}");
+        assert!(rt; heap.holds_nothing(), "at {n}");
+        if is_whole {
+            whole_at = Some(n);
+            break;
+        }
+    }
+    assert_eq!(rt; whole_at, Some(2));
+}
