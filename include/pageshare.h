@@ -68,7 +68,7 @@ enum pageshare_status {
     PAGESHARE_ERROR_NO_MACHINE = 6, /* the handle holds no machine, or no domain */
     PAGESHARE_ERROR_NO_GUEST = 7,   /* there is no such guest */
     PAGESHARE_ERROR_FULL = 8,       /* 4,294,967,295 requests are counted: see pageshare_restart_count */
-    PAGESHARE_ERROR_LENGTH = 9,     /* no byte, or more than 64 */
+    PAGESHARE_ERROR_LENGTH = 9,     /* no byte, or more than 64; of pageshare_domain_leave, a `most` of 0 */
     PAGESHARE_ERROR_CROSSES = 10,   /* the last byte would stand past the page's end */
     PAGESHARE_ERROR_NO_PAGE = 11,   /* there is no such page (of a request it is a verdict) */
     PAGESHARE_ERROR_UNMAPPED = 12,  /* the page has no frame (of a request it is a verdict) */
@@ -487,11 +487,11 @@ struct pageshare_loan pageshare_domain_lend(struct pageshare_domain *domain, uin
 uint32_t pageshare_domain_release(struct pageshare_domain *domain, uint32_t client, uint64_t slot, uint32_t *freed);
 
 /*
- * Lets a client leave, in parts, so that no call takes long: releases its slots, at most `most` of them (1 or more), in the order of
- * their numbers. *count is how many, and for the i-th of them freed[i] is the frame that is free since, or PAGESHARE_NO_FRAME. From
- * the first call on the client lends no more. Call it until *count is 0: then the client is out, and its number may be another's.
- * Answers 0, 6 or 21 (NO_CLIENT: it has not entered, or is out); unless it is 0, *freed and *count stay as they are. With a `most` of
- * 0 *count is always 0, and the client is out only if it had no slot.
+ * Lets a client leave, in parts, so that no call takes long: releases its slots, at most `most` of them, in the order of their
+ * numbers. *count is how many, and for the i-th of them freed[i] is the frame that is free since, or PAGESHARE_NO_FRAME. From the
+ * first call on the client lends no more. Call it until *count is 0: then the client is out, and its number may be another's.
+ * A call looks at each slot of the domain once at most. Answers 0, 6, 9 (LENGTH: `most` is 0) or 21 (NO_CLIENT: it has not entered,
+ * or is out); unless it is 0, *freed and *count stay as they are.
  */
 uint32_t pageshare_domain_leave(struct pageshare_domain *domain, uint32_t client, uint32_t *freed, size_t most, size_t *count);
 
