@@ -1,20 +1,21 @@
 //! Questions about pages.
 ghost use Rattle.std.specs.Prelude.{◌≡◌, Some};
-ghost use Rattle.pageshare_c.specs.Asked.{domain_status, seen_after, asked};
+ghost use Rattle.pageshare_c.specs.Asked.{asked, seen_after};
+ghost use Rattle.pageshare_c.specs.Hosts.{made_status};
 
 use crate::hosted::Hosted;
 use recent_fingerprints::PageName;
 
-/// Asks about a page, and writes the answer into the room. Returns the status.
+/// Asks about a page, writes the answer to `seen`, and returns the status.
 pub(crate) fn ask(hosted: &mut Hosted, page: PageName, fingerprint: u64, seen: &mut u8) -> u32
-    ensures status { result ≡ domain_status (Some hosted.old) }
-    ensures seen { seen.new ≡ seen_after (Some hosted.old) page fingerprint seen.old }
-    ensures noted { Some hosted.new ≡ asked (Some hosted.old) page fingerprint }
+    ensures status { result ≡ made_status (λ m. 0) (Some hosted.old) }
+    ensures seen { seen.new ≡ seen_after page fingerprint seen.old (Some hosted.old) }
+    ensures noted { Some hosted.new ≡ asked page fingerprint (Some hosted.old) }
 {
     match hosted {
         Hosted::Begun(_) => 6,
-        Hosted::Made(recent) => {
-            *seen = u8::from(recent.ask(page, fingerprint));
+        Hosted::Made(made) => {
+            *seen = u8::from(made.recent.ask(page, fingerprint));
             0
         }
     }

@@ -1,11 +1,10 @@
 //! The frames of a domain's machines, which C gives for one machine after the other.
-ghost use Rattle.std.specs.Prelude.{◌≡◌, ◌≢◌, ◌≤◌, ◌<◌, ◌==◌, ◌↔◌, IfOk, IfErr, OnOk, OnErr, replicate};
+ghost use Rattle.std.specs.Prelude.{◌≡◌, ◌≤◌, ◌<◌, ◌==◌, IfOk, replicate};
 ghost use Rattle.page_model.specs.declared.limits.TheConstants.{MAX_FRAMES};
 ghost use Rattle.machine_frames.specs.FrameMap.{no_frames};
-ghost use Rattle.machine_frames.specs.declared.FramesFault.TheVariants as fault;
 ghost use Rattle.pageshare_c.specs.Given.{none_given, one_more};
 
-use machine_frames::{Frames, FramesFault, Region};
+use machine_frames::Frames;
 use std::alloc::{AllocError, Global};
 use std::marker::Model;
 
@@ -45,18 +44,13 @@ impl GivenFrames {
         })
     }
 
-    /// Takes the frames of the next machine. The region has room for exactly as many pages.
-    pub(crate) fn add(&mut self, alloc: Global, region: Region) -> Result<(), FramesFault>
-        requires { self.old.given < self.old.machines }
-        ensures ok { OnOk result (self.new ≡ one_more self.old) }
-        ensures fits { OnOk result (region.pages ≡ self.old.each) }
-        ensures err { OnErr result (self.new ≡ self.old) }
-        ensures in_range { IfErr result (λ e. ¬ (e ≡ fault.Frames)) }
-        ensures region { IfErr result (λ e. e ≡ fault.Region ↔ region.pages ≢ self.old.each) }
+    /// Takes the frames of the next machine, all of them free.
+    pub(crate) fn add(&mut self, frames: Frames)
+        requires more { self.old.given < self.old.machines }
+        requires free { frames ≡ no_frames self.old.each }
+        ensures { self.new ≡ one_more self.old }
     {
-        let frames = Frames::in_region(alloc, self.each, region)?;
         self.frames.push_reserved(frames);
-        Ok(())
     }
 
     /// Whether the frames of all machines are there.

@@ -1,34 +1,13 @@
 //! What a domain's handle holds.
 
-use crate::given::GivenFrames;
+use crate::begun::Begun;
+use crate::hashed_domain::HashedDomain;
 use recent_fingerprints::RecentFingerprints;
 
-/// What a domain is made of.
-#[repr(C)]
-#[derive(Clone, Copy)]
-pub struct DomainShape {
-    /// How many machines there are.
-    pub machines: u32,
-    /// How many slots each machine has.
-    pub slots: u32,
-    /// How many frames each machine has.
-    pub frames: u32,
-    /// How many clients may be in at a time.
-    pub clients: u32,
-    /// How many questions are remembered.
-    pub recent: u32,
-    /// The salt under which pages are hashed.
-    pub salt: u32,
-    /// What spreads the questions.
-    pub seed: u64,
-}
-
-/// A domain that waits for the frames of its machines.
+/// A domain, and the questions that it remembers.
 #[derive(Drop)]
-pub struct Begun {
-    pub shape: DomainShape,
-    pub hash: u32,
-    pub given: GivenFrames,
+pub struct MadeDomain {
+    pub domain: HashedDomain,
     pub recent: RecentFingerprints,
 }
 
@@ -36,6 +15,5 @@ pub struct Begun {
 #[derive(Drop)]
 pub enum Hosted {
     Begun(Begun),
-    /// The questions that a domain remembers.
-    Made(RecentFingerprints),
+    Made(MadeDomain),
 }
