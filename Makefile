@@ -1,4 +1,4 @@
-.PHONY: test edits build demo install uninstall dist package commands estimate fleet no-thread embed guests fuzz tenants soak hints bench bench-v3
+.PHONY: test edits build demo install uninstall dist package traces commands estimate fleet no-thread embed guests fuzz tenants soak hints bench bench-v3
 
 # The gate is these two commands. Both say how far they are and what failed, and leave the times of their steps at out/gate.tsv. On
 # a machine that has run none of it all is done from nothing.
@@ -46,6 +46,10 @@ dist: $(PRODUCTS)
 package: dist
 	checks/package.py out/dist
 
+# The program that plays traces of windows (docs/FORMATS.md).
+out/window_trace: $(SOURCES)
+	checks/build.py window_trace $@
+
 # A first look: two guests' scans meet, a thread for each; and what sharing would reclaim of two images. The program is built once,
 # and run on each case of a folder: a file is its standard input, and NAME.args has its words.
 CASES = out/demo/cases
@@ -61,6 +65,10 @@ demo:
 # Outside the gate: status, standard output and standard error of each command, on texts, ends and words of each kind.
 commands: out/pageshare
 	checks/commands.py
+
+# Outside the gate, and in it: small traces of windows, right and wrong ones, played by the proved program.
+traces: out/window_trace
+	checks/traces.py
 
 # Outside the gate: what `estimate` tells of 1,000 random images, beside a count by hashes in Python (COUNT and SEED may be given).
 estimate: out/pageshare

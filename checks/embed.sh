@@ -6,7 +6,8 @@
 # LIBRARY is libpageshare.a, by default out/libpageshare.a at the repository's top, which `make embed` builds; one in a folder v3 is
 # only run where the processor has AVX2. All that is built here goes to out/embed. CC, CXX and CARGO name other programs than cc,
 # c++ and cargo. The C programs run under valgrind, or with the address sanitizer where there is no valgrind. With FULL=1 one more
-# test serves 4,294,967,295 requests, which takes a minute or two.
+# test serves 4,294,967,295 requests, which takes a minute or two, one more makes 1,000 domains under the checker, and one lends
+# 3,000,000 pages of 100 clients.
 #
 # Prints a line for each part, and what was left out; the last line is "ok" (status 0) or says what failed (status 1).
 
@@ -64,7 +65,7 @@ else
         echo 'left out: valgrind and the address sanitizer'
     fi
     for source in examples/three_share examples/lend checks/embed/calls checks/embed/whole_pages checks/embed/region checks/embed/refused_memory \
-        checks/embed/journal; do
+        checks/embed/journal examples/domain checks/embed/domain_calls checks/embed/domain_memory; do
         compile "$source"
     done
     run three_share "$(cat "$top/checks/embed/three_share.out")"
@@ -78,11 +79,24 @@ else
     compile checks/embed/names
     run names ok
     run refused_memory ok
+    run domain "$(cat "$top/checks/embed/domain.out")"
+    run domain_memory ok
+    run domain_calls ok
+    # (natively: the program beside the checker has 100 runs)
+    [ "$("$built/domain_calls" 1000)" = ok ] || fail 'domain_calls 1000 failed'
+    echo 'domain_calls 1000: as it should be'
     if [ -n "${FULL:-}" ]; then
         # shellcheck disable=SC2086
         ${CC:-cc} -std=c11 -O2 -I"$top/include" -o "$built/full_count" "$top/checks/embed/full_count.c" "$library" || fail 'full_count.c does not compile'
         [ "$("$built/full_count")" = ok ] || fail 'full_count failed'
         echo 'full_count: as it should be'
+        # shellcheck disable=SC2086
+        text=$($checker "$built/domain_calls" 1000 1000) || fail 'domain_calls 1000 1000 failed:' "$text"
+        echo 'domain_calls 1000 1000: as it should be'
+        # shellcheck disable=SC2086
+        ${CC:-cc} -std=c11 -O2 -I"$top/include" -o "$built/domain_full" "$top/checks/embed/domain_calls.c" "$library" || fail 'domain_calls.c does not compile'
+        [ "$("$built/domain_full" full)" = ok ] || fail 'domain_calls full failed'
+        echo 'domain_calls full: as it should be'
     fi
     if has "${CXX:-c++}"; then
         # shellcheck disable=SC2086
@@ -120,6 +134,9 @@ if has "${CARGO:-cargo}"; then
     text=$("$built/cargo/release/examples/three_share" 2>&1) || fail "$text" 'its example failed'
     [ "$text" = "$(cat "$top/checks/embed/three_share.out")" ] || fail "its example printed:" "$text"
     echo 'bindings/rust: its example prints what the C example does'
+    text=$("$built/cargo/release/examples/domain" 2>&1) || fail "$text" 'its example of a domain failed'
+    [ "$text" = "$(cat "$top/checks/embed/domain.out")" ] || fail "its example of a domain printed:" "$text"
+    echo 'bindings/rust: its example of a domain prints what the C example does'
 else
     echo 'left out: all of Rust, since there is no cargo'
 fi

@@ -1,11 +1,12 @@
 #!/usr/bin/env python3
 """The checks of the program that the gate ends with: few of each kind, with fixed seeds, each in less than a minute.
 
-    checks/quick.py [PROGRAM]
+    checks/quick.py [PROGRAM [TRACER]]
 
-PROGRAM is by default out/pageshare. Nothing is built here. Runs commands.py, 1,000 texts of fuzz.py, 200 journals of tenants.py, ten
-seconds of soak.py, 100 images of estimate.py and the live process of live.py, and prints what they print. The last line is
-`N passed, M failed`, of all of them (status 0 where all passed, else 1).
+PROGRAM is by default out/pageshare, and TRACER the program window_trace that was built beside it. Nothing is built here. Runs
+commands.py, 1,000 texts of fuzz.py, 200 journals of tenants.py, ten seconds of soak.py, 100 images of estimate.py, the live process
+of live.py and the traces of traces.py, and prints what they print. The last line is `N passed, M failed`, of all of them (status 0
+where all passed, else 1).
 """
 import pathlib
 import re
@@ -38,12 +39,20 @@ def tried(check, words):
     return passed, failed
 
 
-def main(program=str(TOP / "out/pageshare")):
+def beside(program):
+    """The program window_trace that was built beside this one: in the same folder, or in its own crate's."""
+    path = pathlib.Path(program)
+    near = path.with_name("window_trace")
+    return str(near if near.exists() else path.parents[2] / "window_trace/out/window_trace")
+
+
+def main(program=str(TOP / "out/pageshare"), tracer=None):
     results = [tried(check, [*words, program]) for check, words in CHECKS]
+    results.append(tried("traces.py", [tracer or beside(str(pathlib.Path(program).resolve()))]))
     passed, failed = map(sum, zip(*results))
     print(f"{passed} passed, {failed} failed")
     return 1 if failed else 0
 
 
 if __name__ == "__main__":
-    sys.exit(main(*sys.argv[1:2]))
+    sys.exit(main(*sys.argv[1:3]))

@@ -69,21 +69,31 @@ struct pageshare {
 
 enum pageshare_status {
     PAGESHARE_OK = 0,
-    PAGESHARE_ERROR_FRAMES = 1,     /* 0 frames, or more than 1,048,576 */
+    PAGESHARE_ERROR_FRAMES = 1,     /* 0 frames, or more than 1,048,576; of a domain's machines, fewer than 2 or more than that */
     PAGESHARE_ERROR_GUESTS = 2,     /* no guest, more than 64, or not as many salts as guests */
     PAGESHARE_ERROR_PAGES = 3,      /* a guest with no page, or more than 1,048,576 pages in total */
     PAGESHARE_ERROR_MEMORY = 4,     /* memory was refused */
-    PAGESHARE_ERROR_IN_USE = 5,     /* the handle holds a machine already */
-    PAGESHARE_ERROR_NO_MACHINE = 6, /* the handle holds no machine */
+    PAGESHARE_ERROR_IN_USE = 5,     /* the handle holds a machine already, or a domain */
+    PAGESHARE_ERROR_NO_MACHINE = 6, /* the handle holds no machine, or no domain */
     PAGESHARE_ERROR_NO_GUEST = 7,   /* there is no such guest */
     PAGESHARE_ERROR_FULL = 8,       /* 4,294,967,295 requests are counted: see pageshare_restart_count */
-    PAGESHARE_ERROR_LENGTH = 9,     /* no byte, or more than 64 */
+    PAGESHARE_ERROR_LENGTH = 9,     /* no byte, or more than 64; of pageshare_domain_leave, a `most` of 0 */
     PAGESHARE_ERROR_CROSSES = 10,   /* the last byte would stand past the page's end */
     PAGESHARE_ERROR_NO_PAGE = 11,   /* there is no such page (of a request it is a verdict) */
     PAGESHARE_ERROR_UNMAPPED = 12,  /* the page has no frame (of a request it is a verdict) */
     PAGESHARE_ERROR_REGION = 13,    /* the region has too little room for the frames, or isn't aligned to 4,096 (checked after PAGES) */
     PAGESHARE_ERROR_HASH = 14,      /* there is no such hash */
-    /* (15 to 24 are of domains) */
+    /* of domains alone: */
+    PAGESHARE_ERROR_SIZE = 15,      /* config->size is not that of the struct */
+    PAGESHARE_ERROR_MACHINES = 16,  /* no machine, or more than 64 */
+    PAGESHARE_ERROR_SLOTS = 17,     /* no slots, or more than 1,048,576 for each machine */
+    PAGESHARE_ERROR_CLIENTS = 18,   /* room for no client, or for more than 65,536 */
+    PAGESHARE_ERROR_RECENT = 19,    /* room for no question, or for more than 16,777,216 */
+    PAGESHARE_ERROR_NO_ROOM = 20,   /* as many clients are in as there may be */
+    PAGESHARE_ERROR_NO_CLIENT = 21, /* no such client is in, or it has begun to leave */
+    PAGESHARE_ERROR_NO_SLOT = 22,   /* the page's machine has no free slot */
+    PAGESHARE_ERROR_NO_FRAME = 23,  /* the page joins no other, and its machine has no free frame but the spare one */
+    PAGESHARE_ERROR_NOT_ITS_SLOT = 24, /* the slot is not the client's */
     PAGESHARE_ERROR_PROCESSOR = 25  /* the library is built for a newer processor. Then call pageshare_free at most */
 };
 
@@ -393,6 +403,200 @@ uint32_t pageshare_frame(struct pageshare *machine, uint32_t guest, uint32_t ppn
  * *at stays as it is. No proof says what is at the address; pageshare_read copies the bytes.
  */
 uint32_t pageshare_page(struct pageshare *machine, uint32_t guest, uint32_t ppn, const uint8_t **at);
+
+/*
+ * Domains: pages of many clients in one to 64 machines, for a host that shares memory between the processes of monitors.
+ *
+ * A client lends pages, as many as there are slots. A page that was lent has a slot, which is the client's until the client releases
+ * it or leaves, and a frame that holds the page's bytes. Pages with the same bytes come to share one frame, whose clients they are.
+ * What the host maps for its clients is the region of the frames: frame n is the 4,096 bytes at 4096 n of it, and machine m's
+ * frames are those from m times the frames of one machine on.
+ *
+ *     struct pageshare_domain domain = PAGESHARE_DOMAIN_NONE;
+ *     struct pageshare_domain_config config = {.size = sizeof config, .machines = 1, .slots = 100000, .frames = 50000, ..};
+ *     if (pageshare_domain_make(&domain, &config) != PAGESHARE_OK) ..
+ *     uint32_t client;
+ *     pageshare_domain_enter(&domain, &client);
+ *     struct pageshare_loan loan = pageshare_domain_lend(&domain, client, page);
+ *     ..
+ *     pageshare_domain_free(&domain);
+ *
+ * A call with a status above 0 has changed nothing, neither the domain nor the caller's room. What the caller owes for a machine's
+ * handle it owes for a domain's, too, and so it does for the region. Beside that:
+ *
+ * - While a slot is a client's, the client may read its frame. A host releases a slot only when nothing shows its frame any more
+ *   for this slot: after the client has mapped something else in its place, or when its process has ended.
+ * - A frame that is told as freed is free, and the host may give its memory back to the system while no call runs. Nobody may still
+ *   read it by then, since a later lend fills it with another page.
+ * - Nothing here tells apart who calls: the host sees to it that a client's calls name that client alone.
+ *
+ * A handle is used by one thread at a time. A host with a thread for each machine makes as many domains of one machine each, with
+ * one salt, and chooses one for each page by its fingerprint.
+ */
+
+/* A handle: room for one domain. Its members are the library's. */
+struct pageshare_domain {
+    void *private_at;
+    bool private_live;
+};
+
+/* What a handle begins as: it holds no domain. */
+#define PAGESHARE_DOMAIN_NONE {NULL, false}
+
+/* What a domain is made of. All memory is taken when it is made; no other call asks for any. */
+struct pageshare_domain_config {
+    size_t size;         /* sizeof this struct */
+    uint32_t machines;   /* 1 to 64. Equal pages meet, since a page's hash says which machine it goes to */
+    uint32_t slots;      /* the pages that may be lent at a time, of each machine: 1 to 1,048,576 */
+    uint32_t frames;     /* of each machine, 2 to 1,048,576. One of them is spare: it is in use only within a call */
+    uint32_t clients;    /* how many may be in at a time: 1 to 65,536 */
+    uint32_t recent;     /* how many questions pageshare_domain_seen remembers: 1 to 16,777,216 */
+    uint32_t hash;       /* an enum pageshare_hash_kind */
+    uint32_t salt;       /* drawn at random, and kept secret from clients too: who knows it may keep pages from being shared */
+    uint64_t seed;       /* the same of pageshare_domain_seen: who knows it can make questions take long */
+    void *region;        /* memory for the frames, aligned to 4,096 bytes, or NULL: the library takes it itself */
+    size_t region_bytes; /* at least 4,096 for each frame of each machine; the library uses no more than that */
+};
+
+/* The numbers of a config, as the calls below take them, of which pageshare_domain_make is made. It is easier to call. */
+struct pageshare_domain_shape {
+    uint32_t machines;
+    uint32_t slots;
+    uint32_t frames;
+    uint32_t clients;
+    uint32_t recent;
+    uint32_t salt;
+    uint64_t seed;
+};
+
+/* Makes a domain with frames of its own. Answers as pageshare_domain_make does, but for 13 and 15. */
+uint32_t pageshare_domain_make_shaped(struct pageshare_domain *domain, const struct pageshare_domain_shape *shape, uint32_t hash);
+
+/*
+ * Begins a domain whose frames come from the caller: room for `pages` pages, exactly as many as all machines together have frames.
+ * Each other call but pageshare_domain_add and pageshare_domain_free answers 6 until it is made. Answers as pageshare_domain_make
+ * does, but for 15.
+ */
+uint32_t pageshare_domain_begin(struct pageshare_domain *domain, const struct pageshare_domain_shape *shape, uint32_t hash,
+                                size_t pages);
+
+/*
+ * Gives a domain that was begun the frames of its next machine: a region with room for exactly as many pages. With those of the last
+ * machine the domain is made. Answers 0, 6 (no domain was begun, or it is made), 13 (the region has room for another number) or 4
+ * (memory; the handle holds nothing then, and the library doesn't touch the regions again).
+ */
+uint32_t pageshare_domain_add(struct pageshare_domain *domain, struct pageshare_region region);
+
+/* Frees the domain, whoever is in, or one that was begun. Answers PAGESHARE_OK or PAGESHARE_ERROR_NO_MACHINE; the handle holds none
+ * afterwards, and the library doesn't touch its region again. */
+uint32_t pageshare_domain_free(struct pageshare_domain *domain);
+
+/*
+ * Makes a domain with no client in. Answers PAGESHARE_OK, or the first cause that holds in this order: 15 (the size), 5 (the handle
+ * holds a domain), 14 (the hash), 16 (machines), 17 (slots), 1 (frames), 18 (clients), 19 (recent), 13 (the region), 4 (memory).
+ */
+static inline uint32_t pageshare_domain_make(struct pageshare_domain *domain, const struct pageshare_domain_config *config) {
+    struct pageshare_domain_shape shape;
+    struct pageshare_region region;
+    uint64_t frames = (uint64_t)config->machines * config->frames;
+    size_t pages = config->region_bytes / PAGESHARE_PAGE_BYTES;
+    uint32_t status;
+    if (config->size != sizeof *config) return PAGESHARE_ERROR_SIZE;
+    shape.machines = config->machines;
+    shape.slots = config->slots;
+    shape.frames = config->frames;
+    shape.clients = config->clients;
+    shape.recent = config->recent;
+    shape.salt = config->salt;
+    shape.seed = config->seed;
+    if (config->region == NULL) return pageshare_domain_make_shaped(domain, &shape, config->hash);
+    if (pages > frames) pages = (size_t)frames;
+    if ((uintptr_t)config->region % PAGESHARE_PAGE_BYTES != 0) pages = 0;
+    status = pageshare_domain_begin(domain, &shape, config->hash, pages);
+    if (status != PAGESHARE_OK) return status;
+    for (uint32_t machine = 0; machine < config->machines; machine++) {
+        region.at = (uint8_t *)config->region + (size_t)machine * config->frames * PAGESHARE_PAGE_BYTES;
+        region.pages = config->frames;
+        status = pageshare_domain_add(domain, region);
+        if (status != PAGESHARE_OK) {
+            pageshare_domain_free(domain);
+            return status;
+        }
+    }
+    return PAGESHARE_OK;
+}
+
+/*
+ * Lets a client in, and gets its number: the least that no client has, below the config's clients. Answers 0, 6 or 20 (NO_ROOM).
+ */
+uint32_t pageshare_domain_enter(struct pageshare_domain *domain, uint32_t *client);
+
+/* What became of a page that was to be lent. */
+struct pageshare_loan {
+    uint32_t status;  /* an enum pageshare_status: PAGESHARE_OK where the page was lent */
+    uint32_t frame;   /* the frame that holds the page's bytes, or PAGESHARE_NO_FRAME where it wasn't lent */
+    uint64_t slot;    /* the page's slot, or 0 */
+    uint32_t sharers; /* how many slots have this frame, with this one, or 0 */
+};
+
+/*
+ * Lends a page of a client: it gets a free slot, and the frame of the pages that are equal to it or one of its own. No other slot
+ * changes its frame, and no frame that a slot has changes its bytes. Answers 0, 6, 21 (NO_CLIENT), 22 (NO_SLOT) or 23 (NO_FRAME).
+ */
+struct pageshare_loan pageshare_domain_lend(struct pageshare_domain *domain, uint32_t client,
+                                            const uint8_t page[PAGESHARE_PAGE_BYTES]);
+
+/*
+ * Releases a client's slot. *freed is then the frame that is free since, the slot's, or PAGESHARE_NO_FRAME where other slots have it
+ * too. A client that has begun to leave may release slots. Answers 0, 6 or 24 (NOT_ITS_SLOT); unless it is 0, *freed stays as it is.
+ */
+uint32_t pageshare_domain_release(struct pageshare_domain *domain, uint32_t client, uint64_t slot, uint32_t *freed);
+
+/*
+ * Lets a client leave, in parts, so that no call takes long: releases its slots, at most `most` of them, in the order of their
+ * numbers. *count is how many, and for the i-th of them freed[i] is the frame that is free since, or PAGESHARE_NO_FRAME. From the
+ * first call on the client lends no more. Call it until *count is 0: then the client is out, and its number may be another's.
+ * A call looks at each slot of the domain once at most. Answers 0, 6, 9 (LENGTH: `most` is 0) or 21 (NO_CLIENT: it has not entered,
+ * or is out); unless it is 0, *freed and *count stay as they are.
+ */
+uint32_t pageshare_domain_leave(struct pageshare_domain *domain, uint32_t client, uint32_t *freed, size_t most, size_t *count);
+
+/*
+ * A page's fingerprint: 64 bits of its content under a salt, by the fast hash, whatever the domain's hash. It is only a guess whether
+ * pages are equal. Clients compute it, so its salt isn't the domain's, which clients mustn't know.
+ */
+uint64_t pageshare_domain_fingerprint(uint32_t salt, const uint8_t page[PAGESHARE_PAGE_BYTES]);
+
+/*
+ * Asks about one page. *seen is then 1 where another page was asked about with this fingerprint, within the last config->recent
+ * questions, and else 0. A page is named by its client and by `page`, a number of the client's choice for each of its pages, so a page
+ * that asks again doesn't see itself. Whether the client is in isn't looked at. Answers 0 or 6.
+ */
+uint32_t pageshare_domain_ask(struct pageshare_domain *domain, uint32_t client, uint64_t page, uint64_t fingerprint, uint8_t *seen);
+
+/* Asks about `count` pages, one after the other in this order; seen[i] is the answer for pages[i] and fingerprints[i]. Answers 0, or
+ * 6, and then writes no answer; 0 for no page. */
+static inline uint32_t pageshare_domain_seen(struct pageshare_domain *domain, uint32_t client, const uint64_t *pages,
+                                             const uint64_t *fingerprints, size_t count, uint8_t *seen) {
+    for (size_t i = 0; i < count; i++) {
+        uint32_t status = pageshare_domain_ask(domain, client, pages[i], fingerprints[i], seen + i);
+        if (status != PAGESHARE_OK) return status;
+    }
+    return PAGESHARE_OK;
+}
+
+/* What a domain counts. */
+struct pageshare_domain_totals {
+    uint32_t machines;
+    uint32_t clients;   /* the clients that have entered and aren't out */
+    uint32_t slots;     /* the slots that clients have */
+    uint32_t frames;    /* the frames in use */
+    uint32_t shared;    /* the slots whose frame another slot has, too */
+    uint32_t reclaimed; /* slots less frames: what sharing saves */
+};
+
+/* Gets the domain's totals. It looks at each slot. Answers 0 or 6. */
+uint32_t pageshare_domain_report(struct pageshare_domain *domain, struct pageshare_domain_totals *totals);
 
 #ifdef __cplusplus
 }

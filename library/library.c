@@ -41,7 +41,6 @@ const char *pageshare_status_text(uint32_t status) {
     case PAGESHARE_ERROR_UNMAPPED: return "the page has no frame";
     case PAGESHARE_ERROR_REGION: return "the region is too small, or not aligned to 4,096 bytes";
     case PAGESHARE_ERROR_HASH: return "no such hash";
-#ifdef PAGESHARE_DOMAIN_NONE
     case PAGESHARE_ERROR_SIZE: return "the configuration has another size";
     case PAGESHARE_ERROR_MACHINES: return "no machine, or too many machines";
     case PAGESHARE_ERROR_SLOTS: return "no slot, or too many slots";
@@ -52,7 +51,6 @@ const char *pageshare_status_text(uint32_t status) {
     case PAGESHARE_ERROR_NO_SLOT: return "no slot is free";
     case PAGESHARE_ERROR_NO_FRAME: return "no frame is free";
     case PAGESHARE_ERROR_NOT_ITS_SLOT: return "the slot is not the client's";
-#endif
     case PAGESHARE_ERROR_PROCESSOR: return "the library is built for a newer processor";
     default: return "unknown status";
     }
@@ -114,7 +112,6 @@ uint32_t pageshare_free(struct pageshare *machine) {
     return proved_pageshare_free(machine);
 }
 
-#ifdef PAGESHARE_DOMAIN_NONE
 uint32_t proved_pageshare_domain_make_shaped(struct pageshare_domain *, const struct pageshare_domain_shape *, uint32_t);
 uint32_t proved_pageshare_domain_begin(struct pageshare_domain *, const struct pageshare_domain_shape *, uint32_t, size_t);
 uint32_t proved_pageshare_domain_free(struct pageshare_domain *);
@@ -133,4 +130,3 @@ uint32_t pageshare_domain_free(struct pageshare_domain *domain) {
     if (pageshare_check_processor() != PAGESHARE_OK) return PAGESHARE_ERROR_NO_MACHINE;
     return proved_pageshare_domain_free(domain);
 }
-#endif

@@ -107,3 +107,105 @@ impl fmt::Display for NoSuchPage {
 }
 
 impl Error for NoSuchPage {}
+
+/// Why no domain was made.
+#[derive(Clone, Copy, Debug, PartialEq, Eq, Hash)]
+#[non_exhaustive]
+pub enum DomainError {
+    /// No machine, or more than 64.
+    Machines,
+    /// No slot, or more than 1,048,576 for each machine.
+    Slots,
+    /// Fewer than 2 frames for each machine, or more than 1,048,576.
+    Frames,
+    /// Room for no client, or for more than 65,536.
+    Clients,
+    /// Room for no question, or for more than 16,777,216.
+    Recent,
+    /// The region has room for fewer frames.
+    Region,
+    /// The memory was refused.
+    OutOfMemory,
+    /// A status that this wrapper does not know: it is of another version than the library.
+    Unknown(u32),
+}
+
+impl DomainError {
+    pub(crate) fn of(status: u32) -> DomainError {
+        match status {
+            16 => DomainError::Machines,
+            17 => DomainError::Slots,
+            1 => DomainError::Frames,
+            18 => DomainError::Clients,
+            19 => DomainError::Recent,
+            13 => DomainError::Region,
+            4 => DomainError::OutOfMemory,
+            _ => DomainError::Unknown(status),
+        }
+    }
+}
+
+impl fmt::Display for DomainError {
+    fn fmt(&self, f: &mut fmt::Formatter<'_>) -> fmt::Result {
+        match self {
+            DomainError::Machines => f.write_str("a domain has 1 to 64 machines"),
+            DomainError::Slots => f.write_str("each machine has 1 to 1,048,576 slots"),
+            DomainError::Frames => f.write_str("each machine has 2 to 1,048,576 frames"),
+            DomainError::Clients => f.write_str("a domain has room for 1 to 65,536 clients"),
+            DomainError::Recent => f.write_str("a domain remembers 1 to 16,777,216 questions"),
+            DomainError::Region => {
+                f.write_str("the region has room for each frame of each machine")
+            }
+            DomainError::OutOfMemory => f.write_str("out of memory"),
+            DomainError::Unknown(status) => write!(f, "unknown status {status}"),
+        }
+    }
+}
+
+impl Error for DomainError {}
+
+/// As many clients are in as there may be.
+#[derive(Clone, Copy, Debug, PartialEq, Eq, Hash)]
+pub struct NoRoom;
+
+impl fmt::Display for NoRoom {
+    fn fmt(&self, f: &mut fmt::Formatter<'_>) -> fmt::Result {
+        f.write_str("as many clients are in as there may be")
+    }
+}
+
+impl Error for NoRoom {}
+
+/// Why a page wasn't lent. Nothing has changed.
+#[derive(Clone, Copy, Debug, PartialEq, Eq, Hash)]
+#[non_exhaustive]
+pub enum LendError {
+    /// The page's machine has no free slot.
+    NoSlot,
+    /// The page is equal to none that is lent, and its machine has no free frame but the spare one.
+    NoFrame,
+    /// A status that this wrapper does not know: it is of another version than the library.
+    Unknown(u32),
+}
+
+impl LendError {
+    pub(crate) fn of(status: u32) -> LendError {
+        match status {
+            22 => LendError::NoSlot,
+            23 => LendError::NoFrame,
+            _ => LendError::Unknown(status),
+        }
+    }
+}
+
+impl fmt::Display for LendError {
+    fn fmt(&self, f: &mut fmt::Formatter<'_>) -> fmt::Result {
+        match self {
+            LendError::NoSlot => f.write_str("no slot is free"),
+            LendError::NoFrame => f.write_str("no frame is free"),
+            LendError::Unknown(status) => write!(f, "unknown status {status}"),
+        }
+    }
+}
+
+impl Error for LendError {}

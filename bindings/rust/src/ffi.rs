@@ -52,7 +52,79 @@ pub(crate) struct Region {
     pub(crate) pages: usize,
 }
 
+/// The numbers that a domain is made of.
+#[repr(C)]
+pub(crate) struct DomainShape {
+    pub(crate) machines: u32,
+    pub(crate) slots: u32,
+    pub(crate) frames: u32,
+    pub(crate) clients: u32,
+    pub(crate) recent: u32,
+    pub(crate) salt: u32,
+    pub(crate) seed: u64,
+}
+
+#[repr(C)]
+pub(crate) struct DomainLoan {
+    pub(crate) status: u32,
+    pub(crate) frame: u32,
+    pub(crate) slot: u64,
+    pub(crate) sharers: u32,
+}
+
+#[repr(C)]
+#[derive(Clone, Copy, Default)]
+pub(crate) struct DomainTotals {
+    pub(crate) machines: u32,
+    pub(crate) clients: u32,
+    pub(crate) slots: u32,
+    pub(crate) frames: u32,
+    pub(crate) shared: u32,
+    pub(crate) reclaimed: u32,
+}
+
 extern "C" {
+    pub(crate) fn pageshare_domain_make_shaped(
+        domain: *mut Handle,
+        shape: *const DomainShape,
+        hash: u32,
+    ) -> u32;
+    pub(crate) fn pageshare_domain_begin(
+        domain: *mut Handle,
+        shape: *const DomainShape,
+        hash: u32,
+        pages: usize,
+    ) -> u32;
+    pub(crate) fn pageshare_domain_add(domain: *mut Handle, region: Region) -> u32;
+    pub(crate) fn pageshare_domain_free(domain: *mut Handle) -> u32;
+    pub(crate) fn pageshare_domain_enter(domain: *mut Handle, client: *mut u32) -> u32;
+    pub(crate) fn pageshare_domain_lend(
+        domain: *mut Handle,
+        client: u32,
+        page: *const [u8; 4096],
+    ) -> DomainLoan;
+    pub(crate) fn pageshare_domain_release(
+        domain: *mut Handle,
+        client: u32,
+        slot: u64,
+        freed: *mut u32,
+    ) -> u32;
+    pub(crate) fn pageshare_domain_leave(
+        domain: *mut Handle,
+        client: u32,
+        freed: *mut u32,
+        most: usize,
+        count: *mut usize,
+    ) -> u32;
+    pub(crate) fn pageshare_domain_fingerprint(salt: u32, page: *const [u8; 4096]) -> u64;
+    pub(crate) fn pageshare_domain_ask(
+        domain: *mut Handle,
+        client: u32,
+        page: u64,
+        fingerprint: u64,
+        seen: *mut u8,
+    ) -> u32;
+    pub(crate) fn pageshare_domain_report(domain: *mut Handle, totals: *mut DomainTotals) -> u32;
     pub(crate) fn pageshare_make_in(
         machine: *mut Handle,
         frames: u32,

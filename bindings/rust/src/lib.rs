@@ -21,6 +21,9 @@
 //! # }
 //! ```
 //!
+//! A [`Domain`] has clients, which lend pages to it; pages that hold the same bytes come to share a frame. It is for a host that
+//! shares memory between the processes of monitors.
+//!
 //! The library below is proved to do what the machine's model says (`docs/EMBEDDING.md` of its repository). This wrapper is plain
 //! Rust, which is tested and not proved: it keeps what the library asks of its callers.
 //!
@@ -42,6 +45,7 @@
 //! for which processors it was built.
 #![warn(missing_docs)]
 
+mod domain;
 mod error;
 mod ffi;
 mod frames;
@@ -49,7 +53,8 @@ mod machine;
 mod region;
 mod verdict;
 
-pub use error::{MakeError, NoSuchPage, RequestError};
+pub use domain::{fingerprint, Client, Domain, DomainConfig, DomainReport, Loan, Question};
+pub use error::{DomainError, LendError, MakeError, NoRoom, NoSuchPage, RequestError};
 pub use machine::{Builder, Guest, HashKind, Lending, Machine, Page, MAX_ACCESS, PAGE_BYTES};
 pub use region::Region;
 pub use verdict::{

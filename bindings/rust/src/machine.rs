@@ -121,7 +121,7 @@ pub enum HashKind {
 }
 
 impl HashKind {
-    fn number(self) -> u32 {
+    pub(crate) fn number(self) -> u32 {
         match self {
             HashKind::Sha256 => 0,
             HashKind::Fold => 1,

@@ -13,12 +13,16 @@ ghost use Rattle.std.specs.Option.{option_map};
 ghost use Rattle.page_model.specs.Limits.{shapes};
 ghost use Rattle.page_model.specs.Replay.{empty_state};
 ghost use Rattle.pageshare_c.specs.Access.{store_of, load_of};
+ghost use Rattle.page_digest.specs.Hashes.{fold_hash};
+ghost use Rattle.pageshare_c.specs.Asked.{asked, seen_after};
 ghost use Rattle.pageshare_c.specs.Codes.{held_status, status_told};
 ghost use Rattle.pageshare_c.specs.Found.{text_of, frame_found, HoldsText};
 ghost use Rattle.pageshare_c.specs.Framed.{frame_freed, frame_left, LeftFree};
 ghost use Rattle.pageshare_c.specs.Hashed.{hash_number};
+ghost use Rattle.pageshare_c.specs.Hosts.{free_status, made_status, AddsFrames, BeginsDomain, MakesDomain};
 ghost use Rattle.pageshare_c.specs.InTurn.{LendsGroup};
 ghost use Rattle.pageshare_c.specs.Kept.{FramesKept, StoreKept, LendKept, restarted_core};
+ghost use Rattle.pageshare_c.specs.Leases.{after_enter, after_release_at, client_after, enter_status, freed_after, release_status, slot_by, totals_after, LeavesAt, LendsAt};
 ghost use Rattle.pageshare_c.specs.Made.{Makes};
 ghost use Rattle.pageshare_c.specs.declared.make.TheConstants.{SHA256};
 ghost use Rattle.pageshare_c.specs.Outcomes.{outcome, state_after, store_outcome, state_stored, lend_outcome, state_lent, seen};
@@ -26,29 +30,58 @@ ghost use Rattle.pageshare_c.specs.Told.{answer_to, store_answer, lend_answer, c
 
 mod ahead;
 mod answer;
+mod ask;
+mod begin;
+mod begun;
+mod domain_handle;
+mod domain_slot;
+mod domain_totals;
 mod find;
 mod framed;
+mod given;
 mod group;
 mod hashed_core;
+mod hashed_domain;
+mod hosted;
 mod laws;
+mod lease;
+mod limits;
+mod loan;
 mod machine;
 mod make;
 mod parcel;
 mod serve;
+mod shape;
 mod slot;
 mod whole;
 
 pub use ahead::PageName;
 pub use answer::{Answer, NO_FRAME, Refusal, Totals};
 use answer::{refuse, status_of};
+use ask::ask;
+use begin::{add_frames, begin, make_domain};
+pub use begun::Begun;
+pub use domain_handle::DomainHandle;
+pub use domain_slot::DomainSlot;
+pub use domain_totals::DomainTotals;
+use domain_totals::report as report_domain;
+pub use given::GivenFrames;
 pub use group::Lending;
 pub use hashed_core::HashedCore;
-pub use laws::numbers_law;
+pub use hashed_domain::HashedDomain;
+pub use hosted::{Hosted, MadeDomain};
+pub use laws::{numbers_law, slots_law};
+use lease::{enter, leave, release};
+pub use loan::{DomainLoan, SLOTS_APART};
+use loan::{lend as lend_page, not_lent, slot_by};
 pub use machine::Machine;
 pub use machine_frames::Region;
 use make::{SHA256, make};
+use page_digest::{FoldHash, PageHash};
 use page_model::Request;
+use recent_fingerprints::PageName as AskedPage;
 use serve::{load_request, serve, serve_count, serve_load, store_request};
+pub use shape::DomainShape;
 pub use slot::Slot;
 use std::alloc::Global;
 
@@ -470,6 +503,221 @@ pub extern "C" fn pageshare_page(
                 Err(refusal) => status_of(refusal),
                 Ok(_) => 0,
             }
+        }
+    }
+}
+
+/// Makes a domain with frames of its own.
+///
+/// The status is 0 if it is made, 5 if the handle holds a domain already, and else 14 (no such hash), 16 (machines), 17 (slots), 1
+/// (frames), 18 (clients), 19 (recent) or 4 (memory was refused).
+#[unsafe(no_mangle)]
+pub extern "C" fn pageshare_domain_make_shaped(
+    alloc: Global,
+    domain: &mut DomainHandle,
+    shape: &DomainShape,
+    hash: u32,
+) -> u32
+    ensures { MakesDomain shape.now hash domain.old.slot.domain domain.new.slot.domain result }
+{
+    make_domain(alloc, domain, shape, hash)
+}
+
+/// Begins a domain, whose machines' frames come in regions: `pages` is how many pages these have room for.
+///
+/// The status is as for [`pageshare_domain_make_shaped`], with 13 before 4 if that isn't as many pages as all machines have frames.
+#[unsafe(no_mangle)]
+pub extern "C" fn pageshare_domain_begin(
+    alloc: Global,
+    domain: &mut DomainHandle,
+    shape: &DomainShape,
+    hash: u32,
+    pages: usize,
+) -> u32
+    ensures { BeginsDomain shape.now hash pages domain.old.slot.domain domain.new.slot.domain result }
+{
+    begin(alloc, domain, shape, hash, pages)
+}
+
+/// Gives a domain that was begun the frames of its next machine. With those of the last one the domain is made.
+///
+/// The status is 0, 6 if no domain was begun or it is made, 13 if the region has room for another number of frames, or 4 if memory
+/// was refused: then the handle holds nothing.
+#[unsafe(no_mangle)]
+pub extern "C" fn pageshare_domain_add(
+    alloc: Global,
+    domain: &mut DomainHandle,
+    region: Region,
+) -> u32
+    ensures { AddsFrames region.pages domain.old.slot.domain domain.new.slot.domain result }
+{
+    add_frames(alloc, domain, region)
+}
+
+/// Frees the domain. The status is 6 if the handle holds none.
+#[unsafe(no_mangle)]
+pub extern "C" fn pageshare_domain_free(alloc: Global, domain: &mut DomainHandle) -> u32
+    ensures none { domain.new.slot.domain ≡ None }
+    ensures status { result ≡ free_status domain.old.slot.domain }
+{
+    match domain.take(alloc) {
+        None => 6,
+        Some(_hosted) => 0,
+    }
+}
+
+/// Lets a client in: `client` is then its number, the least that no client has.
+///
+/// The status is 6 without a domain, and 20 if as many clients are in as there may be; then `client` stays as it is.
+#[unsafe(no_mangle)]
+pub extern "C" fn pageshare_domain_enter(
+    alloc: Global,
+    domain: &mut DomainHandle,
+    client: &mut u32,
+) -> u32
+    ensures status { result ≡ enter_status domain.old.slot.domain }
+    ensures client { client.new ≡ client_after client.old domain.old.slot.domain }
+    ensures now { domain.new.slot.domain ≡ after_enter domain.old.slot.domain }
+{
+    match domain.take(alloc) {
+        None => 6,
+        Some(mut hosted) => {
+            let status = enter(&mut hosted, client);
+            domain.put(hosted);
+            status
+        }
+    }
+}
+
+/// Lends a client's page: it gets a free slot of the machine that its hash names, and the frame of the pages that are equal to it or
+/// one of its own.
+///
+/// The status is 6 without a domain, 21 if no such client is in, 22 if that machine has no free slot, and 23 if the page joins no
+/// other and all frames of the machine but the spare one are in use.
+#[unsafe(no_mangle)]
+pub extern "C" fn pageshare_domain_lend(
+    alloc: Global,
+    domain: &mut DomainHandle,
+    client: u32,
+    page: &[u8; 4096],
+) -> DomainLoan
+    ensures { LendsAt client page.now result domain.old.slot.domain domain.new.slot.domain }
+{
+    match domain.take(alloc) {
+        None => not_lent(6),
+        Some(mut hosted) => {
+            let loan = lend_page(&mut hosted, client, page);
+            domain.put(hosted);
+            loan
+        }
+    }
+}
+
+/// Releases a client's slot: `freed` is then its frame, or [`NO_FRAME`] if other slots have the frame, too.
+///
+/// The status is 6 without a domain, and 24 if the slot isn't the client's; then `freed` stays as it is.
+#[unsafe(no_mangle)]
+pub extern "C" fn pageshare_domain_release(
+    alloc: Global,
+    domain: &mut DomainHandle,
+    client: u32,
+    slot: u64,
+    freed: &mut u32,
+) -> u32
+    ensures status { result ≡ release_status client (slot_by slot) domain.old.slot.domain }
+    ensures freed { freed.new ≡ freed_after client (slot_by slot) freed.old domain.old.slot.domain }
+    ensures now { domain.new.slot.domain ≡ after_release_at client (slot_by slot) domain.old.slot.domain }
+{
+    match domain.take(alloc) {
+        None => 6,
+        Some(mut hosted) => {
+            let status = release(&mut hosted, client, slot_by(slot), freed);
+            domain.put(hosted);
+            status
+        }
+    }
+}
+
+/// Releases slots of a client that leaves, in the order of their numbers, as many as `freed` has places: `count` is then how many,
+/// and each of the first places of `freed` holds the frame that is free since, or [`NO_FRAME`]. With 0 the client is out.
+///
+/// The status is 6 without a domain, 9 if `freed` has no place, and 21 if there is no such client; then nothing is written.
+#[unsafe(no_mangle)]
+pub extern "C" fn pageshare_domain_leave(
+    alloc: Global,
+    domain: &mut DomainHandle,
+    client: u32,
+    freed: &mut [u32],
+    count: &mut usize,
+) -> u32
+    ensures { LeavesAt client result freed.old freed.new count.old count.new domain.old.slot.domain domain.new.slot.domain }
+{
+    match domain.take(alloc) {
+        None => 6,
+        Some(mut hosted) => {
+            let status = leave(&mut hosted, client, freed, count);
+            domain.put(hosted);
+            status
+        }
+    }
+}
+
+/// Returns a page's fingerprint under a salt: its fast hash, whatever hash a domain has.
+#[unsafe(no_mangle)]
+pub extern "C" fn pageshare_domain_fingerprint(salt: u32, page: &[u8; 4096]) -> u64
+    ensures { result ≡ fold_hash salt page.now }
+{
+    FoldHash.hash(salt, page)
+}
+
+/// Asks about a page of a client: `seen` is then 1 if another page was asked about with this fingerprint, within the last questions
+/// that the domain remembers, and else 0.
+///
+/// The status is 6 without a domain, and then `seen` stays as it is.
+#[unsafe(no_mangle)]
+pub extern "C" fn pageshare_domain_ask(
+    alloc: Global,
+    domain: &mut DomainHandle,
+    client: u32,
+    page: u64,
+    fingerprint: u64,
+    seen: &mut u8,
+) -> u32
+    ensures status { result ≡ made_status (λ m. 0) domain.old.slot.domain }
+    ensures seen { seen.new ≡ seen_after (record { client = client; number = page }) fingerprint seen.old domain.old.slot.domain }
+    ensures noted { domain.new.slot.domain ≡ asked (record { client = client; number = page }) fingerprint domain.old.slot.domain }
+{
+    match domain.take(alloc) {
+        None => 6,
+        Some(mut hosted) => {
+            let page = AskedPage {
+                client,
+                number: page,
+            };
+            let status = ask(&mut hosted, page, fingerprint, seen);
+            domain.put(hosted);
+            status
+        }
+    }
+}
+
+/// Gets what the domain counts. It looks at each slot. The status is 6 without a domain, and then `totals` stays as it is.
+#[unsafe(no_mangle)]
+pub extern "C" fn pageshare_domain_report(
+    alloc: Global,
+    domain: &mut DomainHandle,
+    totals: &mut DomainTotals,
+) -> u32
+    ensures same { domain.new.slot.domain ≡ domain.old.slot.domain }
+    ensures status { result ≡ made_status (λ m. 0) domain.old.slot.domain }
+    ensures totals { totals.new ≡ totals_after totals.old domain.old.slot.domain }
+{
+    match domain.take(alloc) {
+        None => 6,
+        Some(hosted) => {
+            let status = report_domain(&hosted, totals);
+            domain.put(hosted);
+            status
         }
     }
 }

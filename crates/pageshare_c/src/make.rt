@@ -70,7 +70,11 @@ pub(crate) fn make(
 }
 
 /// Makes this many frames, in the region if there is one.
-fn new_frames(alloc: Global, frames: u32, region: Option<Region>) -> Result<Frames, FramesFault>
+pub(crate) fn new_frames(
+    alloc: Global,
+    frames: u32,
+    region: Option<Region>,
+) -> Result<Frames, FramesFault>
     requires { (1 ≤ frames) × (frames ≤ MAX_FRAMES) }
     ensures ok { IfOk result (λ free. free ≡ no_frames frames) }
     ensures fits { IfOk result (λ _. ¬ IsUnfit (option_map (λ r. r.pages) region) frames) }

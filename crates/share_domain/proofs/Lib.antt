@@ -1,4 +1,5 @@
 pub mod Leaves
 pub mod Machines
 pub mod Made
+pub mod Next
 pub mod Sums

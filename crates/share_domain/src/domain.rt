@@ -1,8 +1,8 @@
 //! The domain.
-ghost use Rattle.std.specs.Prelude.{◌≡◌, ◌<◌, ◌≤◌, ◌++◌, drop, length, IfOk, IfSome, MatchOption, MatchResult, slice_get};
+ghost use Rattle.std.specs.Prelude.{◌≡◌, ◌<◌, ◌≤◌, ◌++◌, drop, length, IfOk, IfSome, Some, MatchOption, MatchResult, slice_get};
 ghost use Rattle.share_domain.specs.Domains.{next_client, entered, page_machine, LendsIn, RefusesIn, release_answer, after_release};
 ghost use Rattle.share_domain.specs.Domains.{held_in, machine_at, with_client, with_machines, with_released, freed_in};
-ghost use Rattle.share_domain.specs.Leaving.{Leaves, StaysOut, first_slot, is_here, left_by};
+ghost use Rattle.share_domain.specs.Leaving.{Leaves, StaysOut, first_slot, is_here, left_by, next_slot};
 ghost use Rattle.share_domain.specs.Made.{AreLimits, AreFree, NoDomainFor, empty_domain};
 ghost use Rattle.share_domain.specs.Totals.{domain_totals};
 ghost use Rattle.lent_slots.specs.Totals.{FramesOfSlots};
@@ -12,7 +12,7 @@ use crate::clients::{find_out, is_here, is_in};
 use crate::config::{DomainConfig, check_limits};
 use crate::fault::{DomainFault, LendFault, NoSuchSlot};
 use crate::holding::{Loan, Slot};
-use crate::leave::{find_slot, is_of, told};
+use crate::leave::{find_next, find_slot, is_of, told};
 use crate::lend::{holding_at, lend_at, machine_of, release_at};
 use crate::make::{new_clients, new_frames, new_machines};
 use crate::report::{DomainReport, report};
@@ -153,7 +153,7 @@ impl<H: PageHash, A: Allocator> Domain<H, A> {
     /// and is out, and its number may be given to another. Returns `None` if there is no such client. Give room for one frame
     /// at least: with none, 0 could mean either.
     ///
-    /// For each slot that it releases it goes through the slots from the first one on.
+    /// It goes through the domain's slots from the first one on, once at most.
     pub fn leave(&mut self, client: u32, freed: &mut [u32]) -> Option<usize>
         requires room { 1 ≤ length freed.old }
         ensures { MatchOption result (StaysOut client freed.old freed.new self.old self.new)
@@ -162,12 +162,16 @@ impl<H: PageHash, A: Allocator> Domain<H, A> {
         if !self.is_present(client) {
             return None;
         }
-        if self.first_slot(client).is_none() {
-            self.note(client, Presence::Out);
-            return Some(0);
+        match self.first_slot(client) {
+            None => {
+                self.note(client, Presence::Out);
+                Some(0)
+            }
+            Some(first) => {
+                self.note(client, Presence::Leaving);
+                Some(self.release_from(client, first, freed))
+            }
         }
-        self.note(client, Presence::Leaving);
-        Some(self.release_each(client, freed))
     }
 
     /// Returns what the domain counts. It looks at each slot.
@@ -212,7 +216,16 @@ impl<H: PageHash, A: Allocator> Domain<H, A> {
         ensures slot { result ≡ first_slot client self.now.machines }
         ensures within { IfSome result (λ slot. slot.machine < length self.now.machines) }
     {
-        find_slot(&self.machines, client)
+        find_slot(&self.machines, client, 0)
+    }
+
+    /// Returns a client's first slot after this one.
+    fn next_slot(&self, client: u32, slot: Slot) -> Option<Slot>
+        requires { slot.machine < length self.now.machines }
+        ensures slot { result ≡ next_slot client slot self.now.machines }
+        ensures within { IfSome result (λ slot. slot.machine < length self.now.machines) }
+    {
+        find_next(&self.machines, client, slot)
     }
 
     /// Notes a client's presence.
@@ -235,16 +248,22 @@ impl<H: PageHash, A: Allocator> Domain<H, A> {
         }
     }
 
-    /// Releases slots of a client, as many as there is room to tell of, and returns how many.
-    fn release_each(&mut self, client: u32, freed: &mut [u32]) -> usize
+    /// Releases slots of a client, from its first one on, as many as there is room to tell of, and returns how many.
+    fn release_from(&mut self, client: u32, first: Slot, freed: &mut [u32]) -> usize
+        requires first { first_slot client self.old.machines ≡ Some first }
+        requires within { first.machine < length self.old.machines }
         ensures count { result ≡ length (left_by self.old.frames client (length freed.old) self.old.machines).told }
         ensures told { freed.new ≡ (left_by self.old.frames client (length freed.old) self.old.machines).told ++ drop result freed.old }
         ensures now { self.new ≡ with_machines self.old (left_by self.old.frames client (length freed.old) self.old.machines).machines }
     {
+        let mut found = Some(first);
         for i in 0..freed.len() {
-            match self.first_slot(client) {
+            match found {
                 None => return i,
-                Some(slot) => freed[i] = told(self.give_up(slot)),
+                Some(slot) => {
+                    freed[i] = told(self.give_up(slot));
+                    found = self.next_slot(client, slot);
+                }
             }
         }
         freed.len()

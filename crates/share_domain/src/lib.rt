@@ -22,4 +22,5 @@ pub use domain::Domain;
 pub use fault::{DomainFault, LendFault, NoSuchSlot};
 pub use holding::{Loan, Slot};
 pub use lent_slots::Holding;
+pub use make::new_frames;
 pub use report::DomainReport;

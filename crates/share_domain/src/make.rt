@@ -10,8 +10,8 @@ use machine_frames::Frames;
 use page_digest::PageHash;
 use std::alloc::{AllocError, Allocator};
 
-/// Makes so many frames for each machine.
-pub(crate) fn new_frames<A: Allocator + Clone>(
+/// Makes frames for each machine of a domain, all of them free.
+pub fn new_frames<A: Allocator + Clone>(
     alloc: A,
     config: &DomainConfig,
 ) -> Result<Vec<Frames<A>, A>, AllocError>

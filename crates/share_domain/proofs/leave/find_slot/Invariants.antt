@@ -1,7 +1,7 @@
 use Rattle.std.proofs.Common.{◌≡◌, drop}
-use Rattle.share_domain.specs.Leaving.{first_slot, slot_from}
+use Rattle.share_domain.specs.Leaving.{slot_from}
 use Rattle.share_domain.proofs.leave.find_slot.Given as goal
 
--- what is left gives the first slot
+-- what is left gives the same first slot
 abbrev pub invariant-loop-m : goal.invariant-loop-m
-invariant-loop-m g l = record { left : slot_from l.client l.m (drop l.m l.machines.items) ≡ first_slot l.client l.machines.items }
+invariant-loop-m g l = record { left : slot_from l.client l.m (drop l.m l.machines.items) ≡ slot_from l.client l.first (drop l.first l.machines.items) }

@@ -1,0 +1,127 @@
+-- Clients and their slots, as C names them: what each call answers, and what the handle holds afterwards.
+use Rattle.std.specs.Prelude.{◌≡◌, ◌≢◌, ℕ, ◌+◌, ◌*◌, ◌/◌, ◌%◌, ◌==◌, if◌then◌else◌, List, length, slice_get, Option, Some, None, Result, Ok, Err, MatchResult}
+use Rattle.share_domain.specs.declared.holding.Loan.{Loan}
+use Rattle.share_domain.specs.declared.holding.Slot.{Slot}
+use Rattle.share_domain.specs.declared.fault.LendFault.{LendFault}
+use Rattle.share_domain.specs.declared.fault.LendFault.TheVariants as fault
+use Rattle.share_domain.specs.declared.fault.NoSuchSlot.{NoSuchSlot}
+use Rattle.share_domain.specs.declared.report.DomainReport.{DomainReport}
+use Rattle.share_domain.specs.Domains.{DomainView, next_client, entered, page_machine, LendsIn, RefusesIn, release_answer, after_release}
+use Rattle.share_domain.specs.Leaving.{Leaves, is_here, told}
+use Rattle.share_domain.specs.Totals.{domain_totals}
+use Rattle.pageshare_c.specs.Domains.{hash_of}
+use Rattle.pageshare_c.specs.Hosts.{changed, made_status, of_made, showing, shows}
+use Rattle.pageshare_c.specs.declared.answer.TheConstants.{NO_FRAME}
+use Rattle.pageshare_c.specs.declared.hosted.Hosted.{Hosted}
+use Rattle.pageshare_c.specs.declared.hosted.Hosted.TheVariants.{Begun, Made}
+use Rattle.pageshare_c.specs.declared.hosted.MadeDomain.{MadeDomain}
+use Rattle.pageshare_c.specs.declared.loan.DomainLoan.{DomainLoan}
+use Rattle.pageshare_c.specs.declared.loan.TheConstants.{SLOTS_APART}
+use Rattle.pageshare_c.specs.declared.domain_totals.DomainTotals.{DomainTotals}
+
+-- a client enters: 20 if as many are in as there may be
+abbrev pub room_status : Option ℕ → ℕ
+room_status None = 20
+room_status (Some client) = 0
+
+abbrev pub number_or : ℕ → Option ℕ → ℕ
+number_or old None = old
+number_or old (Some n) = n
+
+abbrev pub enter_status : Option Hosted → ℕ
+enter_status old = made_status (λ m. room_status (next_client (shows m))) old
+
+abbrev pub client_after : ℕ → Option Hosted → ℕ
+client_after client old = of_made client (λ m. number_or client (next_client (shows m))) old
+
+abbrev pub after_enter : Option Hosted → Option Hosted
+after_enter old = changed (λ m. showing (entered (shows m) (next_client (shows m))) m) old
+
+-- a slot's number, and the slot with a number
+abbrev pub slot_number : Slot → ℕ
+slot_number slot = slot.machine * SLOTS_APART + slot.ppn
+
+abbrev pub slot_by : ℕ → Slot
+slot_by n = record { machine = n / SLOTS_APART; ppn = n % SLOTS_APART }
+
+-- what C gets of a page that wasn't lent
+abbrev pub not_lent : ℕ → DomainLoan
+not_lent status = record { status = status; frame = NO_FRAME; slot = 0; sharers = 0 }
+
+abbrev pub fault_status : LendFault → ℕ
+fault_status fault.NoClient = 21
+fault_status fault.NoSlot = 22
+fault_status fault.NoFrame = 23
+
+-- what C gets of a page, by what became of it; nothing becomes of it without a domain
+abbrev pub loan_told : Option (Result Loan LendFault) → DomainLoan
+loan_told None = not_lent 6
+loan_told (Some (Err fault)) = not_lent (fault_status fault)
+loan_told (Some (Ok loan)) = record { status = 0; frame = loan.frame; slot = slot_number loan.slot; sharers = loan.sharers }
+
+-- what became of a client's page at a domain
+abbrev pub Becomes : ℕ → List ℕ → Result Loan LendFault → MadeDomain → MadeDomain → Type 0
+Becomes client page result old new = MatchResult result
+    (λ loan. LendsIn (page_machine (hash_of old.domain) (shows old) page) client page loan (shows old) (shows new) × (new ≡ showing (shows new) old))
+    (λ fault. RefusesIn (page_machine (hash_of old.domain) (shows old) page) client fault (shows old) × (new ≡ old))
+
+-- the same at a handle
+abbrev pub BecomesAt : ℕ → List ℕ → Option (Result Loan LendFault) → Option Hosted → Option Hosted → Type 0
+BecomesAt client page None None new = new ≡ None
+BecomesAt client page None (Some (Begun b)) new = new ≡ Some (Begun b)
+BecomesAt client page None (Some (Made m)) new = ⊥
+BecomesAt client page (Some result) None new = ⊥
+BecomesAt client page (Some result) (Some (Begun b)) new = ⊥
+BecomesAt client page (Some result) (Some (Made m)) None = ⊥
+BecomesAt client page (Some result) (Some (Made m)) (Some (Begun b)) = ⊥
+BecomesAt client page (Some result) (Some (Made m)) (Some (Made n)) = Becomes client page result m n
+
+-- a client's page was to be lent, and the answer is what became of it
+pub record LendsAt (client : ℕ) (page : List ℕ) (answer : DomainLoan) (old new : Option Hosted) : Type 0 where
+  pub became : Option (Result Loan LendFault)
+  pub says : answer ≡ loan_told became
+  pub lends : BecomesAt client page became old new
+
+-- a client's slot is released: 24 if it isn't the client's
+abbrev pub released_status : Result (Option ℕ) NoSuchSlot → ℕ
+released_status (Ok frame) = 0
+released_status (Err fault) = 24
+
+abbrev pub freed_or : ℕ → Result (Option ℕ) NoSuchSlot → ℕ
+freed_or old (Ok frame) = told frame
+freed_or old (Err fault) = old
+
+abbrev pub release_status : ℕ → Slot → Option Hosted → ℕ
+release_status client slot old = made_status (λ m. released_status (release_answer client slot (shows m))) old
+
+abbrev pub freed_after : ℕ → Slot → ℕ → Option Hosted → ℕ
+freed_after client slot freed old = of_made freed (λ m. freed_or freed (release_answer client slot (shows m))) old
+
+abbrev pub after_release_at : ℕ → Slot → Option Hosted → Option Hosted
+after_release_at client slot old = changed (λ m. showing (after_release client slot (shows m)) m) old
+
+-- a client leaves: 9 if there is room for no frame, and 21 if there is no such client
+abbrev pub leave_status : ℕ → List ℕ → Option Hosted → ℕ
+leave_status client room old =
+    made_status (λ m. if length room == 0 then 9 else if is_here (slice_get (shows m).clients client) then 0 else 21) old
+
+abbrev pub LeavesDomain : ℕ → ℕ → List ℕ → List ℕ → Option Hosted → Option Hosted → Type 0
+LeavesDomain client count room after None new = ⊥
+LeavesDomain client count room after (Some (Begun b)) new = ⊥
+LeavesDomain client count room after (Some (Made m)) None = ⊥
+LeavesDomain client count room after (Some (Made m)) (Some (Begun b)) = ⊥
+LeavesDomain client count room after (Some (Made m)) (Some (Made n)) = Leaves client count room after (shows m) (shows n) × (n ≡ showing (shows n) m)
+
+-- A client left, in part or for good, by share_domain's words; or the call was refused, and nothing changed. room and before are what
+-- the caller's memory held for the freed frames and for their number.
+pub record LeavesAt (client status : ℕ) (room after : List ℕ) (before count : ℕ) (old new : Option Hosted) : Type 0 where
+  pub cause : status ≡ leave_status client room old
+  pub left : status ≡ 0 → LeavesDomain client count room after old new
+  pub kept : status ≢ 0 → (after ≡ room) × (count ≡ before) × (new ≡ old)
+
+-- what C reads of a report
+abbrev pub totals_told : DomainReport → DomainTotals
+totals_told r = record { machines = r.machines; clients = r.clients; slots = r.slots; frames = r.frames; shared = r.shared; reclaimed = r.reclaimed }
+
+abbrev pub totals_after : DomainTotals → Option Hosted → DomainTotals
+totals_after totals old = of_made totals (λ m. totals_told (domain_totals (shows m))) old

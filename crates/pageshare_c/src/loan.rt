@@ -1,0 +1,90 @@
+//! Pages that clients lend, as C gets them.
+ghost use Rattle.std.specs.Prelude.{◌≡◌, Some};
+ghost use Rattle.pageshare_c.specs.Leases.{fault_status, loan_told, not_lent, slot_by, slot_number, LendsAt};
+
+use crate::answer::NO_FRAME;
+use crate::hosted::Hosted;
+use page_model::Page;
+use share_domain::{LendFault, Loan, Slot};
+
+/// What became of a page that was to be lent.
+#[repr(C)]
+#[derive(Clone, Copy)]
+pub struct DomainLoan {
+    /// 0 if the page was lent, and else why it was not.
+    pub status: u32,
+    /// The frame that holds the page's bytes, or [`NO_FRAME`].
+    pub frame: u32,
+    /// The page's slot, or 0.
+    pub slot: u64,
+    /// How many slots have this frame, with this one, or 0.
+    pub sharers: u32,
+}
+
+/// How far apart the numbers of slots of two machines are: a slot's number is its machine times this plus its page.
+pub const SLOTS_APART: u64 = 4_294_967_296;
+
+/// Lends a client's page, and returns what became of it.
+pub(crate) fn lend(hosted: &mut Hosted, client: u32, page: &Page) -> DomainLoan
+    ensures { LendsAt client page.now result (Some hosted.old) (Some hosted.new) }
+{
+    match hosted {
+        Hosted::Begun(_) => not_lent(6),
+        Hosted::Made(made) => loan_told(made.domain.lend(client, page)),
+    }
+}
+
+/// Returns the slot with this number.
+pub(crate) fn slot_by(number: u64) -> Slot
+    ensures { result ≡ slot_by number }
+{
+    Slot {
+        machine: (number / SLOTS_APART) as u32,
+        ppn: (number % SLOTS_APART) as u32,
+    }
+}
+
+/// Returns what C gets of a page that was lent, or wasn't.
+fn loan_told(became: Result<Loan, LendFault>) -> DomainLoan
+    ensures { result ≡ loan_told (Some became) }
+{
+    match became {
+        Err(fault) => not_lent(fault_status(fault)),
+        Ok(loan) => DomainLoan {
+            status: 0,
+            frame: loan.frame,
+            slot: slot_number(loan.slot),
+            sharers: loan.sharers,
+        },
+    }
+}
+
+/// Returns what C gets of a page that wasn't lent, for this cause.
+pub(crate) fn not_lent(status: u32) -> DomainLoan
+    ensures { result ≡ not_lent status }
+{
+    DomainLoan {
+        status,
+        frame: NO_FRAME,
+        slot: 0,
+        sharers: 0,
+    }
+}
+
+/// Returns the number of a slot.
+fn slot_number(slot: Slot) -> u64
+    ensures { result ≡ slot_number slot }
+{
+    u64::from(slot.machine) * SLOTS_APART + u64::from(slot.ppn)
+}
+
+/// Returns the status for a page that wasn't lent.
+fn fault_status(fault: LendFault) -> u32
+    ensures { result ≡ fault_status fault }
+{
+    match fault {
+        LendFault::NoClient => 21,
+        LendFault::NoSlot => 22,
+        LendFault::NoFrame => 23,
+    }
+}

@@ -1,0 +1,4 @@
+pub mod Agreement
+pub mod Calls
+pub mod Histories
+pub mod Example
