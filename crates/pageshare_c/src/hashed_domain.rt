@@ -64,7 +64,7 @@ impl HashedDomain {
         ensures lends { MatchResult result
             (λ loan. LendsIn (page_machine (hash_of self.old) (view_of self.old) page.now) client page.now loan (view_of self.old) (view_of self.new))
             (λ fault. RefusesIn (page_machine (hash_of self.old) (view_of self.old) page.now) client fault (view_of self.old)
-                × (self.new ≡ self.old)) }
+            × (self.new ≡ self.old)) }
         ensures hash { self.new ≡ with_view (view_of self.new) self.old }
     {
         match self {

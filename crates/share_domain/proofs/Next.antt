@@ -36,12 +36,12 @@ module _ {X : Type 0} (p : X → Bool) where
   from_next i (suc j) (x ∷ xs) y fails e =
       let step : suc (j + 1) ≡ suc j + 1 = omega arith in
       go (p x) (λ later. from_next (i + 1) j xs y fails later) e ∙ ap (λ (n : ℕ). position_from p (i + suc j + 1) (drop n (x ∷ slice_set xs j y))) step where
-    go : (b : Bool) → (position_from p (i + 1) xs ≡ Some (i + 1 + j) → position_from p (i + 1) (slice_set xs j y) ≡ position_from p (i + 1 + j + 1) (drop (j + 1) (slice_set xs j y)))
-        → cond b (Some i) (position_from p (i + 1) xs) ≡ Some (i + suc j)
-        → cond b (Some i) (position_from p (i + 1) (slice_set xs j y)) ≡ position_from p (i + suc j + 1) (drop (j + 1) (slice_set xs j y))
-    go true rest same = let at : i ≡ i + suc j = ap (number_or 0) same in absurd (omega (arith, at))
-    go false rest later =
-        rest (later ∙ ap Some (omega arith)) ∙ ap (λ (n : ℕ). position_from p n (drop (j + 1) (slice_set xs j y))) (omega arith)
+        go : (b : Bool) → (position_from p (i + 1) xs ≡ Some (i + 1 + j) → position_from p (i + 1) (slice_set xs j y) ≡ position_from p (i + 1 + j + 1) (drop (j + 1) (slice_set xs j y)))
+            → cond b (Some i) (position_from p (i + 1) xs) ≡ Some (i + suc j)
+            → cond b (Some i) (position_from p (i + 1) (slice_set xs j y)) ≡ position_from p (i + suc j + 1) (drop (j + 1) (slice_set xs j y))
+        go true rest same = let at : i ≡ i + suc j = ap (number_or 0) same in absurd (omega (arith, at))
+        go false rest later =
+            rest (later ∙ ap Some (omega arith)) ∙ ap (λ (n : ℕ). position_from p n (drop (j + 1) (slice_set xs j y))) (omega arith)
 
 -- the same by the word that the definitions have
 pub position_next : {X : Type 0} (p : X → Bool) (xs : List X) (j : ℕ) (y : X) → p y ≡ false → position p xs ≡ Some j
@@ -97,17 +97,17 @@ slot_next client k (suc j) ppn (m ∷ machines) x e free =
     let step : suc (j + 1) ≡ suc j + 1 = omega arith in
     go (position (is_of client) m.slots) (λ later. slot_next client (k + 1) j ppn machines x later free) e
     ∙ ap (λ (n : ℕ). or_later (k + suc j) (ppn_after client ppn x.slots) (slot_from client (k + suc j + 1) (drop n (m ∷ slice_set machines j x)))) step where
-  go : (o : Option ℕ) → (slot_from client (k + 1) machines ≡ Some (record { machine = k + 1 + j; ppn = ppn })
-      → slot_from client (k + 1) (slice_set machines j x)
-      ≡ or_later (k + 1 + j) (ppn_after client ppn x.slots) (slot_from client (k + 1 + j + 1) (drop (j + 1) (slice_set machines j x))))
-      → or_later k o (slot_from client (k + 1) machines) ≡ Some (record { machine = k + suc j; ppn = ppn })
-      → or_later k o (slot_from client (k + 1) (slice_set machines j x))
-      ≡ or_later (k + suc j) (ppn_after client ppn x.slots) (slot_from client (k + suc j + 1) (drop (j + 1) (slice_set machines j x)))
-  go (Some q) rest same = let at : k ≡ k + suc j = ap machine_in same in absurd (omega (arith, at))
-  go None rest later =
-      let place : k + suc j ≡ k + 1 + j = omega arith in
-      rest (later ∙ ap (λ (n : ℕ). Some (record { machine = n; ppn = ppn })) place)
-      ∙ ap (λ (n : ℕ). or_later n (ppn_after client ppn x.slots) (slot_from client (n + 1) (drop (j + 1) (slice_set machines j x)))) (sym place)
+      go : (o : Option ℕ) → (slot_from client (k + 1) machines ≡ Some (record { machine = k + 1 + j; ppn = ppn })
+          → slot_from client (k + 1) (slice_set machines j x)
+          ≡ or_later (k + 1 + j) (ppn_after client ppn x.slots) (slot_from client (k + 1 + j + 1) (drop (j + 1) (slice_set machines j x))))
+          → or_later k o (slot_from client (k + 1) machines) ≡ Some (record { machine = k + suc j; ppn = ppn })
+          → or_later k o (slot_from client (k + 1) (slice_set machines j x))
+          ≡ or_later (k + suc j) (ppn_after client ppn x.slots) (slot_from client (k + suc j + 1) (drop (j + 1) (slice_set machines j x)))
+      go (Some q) rest same = let at : k ≡ k + suc j = ap machine_in same in absurd (omega (arith, at))
+      go None rest later =
+          let place : k + suc j ≡ k + 1 + j = omega arith in
+          rest (later ∙ ap (λ (n : ℕ). Some (record { machine = n; ppn = ppn })) place)
+          ∙ ap (λ (n : ℕ). or_later n (ppn_after client ppn x.slots) (slot_from client (n + 1) (drop (j + 1) (slice_set machines j x)))) (sym place)
 
 -- a released slot is free
 released_free : (ppn : ℕ) (m : MachineView) → (released ppn m).slots ≡ slice_set m.slots ppn None
