@@ -452,8 +452,9 @@ def estimates_of_processes(folder):
     pids = [f"process {child.pid}" for child in children]
     case("estimate of processes", [] if is_clean(done) and told == merged else [f"{done.stderr!r}, {told}, and {merged} was due"])
     case("estimate of processes, names", [] if names == [str(raw), *pids] else [f"{names}"])
-    parts = told["total"]["parts"]
-    is_whole = sum(parts.values()) == told["total"]["reclaimed"] and parts["between"] >= 2 * OWN_PAGES and parts["within"] >= 2 * OWN_PAGES
+    total = told.get("total", {"reclaimed": None, "parts": {"between": 0, "within": 0}})
+    parts = total["parts"]
+    is_whole = sum(parts.values()) == total["reclaimed"] and parts["between"] >= 2 * OWN_PAGES and parts["within"] >= 2 * OWN_PAGES
     case("estimate of processes, parts", [] if is_whole else [f"{parts}"])
     is_told = is_clean(table) and all(name in table.stdout.decode() for name in pids) and (folder / "own.svg").read_text().count("<title>process ") == 2
     case("estimate of processes, table and picture", [] if is_told else [f"{table}"])

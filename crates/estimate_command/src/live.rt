@@ -44,7 +44,10 @@ pub fn count_live<'a, R: Threads + Sync + Files<File = File> + Eprint + Clock>(
     reading.end();
     let digests = digests?;
     check_images(rt, words, &images)?;
-    merge_all(alloc, &digests).map_err(|cause| EstimateFault::of_all(words, cause))
+    merge_all(alloc, &digests).map_err(|_refused| EstimateFault::of_all(
+        words,
+        ImageCause::OutOfMemory,
+    ))
 }
 
 /// Returns how many pages the images and the processes have.
@@ -176,23 +179,31 @@ fn within_of(lines: &[DigestLine]) -> u64 {
 }
 
 /// Counts what the digests tell together. They are in memory, and in the form that they are read in, so only memory can be refused.
-fn merge_all(alloc: Global, digests: &Digests) -> Result<Counted, ImageCause> {
+fn merge_all(alloc: Global, digests: &Digests) -> Result<Counted, AllocError> {
     let mut readers = Vec::new(alloc);
     for text in &digests.texts {
-        match DigestReader::new(alloc, text.as_slice()) {
-            Ok(reader) => readers
-                .push(reader)
-                .map_err(|_refused| ImageCause::OutOfMemory)?,
-            Err(_fault) => return Err(ImageCause::OutOfMemory),
-        }
+        push_reader(alloc, text, &mut readers)?;
     }
     if readers.is_empty() {
-        return Err(ImageCause::OutOfMemory);
+        return Err(AllocError);
     }
     match merge(alloc, &mut readers, Pairs::Omitted) {
-        Ok(merged) => {
-            counted(alloc, &merged, &digests.within).map_err(|_refused| ImageCause::OutOfMemory)
+        Ok(merged) => counted(alloc, &merged, &digests.within),
+        Err(_fault) => Err(AllocError),
+    }
+}
+
+/// Reads the header of a digest's text, and appends the digest to the others.
+fn push_reader<'a>(
+    alloc: Global,
+    text: &'a [u8],
+    readers: &mut Vec<DigestReader<&'a [u8], Global>>,
+) -> Result<(), AllocError> {
+    match DigestReader::new(alloc, text) {
+        Ok(reader) => {
+            readers.push(reader)?;
+            Ok(())
         }
-        Err(_fault) => Err(ImageCause::OutOfMemory),
+        Err(_fault) => Err(AllocError),
     }
 }
