@@ -3,7 +3,7 @@ use Rattle.std.proofs.Common.{◌≡◌, ℕ, zero, suc, ◌+◌, ◌*◌, ◌-�
 use Rattle.std.specs.Int.{w32, w64, from_le_bytes, to_le_bytes}
 use Rattle.std.specs.List.{flat_map, AllByRecursion}
 use Rattle.std.proofs.lemmas.Bool.{cases_lt}
-use Rattle.std.proofs.lemmas.List.{take_at, drop_at, take-append-drop, length-append, length-take, length-drop, get_or-drop, get_or-take, get_or_past, nil_from_length, append-nil, take_all}
+use Rattle.std.proofs.lemmas.List.{take_at, drop_at, take-append-drop, length-append, length-take, length-drop, get_or-drop, get_or-take, get_or_past, nil_from_length, append-nil, take_all, drop-drop}
 use Rattle.std.proofs.lemmas.List.Concat.{flat_map-cons}
 use Rattle.std.proofs.lemmas.Nat.{le_bytes_4, le_bytes_8, from_le_bytes-to_le_bytes_4, from_le_bytes-to_le_bytes_8}
 use Rattle.host_messages.specs.Reading.{items_at}
@@ -125,3 +125,6 @@ u64_below bytes fits = omega (arith, fits 0, fits 1, fits 2, fits 3, fits 4, fit
 -- the last bytes, all of them
 pub take_last : (n at : ℕ) (bytes : List ℕ) → length bytes ≡ at + n → take n (drop at bytes) ≡ drop at bytes
 take_last n at bytes len = take_all n (drop at bytes) (omega (arith, len, length-drop at bytes))
+
+pub drop_more : (m n : ℕ) (xs : List ℕ) → drop n (drop m xs) ≡ drop (m + n) xs
+drop_more m n xs = drop-drop n m xs

@@ -61,7 +61,7 @@ counted width count len x y e = counted_by width count len x y (ltb MAX_IN_MESSA
 abbrev question : ℕ → ℕ → Question
 question page fingerprint = record { page = page; fingerprint = fingerprint }
 
-abbrev lent : ℕ → ℕ → ℕ → Lent
+abbrev pub lent : ℕ → ℕ → ℕ → Lent
 lent slot frame sharers = record { slot = slot; frame = frame; sharers = sharers }
 
 pub question_item : IsItem 16 question_bytes question_at QuestionFits

@@ -5,12 +5,14 @@
 
 mod client;
 mod fault;
+mod host;
 mod item;
 mod limits;
 mod list;
 
 pub use client::{ClientMessage, Name};
 pub use fault::MessageFault;
+pub use host::{HostMessage, Welcome};
 pub use item::{Lent, Packet, Question};
 pub use limits::{
     ASK, HEAD_BYTES, HELLO, LEND, LOANS, MAX_IN_MESSAGE, MAX_MESSAGE_BYTES, NAME_BYTES, NO_FRAME,
