@@ -1,0 +1,6 @@
+pub mod Table
+pub mod Turns
+pub mod Steps
+pub mod Ends
+pub mod Made
+pub mod Others

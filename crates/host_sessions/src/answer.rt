@@ -1,0 +1,21 @@
+//! What comes of a packet.
+use crate::session::SessionFault;
+use arrayvec::ArrayVec;
+use host_messages::{Lent, MAX_IN_MESSAGE, Welcome};
+
+/// What comes of a packet.
+#[derive(Clone, Debug, PartialEq, Eq, Drop)]
+pub enum Received {
+    /// No session with this number takes messages. Nothing changed.
+    NoSession,
+    /// The packet was at fault. Its session takes no more.
+    Fault(SessionFault),
+    /// The session began, or the one with this number was taken up, which is free now.
+    Welcome(Welcome, Option<u32>),
+    /// For each page, whether another one was asked about with its fingerprint lately.
+    Seen(ArrayVec<bool, MAX_IN_MESSAGE>),
+    /// What became of each page.
+    Loans(ArrayVec<Lent, MAX_IN_MESSAGE>),
+    /// For each slot, the frame that its release freed, or `NO_FRAME`. There is no reply.
+    Released(ArrayVec<u32, MAX_IN_MESSAGE>),
+}
