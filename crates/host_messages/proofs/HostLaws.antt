@@ -46,6 +46,7 @@ lent_item = record {
   back = λ bytes len are. lent_back bytes len are;
   below = λ bytes len are. record { slot = u64_below bytes are; frame = u32_below (drop 8 bytes) (IsBytes-drop 8 bytes are); sharers = u32_below (drop 12 bytes) (IsBytes-drop 12 bytes are) };
 }
+
 -- ---- answers
 
 bytes_again : (answers : List Bool) → list_any is_no_answer (map answer_byte answers) ≡ false

@@ -148,15 +148,15 @@ hello_back version rest m e =
     let v : version ≡ VERSION = eqb-true version VERSION (not_false (eqb version VERSION) a.0) in
     elim (chosen (eqb (length rest) 0) (Ok (client.Hello None)) (cond (eqb (length rest) NAME_BYTES) (Ok (client.Hello (Some rest))) (Err fault.Length)) (done m) a.1) [
       | inl p ↦
-        let nothing : rest ≡ [] = nil_from_length rest (eqb-true (length rest) 0 p.0) in
-        subst (λ (x : ClientMessage). SpelledAs x (head HELLO version ++ rest)) (ok_is (client.Hello None) m p.1)
+          let nothing : rest ≡ [] = nil_from_length rest (eqb-true (length rest) 0 p.0) in
+          subst (λ (x : ClientMessage). SpelledAs x (head HELLO version ++ rest)) (ok_is (client.Hello None) m p.1)
           (record { fits = tt; same = rw (v, nothing) refl })
       | inr p ↦
-        elim (chosen (eqb (length rest) NAME_BYTES) (Ok (client.Hello (Some rest))) (Err fault.Length) (done m) p.1) [
-          | inl q ↦ subst (λ (x : ClientMessage). SpelledAs x (head HELLO version ++ rest)) (ok_is (client.Hello (Some rest)) m q.1)
-              (record { fits = eqb-true (length rest) NAME_BYTES q.0; same = rw v refl })
-          | inr q ↦ absurd (is_wrong fault.Length m q.1)
-        ]
+          elim (chosen (eqb (length rest) NAME_BYTES) (Ok (client.Hello (Some rest))) (Err fault.Length) (done m) p.1) [
+            | inl q ↦ subst (λ (x : ClientMessage). SpelledAs x (head HELLO version ++ rest)) (ok_is (client.Hello (Some rest)) m q.1)
+                (record { fits = eqb-true (length rest) NAME_BYTES q.0; same = rw v refl })
+            | inr q ↦ absurd (is_wrong fault.Length m q.1)
+          ]
     ]
   where
     not_false : (b : Bool) → not b ≡ false → b ≡ true

@@ -6,9 +6,7 @@ ghost use Rattle.host_messages.specs.declared.limits.TheConstants.{MAX_IN_MESSAG
 
 use crate::fault::MessageFault;
 use crate::item::{Packet, Question, put_bytes, read_u32};
-use crate::limits::{
-    ASK, HEAD_BYTES, HELLO, LEND, MAX_IN_MESSAGE, NAME_BYTES, RELEASE, VERSION,
-};
+use crate::limits::{ASK, HEAD_BYTES, HELLO, LEND, MAX_IN_MESSAGE, NAME_BYTES, RELEASE, VERSION};
 use crate::list::{count_fault, put_head, put_items, read_items};
 use arrayvec::ArrayVec;
 

@@ -20,11 +20,16 @@ pub const NO_FRAME: u32 = u32::MAX;
 
 /// The kinds of a client's messages.
 pub const HELLO: u32 = 1;
+
 pub const ASK: u32 = 2;
+
 pub const LEND: u32 = 3;
+
 pub const RELEASE: u32 = 4;
 
 /// The kinds of a host's messages.
 pub const WELCOME: u32 = 17;
+
 pub const SEEN: u32 = 18;
+
 pub const LOANS: u32 = 19;

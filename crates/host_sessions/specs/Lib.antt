@@ -4,3 +4,4 @@ pub mod Steps
 pub mod Ends
 pub mod Made
 pub mod Others
+pub mod Replies

@@ -1,5 +1,5 @@
 -- A host before its first connection.
-use Rattle.std.specs.Prelude.{◌≡◌, ℕ, ◌*◌, ◌≤◌, replicate}
+use Rattle.std.specs.Prelude.{ℕ, ◌*◌, ◌≤◌, replicate}
 use Rattle.recent_fingerprints.specs.declared.limits.TheConstants.{MAX_PLACES}
 use Rattle.recent_fingerprints.specs.Notes.{nothing_noted}
 use Rattle.share_domain.specs.Made.{AreLimits, empty_domain}

@@ -1,5 +1,5 @@
 -- What a packet leaves as it is.
-use Rattle.std.specs.Prelude.{◌≡◌, ℕ, ◌==◌, false, List, Option, Some, None}
+use Rattle.std.specs.Prelude.{◌≡◌, ℕ, ◌==◌, false, Option, Some, None}
 use Rattle.lent_slots.specs.declared.holding.Holding.{Holding}
 use Rattle.share_domain.specs.declared.holding.Slot.{Slot}
 use Rattle.share_domain.specs.Domains.{DomainView, held_in}

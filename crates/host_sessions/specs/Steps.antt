@@ -1,5 +1,5 @@
 -- What a packet of a session does.
-use Rattle.std.specs.Prelude.{◌≡◌, ℕ, ◌+◌, Bool, true, false, nat_lt, if◌then◌else◌, List, [], ◌∷◌, length, take, Option, Some, None, Result, Ok, Err, slice_set}
+use Rattle.std.specs.Prelude.{◌≡◌, ℕ, true, false, ◌<◌, ◌≤◌, List, length, take, Option, Some, None, Result, Ok, Err, slice_set}
 use Rattle.host_messages.specs.declared.client.ClientMessage.{ClientMessage}
 use Rattle.host_messages.specs.declared.client.ClientMessage.TheVariants as client
 use Rattle.host_messages.specs.declared.fault.MessageFault.{MessageFault}
@@ -54,9 +54,9 @@ Breaks n s f received old new = (received ≡ got.Fault f) × (new ≡ with_sess
 abbrev pub welcome_to : HostView → List ℕ → Welcome
 welcome_to h name = record { name = name; frames = h.frames; salt = h.salt; most = MAX_IN_MESSAGE }
 
--- a session is taken up: the connection's number is its number now, and the old one is free
+-- a session is taken up: the connection's number is its number now, and the old one is free. (One that can be taken up has begun)
 abbrev pub TakesUp : ℕ → ℕ → Option Begun → Received → HostView → HostView → Type 0
-TakesUp n before None received old new = ⊥
+TakesUp n before None received old new = (received ≡ got.NoSession) × (new ≡ old)
 TakesUp n before (Some b) received old new =
     (received ≡ got.Welcome (welcome_to old b.name) (Some before))
     × (new ≡ with_sessions old (slice_set (slice_set old.sessions before session.Free) n (session.Begun (heard b b.slots))))
@@ -89,10 +89,11 @@ pub record LendsPages (hash : ℕ → List ℕ → ℕ) (n : ℕ) (b : Begun) (p
   pub reply : received ≡ got.Loans (record { items = loans })
   pub now : new ≡ with_session (with_domain old new.domain) n (session.Begun (heard b slots))
 
--- so many pages of the buffer are lent, if it has as many
-abbrev pub LendsFirst : (ℕ → List ℕ → ℕ) → ℕ → Begun → ℕ → List (List ℕ) → Received → HostView → HostView → Type 0
-LendsFirst hash n b count pages received old new =
-    if nat_lt (length pages) count then Breaks n (session.Begun b) fault.Pages received old new else LendsPages hash n b (take count pages) received old new
+-- so many pages of the buffer are lent, if it has as many. (No message that was read names more than 128)
+pub record LendsFirst (hash : ℕ → List ℕ → ℕ) (n : ℕ) (b : Begun) (count : ℕ) (pages : List (List ℕ)) (received : Received) (old new : HostView) : Type 0 where
+  pub enough : count ≤ MAX_IN_MESSAGE → count ≤ length pages → LendsPages hash n b (take count pages) received old new
+  pub short : length pages < count → Breaks n (session.Begun b) fault.Pages received old new
+  pub many : MAX_IN_MESSAGE < count → Breaks n (session.Begun b) fault.Pages received old new
 
 -- ---- a session's step, by its state and the message
 
@@ -121,8 +122,7 @@ abbrev pub Hears : (ℕ → List ℕ → ℕ) → ℕ → List (List ℕ) → Se
 Hears hash n pages s (Ok message) received old new = Steps hash n pages s message received old new
 Hears hash n pages s (Err f) received old new = Breaks n s (fault.Message f) received old new
 
--- a packet of a session
-abbrev pub Receives : (ℕ → List ℕ → ℕ) → ℕ → List ℕ → List (List ℕ) → Received → HostView → HostView → Type 0
-Receives hash n bytes pages received old new =
-    if takes (session_at old.sessions n) then Hears hash n pages (session_at old.sessions n) (client_at bytes) received old new
-    else ((received ≡ got.NoSession) × (new ≡ old))
+-- a packet of a session: nothing changes where it takes no messages
+pub record Receives (hash : ℕ → List ℕ → ℕ) (n : ℕ) (bytes : List ℕ) (pages : List (List ℕ)) (received : Received) (old new : HostView) : Type 0 where
+  pub heard-if : takes (session_at old.sessions n) ≡ true → Hears hash n pages (session_at old.sessions n) (client_at bytes) received old new
+  pub idle-if : takes (session_at old.sessions n) ≡ false → (received ≡ got.NoSession) × (new ≡ old)

@@ -1,5 +1,5 @@
 -- Sessions by their numbers.
-use Rattle.std.specs.Prelude.{◌≡◌, ℕ, ◌+◌, ◌%◌, ◌^◌, Bool, true, false, ◌&&◌, not, List, Option, Some, None, slice_set, slice_index_or, position}
+use Rattle.std.specs.Prelude.{ℕ, ◌+◌, ◌%◌, ◌^◌, Bool, true, false, ◌&&◌, List, Option, Some, None, slice_set, slice_index_or, position}
 use Rattle.std.specs.Str.{bytes_eq}
 use Rattle.host_sessions.specs.declared.session.SessionFault.{SessionFault}
 use Rattle.host_sessions.specs.declared.session.Link.{Link}

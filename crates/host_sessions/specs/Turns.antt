@@ -1,5 +1,5 @@
 -- What the pages, questions and slots of one message do, one after the other.
-use Rattle.std.specs.Prelude.{◌≡◌, ℕ, ◌+◌, ◌-◌, ◌*◌, ◌/◌, ◌%◌, ◌^◌, Bool, true, false, nat_lt, if◌then◌else◌, List, [], ◌∷◌, Option, Some, None, Result, Ok, Err, MatchResult}
+use Rattle.std.specs.Prelude.{◌≡◌, ℕ, ◌+◌, ◌-◌, ◌*◌, ◌/◌, ◌%◌, ◌^◌, Bool, ◌<◌, ◌≤◌, List, [], ◌∷◌, Option, Result, Ok, Err, MatchResult}
 use Rattle.host_messages.specs.declared.item.Question.{Question}
 use Rattle.host_messages.specs.declared.item.Lent.{Lent}
 use Rattle.host_messages.specs.declared.limits.TheConstants.{NO_FRAME}
@@ -93,8 +93,9 @@ pub record Keeps (slots after : ℕ) (lent : Lent) (old new : DomainView) : Type
   pub slots-are : after ≡ slots
   pub same : new ≡ old
 
-abbrev pub LendsOne : (ℕ → List ℕ → ℕ) → ℕ → ℕ → List ℕ → ℕ → ℕ → Lent → DomainView → DomainView → Type 0
-LendsOne hash client quota page slots after lent old new = if nat_lt slots quota then Lends hash client page slots after lent old new else Keeps slots after lent old new
+pub record LendsOne (hash : ℕ → List ℕ → ℕ) (client quota : ℕ) (page : List ℕ) (slots after : ℕ) (lent : Lent) (old new : DomainView) : Type 0 where
+  pub within : slots < quota → Lends hash client page slots after lent old new
+  pub full : quota ≤ slots → Keeps slots after lent old new
 
 -- the pages of a message, one after the other
 unfoldable pub LendsInTurn : (ℕ → List ℕ → ℕ) → ℕ → ℕ → List (List ℕ) → ℕ → ℕ → List Lent → DomainView → DomainView → Type 0

@@ -1,7 +1,10 @@
 //! What comes of a packet.
+ghost use Rattle.std.specs.Prelude.{◌≡◌};
+ghost use Rattle.host_sessions.specs.Replies.{reply_of};
+
 use crate::session::SessionFault;
 use arrayvec::ArrayVec;
-use host_messages::{Lent, MAX_IN_MESSAGE, Welcome};
+use host_messages::{HostMessage, Lent, MAX_IN_MESSAGE, Packet, Welcome};
 
 /// What comes of a packet.
 #[derive(Clone, Debug, PartialEq, Eq, Drop)]
@@ -18,4 +21,20 @@ pub enum Received {
     Loans(ArrayVec<Lent, MAX_IN_MESSAGE>),
     /// For each slot, the frame that its release freed, or `NO_FRAME`. There is no reply.
     Released(ArrayVec<u32, MAX_IN_MESSAGE>),
+}
+
+impl Received {
+    /// Returns the packet to reply with, which has no bytes where there is no reply.
+    pub fn into_reply(self) -> Packet
+        ensures { result.items ≡ reply_of self }
+    {
+        match self {
+            Received::NoSession => ArrayVec::new(),
+            Received::Fault(_) => ArrayVec::new(),
+            Received::Welcome(welcome, _) => HostMessage::Welcome(welcome).to_bytes(),
+            Received::Seen(answers) => HostMessage::Seen(answers).to_bytes(),
+            Received::Loans(loans) => HostMessage::Loans(loans).to_bytes(),
+            Received::Released(_) => ArrayVec::new(),
+        }
+    }
 }

@@ -5,16 +5,28 @@ ghost use Rattle.host_sessions.specs.Table.{is_free, is_gone_as, next_number, wa
 use crate::session::Session;
 use host_messages::Name;
 
+fn first_free(sessions: &[Session]) -> Option<usize>
+    ensures { result ≡ position is_free sessions.now }
+{
+    sessions.iter().position(|session| session.is_free())
+}
+
 /// Returns the first number that no session has.
 pub(crate) fn find_free(sessions: &[Session]) -> Option<u32>
     requires { length sessions.now ≤ 65536 }
     ensures number { result ≡ next_number sessions.now }
     ensures within { IfSome result (λ n. n < length sessions.now) }
 {
-    match sessions.iter().position(|session| session.is_free()) {
+    match first_free(sessions) {
         None => None,
         Some(number) => Some(number as u32),
     }
+}
+
+fn first_gone(sessions: &[Session], name: &Name) -> Option<usize>
+    ensures { result ≡ position (is_gone_as name.now) sessions.now }
+{
+    sessions.iter().position(|session| session.is_gone_as(name))
 }
 
 /// Returns the number of the session with this name that can be taken up.
@@ -23,7 +35,7 @@ fn find_gone(sessions: &[Session], name: &Name) -> Option<u32>
     ensures number { result ≡ position (is_gone_as name.now) sessions.now }
     ensures within { IfSome result (λ n. n < length sessions.now) }
 {
-    match sessions.iter().position(|session| session.is_gone_as(name)) {
+    match first_gone(sessions, name) {
         None => None,
         Some(number) => Some(number as u32),
     }

@@ -1,9 +1,10 @@
 //! The host.
-ghost use Rattle.std.specs.Prelude.{◌≡◌, ◌≤◌, ◌<◌, true, false, length, is_some, not, Some, replicate, IfOk};
+ghost use Rattle.std.specs.Prelude.{◌≡◌, ◌≤◌, ◌<◌, true, false, ◌*◌, length, not, replicate, IfOk};
 ghost use Rattle.host_sessions.specs.Table.{session_at, next_number, connected, takes, gone, is_free, wanted_in, begun_of, new_session};
-ghost use Rattle.host_sessions.specs.Steps.{with_sessions, with_session, welcome_to, Breaks, Greets, Begins, TakesUp, Asks, Releases, LendsFirst, LendsPages, Opens, Talks, Steps, Receives};
+ghost use Rattle.host_sessions.specs.Steps.{with_sessions, with_session, welcome_to, Breaks, Greets, Begins, TakesUp, Asks, Releases, LendsFirst, LendsPages, Opens, Talks, Steps, Hears, Receives};
 ghost use Rattle.host_sessions.specs.Others.{SparesOthers};
-ghost use Rattle.host_sessions.specs.Ends.{Ends, ended};
+ghost use Rattle.host_sessions.specs.Ends.{Ends, EndsBegun, ended, count_of};
+ghost use Rattle.host_messages.specs.Reading.{client_at};
 ghost use Rattle.share_domain.specs.Domains.{next_client};
 ghost use Rattle.share_domain.specs.Made.{AreFree};
 ghost use Rattle.share_domain.specs.Totals.{domain_totals};
@@ -16,7 +17,7 @@ use crate::find::{find_free, find_wanted};
 use crate::lend::lend_each;
 use crate::release::release_each;
 use crate::session::{Begun, Link, Session, SessionFault};
-use host_messages::{ClientMessage, MAX_IN_MESSAGE, Name, Question, Welcome};
+use host_messages::{ClientMessage, MAX_IN_MESSAGE, MessageFault, Name, Question, Welcome};
 use machine_frames::Frames;
 use page_digest::PageHash;
 use page_model::Page;
@@ -66,7 +67,7 @@ impl<H: PageHash + Drop + Copy, A: Allocator + Clone> Host<H, A> {
         let sessions = new_sessions(alloc.clone()?, config.domain.clients)?;
         let domain = Domain::with_frames(alloc, &config.domain, hash, frames)?;
         Ok(Host {
-            frames: config.domain.machines * config.domain.frames,
+            frames: total_frames(config.domain.machines, config.domain.frames),
             salt: config.salt,
             quota: config.quota,
             domain,
@@ -74,6 +75,15 @@ impl<H: PageHash + Drop + Copy, A: Allocator + Clone> Host<H, A> {
             sessions,
         })
     }
+}
+
+/// Returns how many frames so many machines have.
+fn total_frames(machines: u32, each: u32) -> u32
+    requires machines { machines ≤ 64 }
+    requires each { each ≤ 1048576 }
+    ensures { result ≡ machines * each }
+{
+    machines * each
 }
 
 /// Makes so many numbers of sessions that none has.
@@ -116,11 +126,34 @@ impl<H: PageHash, A: Allocator> Host<H, A> {
     fn hear(&mut self, number: u32, bytes: &[u8], pages: &[Page]) -> Received
         ensures { Receives H.hash_of number bytes.now pages.now result self.old self.new }
     {
-        if !self.takes(number) {
-            return Received::NoSession;
+        if self.takes(number) {
+            return self.hear_bytes(number, bytes, pages);
         }
+        Received::NoSession
+    }
+
+    /// Receives a packet of a session that takes messages.
+    fn hear_bytes(&mut self, number: u32, bytes: &[u8], pages: &[Page]) -> Received
+        requires { number < length self.old.sessions }
+        ensures { Hears H.hash_of number pages.now (session_at self.old.sessions number) (client_at bytes.now) result self.old self.new }
+    {
         let session = self.session(number);
-        match ClientMessage::from_bytes(bytes) {
+        let read = ClientMessage::from_bytes(bytes);
+        self.hear_read(number, session, read, pages)
+    }
+
+    /// Receives what a packet was read as.
+    fn hear_read(
+        &mut self,
+        number: u32,
+        session: Session,
+        read: Result<ClientMessage, MessageFault>,
+        pages: &[Page],
+    ) -> Received
+        requires { number < length self.old.sessions }
+        ensures { Hears H.hash_of number pages.now session read result self.old self.new }
+    {
+        match read {
             Err(fault) => self.break_off(number, session, SessionFault::Message(fault)),
             Ok(message) => self.step(number, session, message, pages),
         }
@@ -263,7 +296,6 @@ impl<H: PageHash, A: Allocator> Host<H, A> {
     fn take_up(&mut self, number: u32, before: u32) -> Received
         requires number { number < length self.old.sessions }
         requires before { before < length self.old.sessions }
-        requires begun { is_some (begun_of (session_at self.old.sessions before)) ≡ true }
         ensures { TakesUp number before (begun_of (session_at self.old.sessions before)) result self.old self.new }
     {
         match self.begun(before) {
@@ -271,7 +303,8 @@ impl<H: PageHash, A: Allocator> Host<H, A> {
             Some(begun) => {
                 self.put(before, Session::Free);
                 self.put(number, Session::Begun(begun.heard(begun.slots)));
-                Received::Welcome(self.welcome_to(begun.name), Some(before))
+                let name = begun.name;
+                Received::Welcome(self.welcome_to(name), Some(before))
             }
         }
     }
@@ -345,11 +378,13 @@ impl<H: PageHash, A: Allocator> Host<H, A> {
 
     /// Lends the first pages of a buffer, if it has so many.
     fn lend_first(&mut self, number: u32, begun: Begun, count: u32, pages: &[Page]) -> Received
-        requires number { number < length self.old.sessions }
-        requires few { count ≤ MAX_IN_MESSAGE }
+        requires { number < length self.old.sessions }
         ensures { LendsFirst H.hash_of number begun count pages.now result self.old self.new }
     {
         if pages.len() < count as usize {
+            return self.break_off(number, Session::Begun(begun), SessionFault::Pages);
+        }
+        if count as usize > MAX_IN_MESSAGE {
             return self.break_off(number, Session::Begun(begun), SessionFault::Pages);
         }
         self.lend(number, begun, &pages[..count as usize])
@@ -396,18 +431,22 @@ impl<H: PageHash, A: Allocator> Host<H, A> {
     fn leave(&mut self, number: u32, begun: Begun, freed: &mut [u32]) -> usize
         requires room { 1 ≤ length freed.old }
         requires number { number < length self.old.sessions }
-        ensures { Ends number (Session.Begun begun) (Some result) freed.old freed.new self.old self.new }
+        ensures { EndsBegun number begun result freed.old freed.new self.old self.new }
     {
-        match self.domain.leave(begun.client, freed) {
-            None => {
-                self.put(number, Session::Free);
-                0
-            }
-            Some(count) => {
-                self.put(number, ended(begun, count));
-                count
-            }
-        }
+        let answer = self.domain.leave(begun.client, freed);
+        let count = count_of(answer);
+        self.put(number, ended(begun, count));
+        count
+    }
+}
+
+/// Returns how many slots were released.
+fn count_of(answer: Option<usize>) -> usize
+    ensures { result ≡ count_of answer }
+{
+    match answer {
+        None => 0,
+        Some(count) => count,
     }
 }
 
@@ -431,8 +470,9 @@ fn ended(begun: Begun, count: usize) -> Session
     if count == 0 {
         return Session::Free;
     }
+    let name = begun.name;
     Session::Begun(Begun {
-        name: begun.name,
+        name,
         client: begun.client,
         slots: (begun.slots as usize).saturating_sub(count) as u32,
         messages: begun.messages,

@@ -1,6 +1,6 @@
 //! Pages that are lent one after the other.
 ghost use Rattle.std.specs.Prelude.{◌≡◌, ◌≤◌, ◌<◌, ◌+◌, ◌^◌, length};
-ghost use Rattle.host_sessions.specs.Turns.{LendsInTurn, LendsOne, lent_by, slots_with, slot_number, not_lent};
+ghost use Rattle.host_sessions.specs.Turns.{LendsInTurn, LendsOne, Lends, lent_by, slots_with, slot_number, not_lent};
 ghost use Rattle.host_messages.specs.declared.limits.TheConstants.{MAX_IN_MESSAGE};
 
 use arrayvec::ArrayVec;
@@ -58,12 +58,25 @@ pub(crate) fn lend_one<H: PageHash, A: Allocator>(
 ) -> LentPage
     ensures { LendsOne H.hash_of client quota page.now slots result.slots result.lent domain.old domain.new }
 {
-    if slots >= quota {
-        return LentPage {
-            lent: not_lent(),
-            slots,
-        };
+    if slots < quota {
+        return lend_within(domain, client, slots, page);
     }
+    LentPage {
+        lent: not_lent(),
+        slots,
+    }
+}
+
+/// Lends a page of a client that has so many slots.
+fn lend_within<H: PageHash, A: Allocator>(
+    domain: &mut Domain<H, A>,
+    client: u32,
+    slots: u32,
+    page: &Page,
+) -> LentPage
+    requires { slots + 1 < 2 ^ 32 }
+    ensures { Lends H.hash_of client page.now slots result.slots result.lent domain.old domain.new }
+{
     let answer = domain.lend(client, page);
     LentPage {
         lent: lent_by(&answer),

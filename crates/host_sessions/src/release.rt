@@ -1,6 +1,7 @@
 //! Slots that are released one after the other.
 ghost use Rattle.std.specs.Prelude.{◌≡◌, ◌≤◌, length};
 ghost use Rattle.host_sessions.specs.Turns.{freed_by, after_releases, left_after, told_of, slots_left, slot_of};
+ghost use Rattle.share_domain.specs.Domains.{release_answer, after_release};
 ghost use Rattle.host_messages.specs.declared.limits.TheConstants.{MAX_IN_MESSAGE};
 
 use arrayvec::ArrayVec;
@@ -14,6 +15,13 @@ use std::alloc::Allocator;
 pub(crate) struct Releasing {
     pub(crate) freed: ArrayVec<u32, MAX_IN_MESSAGE>,
     pub(crate) slots: u32,
+}
+
+/// What is told of a slot, and how many slots the session has since.
+#[derive(Clone, Copy)]
+struct ReleasedSlot {
+    told: u32,
+    slots: u32,
 }
 
 /// Releases slots of a client that has so many, one after the other.
@@ -31,13 +39,31 @@ pub(crate) fn release_each<H: PageHash, A: Allocator>(
     let mut freed = ArrayVec::new();
     let mut count = slots;
     for number in numbers {
-        let answer = domain.release(client, slot_of(*number));
-        freed.push(told_of(&answer));
-        count = slots_left(count, &answer);
+        let one = release_one(domain, client, count, number);
+        freed.push(one.told);
+        count = one.slots;
     }
     Releasing {
         freed,
         slots: count,
+    }
+}
+
+/// Releases a slot of a client that has so many.
+fn release_one<H: PageHash, A: Allocator>(
+    domain: &mut Domain<H, A>,
+    client: u32,
+    slots: u32,
+    number: &u64,
+) -> ReleasedSlot
+    ensures told { result.told ≡ told_of (release_answer client (slot_of number.now) domain.old) }
+    ensures slots { result.slots ≡ slots_left slots (release_answer client (slot_of number.now) domain.old) }
+    ensures domain { domain.new ≡ after_release client (slot_of number.now) domain.old }
+{
+    let answer = domain.release(client, slot_of(*number));
+    ReleasedSlot {
+        told: told_of(&answer),
+        slots: slots_left(slots, &answer),
     }
 }
 

@@ -109,15 +109,23 @@ impl Begun {
     pub(crate) fn linked(self, link: Link) -> Begun
         ensures { result ≡ linked self link }
     {
-        Begun { link, ..self }
+        let name = self.name;
+        Begun {
+            name,
+            client: self.client,
+            slots: self.slots,
+            messages: self.messages,
+            link,
+        }
     }
 
     /// Returns the session after one more message, with so many slots. It takes messages.
     pub(crate) fn heard(self, slots: u32) -> Begun
         ensures { result ≡ heard self slots }
     {
+        let name = self.name;
         Begun {
-            name: self.name,
+            name,
             client: self.client,
             slots,
             messages: self.messages.wrapping_add(1),

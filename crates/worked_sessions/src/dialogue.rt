@@ -52,7 +52,14 @@ fn lent_of(loans: &[Lent]) -> Got {
             count += 1;
         }
     }
-    Got::Lent(count, if loans.is_empty() { 0 } else { loans[0].sharers })
+    Got::Lent(
+        count,
+        if loans.is_empty() {
+            0
+        } else {
+            loans[0].sharers
+        },
+    )
 }
 
 /// Returns what is seen of slots that were to be released.
@@ -132,8 +139,11 @@ fn end(host: &mut Host<FoldHash>, number: u32) -> usize {
 }
 
 const A: Name = [10; 16];
+
 const B: Name = [11; 16];
+
 const C: Name = [12; 16];
+
 const D: Name = [13; 16];
 
 #[test]
@@ -176,7 +186,9 @@ fn faults_end_a_session_and_its_slots_stay(rt: HostRuntime) {
     assert!(rt; say(&mut host, 0, &ClientMessage::Hello(None)) == Got::Welcome(11, None));
     assert!(rt; say(&mut host, 0, &ClientMessage::Lend(1)) == Got::Lent(1, 1));
     let short = SessionFault::Message(MessageFault::Length);
-    assert!(rt; send(&mut host, 0, &[4, 0, 0, 0, 1, 0, 0, 0, 4, 0, 0, 0, 0, 0, 0]) == Got::Fault(short));
+    assert!(rt;
+        send(&mut host, 0, &[4, 0, 0, 0, 1, 0, 0, 0, 4, 0, 0, 0, 0, 0, 0]) == Got::Fault(short)
+    );
     assert!(rt; say(&mut host, 0, &release(4)) == Got::Nothing);
     assert!(rt; link_of(&host, 0) == Some(Link::Broken(short)));
     assert!(rt; host.disconnect(0));
