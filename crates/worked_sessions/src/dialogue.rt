@@ -132,7 +132,7 @@ fn end(host: &mut Host<FoldHash>, number: u32) -> usize {
         match host.end(number, &mut freed) {
             None => return total,
             Some(0) => return total,
-            Some(count) => total = (total + count).min(1000),
+            Some(count) => total = total.saturating_add(count),
         }
     }
     total
