@@ -1,0 +1,9 @@
+use Rattle.std.proofs.Common.{List, ℕ, ◌++◌, ap, ◌∙◌, append_assoc}
+use Rattle.std.specs.Int.{w64, to_le_bytes}
+use Rattle.host_messages.proofs.item.QuestionItem.put.Goals as goal
+
+pub returns-clause-bytes : goal.returns-clause-bytes
+returns-clause-bytes c =
+    c.put_u64-2.ensures.bytes
+    ∙ ap (λ (x : List ℕ). x ++ to_le_bytes w64 c.args.self.fingerprint) c.put_u64.ensures.bytes
+    ∙ append_assoc c.args.packet.now.items (to_le_bytes w64 c.args.self.page) (to_le_bytes w64 c.args.self.fingerprint)

@@ -1,0 +1,104 @@
+-- What a message lists is gone through one after the other.
+use Rattle.std.proofs.Common.{◌≡◌, ℕ, ◌+◌, ◌<◌, ◌≤◌, Bool, List, [], ◌∷◌, ◌++◌, length, get_or, drop, refl, sym, ap, subst, ◌∙◌, append_assoc}
+use Rattle.std.proofs.lemmas.List.{drop_more, drop_all, append-nil}
+use Rattle.host_messages.specs.declared.item.Question.{Question}
+use Rattle.host_messages.specs.declared.item.Lent.{Lent}
+use Rattle.recent_fingerprints.specs.Notes.{Recent, was_noted, with_note}
+use Rattle.share_domain.specs.Domains.{DomainView, release_answer, after_release}
+use Rattle.host_sessions.specs.Turns.{page_of, answers_to, asked, told_of, slots_left, slot_of, freed_by, after_releases, left_after, LendsOne, LendsInTurn}
+
+-- what is left at an item
+pub left_at : {X : Type 0} (xs : List X) (i : ℕ) (x d : X) → i < length xs → x ≡ get_or xs i d → drop i xs ≡ x ∷ drop (i + 1) xs
+left_at {X = X} xs i x d lt is = drop_more xs i d lt ∙ ap (λ (y : X). y ∷ drop (i + 1) xs) (sym is)
+
+-- ---- questions
+
+module _ (client : ℕ) (qs : List Question) (i : ℕ) where
+  pub answered_more : (q d : Question) (front : List Bool) (a : Bool) (r s : Recent) (total : List Bool) → i < length qs → q ≡ get_or qs i d
+      → a ≡ was_noted (page_of client q) q.fingerprint r.notes → s ≡ with_note (page_of client q) q.fingerprint r
+      → front ++ answers_to client (drop i qs) r ≡ total → (front ++ a ∷ []) ++ answers_to client (drop (i + 1) qs) s ≡ total
+  unfolding answers_to
+  answered_more q d front a r s total lt is a-is s-is so_far =
+      append_assoc front (a ∷ []) (answers_to client (drop (i + 1) qs) s)
+      ∙ ap (λ (x : Bool). front ++ x ∷ answers_to client (drop (i + 1) qs) s) a-is
+      ∙ ap (λ (x : Recent). front ++ was_noted (page_of client q) q.fingerprint r.notes ∷ answers_to client (drop (i + 1) qs) x) s-is
+      ∙ sym (ap (λ (l : List Question). front ++ answers_to client l r) (left_at qs i q d lt is)) ∙ so_far
+
+  pub asked_more : (q d : Question) (r s total : Recent) → i < length qs → q ≡ get_or qs i d → s ≡ with_note (page_of client q) q.fingerprint r
+      → asked client (drop i qs) r ≡ total → asked client (drop (i + 1) qs) s ≡ total
+  unfolding asked
+  asked_more q d r s total lt is s-is so_far =
+      ap (λ (x : Recent). asked client (drop (i + 1) qs) x) s-is ∙ sym (ap (λ (l : List Question). asked client l r) (left_at qs i q d lt is)) ∙ so_far
+
+  pub all_answered : (front : List Bool) (r : Recent) (total : List Bool) → length qs ≤ i → front ++ answers_to client (drop i qs) r ≡ total → front ≡ total
+  unfolding answers_to
+  all_answered front r total le so_far = sym (ap (λ (l : List Question). front ++ answers_to client l r) (drop_all i qs le) ∙ append-nil front) ∙ so_far
+
+  pub all_asked : (r total : Recent) → length qs ≤ i → asked client (drop i qs) r ≡ total → r ≡ total
+  unfolding asked
+  all_asked r total le so_far = sym (ap (λ (l : List Question). asked client l r) (drop_all i qs le)) ∙ so_far
+
+-- ---- releases
+
+module _ (client : ℕ) (ss : List ℕ) (i : ℕ) where
+  pub freed_more : (s e : ℕ) (front : List ℕ) (told : ℕ) (d after : DomainView) (total : List ℕ) → i < length ss → s ≡ get_or ss i e
+      → told ≡ told_of (release_answer client (slot_of s) d) → after ≡ after_release client (slot_of s) d
+      → front ++ freed_by client (drop i ss) d ≡ total → (front ++ told ∷ []) ++ freed_by client (drop (i + 1) ss) after ≡ total
+  unfolding freed_by
+  freed_more s e front told d after total lt is told-is after-is so_far =
+      append_assoc front (told ∷ []) (freed_by client (drop (i + 1) ss) after)
+      ∙ ap (λ (x : ℕ). front ++ x ∷ freed_by client (drop (i + 1) ss) after) told-is
+      ∙ ap (λ (x : DomainView). front ++ told_of (release_answer client (slot_of s) d) ∷ freed_by client (drop (i + 1) ss) x) after-is
+      ∙ sym (ap (λ (l : List ℕ). front ++ freed_by client l d) (left_at ss i s e lt is)) ∙ so_far
+
+  pub released_more : (s e : ℕ) (d after total : DomainView) → i < length ss → s ≡ get_or ss i e → after ≡ after_release client (slot_of s) d
+      → after_releases client (drop i ss) d ≡ total → after_releases client (drop (i + 1) ss) after ≡ total
+  unfolding after_releases
+  released_more s e d after total lt is after-is so_far =
+      ap (λ (x : DomainView). after_releases client (drop (i + 1) ss) x) after-is ∙ sym (ap (λ (l : List ℕ). after_releases client l d) (left_at ss i s e lt is)) ∙ so_far
+
+  pub left_more : (s e slots left : ℕ) (d after : DomainView) (total : ℕ) → i < length ss → s ≡ get_or ss i e
+      → left ≡ slots_left slots (release_answer client (slot_of s) d) → after ≡ after_release client (slot_of s) d
+      → left_after client slots (drop i ss) d ≡ total → left_after client left (drop (i + 1) ss) after ≡ total
+  unfolding left_after
+  left_more s e slots left d after total lt is left-is after-is so_far =
+      ap (λ (x : ℕ). left_after client x (drop (i + 1) ss) after) left-is
+      ∙ ap (λ (x : DomainView). left_after client (slots_left slots (release_answer client (slot_of s) d)) (drop (i + 1) ss) x) after-is
+      ∙ sym (ap (λ (l : List ℕ). left_after client slots l d) (left_at ss i s e lt is)) ∙ so_far
+
+  pub all_freed : (front : List ℕ) (d : DomainView) (total : List ℕ) → length ss ≤ i → front ++ freed_by client (drop i ss) d ≡ total → front ≡ total
+  unfolding freed_by
+  all_freed front d total le so_far = sym (ap (λ (l : List ℕ). front ++ freed_by client l d) (drop_all i ss le) ∙ append-nil front) ∙ so_far
+
+  pub all_released : (d total : DomainView) → length ss ≤ i → after_releases client (drop i ss) d ≡ total → d ≡ total
+  unfolding after_releases
+  all_released d total le so_far = sym (ap (λ (l : List ℕ). after_releases client l d) (drop_all i ss le)) ∙ so_far
+
+  pub all_left : (slots : ℕ) (d : DomainView) (total : ℕ) → length ss ≤ i → left_after client slots (drop i ss) d ≡ total → slots ≡ total
+  unfolding left_after
+  all_left slots d total le so_far = sym (ap (λ (l : List ℕ). left_after client slots l d) (drop_all i ss le)) ∙ so_far
+
+-- ---- lends
+
+-- the loans so far are the first ones of all, whatever the others will be
+abbrev pub SoFar : (ℕ → List ℕ → ℕ) → ℕ → ℕ → List (List ℕ) → ℕ → DomainView → ℕ → ℕ → List Lent → DomainView → Type 0
+SoFar hash client quota pages slots start i count front d =
+    (rest : List Lent) (after : ℕ) (new : DomainView) → LendsInTurn hash client quota (drop i pages) count after rest d new
+    → LendsInTurn hash client quota pages slots after (front ++ rest) start new
+
+module _ (hash : ℕ → List ℕ → ℕ) (client quota : ℕ) (pages : List (List ℕ)) (slots : ℕ) (start : DomainView) where
+  pub lent_more : (i count between : ℕ) (front : List Lent) (d mid : DomainView) (page e : List ℕ) (lent : Lent) → i < length pages → page ≡ get_or pages i e
+      → LendsOne hash client quota page count between lent d mid → SoFar hash client quota pages slots start i count front d
+      → SoFar hash client quota pages slots start (i + 1) between (front ++ lent ∷ []) mid
+  unfolding LendsInTurn
+  lent_more i count between front d mid page e lent lt is one so_far rest after new p =
+      subst (λ (ls : List Lent). LendsInTurn hash client quota pages slots after ls start new) (sym (append_assoc front (lent ∷ []) rest))
+      (so_far (lent ∷ rest) after new
+      (subst (λ (ps : List (List ℕ)). LendsInTurn hash client quota ps count after (lent ∷ rest) d new) (sym (left_at pages i page e lt is)) (mid, between, one, p)))
+
+  pub all_lent : (i count : ℕ) (front : List Lent) (d : DomainView) → length pages ≤ i → SoFar hash client quota pages slots start i count front d
+      → LendsInTurn hash client quota pages slots count front start d
+  unfolding LendsInTurn
+  all_lent i count front d le so_far =
+      subst (λ (ls : List Lent). LendsInTurn hash client quota pages slots count ls start d) (append-nil front)
+      (so_far [] count d (subst (λ (ps : List (List ℕ)). LendsInTurn hash client quota ps count count [] d d) (sym (drop_all i pages le)) (refl, refl)))

@@ -1,0 +1,20 @@
+use Rattle.std.proofs.Common.{◌+◌, List, refl, sym, subst, arith}
+use Rattle.host_messages.specs.declared.item.Lent.{Lent}
+use Rattle.host_sessions.proofs.Loops.{SoFar, lent_more, all_lent}
+use Rattle.host_sessions.proofs.lend.lend_each.Goals as goal
+
+pub loop-page-preserved : goal.loop-page-preserved
+loop-page-preserved g c =
+    let l = c.loop-page in
+    let one = c.lend_one-one in
+    let hash = g.H.HashFunction.hash_of in
+    record {
+      lends = subst (λ (front : List Lent). SoFar hash c.args.client c.args.quota c.args.pages.now c.args.slots c.args.domain.now (l.page-index + 1) one.result.slots front one.new.domain) (sym c.push.ensures.items)
+          (lent_more hash c.args.client c.args.quota c.args.pages.now c.args.slots c.args.domain.now l.page-index l.count one.result.slots l.loans.items l.domain one.new.domain _ _ one.result.lent c.loop-page-test.true refl one.ensures l.invariant.lends);
+      len = omega (arith, c.push.ensures.len, l.invariant.len);
+    }
+
+pub returns : goal.returns
+returns g c =
+    let l = c.loop-page in
+    all_lent g.H.HashFunction.hash_of c.args.client c.args.quota c.args.pages.now c.args.slots c.args.domain.now l.page-index l.count l.loans.items l.domain c.loop-page-test.false l.invariant.lends

@@ -1,0 +1,10 @@
+use Rattle.std.proofs.Common.{◌≡◌}
+use Rattle.arrayvec.specs.ArrayVec.{array_vec_len}
+use Rattle.host_sessions.proofs.Loops.{SoFar}
+use Rattle.host_sessions.proofs.lend.lend_each.Given as goal
+
+abbrev pub invariant-loop-page : goal.invariant-loop-page
+invariant-loop-page g l = record {
+  lends : SoFar g.H.HashFunction.hash_of l.client l.quota l.pages l.slots l.fn.domain l.page-index l.count l.loans.items l.domain;
+  len : array_vec_len l.loans ≡ l.page-index;
+}

@@ -1,0 +1,7 @@
+pub mod Table
+pub mod Turns
+pub mod Steps
+pub mod Ends
+pub mod Made
+pub mod Others
+pub mod Replies

@@ -1,0 +1,128 @@
+-- What a packet of a session does.
+use Rattle.std.specs.Prelude.{◌≡◌, ℕ, true, false, ◌<◌, ◌≤◌, List, length, take, Option, Some, None, Result, Ok, Err, slice_set}
+use Rattle.host_messages.specs.declared.client.ClientMessage.{ClientMessage}
+use Rattle.host_messages.specs.declared.client.ClientMessage.TheVariants as client
+use Rattle.host_messages.specs.declared.fault.MessageFault.{MessageFault}
+use Rattle.host_messages.specs.declared.host.Welcome.{Welcome}
+use Rattle.host_messages.specs.declared.item.Question.{Question}
+use Rattle.host_messages.specs.declared.item.Lent.{Lent}
+use Rattle.host_messages.specs.declared.limits.TheConstants.{MAX_IN_MESSAGE}
+use Rattle.host_messages.specs.Reading.{client_at}
+use Rattle.recent_fingerprints.specs.Notes.{Recent}
+use Rattle.share_domain.specs.Domains.{DomainView, next_client, entered}
+use Rattle.host_sessions.specs.declared.answer.Received.{Received}
+use Rattle.host_sessions.specs.declared.answer.Received.TheVariants as got
+use Rattle.host_sessions.specs.declared.session.SessionFault.{SessionFault}
+use Rattle.host_sessions.specs.declared.session.SessionFault.TheVariants as fault
+use Rattle.host_sessions.specs.declared.session.Begun.{Begun}
+use Rattle.host_sessions.specs.declared.session.Session.{Session}
+use Rattle.host_sessions.specs.declared.session.Session.TheVariants as session
+use Rattle.host_sessions.specs.Table.{heard, new_session, takes, faulted, session_at, wanted_in, begun_of}
+use Rattle.host_sessions.specs.Turns.{answers_to, asked, freed_by, after_releases, left_after, LendsInTurn}
+
+-- the frames of all machines, the salt of fingerprints, the most slots of a session, the domain, the last questions, and the
+-- sessions by their numbers
+pub record HostView : Type 0 where
+  pub frames : ℕ
+  pub salt : ℕ
+  pub quota : ℕ
+  pub domain : DomainView
+  pub recent : Recent
+  pub sessions : List Session
+
+-- the host with other sessions, and with another domain and other sessions
+abbrev pub with_sessions : HostView → List Session → HostView
+with_sessions h sessions = record { frames = h.frames; salt = h.salt; quota = h.quota; domain = h.domain; recent = h.recent; sessions = sessions }
+
+abbrev pub with_session : HostView → ℕ → Session → HostView
+with_session h n s = with_sessions h (slice_set h.sessions n s)
+
+abbrev pub with_recent : HostView → Recent → HostView
+with_recent h recent = record { frames = h.frames; salt = h.salt; quota = h.quota; domain = h.domain; recent = recent; sessions = h.sessions }
+
+abbrev pub with_domain : HostView → DomainView → HostView
+with_domain h domain = record { frames = h.frames; salt = h.salt; quota = h.quota; domain = domain; recent = h.recent; sessions = h.sessions }
+
+-- ---- faults
+
+-- the packet is at fault: its session takes no more, and nothing else changes
+abbrev pub Breaks : ℕ → Session → SessionFault → Received → HostView → HostView → Type 0
+Breaks n s f received old new = (received ≡ got.Fault f) × (new ≡ with_session old n (faulted s f))
+
+-- ---- Hello
+
+abbrev pub welcome_to : HostView → List ℕ → Welcome
+welcome_to h name = record { name = name; frames = h.frames; salt = h.salt; most = MAX_IN_MESSAGE }
+
+-- a session is taken up: the connection's number is its number now, and the old one is free. (One that can be taken up has begun)
+abbrev pub TakesUp : ℕ → ℕ → Option Begun → Received → HostView → HostView → Type 0
+TakesUp n before None received old new = (received ≡ got.NoSession) × (new ≡ old)
+TakesUp n before (Some b) received old new =
+    (received ≡ got.Welcome (welcome_to old b.name) (Some before))
+    × (new ≡ with_sessions old (slice_set (slice_set old.sessions before session.Free) n (session.Begun (heard b b.slots))))
+
+-- a session begins, with a new client
+abbrev pub Begins : ℕ → List ℕ → Option ℕ → Received → HostView → HostView → Type 0
+Begins n name None received old new = Breaks n (session.Silent name) fault.Clients received old new
+Begins n name (Some client) received old new =
+    (received ≡ got.Welcome (welcome_to old name) None)
+    × (new ≡ with_session (with_domain old (entered old.domain (Some client))) n (session.Begun (new_session name client)))
+
+abbrev pub Greets : ℕ → List ℕ → Option ℕ → Received → HostView → HostView → Type 0
+Greets n name None received old new = Begins n name (next_client old.domain) received old new
+Greets n name (Some before) received old new = TakesUp n before (begun_of (session_at old.sessions before)) received old new
+
+-- ---- the other messages, in a session that has begun
+
+pub record Asks (n : ℕ) (b : Begun) (questions : List Question) (received : Received) (old new : HostView) : Type 0 where
+  pub reply : received ≡ got.Seen (record { items = answers_to b.client questions old.recent })
+  pub now : new ≡ with_session (with_recent old (asked b.client questions old.recent)) n (session.Begun (heard b b.slots))
+
+pub record Releases (n : ℕ) (b : Begun) (slots : List ℕ) (received : Received) (old new : HostView) : Type 0 where
+  pub reply : received ≡ got.Released (record { items = freed_by b.client slots old.domain })
+  pub now : new ≡ with_session (with_domain old (after_releases b.client slots old.domain)) n (session.Begun (heard b (left_after b.client b.slots slots old.domain)))
+
+pub record LendsPages (hash : ℕ → List ℕ → ℕ) (n : ℕ) (b : Begun) (pages : List (List ℕ)) (received : Received) (old new : HostView) : Type 0 where
+  pub loans : List Lent
+  pub slots : ℕ
+  pub lends : LendsInTurn hash b.client old.quota pages b.slots slots loans old.domain new.domain
+  pub reply : received ≡ got.Loans (record { items = loans })
+  pub now : new ≡ with_session (with_domain old new.domain) n (session.Begun (heard b slots))
+
+-- so many pages of the buffer are lent, if it has as many. (No message that was read names more than 128)
+pub record LendsFirst (hash : ℕ → List ℕ → ℕ) (n : ℕ) (b : Begun) (count : ℕ) (pages : List (List ℕ)) (received : Received) (old new : HostView) : Type 0 where
+  pub enough : count ≤ MAX_IN_MESSAGE → count ≤ length pages → LendsPages hash n b (take count pages) received old new
+  pub short : length pages < count → Breaks n (session.Begun b) fault.Pages received old new
+  pub many : MAX_IN_MESSAGE < count → Breaks n (session.Begun b) fault.Pages received old new
+
+-- ---- a session's step, by its state and the message
+
+-- the first message
+abbrev pub Opens : ℕ → List ℕ → ClientMessage → Received → HostView → HostView → Type 0
+Opens n name (client.Hello wanted) received old new = Greets n name (wanted_in old.sessions wanted) received old new
+Opens n name (client.Ask questions) received old new = Breaks n (session.Silent name) fault.Early received old new
+Opens n name (client.Lend count) received old new = Breaks n (session.Silent name) fault.Early received old new
+Opens n name (client.Release slots) received old new = Breaks n (session.Silent name) fault.Early received old new
+
+-- a later message
+abbrev pub Talks : (ℕ → List ℕ → ℕ) → ℕ → List (List ℕ) → Begun → ClientMessage → Received → HostView → HostView → Type 0
+Talks hash n pages b (client.Hello wanted) received old new = Breaks n (session.Begun b) fault.Again received old new
+Talks hash n pages b (client.Ask questions) received old new = Asks n b questions.items received old new
+Talks hash n pages b (client.Lend count) received old new = LendsFirst hash n b count pages received old new
+Talks hash n pages b (client.Release slots) received old new = Releases n b slots.items received old new
+
+abbrev pub Steps : (ℕ → List ℕ → ℕ) → ℕ → List (List ℕ) → Session → ClientMessage → Received → HostView → HostView → Type 0
+Steps hash n pages session.Free message received old new = (received ≡ got.NoSession) × (new ≡ old)
+Steps hash n pages (session.Refused first) message received old new = (received ≡ got.NoSession) × (new ≡ old)
+Steps hash n pages (session.Silent name) message received old new = Opens n name message received old new
+Steps hash n pages (session.Begun b) message received old new = Talks hash n pages b message received old new
+
+-- a packet of a session that takes messages
+abbrev pub Hears : (ℕ → List ℕ → ℕ) → ℕ → List (List ℕ) → Session → Result ClientMessage MessageFault → Received → HostView → HostView → Type 0
+Hears hash n pages s (Ok message) received old new = Steps hash n pages s message received old new
+Hears hash n pages s (Err f) received old new = Breaks n s (fault.Message f) received old new
+
+-- a packet of a session: nothing changes where it takes no messages
+pub record Receives (hash : ℕ → List ℕ → ℕ) (n : ℕ) (bytes : List ℕ) (pages : List (List ℕ)) (received : Received) (old new : HostView) : Type 0 where
+  pub heard-if : takes (session_at old.sessions n) ≡ true → Hears hash n pages (session_at old.sessions n) (client_at bytes) received old new
+  pub idle-if : takes (session_at old.sessions n) ≡ false → (received ≡ got.NoSession) × (new ≡ old)

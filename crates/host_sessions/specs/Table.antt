@@ -1,0 +1,102 @@
+-- Sessions by their numbers.
+use Rattle.std.specs.Prelude.{ℕ, ◌+◌, ◌%◌, ◌^◌, Bool, true, false, ◌&&◌, List, Option, Some, None, slice_set, slice_index_or, position}
+use Rattle.std.specs.Str.{bytes_eq}
+use Rattle.host_sessions.specs.declared.session.SessionFault.{SessionFault}
+use Rattle.host_sessions.specs.declared.session.Link.{Link}
+use Rattle.host_sessions.specs.declared.session.Link.TheVariants as link
+use Rattle.host_sessions.specs.declared.session.Begun.{Begun}
+use Rattle.host_sessions.specs.declared.session.Session.{Session}
+use Rattle.host_sessions.specs.declared.session.Session.TheVariants as session
+
+-- ---- one session
+
+abbrev pub is_talking : Link → Bool
+is_talking link.Talking = true
+is_talking link.Gone = false
+is_talking (link.Broken fault) = false
+is_talking link.Ended = false
+
+abbrev pub is_gone : Link → Bool
+is_gone link.Talking = false
+is_gone link.Gone = true
+is_gone (link.Broken fault) = false
+is_gone link.Ended = false
+
+-- the link after the connection has ended
+abbrev pub gone_link : Link → Link
+gone_link link.Talking = link.Gone
+gone_link link.Gone = link.Gone
+gone_link (link.Broken fault) = link.Broken fault
+gone_link link.Ended = link.Ended
+
+abbrev pub linked : Begun → Link → Begun
+linked b l = record { name = b.name; client = b.client; slots = b.slots; messages = b.messages; link = l }
+
+-- a session after one more message, with so many slots
+abbrev pub heard : Begun → ℕ → Begun
+heard b slots = record { name = b.name; client = b.client; slots = slots; messages = (b.messages + 1) % 2 ^ 64; link = link.Talking }
+
+-- a session after its first message
+abbrev pub new_session : List ℕ → ℕ → Begun
+new_session name client = record { name = name; client = client; slots = 0; messages = 1; link = link.Talking }
+
+abbrev pub is_free : Session → Bool
+is_free session.Free = true
+is_free (session.Silent name) = false
+is_free (session.Refused fault) = false
+is_free (session.Begun b) = false
+
+-- the session takes messages: its connection has not ended, and nothing was at fault
+abbrev pub takes : Session → Bool
+takes session.Free = false
+takes (session.Silent name) = true
+takes (session.Refused fault) = false
+takes (session.Begun b) = is_talking b.link
+
+-- the session after a packet at fault
+abbrev pub faulted : Session → SessionFault → Session
+faulted session.Free fault = session.Free
+faulted (session.Silent name) fault = session.Refused fault
+faulted (session.Refused first) fault = session.Refused first
+faulted (session.Begun b) fault = session.Begun (linked b (link.Broken fault))
+
+-- the session after its connection has ended: one that has begun keeps its slots
+abbrev pub gone : Session → Session
+gone session.Free = session.Free
+gone (session.Silent name) = session.Free
+gone (session.Refused fault) = session.Free
+gone (session.Begun b) = session.Begun (linked b (gone_link b.link))
+
+-- the session has this name, and can be taken up
+abbrev pub is_gone_as : List ℕ → Session → Bool
+is_gone_as name session.Free = false
+is_gone_as name (session.Silent other) = false
+is_gone_as name (session.Refused fault) = false
+is_gone_as name (session.Begun b) = is_gone b.link && bytes_eq b.name name
+
+-- ---- all of them
+
+-- the session with a number, which is free where there is no such number
+abbrev pub session_at : List Session → ℕ → Session
+session_at sessions n = slice_index_or sessions n session.Free
+
+-- the number that the next connection gets
+abbrev pub next_number : List Session → Option ℕ
+next_number sessions = position is_free sessions
+
+-- the sessions after a connection with this number
+abbrev pub connected : List ℕ → Option ℕ → List Session → List Session
+connected name None sessions = sessions
+connected name (Some n) sessions = slice_set sessions n (session.Silent name)
+
+-- the session that a client wants to take up
+abbrev pub wanted_in : List Session → Option (List ℕ) → Option ℕ
+wanted_in sessions None = None
+wanted_in sessions (Some name) = position (is_gone_as name) sessions
+
+-- what has begun, if anything has
+abbrev pub begun_of : Session → Option Begun
+begun_of session.Free = None
+begun_of (session.Silent name) = None
+begun_of (session.Refused fault) = None
+begun_of (session.Begun b) = Some b

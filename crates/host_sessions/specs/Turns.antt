@@ -1,0 +1,106 @@
+-- What the pages, questions and slots of one message do, one after the other.
+use Rattle.std.specs.Prelude.{◌≡◌, ℕ, ◌+◌, ◌-◌, ◌*◌, ◌/◌, ◌%◌, ◌^◌, Bool, ◌<◌, ◌≤◌, List, [], ◌∷◌, Option, Result, Ok, Err, MatchResult}
+use Rattle.host_messages.specs.declared.item.Question.{Question}
+use Rattle.host_messages.specs.declared.item.Lent.{Lent}
+use Rattle.host_messages.specs.declared.limits.TheConstants.{NO_FRAME}
+use Rattle.recent_fingerprints.specs.declared.note.PageName.{PageName}
+use Rattle.recent_fingerprints.specs.Notes.{Recent, was_noted, with_note}
+use Rattle.share_domain.specs.declared.holding.Slot.{Slot}
+use Rattle.share_domain.specs.declared.holding.Loan.{Loan}
+use Rattle.share_domain.specs.declared.fault.LendFault.{LendFault}
+use Rattle.share_domain.specs.declared.fault.NoSuchSlot.{NoSuchSlot}
+use Rattle.share_domain.specs.Domains.{DomainView, page_machine, LendsIn, RefusesIn, release_answer, after_release}
+use Rattle.share_domain.specs.Leaving.{told}
+
+-- ---- slots as numbers
+
+abbrev pub slot_of : ℕ → Slot
+slot_of number = record { machine = number / 2 ^ 32; ppn = number % 2 ^ 32 }
+
+abbrev pub slot_number : Slot → ℕ
+slot_number slot = slot.machine * 2 ^ 32 + slot.ppn
+
+-- ---- questions
+
+abbrev pub page_of : ℕ → Question → PageName
+page_of client q = record { client = client; number = q.page }
+
+-- the answers to a client's questions, and the last questions after them
+unfoldable pub answers_to : ℕ → List Question → Recent → List Bool
+answers_to client [] recent = []
+answers_to client (q ∷ qs) recent = was_noted (page_of client q) q.fingerprint recent.notes ∷ answers_to client qs (with_note (page_of client q) q.fingerprint recent)
+
+unfoldable pub asked : ℕ → List Question → Recent → Recent
+asked client [] recent = recent
+asked client (q ∷ qs) recent = asked client qs (with_note (page_of client q) q.fingerprint recent)
+
+-- ---- releases
+
+-- what is told of a release: the frame that is free since. A slot that isn't the client's frees none
+abbrev pub told_of : Result (Option ℕ) NoSuchSlot → ℕ
+told_of (Ok frame) = told frame
+told_of (Err fault) = NO_FRAME
+
+-- the slots that a client has after a release of one
+abbrev pub slots_left : ℕ → Result (Option ℕ) NoSuchSlot → ℕ
+slots_left slots (Ok frame) = slots - 1
+slots_left slots (Err fault) = slots
+
+-- what is told of a client's releases; the domain after them; and how many slots the client has then
+unfoldable pub freed_by : ℕ → List ℕ → DomainView → List ℕ
+freed_by client [] d = []
+freed_by client (s ∷ ss) d = told_of (release_answer client (slot_of s) d) ∷ freed_by client ss (after_release client (slot_of s) d)
+
+unfoldable pub after_releases : ℕ → List ℕ → DomainView → DomainView
+after_releases client [] d = d
+after_releases client (s ∷ ss) d = after_releases client ss (after_release client (slot_of s) d)
+
+unfoldable pub left_after : ℕ → ℕ → List ℕ → DomainView → ℕ
+left_after client slots [] d = slots
+left_after client slots (s ∷ ss) d = left_after client (slots_left slots (release_answer client (slot_of s) d)) ss (after_release client (slot_of s) d)
+
+-- ---- lends
+
+-- what a client is told of a page
+abbrev pub not_lent : Lent
+not_lent = record { slot = 0; frame = NO_FRAME; sharers = 0 }
+
+abbrev pub lent_by : Result Loan LendFault → Lent
+lent_by (Ok loan) = record { slot = slot_number loan.slot; frame = loan.frame; sharers = loan.sharers }
+lent_by (Err fault) = not_lent
+
+-- the slots that a client has after a page of it was lent, or was not
+abbrev pub slots_with : ℕ → Result Loan LendFault → ℕ
+slots_with slots (Ok loan) = slots + 1
+slots_with slots (Err fault) = slots
+
+-- the domain lends the page, or refuses it
+abbrev pub Answers : (ℕ → List ℕ → ℕ) → ℕ → List ℕ → Result Loan LendFault → DomainView → DomainView → Type 0
+Answers hash client page answer old new = MatchResult answer
+    (λ loan. LendsIn (page_machine hash old page) client page loan old new)
+    (λ fault. RefusesIn (page_machine hash old page) client fault old × (new ≡ old))
+
+-- a page of a client that has so many slots: how many it has then, what it is told, and the domain then
+pub record Lends (hash : ℕ → List ℕ → ℕ) (client : ℕ) (page : List ℕ) (slots after : ℕ) (lent : Lent) (old new : DomainView) : Type 0 where
+  pub answer : Result Loan LendFault
+  pub answers : Answers hash client page answer old new
+  pub lent-is : lent ≡ lent_by answer
+  pub slots-are : after ≡ slots_with slots answer
+
+-- a client that has as many slots as it may have gets no more
+pub record Keeps (slots after : ℕ) (lent : Lent) (old new : DomainView) : Type 0 where
+  pub lent-is : lent ≡ not_lent
+  pub slots-are : after ≡ slots
+  pub same : new ≡ old
+
+pub record LendsOne (hash : ℕ → List ℕ → ℕ) (client quota : ℕ) (page : List ℕ) (slots after : ℕ) (lent : Lent) (old new : DomainView) : Type 0 where
+  pub within : slots < quota → Lends hash client page slots after lent old new
+  pub full : quota ≤ slots → Keeps slots after lent old new
+
+-- the pages of a message, one after the other
+unfoldable pub LendsInTurn : (ℕ → List ℕ → ℕ) → ℕ → ℕ → List (List ℕ) → ℕ → ℕ → List Lent → DomainView → DomainView → Type 0
+LendsInTurn hash client quota [] slots after [] old new = (after ≡ slots) × (new ≡ old)
+LendsInTurn hash client quota (page ∷ pages) slots after [] old new = ⊥
+LendsInTurn hash client quota [] slots after (lent ∷ loans) old new = ⊥
+LendsInTurn hash client quota (page ∷ pages) slots after (lent ∷ loans) old new =
+    (mid : DomainView) × (between : ℕ) × LendsOne hash client quota page slots between lent old mid × LendsInTurn hash client quota pages between after loans mid new

@@ -1,0 +1,40 @@
+//! What comes of a packet.
+ghost use Rattle.std.specs.Prelude.{◌≡◌};
+ghost use Rattle.host_sessions.specs.Replies.{reply_of};
+
+use crate::session::SessionFault;
+use arrayvec::ArrayVec;
+use host_messages::{HostMessage, Lent, MAX_IN_MESSAGE, Packet, Welcome};
+
+/// What comes of a packet.
+#[derive(Clone, Debug, PartialEq, Eq, Drop)]
+pub enum Received {
+    /// No session with this number takes messages. Nothing changed.
+    NoSession,
+    /// The packet was at fault. Its session takes no more.
+    Fault(SessionFault),
+    /// The session began, or the one with this number was taken up, which is free now.
+    Welcome(Welcome, Option<u32>),
+    /// For each page, whether another one was asked about with its fingerprint lately.
+    Seen(ArrayVec<bool, MAX_IN_MESSAGE>),
+    /// What became of each page.
+    Loans(ArrayVec<Lent, MAX_IN_MESSAGE>),
+    /// For each slot, the frame that its release freed, or `NO_FRAME`. There is no reply.
+    Released(ArrayVec<u32, MAX_IN_MESSAGE>),
+}
+
+impl Received {
+    /// Returns the packet to reply with, which has no bytes where there is no reply.
+    pub fn into_reply(self) -> Packet
+        ensures { result.items ≡ reply_of self }
+    {
+        match self {
+            Received::NoSession => ArrayVec::new(),
+            Received::Fault(_) => ArrayVec::new(),
+            Received::Welcome(welcome, _) => HostMessage::Welcome(welcome).to_bytes(),
+            Received::Seen(answers) => HostMessage::Seen(answers).to_bytes(),
+            Received::Loans(loans) => HostMessage::Loans(loans).to_bytes(),
+            Received::Released(_) => ArrayVec::new(),
+        }
+    }
+}

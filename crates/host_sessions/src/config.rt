@@ -1,0 +1,17 @@
+//! What a host is made of.
+use share_domain::DomainConfig;
+
+/// The sizes of a host, and its secrets.
+#[derive(Clone, Copy, Debug, PartialEq, Eq)]
+pub struct HostConfig {
+    /// The domain of all sessions. As many sessions as clients may be there at a time.
+    pub domain: DomainConfig,
+    /// How many questions are remembered: 1 to 16,777,216.
+    pub recent: u32,
+    /// What spreads the questions. Draw it at random and keep it secret.
+    pub seed: u64,
+    /// The salt of fingerprints, which clients are told: another one than the domain's.
+    pub salt: u32,
+    /// The most slots of one session.
+    pub quota: u32,
+}

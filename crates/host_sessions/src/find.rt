@@ -1,0 +1,54 @@
+//! Sessions by what they are.
+ghost use Rattle.std.specs.Prelude.{◌≡◌, ◌≤◌, ◌<◌, length, position, IfSome};
+ghost use Rattle.host_sessions.specs.Table.{is_free, is_gone_as, next_number, wanted_in};
+
+use crate::session::Session;
+use host_messages::Name;
+
+fn first_free(sessions: &[Session]) -> Option<usize>
+    ensures { result ≡ position is_free sessions.now }
+{
+    sessions.iter().position(|session| session.is_free())
+}
+
+/// Returns the first number that no session has.
+pub(crate) fn find_free(sessions: &[Session]) -> Option<u32>
+    requires { length sessions.now ≤ 65536 }
+    ensures number { result ≡ next_number sessions.now }
+    ensures within { IfSome result (λ n. n < length sessions.now) }
+{
+    match first_free(sessions) {
+        None => None,
+        Some(number) => Some(number as u32),
+    }
+}
+
+fn first_gone(sessions: &[Session], name: &Name) -> Option<usize>
+    ensures { result ≡ position (is_gone_as name.now) sessions.now }
+{
+    sessions.iter().position(|session| session.is_gone_as(name))
+}
+
+/// Returns the number of the session with this name that can be taken up.
+fn find_gone(sessions: &[Session], name: &Name) -> Option<u32>
+    requires { length sessions.now ≤ 65536 }
+    ensures number { result ≡ position (is_gone_as name.now) sessions.now }
+    ensures within { IfSome result (λ n. n < length sessions.now) }
+{
+    match first_gone(sessions, name) {
+        None => None,
+        Some(number) => Some(number as u32),
+    }
+}
+
+/// Returns the number of the session that a client wants to take up, if there is one.
+pub(crate) fn find_wanted(sessions: &[Session], wanted: &Option<Name>) -> Option<u32>
+    requires { length sessions.now ≤ 65536 }
+    ensures number { result ≡ wanted_in sessions.now wanted.now }
+    ensures within { IfSome result (λ n. n < length sessions.now) }
+{
+    match wanted {
+        None => None,
+        Some(name) => find_gone(sessions, name),
+    }
+}

@@ -1,0 +1,481 @@
+//! The host.
+ghost use Rattle.std.specs.Prelude.{◌≡◌, ◌≤◌, ◌<◌, true, false, ◌*◌, length, not, replicate, IfOk};
+ghost use Rattle.host_sessions.specs.Table.{session_at, next_number, connected, takes, gone, is_free, wanted_in, begun_of, new_session};
+ghost use Rattle.host_sessions.specs.Steps.{with_sessions, with_session, welcome_to, Breaks, Greets, Begins, TakesUp, Asks, Releases, LendsFirst, LendsPages, Opens, Talks, Steps, Hears, Receives};
+ghost use Rattle.host_sessions.specs.Others.{SparesOthers};
+ghost use Rattle.host_sessions.specs.Ends.{Ends, EndsBegun, ended, count_of};
+ghost use Rattle.host_messages.specs.Reading.{client_at};
+ghost use Rattle.share_domain.specs.Domains.{next_client};
+ghost use Rattle.share_domain.specs.Made.{AreFree};
+ghost use Rattle.share_domain.specs.Totals.{domain_totals};
+ghost use Rattle.host_messages.specs.declared.limits.TheConstants.{MAX_IN_MESSAGE};
+
+use crate::answer::Received;
+use crate::ask::ask_each;
+use crate::config::HostConfig;
+use crate::find::{find_free, find_wanted};
+use crate::lend::lend_each;
+use crate::release::release_each;
+use crate::session::{Begun, Link, Session, SessionFault};
+use host_messages::{ClientMessage, MAX_IN_MESSAGE, MessageFault, Name, Question, Welcome};
+use machine_frames::Frames;
+use page_digest::PageHash;
+use page_model::Page;
+use recent_fingerprints::RecentFingerprints;
+use share_domain::{Domain, DomainReport};
+use std::alloc::{AllocError, Allocator, Global};
+use std::marker::Model;
+
+/// A host: a domain, and the sessions of its clients by their numbers.
+#[derive(Drop)]
+pub struct Host<H: PageHash, A: Allocator = Global> {
+    frames: u32,
+    salt: u32,
+    quota: u32,
+    domain: Domain<H, A>,
+    recent: RecentFingerprints<A>,
+    sessions: Vec<Session, A>,
+}
+
+impl<H: PageHash, A: Allocator> Model for Host<H, A> {
+    ghost use Rattle.std.specs.Prelude.{◌≤◌, length};
+    ghost use Rattle.host_sessions.specs.Steps.{HostView};
+
+    ghost Value = { HostView };
+
+    ghost view = { λ h. record { frames = h.frames; salt = h.salt; quota = h.quota; domain = h.domain; recent = h.recent; sessions = h.sessions.items } };
+
+    ghost invariant = { λ h. length h.sessions.items ≤ 65536 };
+}
+
+impl<H: PageHash + Drop + Copy, A: Allocator + Clone> Host<H, A> {
+    ghost use Rattle.host_sessions.specs.Made.{AreHostLimits, empty_host};
+
+    /// Makes a host with no session, with these frames, all of them free: those of machine 0 first, as
+    /// [`Domain::with_frames`] takes them. All its memory is allocated here.
+    pub fn with_frames(
+        alloc: A,
+        config: &HostConfig,
+        hash: H,
+        frames: Vec<Frames<A>, A>,
+    ) -> Result<Host<H, A>, AllocError>
+        requires limits { AreHostLimits config.now }
+        requires frames { AreFree config.now.domain frames.items }
+        ensures { IfOk result (λ host. host ≡ empty_host config.now) }
+    {
+        let recent = RecentFingerprints::new(alloc.clone()?, config.recent, config.seed)?;
+        let sessions = new_sessions(alloc.clone()?, config.domain.clients)?;
+        let domain = Domain::with_frames(alloc, &config.domain, hash, frames)?;
+        Ok(Host {
+            frames: total_frames(config.domain.machines, config.domain.frames),
+            salt: config.salt,
+            quota: config.quota,
+            domain,
+            recent,
+            sessions,
+        })
+    }
+}
+
+/// Returns how many frames so many machines have.
+fn total_frames(machines: u32, each: u32) -> u32
+    requires machines { machines ≤ 64 }
+    requires each { each ≤ 1048576 }
+    ensures { result ≡ machines * each }
+{
+    machines * each
+}
+
+/// Makes so many numbers of sessions that none has.
+fn new_sessions<A: Allocator>(alloc: A, count: u32) -> Result<Vec<Session, A>, AllocError>
+    ensures { IfOk result (λ sessions. sessions.items ≡ replicate count Session.Free) }
+{
+    let mut sessions = Vec::with_capacity(alloc, count as usize)?;
+    for _ in 0..count {
+        sessions.push_reserved(Session::Free);
+    }
+    Ok(sessions)
+}
+
+impl<H: PageHash, A: Allocator> Host<H, A> {
+    /// A peer has connected: its session gets the first number that no session has, and has said nothing. Its name is drawn at
+    /// random. Returns `None` if there are as many sessions as there may be.
+    pub fn connect(&mut self, name: Name) -> Option<u32>
+        ensures number { result ≡ next_number self.old.sessions }
+        ensures now { self.new ≡ with_sessions self.old (connected name result self.old.sessions) }
+    {
+        match find_free(&self.sessions) {
+            None => None,
+            Some(number) => {
+                self.put(number, Session::Silent(name));
+                Some(number)
+            }
+        }
+    }
+
+    /// Receives a packet of a session. `pages` are the pages of the buffer that lies beside it. Whatever the bytes are, the slots of
+    /// every other client stay as they are.
+    pub fn receive(&mut self, number: u32, bytes: &[u8], pages: &[Page]) -> Received
+        ensures receives { Receives H.hash_of number bytes.now pages.now result self.old self.new }
+        ensures others { SparesOthers (session_at self.old.sessions number) self.old.domain self.new.domain }
+    {
+        self.hear(number, bytes, pages)
+    }
+
+    /// Receives a packet of a session.
+    fn hear(&mut self, number: u32, bytes: &[u8], pages: &[Page]) -> Received
+        ensures { Receives H.hash_of number bytes.now pages.now result self.old self.new }
+    {
+        if self.takes(number) {
+            return self.hear_bytes(number, bytes, pages);
+        }
+        Received::NoSession
+    }
+
+    /// Receives a packet of a session that takes messages.
+    fn hear_bytes(&mut self, number: u32, bytes: &[u8], pages: &[Page]) -> Received
+        requires { number < length self.old.sessions }
+        ensures { Hears H.hash_of number pages.now (session_at self.old.sessions number) (client_at bytes.now) result self.old self.new }
+    {
+        let session = self.session(number);
+        let read = ClientMessage::from_bytes(bytes);
+        self.hear_read(number, session, read, pages)
+    }
+
+    /// Receives what a packet was read as.
+    fn hear_read(
+        &mut self,
+        number: u32,
+        session: Session,
+        read: Result<ClientMessage, MessageFault>,
+        pages: &[Page],
+    ) -> Received
+        requires { number < length self.old.sessions }
+        ensures { Hears H.hash_of number pages.now session read result self.old self.new }
+    {
+        match read {
+            Err(fault) => self.break_off(number, session, SessionFault::Message(fault)),
+            Ok(message) => self.step(number, session, message, pages),
+        }
+    }
+
+    /// A session's connection has ended. One that has begun keeps its number and its slots, and can be taken up by its name.
+    /// Returns whether there was a session.
+    pub fn disconnect(&mut self, number: u32) -> bool
+        ensures there { result ≡ not (is_free (session_at self.old.sessions number)) }
+        ensures now { self.new ≡ with_session self.old number (gone (session_at self.old.sessions number)) }
+    {
+        let session = self.session(number);
+        if session.is_free() {
+            return false;
+        }
+        self.put(number, session.gone());
+        true
+    }
+
+    /// A session's process has ended. Releases as many of its slots as there is room to tell of, and returns how many, as
+    /// [`Domain::leave`] does. Call it until it returns 0: then no session has the number. Returns `None` if none has it.
+    pub fn end(&mut self, number: u32, freed: &mut [u32]) -> Option<usize>
+        requires room { 1 ≤ length freed.old }
+        ensures { Ends number (session_at self.old.sessions number) result freed.old freed.new self.old self.new }
+    {
+        let session = self.session(number);
+        self.end_as(number, session, freed)
+    }
+
+    /// Returns a session, which is free where there is no such number.
+    pub fn session(&self, number: u32) -> Session
+        ensures session { result ≡ session_at self.now.sessions number }
+        ensures within { is_free result ≡ false → number < length self.now.sessions }
+    {
+        if number as usize >= self.sessions.len() {
+            return Session::Free;
+        }
+        self.sessions[number as usize]
+    }
+
+    /// Returns what the domain counts. It looks at each slot.
+    pub fn report(&self) -> DomainReport
+        ensures { result ≡ domain_totals self.now.domain }
+    {
+        self.domain.report()
+    }
+
+    /// Whether a session takes messages.
+    fn takes(&self, number: u32) -> bool
+        ensures takes { result ≡ takes (session_at self.now.sessions number) }
+        ensures within { result ≡ true → number < length self.now.sessions }
+    {
+        if number as usize >= self.sessions.len() {
+            return false;
+        }
+        self.sessions[number as usize].takes()
+    }
+
+    /// Puts a session in the place of another.
+    fn put(&mut self, number: u32, session: Session)
+        requires { number < length self.old.sessions }
+        ensures { self.new ≡ with_session self.old number session }
+    {
+        self.sessions[number as usize] = session;
+    }
+
+    /// Notes that a packet was at fault.
+    fn break_off(&mut self, number: u32, session: Session, fault: SessionFault) -> Received
+        requires { number < length self.old.sessions }
+        ensures { Breaks number session fault result self.old self.new }
+    {
+        self.put(number, session.faulted(fault));
+        Received::Fault(fault)
+    }
+
+    /// Does what a message says.
+    fn step(
+        &mut self,
+        number: u32,
+        session: Session,
+        message: ClientMessage,
+        pages: &[Page],
+    ) -> Received
+        requires { number < length self.old.sessions }
+        ensures { Steps H.hash_of number pages.now session message result self.old self.new }
+    {
+        match session {
+            Session::Free => Received::NoSession,
+            Session::Refused(_) => Received::NoSession,
+            Session::Silent(name) => self.open(number, name, message),
+            Session::Begun(begun) => self.talk(number, begun, message, pages),
+        }
+    }
+
+    /// Does what a session's first message says.
+    fn open(&mut self, number: u32, name: Name, message: ClientMessage) -> Received
+        requires { number < length self.old.sessions }
+        ensures { Opens number name message result self.old self.new }
+    {
+        match message {
+            ClientMessage::Hello(wanted) => self.greet(number, name, wanted),
+            ClientMessage::Ask(_) => {
+                self.break_off(number, Session::Silent(name), SessionFault::Early)
+            }
+            ClientMessage::Lend(_) => {
+                self.break_off(number, Session::Silent(name), SessionFault::Early)
+            }
+            ClientMessage::Release(_) => {
+                self.break_off(number, Session::Silent(name), SessionFault::Early)
+            }
+        }
+    }
+
+    /// Takes up the session that the client wants, or begins one.
+    fn greet(&mut self, number: u32, name: Name, wanted: Option<Name>) -> Received
+        requires { number < length self.old.sessions }
+        ensures { Greets number name (wanted_in self.old.sessions wanted) result self.old self.new }
+    {
+        match find_wanted(&self.sessions, &wanted) {
+            None => self.begin(number, name),
+            Some(before) => self.take_up(number, before),
+        }
+    }
+
+    /// Begins a session, with a new client.
+    fn begin(&mut self, number: u32, name: Name) -> Received
+        requires { number < length self.old.sessions }
+        ensures { Begins number name (next_client self.old.domain) result self.old self.new }
+    {
+        match self.domain.enter() {
+            None => self.break_off(number, Session::Silent(name), SessionFault::Clients),
+            Some(client) => {
+                self.put(number, Session::Begun(new_session(name, client)));
+                Received::Welcome(self.welcome_to(name), None)
+            }
+        }
+    }
+
+    /// Takes up a session that has begun.
+    fn take_up(&mut self, number: u32, before: u32) -> Received
+        requires number { number < length self.old.sessions }
+        requires before { before < length self.old.sessions }
+        ensures { TakesUp number before (begun_of (session_at self.old.sessions before)) result self.old self.new }
+    {
+        match self.begun(before) {
+            None => Received::NoSession,
+            Some(begun) => {
+                self.put(before, Session::Free);
+                self.put(number, Session::Begun(begun.heard(begun.slots)));
+                let name = begun.name;
+                Received::Welcome(self.welcome_to(name), Some(before))
+            }
+        }
+    }
+
+    /// Returns a session if it has begun.
+    fn begun(&self, number: u32) -> Option<Begun>
+        ensures { result ≡ begun_of (session_at self.now.sessions number) }
+    {
+        match self.session(number) {
+            Session::Free => None,
+            Session::Silent(_) => None,
+            Session::Refused(_) => None,
+            Session::Begun(begun) => Some(begun),
+        }
+    }
+
+    /// Returns what a session with this name is told first.
+    fn welcome_to(&self, name: Name) -> Welcome
+        ensures { result ≡ welcome_to self.now name }
+    {
+        Welcome {
+            name,
+            frames: self.frames,
+            salt: self.salt,
+            most: MAX_IN_MESSAGE as u32,
+        }
+    }
+
+    /// Does what a message says in a session that has begun.
+    fn talk(
+        &mut self,
+        number: u32,
+        begun: Begun,
+        message: ClientMessage,
+        pages: &[Page],
+    ) -> Received
+        requires { number < length self.old.sessions }
+        ensures { Talks H.hash_of number pages.now begun message result self.old self.new }
+    {
+        match message {
+            ClientMessage::Hello(_) => {
+                self.break_off(number, Session::Begun(begun), SessionFault::Again)
+            }
+            ClientMessage::Ask(questions) => self.ask(number, begun, questions.as_slice()),
+            ClientMessage::Lend(count) => self.lend_first(number, begun, count, pages),
+            ClientMessage::Release(slots) => self.release(number, begun, slots.as_slice()),
+        }
+    }
+
+    /// Answers questions.
+    fn ask(&mut self, number: u32, begun: Begun, questions: &[Question]) -> Received
+        requires number { number < length self.old.sessions }
+        requires few { length questions.now ≤ MAX_IN_MESSAGE }
+        ensures { Asks number begun questions.now result self.old self.new }
+    {
+        let answers = ask_each(&mut self.recent, begun.client, questions);
+        self.put(number, Session::Begun(begun.heard(begun.slots)));
+        Received::Seen(answers)
+    }
+
+    /// Releases slots.
+    fn release(&mut self, number: u32, begun: Begun, slots: &[u64]) -> Received
+        requires number { number < length self.old.sessions }
+        requires few { length slots.now ≤ MAX_IN_MESSAGE }
+        ensures { Releases number begun slots.now result self.old self.new }
+    {
+        let released = release_each(&mut self.domain, begun.client, begun.slots, slots);
+        self.put(number, Session::Begun(begun.heard(released.slots)));
+        Received::Released(released.freed)
+    }
+
+    /// Lends the first pages of a buffer, if it has so many.
+    fn lend_first(&mut self, number: u32, begun: Begun, count: u32, pages: &[Page]) -> Received
+        requires { number < length self.old.sessions }
+        ensures { LendsFirst H.hash_of number begun count pages.now result self.old self.new }
+    {
+        if pages.len() < count as usize {
+            return self.break_off(number, Session::Begun(begun), SessionFault::Pages);
+        }
+        if count as usize > MAX_IN_MESSAGE {
+            return self.break_off(number, Session::Begun(begun), SessionFault::Pages);
+        }
+        self.lend(number, begun, &pages[..count as usize])
+    }
+
+    /// Lends pages.
+    fn lend(&mut self, number: u32, begun: Begun, pages: &[Page]) -> Received
+        requires number { number < length self.old.sessions }
+        requires few { length pages.now ≤ MAX_IN_MESSAGE }
+        ensures { LendsPages H.hash_of number begun pages.now result self.old self.new }
+    {
+        let lent = lend_each(
+            &mut self.domain,
+            begun.client,
+            self.quota,
+            begun.slots,
+            pages,
+        );
+        self.put(number, Session::Begun(begun.heard(lent.slots)));
+        Received::Loans(lent.loans)
+    }
+
+    /// Ends a session.
+    fn end_as(&mut self, number: u32, session: Session, freed: &mut [u32]) -> Option<usize>
+        requires room { 1 ≤ length freed.old }
+        requires number { is_free session ≡ false → number < length self.old.sessions }
+        ensures { Ends number session result freed.old freed.new self.old self.new }
+    {
+        match session {
+            Session::Free => None,
+            Session::Silent(_) => {
+                self.put(number, Session::Free);
+                Some(0)
+            }
+            Session::Refused(_) => {
+                self.put(number, Session::Free);
+                Some(0)
+            }
+            Session::Begun(begun) => Some(self.leave(number, begun, freed)),
+        }
+    }
+
+    /// Lets a session's client leave the domain.
+    fn leave(&mut self, number: u32, begun: Begun, freed: &mut [u32]) -> usize
+        requires room { 1 ≤ length freed.old }
+        requires number { number < length self.old.sessions }
+        ensures { EndsBegun number begun result freed.old freed.new self.old self.new }
+    {
+        let answer = self.domain.leave(begun.client, freed);
+        let count = count_of(answer);
+        self.put(number, ended(begun, count));
+        count
+    }
+}
+
+/// Returns how many slots were released.
+fn count_of(answer: Option<usize>) -> usize
+    ensures { result ≡ count_of answer }
+{
+    match answer {
+        None => 0,
+        Some(count) => count,
+    }
+}
+
+/// Returns a session after its first message.
+fn new_session(name: Name, client: u32) -> Begun
+    ensures { result ≡ new_session name client }
+{
+    Begun {
+        name,
+        client,
+        slots: 0,
+        messages: 1,
+        link: Link::Talking,
+    }
+}
+
+/// Returns a session whose process has ended, after so many of its slots were released.
+fn ended(begun: Begun, count: usize) -> Session
+    ensures { result ≡ ended begun count }
+{
+    if count == 0 {
+        return Session::Free;
+    }
+    let name = begun.name;
+    Session::Begun(Begun {
+        name,
+        client: begun.client,
+        slots: (begun.slots as usize).saturating_sub(count) as u32,
+        messages: begun.messages,
+        link: Link::Ended,
+    })
+}

@@ -1,0 +1,19 @@
+//! The sessions of a host's clients: bytes of one client in, and what is to be done and replied.
+//!
+//! A session belongs to a VMM process. Its packets change its own slots in the domain and no others, whatever their bytes are. A
+//! session whose connection has ended keeps its slots until its process has ended, or another connection takes it up by its name.
+#![tactic(auto)]
+
+mod answer;
+mod ask;
+mod config;
+mod find;
+mod host;
+mod lend;
+mod release;
+mod session;
+
+pub use answer::Received;
+pub use config::HostConfig;
+pub use host::Host;
+pub use session::{Begun, Link, Session, SessionFault};
