@@ -98,6 +98,9 @@ def cases():
 
 
 def main(program=str(TOP / "out/window_trace")):
+    if not pathlib.Path(program).is_file():
+        print(f"{program} isn't there: `make traces` builds out/window_trace\n0 passed, 1 failed")
+        return 1
     passed, failed = 0, 0
     for name, text, line, status in cases():
         done = subprocess.run([program], input=text.encode(), capture_output=True, check=False)
