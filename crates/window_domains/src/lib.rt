@@ -10,7 +10,8 @@ ghost use Rattle.window_domains.specs.Agreement.{Agrees};
 ghost use Rattle.window_domains.specs.Histories.{EveryHistoryIsRight};
 ghost use Rattle.window_domains.specs.Example.{same_bytes, no_loan, one_loan, two_loans, slot_of, loan_of, both_shown};
 ghost use Rattle.share_domain.specs.Domains.{LendsIn};
-ghost use Rattle.window_events.specs.Windows.{shown, view_of};
+ghost use Rattle.window_events.specs.Windows.{step, shown, view_of};
+ghost use Rattle.window_events.specs.declared.event.Event.TheVariants as Event;
 ghost use Rattle.window_events.specs.declared.page.View.TheVariants as View;
 ghost use Rattle.std.specs.Prelude.{◌≡◌, [], ◌∷◌, Some, None, sum};
 
@@ -56,7 +57,8 @@ pub fn history_law()
     ensures { EveryHistoryIsRight }
 {}
 
-/// Two clients lend equal pages, and both pages show one frame of the domain.
+/// Two clients lend equal pages, and both pages show one frame of the domain. While page 0 shows it, its release isn't possible: so
+/// the laws of releases need their premise.
 pub fn shared_frame()
     ensures first { LendsIn 0 0 same_bytes (loan_of 0) no_loan one_loan }
     ensures second { LendsIn 0 1 same_bytes (loan_of 1) one_loan two_loans }
@@ -64,4 +66,5 @@ pub fn shared_frame()
     ensures shows_first { view_of both_shown 0 ≡ Some (View.Over 1 None) }
     ensures shows_second { view_of both_shown 1 ≡ Some (View.Over 1 None) }
     ensures shown { shown both_shown 1 ≡ Some (sum same_bytes) }
+    ensures needed { step both_shown (Event.Release 0) ≡ None }
 {}
