@@ -1,9 +1,10 @@
 //! Domains: pages of many clients, which share frames.
 use crate::error::{DomainError, LendError, NoRoom};
 use crate::ffi::{self, DomainShape, DomainTotals, Handle};
+use crate::frames::FramesInUse;
 use crate::machine::{HashKind, Page};
 use crate::region::Region;
-use std::cell::UnsafeCell;
+use std::cell::{RefCell, UnsafeCell};
 use std::fmt;
 use std::io;
 
@@ -134,8 +135,8 @@ pub fn fingerprint(salt: u32, page: &Page) -> u64 {
 pub struct Domain {
     /// It holds a domain from `new` to `drop`, and is never copied. No reference to it outlives a call.
     handle: UnsafeCell<Handle>,
-    /// The frames' memory, if the caller chose it. It is dropped after the domain was freed.
-    region: Option<Region>,
+    /// The frames' memory, if the caller chose it, and which of them slots have. It is dropped after the domain was freed.
+    region: Option<(Region, RefCell<FramesInUse>)>,
 }
 
 // SAFETY: the library's handle may go to another thread, with the domain that it holds, which nobody else has.
@@ -163,10 +164,13 @@ impl Domain {
     fn made(config: &DomainConfig, region: Option<Region>) -> Result<Domain, DomainError> {
         let domain = Domain {
             handle: UnsafeCell::new(Handle::NONE),
-            region,
+            region: region.map(|region| {
+                let in_use = FramesInUse::new(region.frames());
+                (region, RefCell::new(in_use))
+            }),
         };
         let (handle, shape, hash) = (domain.handle.get(), config.shape(), config.hash.number());
-        let status = match &domain.region {
+        let status = match domain.region() {
             // SAFETY: the handle holds no domain, and the shape is lent for the call. So below.
             None => unsafe { ffi::pageshare_domain_make_shaped(handle, &shape, hash) },
             Some(region) => {
@@ -205,22 +209,41 @@ impl Domain {
 
     /// The region that the frames are in, if the domain was made with one.
     pub fn region(&self) -> Option<&Region> {
-        self.region.as_ref()
+        self.region.as_ref().map(|(region, _)| region)
     }
 
-    /// Gives the memory of a frame in the domain's region back to the system. It is for frames that were called freed: a page that
-    /// has it would read as zeros from then on.
+    /// Gives the memory of a frame in the domain's region back to the system. It is for frames that were called freed: a frame that a
+    /// slot has is refused, since its pages would read as zeros from then on.
     ///
     /// # Errors
     ///
-    /// What the system says, and [`io::ErrorKind::InvalidInput`] for a domain with no region, or a frame that is not in it.
+    /// What the system says, and [`io::ErrorKind::InvalidInput`] for a domain with no region, a frame that is not in it, or one that a
+    /// slot has.
     pub fn give_back(&self, frame: u32) -> io::Result<()> {
         match &self.region {
-            Some(region) => region.give_back(frame),
+            Some((_, in_use)) if in_use.borrow().contains(frame) => Err(io::Error::new(
+                io::ErrorKind::InvalidInput,
+                "a slot has this frame",
+            )),
+            Some((region, _)) => region.give_back(frame),
             None => Err(io::Error::new(
                 io::ErrorKind::InvalidInput,
                 "the domain has no region",
             )),
+        }
+    }
+
+    /// Notes that a slot has this frame, if the frames are in a region.
+    fn note_used(&self, frame: u32) {
+        if let Some((_, in_use)) = &self.region {
+            in_use.borrow_mut().note_used(frame);
+        }
+    }
+
+    /// Notes that no slot has this frame any more. (The number for no frame is none of the region's.)
+    fn note_free(&self, frame: u32) {
+        if let Some((_, in_use)) = &self.region {
+            in_use.borrow_mut().note_free(frame);
         }
     }
 
@@ -295,11 +318,14 @@ impl Client<'_> {
         let loan =
             unsafe { ffi::pageshare_domain_lend(self.domain.handle.get(), self.number, page) };
         match loan.status {
-            0 => Ok(Loan {
-                slot: loan.slot,
-                frame: loan.frame,
-                sharers: loan.sharers,
-            }),
+            0 => {
+                self.domain.note_used(loan.frame);
+                Ok(Loan {
+                    slot: loan.slot,
+                    frame: loan.frame,
+                    sharers: loan.sharers,
+                })
+            }
             status => Err(LendError::of(status)),
         }
     }
@@ -315,7 +341,10 @@ impl Client<'_> {
         let handle = self.domain.handle.get();
         // SAFETY: as in `enter`; the number is lent for the call.
         match unsafe { ffi::pageshare_domain_release(handle, self.number, loan.slot, &mut freed) } {
-            0 => Ok((freed != NO_FRAME).then_some(freed)),
+            0 => {
+                self.domain.note_free(freed);
+                Ok((freed != NO_FRAME).then_some(freed))
+            }
             _ => Err(loan),
         }
     }
@@ -364,6 +393,7 @@ impl Client<'_> {
         };
         for &frame in frames.iter().take(count) {
             if frame != NO_FRAME {
+                self.domain.note_free(frame);
                 freed(frame);
             }
         }

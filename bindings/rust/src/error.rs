@@ -126,6 +126,8 @@ pub enum DomainError {
     Region,
     /// The memory was refused.
     OutOfMemory,
+    /// The library is built for a newer processor. It is checked before all others.
+    Processor,
     /// A status that this wrapper does not know: it is of another version than the library.
     Unknown(u32),
 }
@@ -140,6 +142,7 @@ impl DomainError {
             19 => DomainError::Recent,
             13 => DomainError::Region,
             4 => DomainError::OutOfMemory,
+            25 => DomainError::Processor,
             _ => DomainError::Unknown(status),
         }
     }
@@ -157,6 +160,7 @@ impl fmt::Display for DomainError {
                 f.write_str("the region has room for each frame of each machine")
             }
             DomainError::OutOfMemory => f.write_str("out of memory"),
+            DomainError::Processor => f.write_str("the library is built for a newer processor"),
             DomainError::Unknown(status) => write!(f, "unknown status {status}"),
         }
     }

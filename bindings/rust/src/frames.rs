@@ -7,7 +7,7 @@ const WORD_BITS: u32 = 64;
 /// A bit for each frame of a region: whether a page has it.
 ///
 /// The answers of requests say so of each frame that changes: a request gives a frame to the page that it names alone, and calls freed
-/// the one that this page had and no page has now.
+/// the one that this page had and no page has now. A domain's loans and releases say the same of its frames.
 #[derive(Debug)]
 pub(crate) struct FramesInUse {
     words: Vec<u64>,
@@ -29,8 +29,18 @@ impl FramesInUse {
 
     /// Notes what a request's answer says of frames.
     pub(crate) fn note(&mut self, answer: &Answer) {
-        self.set(answer.freed, false);
-        self.set(answer.frame, true);
+        self.note_free(answer.freed);
+        self.note_used(answer.frame);
+    }
+
+    /// Notes that a page has this frame.
+    pub(crate) fn note_used(&mut self, frame: u32) {
+        self.set(frame, true);
+    }
+
+    /// Notes that no page has this frame any more.
+    pub(crate) fn note_free(&mut self, frame: u32) {
+        self.set(frame, false);
     }
 
     /// Numbers that are of no frame, such as that for none, are passed over.

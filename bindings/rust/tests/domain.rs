@@ -57,7 +57,17 @@ fn takes_a_region() -> Result<(), Box<dyn Error>> {
     assert_eq!(domain.region().map(Region::frames), Some(5));
     assert!(domain.give_back(5).is_err());
     assert!(Domain::new(&config(1, 1, 2, 1))?.give_back(0).is_err());
-    Ok(())
+    let mut client = domain.enter()?;
+    let loan = client.lend(&[1; PAGE_BYTES])?;
+    let frame = loan.frame;
+    let fault = domain.give_back(frame).map_err(|error| error.kind());
+    assert_eq!(fault, Err(std::io::ErrorKind::InvalidInput));
+    assert_eq!(client.release(loan), Ok(Some(frame)));
+    domain.give_back(frame)?;
+    let frame = client.lend(&[2; PAGE_BYTES])?.frame;
+    assert!(domain.give_back(frame).is_err());
+    client.leave(|freed| assert_eq!(freed, frame));
+    Ok(domain.give_back(frame)?)
 }
 
 #[test]
