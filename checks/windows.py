@@ -27,7 +27,7 @@ WRAPS = {
     "guards": ["ioctl", "madvise", "mremap", "fallocate"],
     "full": ["memfd_create", "fcntl"],
 }
-MORE = {"guards": ["faults"], "pages": ["ring"], "stress": [], "full": [], "stalls": []}
+MORE = {"guards": ["faults"], "pages": ["ring"], "stress": ["ring"], "full": [], "stalls": []}
 TRACE = "window.trace"
 
 
@@ -99,7 +99,7 @@ def main():
     must([build("full", library)])
     must([build("stalls", library)])
     stress = build("stress", library)
-    for way in [[], ["--move", "0"], ["--scan", "0"]]:
+    for way in [[], ["--move", "0"], ["--scan", "0"], ["--pins", "1"]]:
         must([stress, "--seconds", seconds, *way])
     sanitized(library, seconds)
     record = build("stress", library, ["-DWINDOW_TRACE"], "_trace")

@@ -163,7 +163,7 @@ static bool make_lender(struct fleet *fleet) {
     uint32_t pages = fleet->guests * pages_of(fleet);
     struct lender_config config = {.slots = pages,
                                    .frames = (uint32_t)((uint64_t)pages * fleet->frames / 100),
-                                   .recent = 2 * pages,
+                                   .recent = pages / 2,
                                    .hash = fleet->journal_path != NULL ? PAGESHARE_SHA256 : PAGESHARE_FOLD};
     if (fleet->journal_path != NULL && (fleet->journal = journal_open(fleet->journal_path, fleet->requests)) == NULL)
         return trouble(fleet->journal_path);

@@ -171,6 +171,7 @@ static void settle(struct hold *hold) {
     }
     take(hold);
     compare(hold);
+    trace_dawdle();
     map(hold);
     let_go(hold);
     for (size_t i = 0; i < hold->count; i++) {
