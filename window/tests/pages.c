@@ -88,6 +88,11 @@ static void bounds(void) {
     check(window_make(&other, fixture.windows, at, PAGE + 1, 0).status == WINDOW_BAD_RANGE, "and ends with one");
     struct window_lender bad = *lender_interface(fixture.lender);
     check(windows_attach(fixture.windows, &bad).status == WINDOW_HAS_LENDER, "there is one lender at a time");
+    const struct lender_config few = {.slots = PAGES, .frames = 1, .recent = PAGES, .hash = PAGESHARE_FOLD};
+    struct lender *none;
+    struct lender_result refused = lender_make(&none, &few);
+    check(refused.status == LENDER_REFUSED && refused.cause == PAGESHARE_ERROR_FRAMES && none == NULL,
+          "a limit is told as what it is");
     windows_detach(fixture.windows);
     bad.frame_count = WINDOW_FRAMES_MOST;
     check(windows_attach(fixture.windows, &bad).status == WINDOW_BAD_LENDER, "its file has all its frames");
@@ -218,6 +223,7 @@ static void advice(void) {
     struct window *window = window_over(&fixture, at, PAGES);
     fill(at, PAGES, 1);
     check(look_until(&fixture, PAGES) == PAGES, "all pages are lent");
+    check(!has_flags(at, "mg") && !has_flags(at + PAGE, "mg"), "the kernel's KSM leaves a window alone");
     check(has_flags(at, "dd dc nh"), "a lent page isn't dumped, has no huge pages, and no child has it");
     check(!binds || policy_of(at) == 2, "its copy comes from the same memory node");
     must(window_discard(window, 3, 1), "window_discard");
