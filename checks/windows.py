@@ -99,7 +99,7 @@ def main():
     must([build("full", library)])
     must([build("stalls", library)])
     stress = build("stress", library)
-    for way in [[], ["--move", "0"], ["--scan", "0"], ["--pins", "1"]]:
+    for way in [[], ["--move", "0"], ["--scan", "0"], ["--pins", "1", "--rest", "7"]]:
         must([stress, "--seconds", seconds, *way])
     sanitized(library, seconds)
     record = build("stress", library, ["-DWINDOW_TRACE"], "_trace")

@@ -42,7 +42,7 @@
 #include <sys/resource.h>
 #include <unistd.h>
 
-enum { GUESTS = 8, TICK_NS = 10000000, LATE_S = 10, JOURNAL_S = 10, LOOK_MOST = 1024, PAGE = WINDOW_PAGE_BYTES };
+enum { GUESTS = 8, TICK_NS = 10000000, LATE_S = 10, JOURNAL_S = 10, LOOK_MOST = 1024, REST_MOST = 7, PAGE = WINDOW_PAGE_BYTES };
 
 enum way { WAY_LEND, WAY_PLAIN, WAY_KSM };
 static const char *const WAYS[] = {"lend", "plain", "ksm"};
@@ -159,7 +159,7 @@ static uint8_t *make_memory(const struct fleet *fleet) {
 }
 
 static bool make_lender(struct fleet *fleet) {
-    const struct windows_config windows = {.pins = WINDOWS_PINS_NEVER, .trace = fleet->trace};
+    const struct windows_config windows = {.pins = WINDOWS_PINS_NEVER, .rest_most = REST_MOST, .trace = fleet->trace};
     uint32_t pages = fleet->guests * pages_of(fleet);
     struct lender_config config = {.slots = pages,
                                    .frames = (uint32_t)((uint64_t)pages * fleet->frames / 100),

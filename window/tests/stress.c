@@ -3,7 +3,7 @@
  * are discarded and pinned, devices read into pinned pages, windows come and go, and children are forked. There are fewer frames
  * than pages. With --pins 1 windows aren't told which pages are pinned.
  *
- *     stress [--writes N] [--seconds N] [--trace FILE] [--move 0] [--scan 0] [--pins 1] [--pages N] [--seed N]
+ *     stress [--writes N] [--seconds N] [--trace FILE] [--move 0] [--scan 0] [--pins 1] [--rest N] [--pages N] [--seed N]
  *
  * Ends after so many checked writes, or so many seconds. Prints figures, and "stress: ok" (status 0) or "stress: WRONG" (1).
  */
@@ -252,6 +252,7 @@ int main(int count, char **words) {
         if (strcmp(words[i], "--trace") == 0) config.trace = words[i + 1];
         if (strcmp(words[i], "--move") == 0) config.never_move = true;
         if (strcmp(words[i], "--scan") == 0) config.never_scan = true;
+        if (strcmp(words[i], "--rest") == 0) config.rest_most = (uint8_t)strtoul(words[i + 1], NULL, 10);
         if (strcmp(words[i], "--pins") == 0) config.pins = WINDOWS_PINS_POSSIBLE, pins_unknown = true;
     }
     if (pages == 0 || pages > PAGES_MOST) return 2;
