@@ -442,12 +442,30 @@ static int no_answer(void *opaque, const uint64_t *slots, size_t count) {
     (void)opaque, (void)slots, (void)count;
     return ENOTCONN;
 }
+
+struct slots {
+    size_t shown, hidden;
+};
+static int count_slot(void *opaque, uint32_t page, uint64_t slot, bool shown) {
+    struct slots *slots = opaque;
+    (void)slot;
+    check(page < PAGES, "a slot is a page's");
+    if (shown) slots->shown++;
+    else slots->hidden++;
+    return slots->shown + slots->hidden == PAGES ? 5 : 0;
+}
+
 static void lenders(void) {
     struct fixture fixture = fixture_make(&never_pinned, PAGES);
     uint8_t *at = memory(PAGES);
     struct window *window = window_over(&fixture, at, PAGES);
     fill(at, PAGES, 2);
+    struct slots slots = {0};
     check(look_until(&fixture, PAGES) == PAGES, "all pages are lent");
+    must(window_discard(window, PAGES - 1, 1), "window_discard");
+    check(windows_each_slot(fixture.windows, count_slot, &slots) == 5, "each slot is told until a call wants no more");
+    check(slots.shown == PAGES - 1 && slots.hidden == 1, "and whether its page may show its frame");
+    memset(at + (PAGES - 1) * PAGE, 2, PAGE);
     windows_detach(fixture.windows);
     lender_free(fixture.lender);
     check(are_bytes(at, 1) && are_bytes(at + PAGE, 2), "pages read as before when their lender is gone");

@@ -1,7 +1,7 @@
 /*
  * Windows of threads in place of guests. Each writes words of its own and checks them, while a thread looks without a pause, pages
- * are discarded and pinned, devices read into pinned pages, windows come and go, and children are forked. There are fewer frames
- * than pages. With --pins 1 windows aren't told which pages are pinned.
+ * are discarded, pinned and swapped out, devices read into pinned pages, windows come and go, and children are forked. There are
+ * fewer frames than pages. With --pins 1 windows aren't told which pages are pinned.
  *
  *     stress [--writes N] [--seconds N] [--trace FILE] [--move 0] [--scan 0] [--pins 1] [--rest N] [--pages N] [--seed N]
  *
@@ -50,7 +50,7 @@ static atomic_ullong writes_done;
 static atomic_uint failures;
 static bool pins_unknown, has_ring = true;
 static int disk;
-static uint64_t device_reads;
+static uint64_t device_reads, page_outs;
 
 static volatile uint64_t *word_of(const struct writer *writer, uint32_t page) {
     return (volatile uint64_t *)(void *)(writer->guest->at + (size_t)page * WINDOW_PAGE_BYTES) + 64 * writer->number + 7;
@@ -173,6 +173,14 @@ static void read_by_device(struct guest *guest, uint64_t *state) {
     if (!pins_unknown) must(window_unpin(guest->window, page, 1), "window_unpin");
 }
 
+/* The system swaps pages out, where it has swap. */
+static void page_out(struct guest *guest, uint64_t *state) {
+    uint32_t first = (uint32_t)draw(state, pages), count = 1 + (uint32_t)draw(state, 64);
+    if (count > pages - first) count = pages - first;
+    madvise(guest->at + (size_t)first * WINDOW_PAGE_BYTES, (size_t)count * WINDOW_PAGE_BYTES, MADV_PAGEOUT);
+    page_outs++;
+}
+
 static void disturb(uint64_t *state) {
     struct guest *guest = &guests[draw(state, GUESTS)];
     uint64_t what = draw(state, 100);
@@ -181,6 +189,7 @@ static void disturb(uint64_t *state) {
     else if (what < 70) pin(guest, state);
     else if (what < 72) renew(guest, state);
     else if (what < 76) fork_child();
+    else if (what < 86) page_out(guest, state);
     pause_for(1);
 }
 
@@ -227,7 +236,8 @@ static uint64_t end(void) {
            " without a frame; %.1f us a lend to hold and map, a hold at most %.0f us\n",
            counts.discarded, counts.taken_home, counts.pinned, counts.no_frame,
            1e-3 * (double)counts.map_ns / (double)(counts.lends + counts.zeros + 1), 1e-3 * (double)counts.hold_most_ns);
-    printf("%" PRIu64 " reads by a device%s\n", device_reads, has_ring ? "" : " (left out: there is no io_uring)");
+    printf("%" PRIu64 " reads by a device%s, %" PRIu64 " times pages were to be swapped out\n", device_reads,
+           has_ring ? "" : " (left out: there is no io_uring)", page_outs);
     printf("%" PRIu64 " looks, %zu lent now, %" PRIu32 " frames, %zu mappings, %u failures\n", counts.looks, counts.lent,
            totals.frames, counts.mappings, atomic_load(&failures));
     check(counts.lends > 0 && counts.copied > 0, "pages were lent, and copied");
