@@ -112,9 +112,12 @@ static bool look_at_part(struct window *window, size_t first, size_t count, stru
     for (size_t i = 0; i < count && goes_on && cause == 0; i++) {
         if (found[i] == PAGE_NONE && windows->past == 0) continue;
         uint64_t fingerprint = 0;
+        const struct page *page = &window->pages[first + i];
+        unsigned before = page->looks;
         enum finding finding = look_at(window, first + i, found[i], &fingerprint);
         own++;
-        findings->changes = findings->changes || (window->pages[first + i].looks < STILL && window->pages[first + i].looks > 1);
+        /* (it is about to be idle, or is so no more; what is written at each look changes nothing) */
+        findings->changes = findings->changes || (page->looks < STILL && (page->looks > 1 || before == STILL));
         if (finding == FOUND_NOTHING) continue;
         findings->pages[findings->count] = (uint32_t)(first + i);
         findings->fingerprints[findings->count] = fingerprint;
