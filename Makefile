@@ -122,12 +122,12 @@ embed: out/$(FOLDER)libpageshare.a
 
 # Outside the gate: windows, through which guests' idle pages are lent (docs/MONITOR.md), by programs of threads, each stress for SECONDS
 # (10) at most. What this machine has no userfaultfd, sanitizer or right for is left out, and told.
-windows: out/libpageshare.a
+windows: out/libpageshare.a out/window_trace
 	checks/windows.py out/libpageshare.a $(or $(SECONDS),10)
 
 # Outside the gate: guests under KVM whose memory the library shares (docs/MONITOR.md), for SECONDS (30) each, with KSM=1 under the
 # kernel's KSM as well, and with KERNEL=bzImage Linux as well. What this machine has no KVM or userfaultfd for is left out, and told.
-guests: out/libpageshare.a out/pageshare
+guests: out/libpageshare.a out/pageshare out/window_trace
 	checks/guests.py out/libpageshare.a $(or $(SECONDS),30)
 
 # The library, static and shared: what is proved, and library/library.c.
