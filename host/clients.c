@@ -1,3 +1,4 @@
+#define _GNU_SOURCE
 #include "clients.h"
 #include "trouble.h"
 #include <poll.h>

@@ -1,3 +1,4 @@
+#define _GNU_SOURCE
 #include "connection.h"
 #include "remote.h"
 #include "sharing.h"
@@ -11,8 +12,8 @@
 enum {
     PERIOD_MS = 1000,   /* between two looks */
     BUSY_PART = 4,      /* while much is found it is so many times shorter */
-    CALM_PART = 4,      /* while nothing is found it is so many times longer */
-    CALM_LOOKS = 8,     /* looks that find nothing until then */
+    CALM_PART = 2,      /* while nothing is found it is so many times longer */
+    CALM_LOOKS = 30,    /* looks that find nothing until then */
     MUCH = 64,          /* pages found in a look that make the next one come sooner */
     LITTLE = 4,
     PATH_ROOM = 256

@@ -1,3 +1,4 @@
+#define _GNU_SOURCE
 #include "domain.h"
 #include "clients.h"
 #include "trouble.h"

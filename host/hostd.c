@@ -1,3 +1,4 @@
+#define _GNU_SOURCE
 /*
  * pageshare-host: owns the memory that processes of virtual machine monitors share, and decides by the proved library which of their
  * pages share a frame. One thread serves one domain. This file reads the options, makes the domains and waits for a signal.

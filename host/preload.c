@@ -1,3 +1,4 @@
+#define _GNU_SOURCE
 /*
  * libpageshare-window.so, preloaded into a virtual machine monitor: the functions of the C library that it interposes, and nothing else.
  * sharing.c has what they do. Where a call has nothing to do with a window it goes to the system as it is.

@@ -1,3 +1,4 @@
+#define _GNU_SOURCE
 #include "remote.h"
 #include "sharing.h"
 #include "trouble.h"

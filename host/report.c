@@ -1,3 +1,4 @@
+#define _GNU_SOURCE
 /* The side of status.h that the host has: what a domain counts, and sending it. */
 #include "clients.h"
 #include "trouble.h"

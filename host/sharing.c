@@ -1,3 +1,4 @@
+#define _GNU_SOURCE
 #include "sharing.h"
 #include "connection.h"
 #include "trouble.h"
@@ -334,18 +335,19 @@ static bool start(void) {
 bool sharing_offer(void *at, size_t bytes) {
     if (!connection_is_wanted() || atomic_load(&over) || (uintptr_t)at % PAGE != 0) return false;
     bytes -= bytes % PAGE;
-    bool is_new = false, is_window = false, good = true;
+    bool is_range = false, is_window = false, good = true;
     enter();
     int none = 0;
     bool is_first = atomic_compare_exchange_strong(&owner, &none, getpid());
     struct range *met = is_owner() ? next_range(at, (uint8_t *)at + bytes) : NULL;
     if (met) {
+        is_range = true;
         is_window = met->window != NULL;
         met->said_ns = now_ns();
     } else if (is_owner() && bytes >= LEAST_BYTES && range_count < RANGES_MOST) {
         ranges[range_count++] = (struct range){.at = at, .bytes = bytes, .said_ns = now_ns()};
         set_bounds();
-        is_new = true;
+        is_range = true;
     }
     leave();
     if (is_first) {
@@ -355,5 +357,5 @@ bool sharing_offer(void *at, size_t bytes) {
     }
     if (is_window) return true; /* the kernel's KSM must leave it alone */
     syscall(SYS_madvise, at, bytes, MADV_MERGEABLE);
-    return is_new && good;
+    return is_range && good;
 }

@@ -1,3 +1,4 @@
+#define _GNU_SOURCE
 #include "status.h"
 #include "trouble.h"
 #include <stdlib.h>
