@@ -133,9 +133,9 @@ PLACE = None
 class Host:
     """A host that runs as the user daemon, with one domain."""
 
-    def __init__(self, *more, memory="1G", name="web"):
+    def __init__(self, *more, memory="1G", name="web", program=HOST, user=("--user", "daemon")):
         self.socket, self.log = PLACE.room / f"{name}.sock", PLACE.room / f"{name}.log"
-        self.words = [HOST, "--domain", f"{name}={self.socket}", "--memory", memory, "--group", str(NOBODY), "--user", "daemon", *more]
+        self.words = [program, "--domain", f"{name}={self.socket}", "--memory", memory, "--group", str(NOBODY), *user, *more]
         PLACE.started.append(self)
         self.start()
 
@@ -161,7 +161,7 @@ class Host:
 
     def stop(self):
         self.process.terminate()
-        must(self.process.wait(20) == 0, "the host ended with a status")
+        must(self.process.wait(20) == 0, f"the host ended with a status: {read(self.log)[-2000:]}")
 
 
 def guest(number, host=None, **more):
@@ -182,10 +182,16 @@ def lent(made):
     return [it.counts().get("lent", 0) for it in made]
 
 
-def settle(made, least=8000, seconds=120):
-    """Waits until each guest has lent so many pages. Answers the seconds."""
-    good, took = until(seconds, lambda: all(it >= least for it in lent(made)), 1)
-    must(good, f"not settled after {seconds} s: lent {lent(made)}; {[it.said() for it in made]}")
+def settle(host, made, least=8000, seconds=120):
+    """Waits until each guest has lent so many pages, by its own counts and by the host's. Answers the seconds."""
+
+    def is_settled():
+        state = host.status() or {"processes": []}
+        known = {it["pid"]: it["client_lent_bytes"] // PAGE for it in state["processes"]}
+        return all(own >= least and known.get(it.pid, 0) >= least for it, own in zip(made, lent(made)))
+
+    good, took = until(seconds, is_settled, 1)
+    must(good, f"not settled after {seconds} s: lent {lent(made)}; {host.status()}; {[it.said() for it in made]}")
     return took
 
 
@@ -265,16 +271,37 @@ def case_words():
 
 def case_hostile():
     """Clients that write to their descriptors, send garbage, flood, name others' slots and die at any point; a good one beside them."""
-    host = Host(memory="256M")
-    os.chmod(host.socket, 0o666)
+    try_hostile(Host(memory="256M"))
+
+
+def try_hostile(host):
     path = str(host.socket)
-    # The good client is another process's, as nobody is its user too.
-    child = hostile.in_child(NOBODY, hostile_run, path)
-    must(hostile.wait(child, 120) == 0, "see above")
+    must(hostile.wait(hostile.in_child(NOBODY, hostile_run, path), 200) == 0, "see above")
     all_released(host)
     refused = hostile.in_child(0, lambda: not hostile.RawClient(path, hello=False).is_ended())
     must(hostile.wait(refused, 20) == 0, "a client that is root was taken")
     host.stop()
+
+
+def host_sources():
+    """What the Makefile builds the host of."""
+    found = re.search(r"HOST_SOURCES = \$\(addprefix host/,(.*)\)", (TOP / "Makefile").read_text())
+    return [TOP / "host" / name for name in found[1].split()]
+
+
+def case_sanitizers():
+    """The same hostile clients on a host that is built with the address and undefined behaviour sanitizers, and with that of threads."""
+    library = os.environ.get("HOST_LIBRARY", str(TOP / "out/libpageshare_host.a"))
+    for kind in ("address,undefined", "thread"):
+        program = OUT / f"host-{kind.split(',')[0]}"
+        words = [CC, *FLAGS, f"-fsanitize={kind}", "-fno-sanitize-recover=all", f"-I{TOP / 'include'}", f"-I{TOP / 'window'}"]
+        if subprocess.run([*words, "-o", program, *host_sources(), library]).returncode != 0:
+            raise LeftOut(f"the sanitizers: {CC} doesn't build with -fsanitize={kind}")
+        host = Host(memory="64M", program=program, user=())
+        try_hostile(host)
+        said = read(host.log)
+        must("Sanitizer" not in said and "runtime error" not in said, said[-2000:])
+        PLACE.clean()
 
 
 def hostile_run(path):
@@ -527,12 +554,12 @@ def case_ends():
     """The host killed and started anew, stopped and continued; a QEMU killed; all while guests work."""
     host = Host()
     made = guests(2, host)
-    print(f"  settled after {settle(made):.0f} s")
+    print(f"  settled after {settle(host, made):.0f} s")
     show(host, made, "settled")
     host.kill()
     go_on(made)
     host.start()
-    took = settle(made)
+    took = settle(host, made)
     show(host, made, f"a new host, settled after {took:.0f} s")
     host.signal(signal.SIGSTOP)
     go_on(made)
@@ -554,7 +581,7 @@ def case_balloon():
     """A balloon takes memory from a guest, and gives it back."""
     host = Host()
     made = guests(2, host)
-    settle(made)
+    settle(host, made)
     made[0].qmp().do("balloon", value=190 << 20)
     good, _ = until(60, lambda: made[0].qmp().do("query-balloon")["return"]["actual"] <= 192 << 20)
     must(good, f"{made[0].qmp().do('query-balloon')}")
@@ -575,20 +602,20 @@ def case_snapshot():
     made = [guest(0, host, more=more), guest(1, host)]
     for it in made:
         it.wait()
-    settle(made)
+    settle(host, made)
     for line in ("savevm a", "loadvm a"):
         answer = made[0].qmp().monitor(line)
         must(answer.get("return") == "", f"{line}: {answer}")
         go_on(made)
         show(host, made, line)
-    print(f"  shares again after {settle(made):.0f} s")
+    print(f"  shares again after {settle(host, made):.0f} s")
 
 
 def case_migration():
     """A guest is written to a file, and goes on in another process."""
     host, file = Host(), PLACE.room / "migration"
     made = guests(2, host)
-    settle(made)
+    settle(host, made)
     made[1].qmp().do("migrate", uri=f"exec:cat > {file}")
     good, _ = until(120, lambda: made[1].qmp().do("query-migrate")["return"].get("status") in ("completed", "failed"))
     must(good and made[1].qmp().do("query-migrate")["return"]["status"] == "completed", str(made[1].qmp().do("query-migrate")))
@@ -596,7 +623,7 @@ def case_migration():
     made[1].kill()
     again = guest(1, host, more=["-incoming", f"exec:cat {file}"])
     must(until(120, lambda: again.ticks() > 1, 1)[0], f"the guest stands still after {ticks} rounds: {read(again.log)[-300:]}")
-    settle([made[0], again])
+    settle(host, [made[0], again])
     go_on([made[0], again])
     show(host, [made[0], again], "in another process")
 
@@ -605,7 +632,7 @@ def case_background():
     """A background snapshot guards memory by a userfaultfd of QEMU's own: lending ends, and the snapshot completes."""
     host = Host()
     made = guests(2, host)
-    settle(made)
+    settle(host, made)
     monitor = made[0].qmp()
     capability = [{"capability": "background-snapshot", "state": True}]
     answer = monitor.do("migrate-set-capabilities", capabilities=capability)
@@ -638,7 +665,7 @@ def disk_case(aio):
         it.wait()
     if any("O_DIRECT" in read(it.log) for it in made):
         raise LeftOut("O_DIRECT on this file system")
-    settle(made, 4000)
+    settle(host, made, 4000)
     go_on(made, 5)
     show(host, made, f"aio={aio}, devices {[it.counts().get('devices') for it in made]}")
     must(all(it.counts().get("devices") == 1 for it in made), "O_DIRECT wasn't noticed")
@@ -658,7 +685,7 @@ def case_sandbox():
     """QEMU with its sandbox, all of it. (In all cases it runs as nobody.)"""
     host = Host()
     made = guests(2, host, more=["-sandbox", "on,obsolete=deny,elevateprivileges=deny,spawn=deny,resourcecontrol=deny"])
-    settle(made)
+    settle(host, made)
     go_on(made)
     show(host, made, "-sandbox on")
 
@@ -675,7 +702,7 @@ def case_backends():
         host = Host()
         made = guests(2, host, more=more, machine=machine)
         if shares:
-            settle(made)
+            settle(host, made)
         else:
             time.sleep(10)
             must(all(it < 2000 for it in lent(made)), f"{name}: lent {lent(made)}")
@@ -703,7 +730,7 @@ def case_no_host():
     must(all(any("no host" in line for line in it.said()) for it in made), f"{[it.said() for it in made]}")
     go_on(made, 1)
     host.start()
-    print(f"  shares after {settle(made):.0f} s")
+    print(f"  shares after {settle(host, made):.0f} s")
     go_on(made, 1)
 
 

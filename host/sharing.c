@@ -195,7 +195,6 @@ int sharing_discard(void *from, size_t bytes, int advice) {
         if (piece.at > at && syscall(SYS_madvise, at, (size_t)(piece.at - at), advice) != 0) status = -1, cause = errno;
         at = piece.at + piece.bytes;
         if (piece.bytes == 0) continue;
-        range->said_ns = now_ns();
         if (!range->window) {
             if (syscall(SYS_madvise, piece.at, piece.bytes, advice) != 0) status = -1, cause = errno;
         } else if (window_discard(range->window, first_of(range, piece), piece.bytes / PAGE).status != WINDOW_OK) {
