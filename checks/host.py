@@ -630,8 +630,8 @@ def case_migration():
 
 def case_background():
     """A background snapshot guards memory by a userfaultfd of QEMU's own: lending ends, and the snapshot completes."""
-    host = Host()
-    made = guests(2, host)
+    host = Host("--trust-peers")
+    made = guests(2, host, wrap=[])  # (as root: QEMU asks for a userfaultfd that holds up the kernel, too)
     settle(host, made)
     monitor = made[0].qmp()
     capability = [{"capability": "background-snapshot", "state": True}]

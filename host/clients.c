@@ -49,14 +49,24 @@ static void forget(struct client *client) {
     *client = (struct client){.generation = client->generation + 1, .socket = NOTHING, .process = NOTHING};
 }
 
-/* A client's connection has ended, by whichever side. A session that may have slots stays until its process has ended. */
+/*
+ * A client's connection has ended, by whichever side. A session that has slots stays until its process has ended. One that has none
+ * ends at once: its process shows no frame for it.
+ */
 static void part(struct domain *domain, struct client *client) {
     struct pageshare_host_session told;
+    uint32_t freed;
+    size_t count;
     if (client->socket >= 0) close(client->socket);
     client->socket = NOTHING;
     client->state = CLIENT_APART;
     pageshare_host_disconnect(&domain->host, client->session);
-    if (pageshare_host_session(&domain->host, client->session, &told) != PAGESHARE_HOST_OK) forget(client);
+    bool is_there = pageshare_host_session(&domain->host, client->session, &told) == PAGESHARE_HOST_OK;
+    if (is_there && told.slots == 0) {
+        pageshare_host_end(&domain->host, client->session, &freed, 1, &count);
+        is_there = false;
+    }
+    if (!is_there) forget(client);
 }
 
 /* ---- who connects ---- */

@@ -188,7 +188,8 @@ typedef int fcntl_function(int, int, ...);
 static int set_or_get(const char *name, int descriptor, int command, void *with) {
     fcntl_function *next = (fcntl_function *)(uintptr_t)dlsym(RTLD_NEXT, name);
     if (command == F_SETFL && (int)(intptr_t)with & O_DIRECT) sharing_devices(DEVICES_PIN_PAGES);
-    return next ? next(descriptor, command, with) : (int)syscall(SYS_fcntl, descriptor, command, with);
+    int status = next ? next(descriptor, command, with) : (int)syscall(SYS_fcntl, descriptor, command, with);
+    return command == F_DUPFD_CLOEXEC && sharing_is_inside() ? sharing_own(status) : status;
 }
 PUBLIC int fcntl(int descriptor, int command, ...) {
     va_list rest;

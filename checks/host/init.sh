@@ -10,7 +10,7 @@ seed=0 work=busy own=8
 for word in $(cat /proc/cmdline); do
     case $word in seed=*) seed=${word#seed=} ;; work=*) work=${word#work=} ;; own=*) own=${word#own=} ;; esac
 done
-for name in virtio virtio_ring virtio_pci_modern_dev virtio_pci_legacy_dev virtio_pci virtio_balloon virtio_blk; do
+for name in virtio_ring virtio virtio_pci_modern_dev virtio_pci_legacy_dev virtio_pci virtio_balloon virtio_blk; do
     file=$(find /modules -name $name.ko | head -n 1)
     [ -n "$file" ] && insmod "$file" 2>/dev/null
 done
