@@ -758,33 +758,39 @@ def case_soak():
 def case_figure():
     """1 to 8 equal guests of 128 MiB, idle and at work: how much of their memory is shared and reclaimed. A table and a picture."""
     most, rows = int(os.environ.get("GUESTS", "8")), []
+    PLACE.guests_possible()
     for work in ("idle", "busy"):
         host = Host()
-        made = []
-        PLACE.guests_possible()
-        for count in range(1, most + 1):
-            made.append(guest(count - 1, host, mib=128, work=work, own=4).wait())
-            wait_until_still(host)
+        # Each guest has a name of its own for the socket, which is there only when its turn has come.
+        links = [PLACE.room / f"{work}{number}.sock" for number in range(most)]
+        made = [guest(number, types.SimpleNamespace(socket=link), mib=128, work=work, own=4) for number, link in enumerate(links)]
+        for it in made:
+            it.wait(600)
+        for count, link in enumerate(links, 1):
+            link.symlink_to(host.socket)
+            wait_until_still(host, count)
             state, whole = host.status(), count * (128 << 20)
             rows.append((work, count, 100 * state["shared_bytes"] / whole, 100 * state["reclaimed_bytes"] / whole))
             print(f"  {work} {count} guests: shared {rows[-1][2]:.1f} %, reclaimed {rows[-1][3]:.1f} %", flush=True)
         right(made)
         PLACE.clean()
-    (OUT / "figure.tsv").write_text("work\tguests\tshared_percent\treclaimed_percent\n" + "".join("\t".join(
-        f"{it:.1f}" if isinstance(it, float) else str(it) for it in row) + "\n" for row in rows))
+    table = "work\tguests\tshared_percent\treclaimed_percent\n"
+    for work, count, shared, reclaimed in rows:
+        table += f"{work}\t{count}\t{shared:.1f}\t{reclaimed:.1f}\n"
+    (OUT / "figure.tsv").write_text(table)
     figures.draw(rows, OUT / "host.svg")
     print(f"  {OUT / 'figure.tsv'}, {OUT / 'host.svg'}")
 
 
-def wait_until_still(host, seconds=60):
-    """Until what is reclaimed grows no more."""
+def wait_until_still(host, clients, seconds=60):
+    """Until so many clients share, and what is reclaimed grows no more."""
     before, begin = -1, time.time()
     while time.time() - begin < seconds:
-        time.sleep(6)
-        now = host.status()["reclaimed_bytes"]
-        if abs(now - before) < 1 << 20:
+        time.sleep(5)
+        state = host.status()
+        if state["clients"] == clients and abs(state["reclaimed_bytes"] - before) < 1 << 20:
             return
-        before = now
+        before = state["reclaimed_bytes"]
 
 
 CASES = {name.removeprefix("case_").replace("_", "-"): run for name, run in list(globals().items()) if name.startswith("case_")}
