@@ -460,7 +460,7 @@ def share(count, seconds):
         "before": before, "end": end, "distinct": bound["distinct"], "saved_percent": 100 * (before - end) / (before - bound["distinct"]),
         "seconds_to_95": settled_after(series), "client_percent": used, "host_percent": host_used,
         "hold_most_ms": max(it["hold_most_ns"] for it in counts) / 1e6,
-        "tables_percent": 100 * (sum(it["held_bytes"] for it in counts) + state["host_bytes"]) / (count * (made[0].mib << 20)),
+        "tables_percent": 100 * (sum(it["table_bytes"] for it in counts) + state["host_bytes"]) / (count * (made[0].mib << 20)),
         "alone_percent": 100 * (1 - state["shared_bytes"] / max(1, state["lent_bytes"])),
         "mappings": [it["mappings"] for it in counts], "wrong": sum(it.wrong() for it in made),
     }
@@ -756,7 +756,8 @@ def case_soak():
 
 
 def case_figure():
-    """1 to 8 equal guests of 128 MiB, idle and at work: how much of their memory is shared and reclaimed. A table and a picture."""
+    """1 to 8 equal guests of 128 MiB, idle and at work: how much of their memory is shared and reclaimed, pages of
+    zeros that were given back among both. A table and a picture."""
     most, rows = int(os.environ.get("GUESTS", "8")), []
     PLACE.guests_possible()
     for work in ("idle", "busy"):
@@ -770,13 +771,15 @@ def case_figure():
             link.symlink_to(host.socket)
             wait_until_still(host, count)
             state, whole = host.status(), count * (128 << 20)
-            rows.append((work, count, 100 * state["shared_bytes"] / whole, 100 * state["reclaimed_bytes"] / whole))
-            print(f"  {work} {count} guests: shared {rows[-1][2]:.1f} %, reclaimed {rows[-1][3]:.1f} %", flush=True)
+            zeros = sum(it.counts().get("zeros_now", 0) for it in made[:count]) * PAGE
+            parts = [100 * it / whole for it in (state["shared_bytes"] + zeros, state["reclaimed_bytes"] + zeros, zeros)]
+            rows.append((work, count, *parts))
+            print(f"  {work} {count} guests: shared {parts[0]:.1f} %, reclaimed {parts[1]:.1f} %, of both {parts[2]:.1f} % zeros", flush=True)
         right(made)
         PLACE.clean()
-    table = "work\tguests\tshared_percent\treclaimed_percent\n"
-    for work, count, shared, reclaimed in rows:
-        table += f"{work}\t{count}\t{shared:.1f}\t{reclaimed:.1f}\n"
+    table = "work\tguests\tshared_percent\treclaimed_percent\tzeros_percent\n"
+    for work, count, *parts in rows:
+        table += "\t".join([work, str(count), *[f"{it:.1f}" for it in parts]]) + "\n"
     (OUT / "figure.tsv").write_text(table)
     figures.draw(rows, OUT / "host.svg")
     print(f"  {OUT / 'figure.tsv'}, {OUT / 'host.svg'}")

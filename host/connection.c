@@ -167,15 +167,16 @@ static void choose_period(const struct windows_counts *now) {
 
 /* The counts as JSON, for tests and for who wants to know. */
 static void write_counts(const struct windows_counts *now) {
-    char text[1024];
+    char text[2048];
     if (told.counts < 0) return;
     int length = snprintf(
         text, sizeof text,
-        "{\"connected\":%d,\"pause\":%d,\"windows\":%zu,\"pages\":%zu,\"lent\":%zu,\"mappings\":%zu,\"held_bytes\":%zu,\"looks\":%llu,"
+        "{\"connected\":%d,\"pause\":%d,\"windows\":%zu,\"pages\":%zu,\"lent\":%zu,\"zeros_now\":%zu,\"mappings\":%zu,"
+        "\"table_bytes\":%zu,\"looks\":%llu,"
         "\"lends\":%llu,\"copied\":%llu,\"zeros\":%llu,\"discarded\":%llu,\"taken_home\":%llu,\"asked\":%llu,\"seen\":%llu,\"changed\":%llu,"
         "\"pinned\":%llu,\"no_frame\":%llu,\"no_mapping\":%llu,\"lender_failures\":%llu,\"look_ns\":%llu,\"ask_ns\":%llu,\"lend_ns\":%llu,"
         "\"map_ns\":%llu,\"hold_most_ns\":%llu,\"processor_ns\":%llu,\"period_ms\":%u,\"devices\":%d}\n",
-        my.remote.socket >= 0, (int)now->pause, now->windows, now->pages, now->lent, now->mappings, now->held_bytes,
+        my.remote.socket >= 0, (int)now->pause, now->windows, now->pages, now->lent, now->zeros_now, now->mappings, now->table_bytes,
         (unsigned long long)now->looks, (unsigned long long)now->lends, (unsigned long long)now->copied, (unsigned long long)now->zeros,
         (unsigned long long)now->discarded, (unsigned long long)now->taken_home, (unsigned long long)now->asked,
         (unsigned long long)now->seen, (unsigned long long)now->changed, (unsigned long long)now->pinned,
@@ -183,7 +184,8 @@ static void write_counts(const struct windows_counts *now) {
         (unsigned long long)now->look_ns, (unsigned long long)now->ask_ns, (unsigned long long)now->lend_ns,
         (unsigned long long)now->map_ns, (unsigned long long)now->hold_most_ns,
         (unsigned long long)clock_ns(CLOCK_THREAD_CPUTIME_ID), my.period_ms, (int)ranges_devices());
-    if (length < 0 || pwrite(told.counts, text, (size_t)length, 0) != length || ftruncate(told.counts, length) != 0) {
+    bool fits = length > 0 && (size_t)length < sizeof text;
+    if (!fits || pwrite(told.counts, text, (size_t)length, 0) != length || ftruncate(told.counts, length) != 0) {
         close(told.counts);
         told.counts = NOTHING;
     }
