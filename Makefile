@@ -1,4 +1,4 @@
-.PHONY: test edits build demo commands estimate fleet no-thread embed guests host fuzz tenants soak hints bench bench-v3
+.PHONY: test edits build demo commands estimate fleet no-thread embed windows guests host fuzz tenants soak hints bench bench-v3
 
 # The gate is these two commands. Both say how far they are and what failed, and leave the times of their steps at out/gate.tsv. On
 # a machine that has run none of it all is done from nothing.
@@ -93,6 +93,11 @@ bench-v3: out/pageshare-v3 out/store_bench-v3 out/thread_bench-v3 bench
 # examples and tests. What this machine has no program for is left out, and told.
 embed: out/$(FOLDER)libpageshare.a
 	checks/embed.sh $<
+
+# Outside the gate: windows, through which guests' idle pages are lent (docs/MONITOR.md), by programs of threads, each stress for SECONDS
+# (10) at most. What this machine has no userfaultfd, sanitizer or right for is left out, and told.
+windows: out/libpageshare.a
+	checks/windows.py out/libpageshare.a $(or $(SECONDS),10)
 
 # Outside the gate: guests under KVM whose memory the library shares (docs/MONITOR.md), for SECONDS (30) each, with KSM=1 under the
 # kernel's KSM as well, and with KERNEL=bzImage Linux as well. What this machine has no KVM or userfaultfd for is left out, and told.

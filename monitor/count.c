@@ -1,10 +1,10 @@
 #include "count.h"
-#include "window.h"
+#include "../window/lender.h"
 #include <stdlib.h>
 #include <string.h>
 
 static int compare(const void *left, const void *right) {
-    return memcmp(*(const uint8_t *const *)left, *(const uint8_t *const *)right, PAGE);
+    return memcmp(*(const uint8_t *const *)left, *(const uint8_t *const *)right, WINDOW_PAGE_BYTES);
 }
 
 struct counted count_distinct(const uint8_t **pages, size_t count) {

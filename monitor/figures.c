@@ -45,12 +45,13 @@ static size_t can_be_saved(const struct figures *figures) { return figures->boun
 /* Bytes for what is beside pages: all that the process holds, but frames and the guests' own pages; and the system's mappings. */
 static double beside(const struct figures *figures) {
     const struct sample *now = last(figures);
-    return now->held - ((double)now->totals.frames + (double)figures->own) * PAGE + MAPPING_BYTES * (double)now->counts.mappings;
+    double pages = (double)now->looked.totals.frames + (double)figures->own;
+    return now->held - pages * WINDOW_PAGE_BYTES + MAPPING_BYTES * (double)now->windows.mappings;
 }
 
 /* The same for each byte that is lent. */
 static double beside_ratio(const struct figures *figures) {
-    return ratio(beside(figures), (double)last(figures)->counts.lent_now * PAGE);
+    return ratio(beside(figures), (double)last(figures)->windows.lent * WINDOW_PAGE_BYTES);
 }
 
 void figures_watch(const struct figures *figures, FILE *to) {
@@ -59,32 +60,38 @@ void figures_watch(const struct figures *figures, FILE *to) {
     double passed = now->at - before->at;
     fprintf(to,
             "\r\033[K%5.0f s  %.1f MiB held  %zu pages lent, %" PRIu32
-            " shared  %.1f MiB reclaimed  %.0f lends/s  %.0f take-backs/s  %" PRIu64 " rounds",
-            now->at, now->held / MIB, now->counts.lent_now, now->totals.shared, (double)now->saved * PAGE / MIB,
-            ratio((double)(now->counts.lent - before->counts.lent), passed),
-            ratio((double)(now->counts.taken - before->counts.taken), passed), now->rounds);
+            " shared  %.1f MiB reclaimed  %.0f lends/s  %.0f copies/s  %" PRIu64 " rounds",
+            now->at, now->held / MIB, now->windows.lent, now->looked.totals.shared, (double)now->saved * WINDOW_PAGE_BYTES / MIB,
+            ratio((double)(now->windows.lends - before->windows.lends), passed),
+            ratio((double)(now->windows.copied - before->windows.copied), passed), now->rounds);
     fflush(to);
+}
+
+/* Microseconds of a lend: the questions, the lends, and from hold to wake, of pages that were lent or given back as zeros. */
+static double lend_us(const struct windows_counts *counts) {
+    return 1e-3 * ratio((double)(counts->ask_ns + counts->lend_ns + counts->map_ns), (double)(counts->lends + counts->zeros));
+}
+
+static double map_us(const struct windows_counts *counts) {
+    return 1e-3 * ratio((double)counts->map_ns, (double)(counts->lends + counts->zeros));
 }
 
 static void print_lending(const struct figures *figures, FILE *to) {
     const struct sample *now = last(figures);
-    const struct lender_counts *counts = &now->counts;
-    double lends = (double)counts->lent, takes = (double)counts->taken;
-    fprintf(to, "lends                     %" PRIu64 ", %.1f us each, %.1f of it mapping\n", counts->lent,
-            1e-3 * ratio((double)counts->lend_ns, lends), 1e-3 * ratio((double)counts->map_ns, lends));
-    fprintf(to,
-            "take-backs                %" PRIu64 ", %.1f us each, at most %.0f us; %" PRIu64 " stale, %" PRIu64
-            " overtook a lend\n",
-            counts->taken, 1e-3 * ratio((double)counts->take_ns, takes), 1e-3 * (double)counts->take_most_ns, counts->stale,
-            counts->overtook);
-    fprintf(to, "at the end                %zu pages lent in %" PRIu32 " frames, %zu mappings\n", counts->lent_now,
-            now->totals.frames, counts->mappings);
+    const struct windows_counts *counts = &now->windows;
+    fprintf(to, "lends                     %" PRIu64 ", and %" PRIu64 " pages of zeros, %.1f us each, %.1f of it held and mapped\n",
+            counts->lends, counts->zeros, lend_us(counts), map_us(counts));
+    fprintf(to, "held at most              %.0f us\n", 1e-3 * (double)counts->hold_most_ns);
+    fprintf(to, "copies found              %" PRIu64 "; %" PRIu64 " pages changed before they were mapped, %" PRIu64 " weren't held\n",
+            counts->copied, counts->changed, counts->pinned);
+    fprintf(to, "asked                     %" PRIu64 ", of which others had %" PRIu64 "\n", counts->asked, counts->seen);
+    fprintf(to, "at the end                %zu pages lent in %" PRIu32 " frames, %zu mappings\n", counts->lent,
+            now->looked.totals.frames, counts->mappings);
     fprintf(to, "beside pages              %.2f MiB (%.2f %% of what is lent)\n", beside(figures) / MIB,
             100 * beside_ratio(figures));
     fprintf(to, "pages not lent            %" PRIu64 " without a frame, %" PRIu64 " without a mapping\n", counts->no_frame,
             counts->no_mapping);
-    fprintf(to, "processor s of it         %.2f looks and lends, %.2f take-backs\n", figures->scan,
-            1e-9 * (double)counts->thread_ns);
+    fprintf(to, "processor s of looks      %.2f in %" PRIu64 " looks\n", 1e-9 * (double)now->looked.thread_ns, now->looked.looks);
 }
 
 void figures_print(struct figures *figures, FILE *to) {
@@ -100,7 +107,7 @@ void figures_print(struct figures *figures, FILE *to) {
     fprintf(to, "a seldom write            %.0f cycles\n", figures->write_cycles);
     fprintf(to, "processor s               %.1f, and %.2f of ksmd\n", now->processor, now->helper);
     fprintf(to, "page tables, KiB          %.0f\n", figures->table_bytes / 1024);
-    if (now->counts.lent > 0) print_lending(figures, to);
+    if (now->windows.lends > 0) print_lending(figures, to);
     if (figures->requests > 0) fprintf(to, "requests of the journal   %" PRId64 "\n", figures->requests);
 }
 
@@ -113,7 +120,7 @@ static bool closed(FILE *file, int written) {
 
 bool figures_json(struct figures *figures, const char *path) {
     const struct sample *now = last(figures), *then = settled(figures);
-    const struct lender_counts *counts = &now->counts;
+    const struct windows_counts *counts = &now->windows;
     FILE *file = fopen(path, "w");
     if (file == NULL) return false;
     fprintf(file, "{\"way\": \"%s\", \"mib_before\": %.1f, \"mib_settled\": %.1f, \"settled_s\": %.0f, \"mib_end\": %.1f,\n",
@@ -127,16 +134,15 @@ bool figures_json(struct figures *figures, const char *path) {
             " \"wrong\": %" PRIu64 ", \"write_cycles\": %.0f, \"processor_s\": %.2f, \"ksmd_s\": %.2f, \"table_bytes\": %.0f,\n",
             figures->wrong, figures->write_cycles, now->processor, now->helper, figures->table_bytes);
     fprintf(file,
-            " \"lends\": %" PRIu64 ", \"lend_us\": %.2f, \"map_us\": %.2f, \"takes\": %" PRIu64
-            ", \"take_us\": %.2f, \"take_most_us\": %.0f,\n",
-            counts->lent, 1e-3 * ratio((double)counts->lend_ns, (double)counts->lent),
-            1e-3 * ratio((double)counts->map_ns, (double)counts->lent), counts->taken,
-            1e-3 * ratio((double)counts->take_ns, (double)counts->taken), 1e-3 * (double)counts->take_most_ns);
+            " \"lends\": %" PRIu64 ", \"zeros\": %" PRIu64 ", \"lend_us\": %.2f, \"map_us\": %.2f, \"hold_most_us\": %.0f, \"copied\": %" PRIu64
+            ", \"changed\": %" PRIu64 ",\n",
+            counts->lends, counts->zeros, lend_us(counts), map_us(counts), 1e-3 * (double)counts->hold_most_ns, counts->copied,
+            counts->changed);
     fprintf(file,
             " \"lent\": %zu, \"frames\": %" PRIu32 ", \"shared\": %" PRIu32
-            ", \"mappings\": %zu, \"beside\": %.4f, \"scan_s\": %.2f, \"requests\": %" PRId64 ",\n",
-            counts->lent_now, now->totals.frames, now->totals.shared, counts->mappings, beside_ratio(figures), figures->scan,
-            figures->requests);
+            ", \"mappings\": %zu, \"beside\": %.4f, \"look_s\": %.2f, \"requests\": %" PRId64 ",\n",
+            counts->lent, now->looked.totals.frames, now->looked.totals.shared, counts->mappings, beside_ratio(figures),
+            1e-9 * (double)now->looked.thread_ns, figures->requests);
     fprintf(file, " \"samples\": [");
     for (size_t i = 0; i < figures->count; i++)
         fprintf(file, "%s[%.1f, %.1f]", i == 0 ? "" : ", ", figures->samples[i].at, figures->samples[i].held / MIB);
@@ -171,7 +177,7 @@ static void draw_axes(const struct figures *figures, FILE *file, double most) {
 }
 
 bool figures_svg(const struct figures *figures, const char *path) {
-    double most = most_held(figures), bound = (double)figures->bound.distinct * PAGE;
+    double most = most_held(figures), bound = (double)figures->bound.distinct * WINDOW_PAGE_BYTES;
     FILE *file = fopen(path, "w");
     if (file == NULL) return false;
     fprintf(file,

@@ -3,8 +3,8 @@
 #define MONITOR_FIGURES_H
 
 #include "count.h"
-#include "pageshare.h"
-#include "window.h"
+#include "../window/window.h"
+#include "looker.h"
 #include <stdbool.h>
 #include <stddef.h>
 #include <stdint.h>
@@ -16,8 +16,8 @@ struct sample {
     uint64_t rounds;
     uint64_t saved;           /* pages that share a frame with others, less those frames */
     double processor, helper; /* processor seconds of this process, and of the kernel's ksmd */
-    struct pageshare_totals totals;
-    struct lender_counts counts;
+    struct looked looked;           /* where pages are lent */
+    struct windows_counts windows;
 };
 
 struct figures {
@@ -28,7 +28,6 @@ struct figures {
     uint64_t wrong;                 /* words that the guests found wrong */
     double round_ms, round_wall_ms; /* of a guest's round in the second half of the run, mean: processor time, and time */
     double write_cycles;            /* of a write to a seldom written page, the same */
-    double scan;                    /* processor seconds for looks and lends */
     double table_bytes;             /* page tables of this process */
     size_t own;                     /* pages at the end that have memory of their own */
     int64_t requests;               /* of the journal; 0 for none */

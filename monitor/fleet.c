@@ -8,10 +8,11 @@
  *     --seconds N                              how long they run
  *     --rest HUNDREDTHS                        how long a processor rests after each round of its checks
  *     --way lend|plain|ksm                     idle pages are lent; or nothing is done; or they are left to the kernel's KSM
- *     --round MILLISECONDS --slice PAGES       a look at a guest's pages so often; so many pages lent at most every 10 ms (0: none)
- *     --idle look|log                          what tells idle pages: sums of their bytes, or KVM's dirty log
- *     --frames HUNDREDTHS                      the machine's frames, of all pages
- *     --journal FILE --requests N              what was asked of the machine, and to FILE.replay the lines that `pageshare replay`
+ *     --round MILLISECONDS                     a look at all guests' pages so often
+ *     --frames HUNDREDTHS                      frames, of all pages
+ *     --renew SECONDS                          so often a guest ends, and another begins in its place
+ *     --trace FILE                             a record of events, where windows are built for it
+ *     --journal FILE --requests N              what was asked of the domain, and to FILE.replay the lines that `pageshare replay`
  *                                              must print; when so many are written, and after 10 s at least, the run ends
  *     --words TEXT                             more of Linux's command line
  *     --json FILE, --svg FILE, --watch         figures, a picture, a line a second on a terminal
@@ -20,71 +21,68 @@
  * command line.
  */
 #define _GNU_SOURCE
+#include "../window/window.h"
+#include "clock.h"
 #include "count.h"
 #include "figures.h"
 #include "guest.h"
-#include "idle.h"
 #include "journal.h"
+#include "lender.h"
 #include "linux.h"
+#include "looker.h"
 #include "trouble.h"
 #include "vm.h"
 #include "voices.h"
-#include "window.h"
 #include <errno.h>
 #include <getopt.h>
 #include <inttypes.h>
 #include <stdlib.h>
 #include <string.h>
 #include <sys/mman.h>
-#include <sys/random.h>
 #include <sys/resource.h>
 #include <unistd.h>
 
-enum { GUESTS = 8, TICK_NS = 10000000, LATE_S = 10, JOURNAL_S = 10, TOLD_MOST = 20, LOOK_MOST = 1024 };
+enum { GUESTS = 8, TICK_NS = 10000000, LATE_S = 10, JOURNAL_S = 10, LOOK_MOST = 1024, PAGE = WINDOW_PAGE_BYTES };
 
 enum way { WAY_LEND, WAY_PLAIN, WAY_KSM };
 static const char *const WAYS[] = {"lend", "plain", "ksm"};
 
 struct guest {
     struct vm vm;
-    struct fleet *fleet;
     uint8_t *ram;
-    struct idle idle;
-    uint64_t *written; /* as KVM's log tells */
-    uint64_t looked_ns;
+    struct window *window;
     struct voices voices;
 };
 
 struct fleet {
     enum way way;
-    unsigned guests, mib, seconds, processors, rest, round_ms, slice, frames;
+    unsigned guests, mib, seconds, processors, rest, round_ms, frames, renew;
     uint32_t requests;
-    bool by_log, watch;
-    const char *journal_path, *json, *svg, *program, *kernel, *initrd, *words;
+    bool watch;
+    const char *journal_path, *json, *svg, *program, *kernel, *initrd, *words, *trace;
     struct journal *journal;
     struct lender *lender;
+    struct windows *windows;
+    struct looker looker;
+    bool looks; /* the looker runs */
     struct figures figures;
     struct guest guest[GUESTS];
-    uint64_t began_ns;
+    uint64_t began_ns, ended_rounds, ended_wrong; /* of guests that have ended */
     double ksmd_began;
-    atomic_uint told;
 };
 
 static uint32_t pages_of(const struct fleet *fleet) { return fleet->mib * (1u << 20) / PAGE; }
+static size_t bytes_of(const struct fleet *fleet) { return (size_t)pages_of(fleet) * PAGE; }
 
-/* How many pages are looked at at once, of so many. */
-static uint32_t part_of(uint32_t pages) { return pages < LOOK_MOST ? pages : LOOK_MOST; }
-
-/* Told of trouble that the lender waits out; after some it is counted alone. */
-static void tell(void *of, const char *what, int cause) {
-    struct fleet *fleet = of;
-    if (atomic_fetch_add(&fleet->told, 1) < TOLD_MOST) fprintf(stderr, "lender: %s: %s\n", what, strerror(cause));
+static bool trouble_with(const char *what, struct window_result result) {
+    fprintf(stderr, "%s: %s (%s)\n", what, window_status_words(result.status), strerror(result.cause));
+    return false;
 }
 
 /* A processor wrote a byte to a port. */
 static bool wrote(struct processor *processor, uint16_t port, uint8_t byte) {
     struct vm *vm = processor->vm;
-    struct guest *guest = vm->of;
+    struct guest *guest = vm->opaque;
     struct timespec left = {byte / 100, byte % 100 * 10000000L};
     if (port == PORT_TEXT + processor->number) voices_hear(&guest->voices, processor->number, (char)byte);
     if (port == LINUX_PORT) voices_hear_kernel(&guest->voices, (char)byte);
@@ -125,82 +123,59 @@ static double process_seconds(void) {
     return (double)(used.ru_utime.tv_sec + used.ru_stime.tv_sec) + 1e-6 * (double)(used.ru_utime.tv_usec + used.ru_stime.tv_usec);
 }
 
-/* Looks at a guest's pages, for what was written since the last look. */
-static void look(struct fleet *fleet, struct guest *guest) {
-    uint8_t shown[LOOK_MOST];
-    guest->looked_ns = now_ns();
-    if (fleet->by_log && !vm_written(&guest->vm, guest->written)) return;
-    for (uint32_t first = 0; first < pages_of(fleet); first += LOOK_MOST) {
-        uint32_t count = part_of(pages_of(fleet) - first);
-        if (window_look(fleet->lender, guest->vm.number, first, count, shown))
-            idle_look(&guest->idle, first, count, shown, guest->ram, fleet->by_log ? guest->written : NULL);
-        else trouble("mincore");
-    }
-    guest->idle.next = fleet->slice == 0 ? guest->idle.pages : 0;
-}
-
-/* Looks when it is time, and lends what is idle, a slice at a time. */
-static void tend(struct fleet *fleet, struct guest *guest) {
-    if (guest->idle.next == guest->idle.pages && now_ns() - guest->looked_ns >= fleet->round_ms * 1000000ull) look(fleet, guest);
-    for (uint32_t lent = 0; lent < fleet->slice;) {
-        uint32_t left = fleet->slice - lent, first, count = idle_run(&guest->idle, left < LEND_MOST ? left : LEND_MOST, &first);
-        if (count == 0) return;
-        if (window_lend(fleet->lender, guest->vm.number, first, count) < 0) {
-            trouble("pages can't be guarded");
-            return;
-        }
-        lent += count;
-    }
-}
-
 static void take_sample(struct fleet *fleet) {
     struct sample *sample = figures_next(&fleet->figures);
     if (sample == NULL) return;
     sample->at = 1e-9 * (double)(now_ns() - fleet->began_ns);
     sample->processor = process_seconds();
     sample->helper = ksmd_seconds(fleet) - fleet->ksmd_began;
+    sample->rounds = fleet->ended_rounds;
     for (unsigned i = 0; i < fleet->guests * fleet->processors; i++)
         sample->rounds += voices_get(&fleet->guest[i / fleet->processors].voices, i % fleet->processors).rounds;
     sample->held = 1024 * (double)number_in("/proc/self/smaps_rollup", "Pss_Anon:");
     if (fleet->way == WAY_LEND) {
-        lender_report(fleet->lender, &sample->totals, &sample->counts);
-        sample->held += (double)lender_bytes(fleet->lender);
-        sample->saved = sample->totals.reclaimed;
+        sample->looked = looker_get(&fleet->looker);
+        windows_count(fleet->windows, &sample->windows);
+        sample->held += (double)sample->looked.lender.frame_bytes;
+        /* (all zeros but one page of them, as if that were a frame) */
+        size_t zeros = sample->windows.zeros_now > 0 ? sample->windows.zeros_now - 1 : 0;
+        sample->saved = sample->looked.totals.reclaimed + zeros;
     } else if (fleet->way == WAY_KSM) {
         sample->saved = number_in("/sys/kernel/mm/ksm/pages_sharing", "");
     }
     if (fleet->watch) figures_watch(&fleet->figures, stderr);
 }
 
-/* Memory of a guest that nobody lends. */
-static uint8_t *plain_memory(const struct fleet *fleet) {
-    size_t bytes = (size_t)pages_of(fleet) * PAGE;
-    void *at = mmap(NULL, bytes, PROT_READ | PROT_WRITE, MAP_PRIVATE | MAP_ANONYMOUS | MAP_NORESERVE, -1, 0);
-    if (at == MAP_FAILED || madvise(at, bytes, MADV_NOHUGEPAGE) < 0) return NULL;
-    return fleet->way == WAY_KSM && madvise(at, bytes, MADV_MERGEABLE) < 0 ? NULL : at;
+/* Memory of a guest. */
+static uint8_t *make_memory(const struct fleet *fleet) {
+    const int kind = MAP_PRIVATE | MAP_ANONYMOUS | MAP_NORESERVE;
+    void *at = mmap(NULL, bytes_of(fleet), PROT_READ | PROT_WRITE, kind, -1, 0);
+    if (at == MAP_FAILED) return NULL;
+    bool is_ready = madvise(at, bytes_of(fleet), MADV_NOHUGEPAGE) == 0;
+    if (fleet->way == WAY_KSM) is_ready = is_ready && madvise(at, bytes_of(fleet), MADV_MERGEABLE) == 0;
+    if (is_ready) return at;
+    munmap(at, bytes_of(fleet));
+    return NULL;
 }
 
 static bool make_lender(struct fleet *fleet) {
-    uint32_t pages[GUESTS], salts[GUESTS], salt;
-    if (getrandom(&salt, sizeof salt, 0) != (ssize_t)sizeof salt) return trouble("getrandom");
-    for (unsigned i = 0; i < fleet->guests; i++) {
-        pages[i] = pages_of(fleet);
-        salts[i] = salt;
-    }
+    const struct windows_config windows = {.pins = WINDOWS_PINS_NEVER, .trace = fleet->trace};
+    uint32_t pages = fleet->guests * pages_of(fleet);
+    struct lender_config config = {.slots = pages,
+                                   .frames = (uint32_t)((uint64_t)pages * fleet->frames / 100),
+                                   .recent = 2 * pages,
+                                   .hash = fleet->journal_path != NULL ? PAGESHARE_SHA256 : PAGESHARE_FOLD};
     if (fleet->journal_path != NULL && (fleet->journal = journal_open(fleet->journal_path, fleet->requests)) == NULL)
         return trouble(fleet->journal_path);
-    /* (a replay hashes by SHA-256, and a hash decides a little of what is answered) */
-    uint64_t frames = (uint64_t)fleet->guests * pages[0] * fleet->frames / 100;
-    struct lender_config config = {.frames = (uint32_t)frames,
-                                   .pages = pages,
-                                   .salts = salts,
-                                   .guests = fleet->guests,
-                                   .hash = fleet->journal != NULL ? PAGESHARE_SHA256 : PAGESHARE_FOLD,
-                                   .journal = fleet->journal,
-                                   .tell = tell,
-                                   .of = fleet};
-    fleet->lender = lender_make(&config);
-    return fleet->lender != NULL;
+    config.journal = fleet->journal; /* (a replay hashes by SHA-256) */
+    struct lender_result made = lender_make(&fleet->lender, &config);
+    if (made.status != LENDER_OK) {
+        fprintf(stderr, "a lender: %s (%d)\n", lender_status_words(made.status), made.cause);
+        return false;
+    }
+    struct window_result result = windows_make(&fleet->windows, &windows);
+    if (result.status == WINDOW_OK) result = windows_attach(fleet->windows, lender_interface(fleet->lender));
+    return result.status == WINDOW_OK || trouble_with("windows", result);
 }
 
 /* Its first process, of init.c, gets half of the guest's memory. */
@@ -213,19 +188,41 @@ static bool set_linux(const struct fleet *fleet, struct guest *guest) {
 
 static bool make_guest(struct fleet *fleet, unsigned number) {
     struct guest *guest = &fleet->guest[number];
-    uint32_t pages = pages_of(fleet);
-    guest->fleet = fleet;
     voices_make(&guest->voices, number);
-    guest->written = calloc((pages + 63) / 64, sizeof *guest->written);
-    if (guest->written == NULL || !idle_make(&guest->idle, pages)) return trouble("memory for a guest's looks");
-    guest->ram = fleet->way == WAY_LEND ? window_at(fleet->lender, number) : plain_memory(fleet);
+    guest->ram = make_memory(fleet);
     if (guest->ram == NULL) return trouble("memory for a guest");
-    guest->vm.number = number;
-    guest->vm.wrote = wrote;
-    guest->vm.of = guest;
-    guest->vm.has_chips = fleet->kernel != NULL;
-    return vm_make(&guest->vm, guest->ram, (size_t)pages * PAGE, fleet->processors, fleet->by_log && fleet->way == WAY_LEND) &&
+    if (fleet->way == WAY_LEND) {
+        struct window_result made = window_make(&guest->window, fleet->windows, guest->ram, bytes_of(fleet), WINDOW_NO_CHILD);
+        if (made.status != WINDOW_OK) return trouble_with("a guest's window", made);
+    }
+    guest->vm = (struct vm){.number = number, .wrote = wrote, .opaque = guest, .has_chips = fleet->kernel != NULL};
+    return vm_make(&guest->vm, guest->ram, bytes_of(fleet), fleet->processors) &&
            (fleet->kernel != NULL ? set_linux(fleet, guest) : vm_set_guest(&guest->vm, fleet->program, fleet->rest));
+}
+
+/* Its processors have stopped. */
+static bool free_guest(struct fleet *fleet, unsigned number) {
+    struct guest *guest = &fleet->guest[number];
+    vm_free(&guest->vm);
+    struct window_result freed = window_free(guest->window, WINDOW_DROP);
+    guest->window = NULL;
+    if (guest->ram != NULL) munmap(guest->ram, bytes_of(fleet));
+    guest->ram = NULL;
+    return freed.status == WINDOW_OK || trouble_with("a guest's window", freed);
+}
+
+/* Ends a guest while the others run, and begins another one. */
+static bool renew(struct fleet *fleet, unsigned number) {
+    struct guest *guest = &fleet->guest[number];
+    uint64_t half_ns = guest->voices.half_ns;
+    vm_stop(&guest->vm);
+    for (unsigned i = 0; i < fleet->processors; i++) {
+        fleet->ended_rounds += voices_get(&guest->voices, i).rounds;
+        fleet->ended_wrong += voices_get(&guest->voices, i).wrong;
+    }
+    if (!free_guest(fleet, number) || !make_guest(fleet, number)) return false;
+    guest->voices.half_ns = half_ns;
+    return vm_start(&guest->vm);
 }
 
 static bool is_over(const struct fleet *fleet) {
@@ -235,25 +232,31 @@ static bool is_over(const struct fleet *fleet) {
 }
 
 /* The guests run; a sample each second. */
-static void run(struct fleet *fleet) {
-    uint64_t next = 0, scan = clock_ns(CLOCK_THREAD_CPUTIME_ID), second = 1000000000u;
-    while (!is_over(fleet)) {
-        struct timespec pause = {0, TICK_NS};
+static bool run(struct fleet *fleet) {
+    const uint64_t second = 1000000000u;
+    uint64_t next = 0, renewed = 0;
+    bool right = true;
+    while (right && !is_over(fleet)) {
+        struct timespec pause = {.tv_nsec = TICK_NS};
         nanosleep(&pause, NULL);
-        for (unsigned i = 0; i < fleet->guests && fleet->way == WAY_LEND; i++) tend(fleet, &fleet->guest[i]);
-        if (now_ns() - fleet->began_ns < next * second) continue;
-        if (fleet->way == WAY_LEND) lender_trim(fleet->lender);
+        uint64_t passed = now_ns() - fleet->began_ns;
+        if (passed < next * second) continue;
         take_sample(fleet);
         next++;
+        /* (the last ones have some time to settle) */
+        if (fleet->renew == 0 || passed < (renewed + 1) * fleet->renew * second || passed + LATE_S * second > fleet->seconds * second)
+            continue;
+        right = renew(fleet, (unsigned)(renewed++ % fleet->guests));
     }
-    fleet->figures.scan = 1e-9 * (double)(clock_ns(CLOCK_THREAD_CPUTIME_ID) - scan);
+    return right;
 }
 
 /* Whether every processor runs and saw nothing wrong; says which doesn't, and adds up what they said. */
 static bool judge(struct fleet *fleet, double khz) {
     struct figures *figures = &fleet->figures;
     uint64_t cycles = 0, kilocycles = 0, cost_ns = 0, late = 0;
-    bool right = true;
+    bool right = fleet->ended_wrong == 0;
+    figures->wrong = fleet->ended_wrong;
     for (unsigned i = 0; i < fleet->guests * fleet->processors; i++) {
         struct guest *guest = &fleet->guest[i / fleet->processors];
         unsigned number = i % fleet->processors;
@@ -275,35 +278,25 @@ static bool judge(struct fleet *fleet, double khz) {
     return right;
 }
 
-/* Tells of a guest's pages whether they have memory, lent or not. */
-static bool has_memory(struct fleet *fleet, struct guest *guest, uint32_t first, uint32_t count, uint8_t *room) {
-    uint8_t has = fleet->way == WAY_LEND ? PAGE_LENT | PAGE_HELD : 1; /* (1 as mincore has it) */
-    bool told = fleet->way == WAY_LEND ? window_look(fleet->lender, guest->vm.number, first, count, room)
-                                       : mincore(guest->ram + (size_t)first * PAGE, (size_t)count * PAGE, room) == 0;
-    for (uint32_t i = 0; i < count; i++) room[i] &= has;
-    return told || trouble("mincore");
-}
-
-/* Counts the distinct pages that the guests have. They stand still. */
+/* Counts the distinct pages that the guests have. They stand still, and nobody looks. */
 static bool count_bound(struct fleet *fleet) {
-    uint32_t pages = pages_of(fleet), all = fleet->guests * pages;
-    const uint8_t **list = malloc(all * sizeof *list);
-    uint8_t shown[LOOK_MOST];
+    uint32_t pages = pages_of(fleet);
+    const uint8_t **list = malloc((size_t)fleet->guests * pages * sizeof *list);
+    uint8_t resident[LOOK_MOST];
     size_t count = 0;
-    bool told = list != NULL || trouble("memory for a count");
-    for (uint32_t at = 0, part = 0; told && at < all; at += part) {
+    if (list == NULL) return trouble("memory for a count");
+    for (uint32_t at = 0; at < fleet->guests * pages; at++) {
         struct guest *guest = &fleet->guest[at / pages];
-        uint32_t first = at % pages;
-        part = part_of(pages - first);
-        told = has_memory(fleet, guest, first, part, shown);
-        for (uint32_t i = 0; i < part; i++) {
-            if (shown[i] != 0) list[count++] = guest->ram + (size_t)(first + i) * PAGE;
-            if ((shown[i] & PAGE_HELD) != 0) fleet->figures.own++;
-        }
+        uint32_t page = at % pages, part = pages - page < LOOK_MOST ? pages - page : LOOK_MOST;
+        const uint8_t *from = guest->ram + (size_t)page * PAGE;
+        if (page % LOOK_MOST == 0 && mincore((void *)(uintptr_t)from, (size_t)part * PAGE, resident) < 0) return trouble("mincore");
+        if ((resident[page % LOOK_MOST] & 1) == 0) continue;
+        list[count++] = from;
+        if (guest->window == NULL || window_page_is(guest->window, page) == WINDOW_PAGE_PRIVATE) fleet->figures.own++;
     }
-    if (told) fleet->figures.bound = count_distinct(list, count);
+    fleet->figures.bound = count_distinct(list, count);
     free(list);
-    return told;
+    return true;
 }
 
 /* Writes what was asked for. */
@@ -327,7 +320,7 @@ static bool end_journal(struct fleet *fleet) {
     return fleet->figures.requests > 0;
 }
 
-static bool run_fleet(struct fleet *fleet) {
+static bool make_fleet(struct fleet *fleet) {
     if (fleet->way == WAY_LEND && !make_lender(fleet)) return false;
     for (unsigned i = 0; i < fleet->guests; i++)
         if (!make_guest(fleet, i)) return false;
@@ -335,15 +328,32 @@ static bool run_fleet(struct fleet *fleet) {
     fleet->ksmd_began = ksmd_seconds(fleet);
     fleet->began_ns = now_ns();
     for (unsigned i = 0; i < fleet->guests; i++) fleet->guest[i].voices.half_ns = fleet->began_ns + fleet->seconds * 500000000ull;
+    if (fleet->way != WAY_LEND) return true;
+    errno = looker_start(&fleet->looker, fleet->windows, fleet->lender, fleet->round_ms);
+    fleet->looks = errno == 0;
+    return fleet->looks || trouble("a thread that looks");
+}
+
+/* Ends the thread that looks. Returns whether all looks came out well, and says which did not. */
+static bool end_looks(struct fleet *fleet) {
+    if (!fleet->looks) return true;
+    looker_stop(&fleet->looker);
+    fleet->looks = false;
+    struct window_result result = fleet->looker.looked.result;
+    return result.status == WINDOW_OK || trouble_with("a look", result);
+}
+
+static bool run_fleet(struct fleet *fleet) {
+    bool right = make_fleet(fleet);
     uint64_t ticks = __builtin_ia32_rdtsc();
-    bool right = true;
     for (unsigned i = 0; i < fleet->guests && right; i++) right = vm_start(&fleet->guest[i].vm);
-    if (right) run(fleet);
+    right = right && run(fleet);
     double khz = (double)(__builtin_ia32_rdtsc() - ticks) / (1e-6 * (double)(now_ns() - fleet->began_ns));
-    right = right && judge(fleet, khz);
+    if (!right) return false;
+    right = judge(fleet, khz);
     for (unsigned i = 0; i < fleet->guests; i++) vm_stop(&fleet->guest[i].vm);
-    if (fleet->way == WAY_LEND) lender_trim(fleet->lender);
     take_sample(fleet);
+    right = end_looks(fleet) && right;
     if (fleet->watch) fputc('\n', stderr);
     fleet->figures.table_bytes = 1024 * (double)number_in("/proc/self/status", "VmPTE:");
     right = count_bound(fleet) && right;
@@ -352,14 +362,11 @@ static bool run_fleet(struct fleet *fleet) {
 }
 
 static void free_fleet(struct fleet *fleet) {
-    for (unsigned i = 0; i < fleet->guests; i++) {
-        struct guest *guest = &fleet->guest[i];
-        if (guest->ram != NULL) vm_free(&guest->vm);
-        if (guest->ram != NULL && fleet->way != WAY_LEND) munmap(guest->ram, (size_t)pages_of(fleet) * PAGE);
-        idle_free(&guest->idle);
-        free(guest->written);
-    }
-    if (fleet->lender != NULL) lender_free(fleet->lender);
+    for (unsigned i = 0; i < fleet->guests; i++) vm_stop(&fleet->guest[i].vm);
+    end_looks(fleet);
+    for (unsigned i = 0; i < fleet->guests; i++) free_guest(fleet, i);
+    windows_free(fleet->windows);
+    lender_free(fleet->lender);
     free(fleet->figures.samples);
 }
 
@@ -377,8 +384,8 @@ static bool word(const char *text, const char *const *words, unsigned count, uns
     return false;
 }
 
+/* Sets an option of a number or a word. */
 static bool set_option(struct fleet *fleet, int option) {
-    static const char *const idles[] = {"look", "log"};
     unsigned found = 0;
     bool right = true;
     switch (option) {
@@ -388,17 +395,17 @@ static bool set_option(struct fleet *fleet, int option) {
     case 'p': return number(optarg, 1, VM_PROCESSORS, &fleet->processors);
     case 'r': return number(optarg, 0, 255, &fleet->rest);
     case 'o': return number(optarg, 1, 60000, &fleet->round_ms);
-    case 'l': return number(optarg, 0, 65536, &fleet->slice);
     case 'f': return number(optarg, 1, 100, &fleet->frames);
+    case 'e': return number(optarg, 1, 86400, &fleet->renew);
     case 'q': right = number(optarg, 1000, 400000, &found), fleet->requests = found; return right;
     case 'w': right = word(optarg, WAYS, 3, &found), fleet->way = (enum way)found; return right;
-    case 'i': right = word(optarg, idles, 2, &found), fleet->by_log = found == 1; return right;
     case 'j': fleet->journal_path = optarg; return true;
     case 'J': fleet->json = optarg; return true;
     case 'S': fleet->svg = optarg; return true;
     case 'k': fleet->kernel = optarg; return true;
     case 'n': fleet->initrd = optarg; return true;
     case 'x': fleet->words = optarg; return true;
+    case 't': fleet->trace = optarg; return true;
     case 'W': fleet->watch = true; return true;
     default: return false;
     }
@@ -408,29 +415,23 @@ static bool read_options(struct fleet *fleet, int count, char **words) {
     static const struct option options[] = {
         {"guests", 1, NULL, 'g'}, {"mib", 1, NULL, 'm'},     {"seconds", 1, NULL, 's'},  {"processors", 1, NULL, 'p'},
         {"rest", 1, NULL, 'r'},   {"round", 1, NULL, 'o'},   {"requests", 1, NULL, 'q'}, {"way", 1, NULL, 'w'},
-        {"idle", 1, NULL, 'i'},   {"journal", 1, NULL, 'j'}, {"json", 1, NULL, 'J'},     {"svg", 1, NULL, 'S'},
-        {"watch", 0, NULL, 'W'},  {"slice", 1, NULL, 'l'},   {"frames", 1, NULL, 'f'},   {"kernel", 1, NULL, 'k'},
+        {"renew", 1, NULL, 'e'},  {"journal", 1, NULL, 'j'}, {"json", 1, NULL, 'J'},     {"svg", 1, NULL, 'S'},
+        {"watch", 0, NULL, 'W'},  {"trace", 1, NULL, 't'},   {"frames", 1, NULL, 'f'},   {"kernel", 1, NULL, 'k'},
         {"initrd", 1, NULL, 'n'}, {"words", 1, NULL, 'x'},   {NULL, 0, NULL, 0}};
     int option;
     while ((option = getopt_long(count, words, "", options, NULL)) != -1)
         if (!set_option(fleet, option)) return false;
     if (fleet->journal_path != NULL && fleet->way != WAY_LEND) return false;
+    if ((uint64_t)fleet->guests * pages_of(fleet) > LENDER_PAGES_MOST) return false;
     if (fleet->kernel != NULL) return fleet->initrd != NULL && fleet->processors == 1 && optind == count;
     fleet->program = optind + 1 == count ? words[optind] : NULL;
     return fleet->program != NULL;
 }
 
 int main(int count, char **words) {
-    static struct fleet fleet = {.guests = 3,
-                                 .mib = 128,
-                                 .seconds = 30,
-                                 .processors = 1,
-                                 .rest = 50,
-                                 .round_ms = 1000,
-                                 .slice = 512,
-                                 .frames = 40,
-                                 .requests = 100000};
-    for (unsigned i = 0; i < GUESTS; i++) fleet.guest[i].vm.kvm = fleet.guest[i].vm.fd = -1;
+    static struct fleet fleet = {
+        .guests = 3, .mib = 128, .seconds = 30, .processors = 1, .rest = 50, .round_ms = 1000, .frames = 40, .requests = 100000};
+    for (unsigned i = 0; i < GUESTS; i++) fleet.guest[i].vm = VM_NONE;
     if (!read_options(&fleet, count, words)) {
         fputs("fleet: bad command line; fleet.c has its form at its head\n", stderr);
         return 2;

@@ -12,19 +12,23 @@ enum { STORES = PAGESHARE_PAGE_BYTES / PAGESHARE_MAX_ACCESS, STEP = PAGESHARE_MA
 /* A text has at most 64 MiB, of which a lend or a take-back takes less than 16 KiB. */
 static const long TEXT_MOST = (64L << 20) - (16L << 10);
 
+/* A frame, as the replay has it: the slots that have it, and whether it is a shared page's. */
+struct frame {
+    uint32_t sharers;
+    bool is_shared;
+};
+
 struct journal {
     FILE *text, *replay;
     uint32_t requests, most;
+    uint32_t lent, frames, shared, hints; /* as the replay's report counts them at the end */
+    struct frame *of_frame;
+    uint32_t *frame_of; /* of each slot */
+    const uint8_t *region;
     long bytes;        /* of the text */
     int cause;         /* the first failure of a write, or 0 */
     atomic_bool ended; /* another thread may ask */
 };
-
-/* What a proposal of a private page that nobody proposed before is answered, besides joined. */
-static const char *const WORDS[] = {[PAGESHARE_VERDICT_PAIRED] = "paired",
-                                    [PAGESHARE_VERDICT_HINTED] = "hinted",
-                                    [PAGESHARE_VERDICT_REPLACED] = "replaced",
-                                    [PAGESHARE_VERDICT_INELIGIBLE] = "ineligible"};
 
 struct journal *journal_open(const char *path, uint32_t most) {
     char *beside;
@@ -56,18 +60,13 @@ static void asked(struct journal *journal, int bytes) {
     journal->requests++;
 }
 
-static void print_list(struct journal *journal, const char *name, const uint32_t *numbers, size_t count) {
-    wrote(journal, fputs(name, journal->text));
-    for (size_t i = 0; i < count; i++) wrote(journal, fprintf(journal->text, " %" PRIu32, numbers[i]));
-    wrote(journal, fputc('\n', journal->text));
-}
-
-void journal_head(struct journal *journal, uint32_t frames, const uint32_t *pages, const uint32_t *salts, size_t guests) {
-    bool salted = false;
-    for (size_t i = 0; i < guests; i++) salted = salted || salts[i] != 0;
-    wrote(journal, fprintf(journal->text, "pageshare journal %d\nframes %" PRIu32 "\n", salted ? 2 : 1, frames));
-    print_list(journal, "pages", pages, guests);
-    if (salted) print_list(journal, "salts", salts, guests);
+bool journal_head(struct journal *journal, uint32_t frames, uint32_t slots, uint32_t salt, const uint8_t *region) {
+    journal->of_frame = calloc(frames, sizeof *journal->of_frame);
+    journal->frame_of = calloc(slots, sizeof *journal->frame_of);
+    journal->region = region;
+    wrote(journal, fprintf(journal->text, "pageshare journal 2\nframes %" PRIu32 "\npages %" PRIu32 "\nsalts %" PRIu32 "\n", frames,
+                           slots, salt));
+    return journal->of_frame != NULL && journal->frame_of != NULL;
 }
 
 static void spell(char *hex, const uint8_t *bytes) {
@@ -79,70 +78,92 @@ static void spell(char *hex, const uint8_t *bytes) {
     hex[2 * STEP] = 0;
 }
 
-static void write_end(struct journal *journal, struct pageshare *machine) {
-    struct pageshare_totals totals;
-    if (pageshare_report(machine, &totals) != PAGESHARE_OK) return;
+static void write_end(struct journal *journal) {
     wrote(journal, fprintf(journal->text, "end %" PRIu32 "\n", journal->requests));
     wrote(journal, fprintf(journal->replay,
                            "report entries %" PRIu32 " mapped %" PRIu32 " shared %" PRIu32 " frames %" PRIu32 " reclaimed %" PRIu32
                            " hints %" PRIu32 "\n",
-                           totals.entries, totals.mapped, totals.shared, totals.frames, totals.reclaimed, totals.hints));
+                           journal->requests, journal->lent, journal->shared, journal->frames, journal->lent - journal->frames,
+                           journal->hints));
     atomic_store(&journal->ended, true);
 }
 
 bool journal_has_ended(const struct journal *journal) { return atomic_load(&journal->ended); }
 
-/* Whether the next lend or take-back is to be written. Ends a journal that has no room for it. */
-static bool is_open(struct journal *journal, struct pageshare *machine) {
+/* Whether the next lend or release is to be written. Ends a journal that has no room for it. */
+static bool is_open(struct journal *journal) {
     if (journal == NULL || journal_has_ended(journal)) return false;
     if (journal->most - journal->requests > STORES && journal->bytes <= TEXT_MOST) return true;
-    write_end(journal, machine);
+    write_end(journal);
     return false;
 }
 
-struct pageshare_answer journal_lend(struct journal *journal, struct pageshare *machine, uint32_t guest, uint32_t ppn,
-                                     const uint8_t page[PAGESHARE_PAGE_BYTES]) {
+/* Writes the verdict of a slot's proposal: all pages of a lent frame are shared from the second one on, until none has it. */
+static void write_verdict(struct journal *journal, const struct pageshare_loan *loan) {
+    struct frame *frame = &journal->of_frame[loan->frame];
+    journal->lent++;
+    frame->sharers = loan->sharers;
+    if (loan->sharers == 1) {
+        frame->is_shared = false;
+        journal->frames++;
+        journal->hints++;
+        wrote(journal, fputs("0 hinted\n", journal->replay));
+    } else if (!frame->is_shared) {
+        frame->is_shared = true;
+        journal->hints--;
+        journal->shared += 2;
+        wrote(journal, fputs("0 paired\n", journal->replay));
+    } else {
+        journal->shared++;
+        wrote(journal, fprintf(journal->replay, "0 joined %" PRIu32 "\n", loan->sharers));
+    }
+}
+
+struct pageshare_loan journal_lend(struct journal *journal, struct pageshare_domain *domain, uint32_t client, const uint8_t *page) {
     char hex[2 * STEP + 1];
-    bool open = is_open(journal, machine);
-    struct pageshare_answer answer = pageshare_lend(machine, guest, ppn, page);
-    if (answer.status == PAGESHARE_ERROR_FULL && pageshare_restart_count(machine) == PAGESHARE_OK)
-        answer = pageshare_lend(machine, guest, ppn, page);
-    if (!open) return answer;
+    bool open = is_open(journal);
+    struct pageshare_loan loan = pageshare_domain_lend(domain, client, page);
+    if (!open || loan.status != PAGESHARE_OK) return loan;
+    uint32_t slot = (uint32_t)loan.slot;
     for (unsigned i = 0; i < STORES; i++) {
         spell(hex, page + i * STEP);
-        asked(journal, fprintf(journal->text, "%" PRIu32 " store %" PRIu32 " %u %s\n", guest, ppn, i * STEP, hex));
-        wrote(journal, fprintf(journal->replay, "%" PRIu32 " %s\n", guest, i == 0 ? "mapped" : "stored"));
+        asked(journal, fprintf(journal->text, "0 store %" PRIu32 " %u %s\n", slot, i * STEP, hex));
+        wrote(journal, fprintf(journal->replay, "0 %s\n", i == 0 ? "mapped" : "stored"));
     }
-    asked(journal, fprintf(journal->text, "%" PRIu32 " propose %" PRIu32 "\n", guest, ppn));
-    if (answer.verdict == PAGESHARE_VERDICT_JOINED)
-        wrote(journal, fprintf(journal->replay, "%" PRIu32 " joined %" PRIu32 "\n", guest, answer.count));
-    else wrote(journal, fprintf(journal->replay, "%" PRIu32 " %s\n", guest, WORDS[answer.verdict]));
-    return answer;
+    asked(journal, fprintf(journal->text, "0 propose %" PRIu32 "\n", slot));
+    journal->frame_of[slot] = loan.frame;
+    write_verdict(journal, &loan);
+    return loan;
 }
 
-/* Loads a page, 64 bytes at a time. */
-static void write_loads(struct journal *journal, struct pageshare *machine, uint32_t guest, uint32_t ppn) {
+/* Loads a slot, 64 bytes at a time, from its frame. */
+static void write_loads(struct journal *journal, uint32_t slot) {
     char hex[2 * STEP + 1];
-    uint8_t bytes[STEP];
+    const uint8_t *page = journal->region + (size_t)journal->frame_of[slot] * PAGESHARE_PAGE_BYTES;
     for (uint32_t at = 0; at < PAGESHARE_PAGE_BYTES; at += STEP) {
-        if (pageshare_load(machine, guest, ppn, at, bytes, STEP).verdict != PAGESHARE_VERDICT_BYTES) return;
-        spell(hex, bytes);
-        asked(journal, fprintf(journal->text, "%" PRIu32 " load %" PRIu32 " %" PRIu32 " %d\n", guest, ppn, at, STEP));
-        wrote(journal, fprintf(journal->replay, "%" PRIu32 " bytes %s\n", guest, hex));
+        spell(hex, page + at);
+        asked(journal, fprintf(journal->text, "0 load %" PRIu32 " %" PRIu32 " %d\n", slot, at, STEP));
+        wrote(journal, fprintf(journal->replay, "0 bytes %s\n", hex));
     }
 }
 
-struct pageshare_answer journal_take_back(struct journal *journal, struct pageshare *machine, uint32_t guest, uint32_t ppn,
-                                          uint8_t room[PAGESHARE_PAGE_BYTES]) {
-    bool open = is_open(journal, machine);
-    if (open) write_loads(journal, machine, guest, ppn);
-    struct pageshare_answer answer = pageshare_take_back(machine, guest, ppn, room);
-    if (answer.status == PAGESHARE_ERROR_FULL && pageshare_restart_count(machine) == PAGESHARE_OK)
-        answer = pageshare_take_back(machine, guest, ppn, room);
-    if (!open) return answer;
-    asked(journal, fprintf(journal->text, "%" PRIu32 " release %" PRIu32 "\n", guest, ppn));
-    wrote(journal, fprintf(journal->replay, "%" PRIu32 " released %s\n", guest, answer.count == 1 ? "freed" : "held"));
-    return answer;
+static void write_release(struct journal *journal, uint32_t slot, bool is_free) {
+    struct frame *frame = &journal->of_frame[journal->frame_of[slot]];
+    asked(journal, fprintf(journal->text, "0 release %" PRIu32 "\n", slot));
+    wrote(journal, fprintf(journal->replay, "0 released %s\n", is_free ? "freed" : "held"));
+    journal->lent--;
+    frame->sharers--;
+    if (frame->is_shared) journal->shared--;
+    else journal->hints--;
+    if (is_free) journal->frames--;
+}
+
+uint32_t journal_release(struct journal *journal, struct pageshare_domain *domain, uint32_t client, uint64_t slot, uint32_t *freed) {
+    bool open = is_open(journal);
+    if (open) write_loads(journal, (uint32_t)slot);
+    uint32_t status = pageshare_domain_release(domain, client, slot, freed);
+    if (open && status == PAGESHARE_OK) write_release(journal, (uint32_t)slot, *freed != PAGESHARE_NO_FRAME);
+    return status;
 }
 
 int64_t journal_close(struct journal *journal) {
@@ -151,6 +172,8 @@ int64_t journal_close(struct journal *journal) {
     if (fclose(journal->text) != 0 && cause == 0) cause = errno;
     if (fclose(journal->replay) != 0 && cause == 0) cause = errno;
     if (!journal->ended && cause == 0) cause = EPIPE;
+    free(journal->of_frame);
+    free(journal->frame_of);
     free(journal);
     errno = cause;
     return cause == 0 ? requests : -1;

@@ -1,146 +1,181 @@
 #define _GNU_SOURCE
 #include "lender.h"
+#include "bus.h"
+#include "clock.h"
 #include <errno.h>
 #include <fcntl.h>
-#include <linux/userfaultfd.h>
-#include <stdio.h>
-#include <sys/ioctl.h>
+#include <stdlib.h>
 #include <sys/mman.h>
+#include <sys/random.h>
 #include <sys/stat.h>
 #include <unistd.h>
 
-#ifndef UFFD_FEATURE_WP_UNPOPULATED
-#define UFFD_FEATURE_WP_UNPOPULATED (1 << 13)
-#endif
+enum { NO_FILE = -1 };
 
-/* Mappings that are left to the rest of the process. */
-enum { MAPPINGS_SPARE = 2000 };
+struct lender {
+    struct window_lender interface;
+    struct pageshare_domain domain;
+    struct journal *journal;
+    uint32_t client;
+    uint8_t *region;       /* the frames, for writing */
+    unsigned char *is_free; /* of each frame: it is free, and the system may hold memory for it */
+    struct lender_counts counts;
+};
 
-static uint8_t *map(size_t bytes, int kind, int fd) {
-    void *at = mmap(NULL, bytes, PROT_READ | PROT_WRITE, kind | MAP_NORESERVE, fd, 0);
-    return at == MAP_FAILED ? NULL : at;
+const char *lender_status_words(enum lender_status status) {
+    static const char *const words[] = {[LENDER_OK] = "done",
+                                        [LENDER_NO_MEMORY] = "no memory for tables",
+                                        [LENDER_NO_FILE] = "no file for frames",
+                                        [LENDER_NO_RANDOM] = "no random numbers",
+                                        [LENDER_REFUSED] = "the library refused"};
+    return (size_t)status < sizeof words / sizeof words[0] ? words[status] : "unknown";
 }
 
-static void close_file(int fd) {
-    if (fd >= 0) close(fd);
+static size_t bytes_of(size_t frames) { return frames * WINDOW_PAGE_BYTES; }
+
+static struct lender_result result_of(enum lender_status status, int cause) {
+    return (struct lender_result){.status = status, .cause = cause};
 }
 
-/* The userfaultfd, whose device Linux has from 6.1 on. */
-static int open_faults(void) {
-    const uint64_t features = UFFD_FEATURE_PAGEFAULT_FLAG_WP | UFFD_FEATURE_WP_HUGETLBFS_SHMEM | UFFD_FEATURE_WP_UNPOPULATED;
-    struct uffdio_api api = {.api = UFFD_API, .features = features};
-    int device = open("/dev/userfaultfd", O_RDWR | O_CLOEXEC);
-    if (device < 0) return NO_FD;
-    int faults = ioctl(device, USERFAULTFD_IOC_NEW, O_CLOEXEC);
-    close_file(device);
-    if (faults >= 0 && ioctl(faults, UFFDIO_API, &api) == 0) return faults;
-    close_file(faults);
-    return NO_FD;
+static int ask(void *opaque, const uint32_t *pages, const uint64_t *fingerprints, size_t count, unsigned char *seen) {
+    struct lender *lender = opaque;
+    for (size_t i = 0; i < count; i++)
+        if (pageshare_domain_ask(&lender->domain, lender->client, pages[i], fingerprints[i], seen + i) != PAGESHARE_OK) return EINVAL;
+    return 0;
 }
 
-static bool make_window(struct lender *lender, uint32_t guest) {
-    struct window *window = &lender->windows[guest];
-    const struct guest_memory *memory = lender->told.memory;
-    uint32_t pages = lender->told.pages[guest];
-    *window = (struct window){.guest = guest, .pages = pages, .fd = NO_FD, .slots = calloc(pages, sizeof *window->slots)};
-    window->at = memory == NULL ? map(bytes_of(pages), MAP_PRIVATE | MAP_ANONYMOUS, NO_FD) : memory[guest].at;
-    if (memory != NULL) window->fd = memory[guest].fd;
-    if (window->at == NULL || window->slots == NULL) return false;
-    for (uint32_t i = 0; i < pages; i++) window->slots[i].mapped = memory == NULL ? MAPPED_ZEROS : MAPPED_FIRST;
-    return window_watch(lender, window, 0, pages);
+static void release_one(struct lender *lender, uint64_t slot) {
+    uint32_t freed = PAGESHARE_NO_FRAME;
+    if (journal_release(lender->journal, &lender->domain, lender->client, slot, &freed) != PAGESHARE_OK) return;
+    lender->counts.releases++;
+    if (freed < lender->interface.frame_count) lender->is_free[freed] = 1;
 }
 
-/* The system's limit of mappings, less some for the rest of the process. */
-static size_t mappings_most(void) {
-    size_t most = 65530;
-    FILE *file = fopen("/proc/sys/vm/max_map_count", "r");
-    if (file != NULL && fscanf(file, "%zu", &most) != 1) most = 65530;
-    if (file != NULL) fclose(file);
-    return most > MAPPINGS_SPARE ? most - MAPPINGS_SPARE : 0;
+static int release(void *opaque, const uint64_t *slots, size_t count) {
+    for (size_t i = 0; i < count; i++) release_one(opaque, slots[i]);
+    return 0;
 }
 
-static const char *make_machine(struct lender *lender) {
-    const struct lender_config *told = &lender->told;
-    size_t bytes = bytes_of(told->frames);
-    lender->frames_fd = memfd_create("frames", MFD_CLOEXEC);
-    if (lender->frames_fd < 0 || ftruncate(lender->frames_fd, (off_t)bytes) < 0) return "a file for frames";
-    lender->frames_at = map(bytes, MAP_SHARED, lender->frames_fd);
-    lender->freed = calloc(told->frames, sizeof *lender->freed);
-    if (lender->frames_at == NULL || lender->freed == NULL) return "memory for frames";
-    struct pageshare_config config = {told->frames, told->pages, told->salts, told->guests, told->hash, lender->frames_at, bytes};
-    errno = 0;
-    if (pageshare_make_with(&lender->machine, &config) != PAGESHARE_OK) return "pageshare_make_with";
-    if (told->journal != NULL) journal_head(told->journal, told->frames, told->pages, told->salts, told->guests);
-    return NULL;
-}
-
-/* Answers what failed, or NULL. */
-static const char *make_parts(struct lender *lender) {
-    const char *failed = make_machine(lender);
-    if (failed != NULL) return failed;
-    lender->mappings_most = mappings_most();
-    lender->faults = open_faults();
-    if (lender->faults < 0) return "userfaultfd with write protection of shared and unpopulated memory";
-    for (uint32_t i = 0; i < lender->told.guests; i++)
-        if (!make_window(lender, i)) return "memory for a guest";
-    lender->counts.mappings = lender->told.guests;
-    errno = pthread_create(&lender->thread, NULL, take_back_thread, lender);
-    lender->has_thread = errno == 0;
-    return lender->has_thread ? NULL : "a thread that takes pages back";
-}
-
-struct lender *lender_make(const struct lender_config *config) {
-    struct lender *lender = calloc(1, sizeof *lender + config->guests * sizeof lender->windows[0]);
-    if (lender == NULL) {
-        config->tell(config->of, "memory for a lender", errno);
-        return NULL;
+/* A frame for which the system had no memory was written elsewhere, so it isn't lent. */
+static struct window_loan lend_one(struct lender *lender, const unsigned char *page) {
+    struct pageshare_loan loan = journal_lend(lender->journal, &lender->domain, lender->client, page);
+    bool has_failed = bus_errors_end(lender->interface.frames);
+    if (loan.status != PAGESHARE_OK) return (struct window_loan){.frame = WINDOW_NO_FRAME};
+    if (has_failed) {
+        lender->counts.no_memory++;
+        release_one(lender, loan.slot);
+        return (struct window_loan){.frame = WINDOW_NO_FRAME};
     }
-    *lender = (struct lender){.lock = PTHREAD_MUTEX_INITIALIZER, .machine = PAGESHARE_NONE, .told = *config};
-    lender->frames_fd = lender->faults = NO_FD;
-    const char *failed = make_parts(lender);
-    if (failed == NULL) return lender;
-    tell(lender, failed);
-    lender_free(lender);
-    return NULL;
+    lender->is_free[loan.frame] = 0;
+    lender->counts.lends++;
+    return (struct window_loan){.frame = loan.frame, .slot = loan.slot};
 }
 
-static void free_window(struct lender *lender, struct window *window) {
-    bool is_ours = lender->told.memory == NULL;
-    if (is_ours && window->at != NULL) munmap(window->at, bytes_of(window->pages));
-    if (!is_ours && window->slots != NULL) window_take_back(lender, window, 0, window->pages);
-    free(window->slots);
+static int lend(void *opaque, const uint32_t *pages, size_t count, struct window_loan *loans) {
+    struct lender *lender = opaque;
+    uint64_t begun = now_ns();
+    (void)pages;
+    for (size_t i = 0; i < count; i++) loans[i] = lend_one(lender, lender->interface.pages[i]);
+    lender->counts.lend_ns += now_ns() - begun;
+    return 0;
+}
+
+static int open_frames(size_t bytes) {
+    int fd = memfd_create("frames", MFD_CLOEXEC | MFD_ALLOW_SEALING);
+    if (fd < 0) return NO_FILE;
+    if (ftruncate(fd, (off_t)bytes) == 0 && fcntl(fd, F_ADD_SEALS, F_SEAL_SHRINK | F_SEAL_GROW | F_SEAL_SEAL) == 0) return fd;
+    int cause = errno;
+    close(fd);
+    errno = cause;
+    return NO_FILE;
+}
+
+static struct lender_result make_domain(struct lender *lender, const struct lender_config *config) {
+    struct pageshare_domain_config domain = {.size = sizeof domain,
+                                             .machines = 1,
+                                             .slots = config->slots,
+                                             .frames = config->frames,
+                                             .clients = 1,
+                                             .recent = config->recent,
+                                             .hash = config->hash,
+                                             .region = lender->region,
+                                             .region_bytes = bytes_of(config->frames)};
+    uint32_t salts[4];
+    if (getrandom(salts, sizeof salts, 0) != (ssize_t)sizeof salts) return result_of(LENDER_NO_RANDOM, errno);
+    domain.salt = salts[0];
+    domain.seed = (uint64_t)salts[1] << 32 | salts[2];
+    lender->interface.salt = salts[3];
+    uint32_t status = pageshare_domain_make(&lender->domain, &domain);
+    if (status == PAGESHARE_OK) status = pageshare_domain_enter(&lender->domain, &lender->client);
+    if (status != PAGESHARE_OK) return result_of(LENDER_REFUSED, (int)status);
+    if (lender->journal != NULL && !journal_head(lender->journal, config->frames, config->slots, domain.salt, lender->region))
+        return result_of(LENDER_NO_MEMORY, ENOMEM);
+    return result_of(LENDER_OK, 0);
+}
+
+static struct lender_result make_parts(struct lender *lender, const struct lender_config *config) {
+    size_t bytes = bytes_of(config->frames);
+    lender->is_free = calloc(config->frames, 1);
+    lender->interface.pages = aligned_alloc(WINDOW_PAGE_BYTES, bytes_of(WINDOW_BATCH));
+    if (lender->is_free == NULL || lender->interface.pages == NULL) return result_of(LENDER_NO_MEMORY, ENOMEM);
+    lender->interface.frames = open_frames(bytes);
+    if (lender->interface.frames < 0) return result_of(LENDER_NO_FILE, errno);
+    void *at = mmap(NULL, bytes, PROT_READ | PROT_WRITE, MAP_SHARED | MAP_NORESERVE, lender->interface.frames, 0);
+    if (at == MAP_FAILED) return result_of(LENDER_NO_FILE, errno);
+    lender->region = at;
+    int cause = bus_errors_catch(at, bytes);
+    return cause == 0 ? make_domain(lender, config) : result_of(LENDER_NO_FILE, cause);
+}
+
+struct lender_result lender_make(struct lender **made, const struct lender_config *config) {
+    struct lender *lender = calloc(1, sizeof *lender);
+    *made = NULL;
+    if (lender == NULL) return result_of(LENDER_NO_MEMORY, ENOMEM);
+    lender->domain = (struct pageshare_domain)PAGESHARE_DOMAIN_NONE;
+    lender->journal = config->journal;
+    lender->interface = (struct window_lender){
+        .opaque = lender, .frames = NO_FILE, .frame_count = config->frames, .ask = ask, .lend = lend, .release = release};
+    struct lender_result result = make_parts(lender, config);
+    if (result.status == LENDER_OK) *made = lender;
+    else lender_free(lender);
+    return result;
 }
 
 void lender_free(struct lender *lender) {
-    if (lender->has_thread) {
-        pthread_cancel(lender->thread);
-        pthread_join(lender->thread, NULL);
+    if (lender == NULL) return;
+    size_t bytes = bytes_of(lender->interface.frame_count);
+    pageshare_domain_free(&lender->domain);
+    if (lender->region != NULL) {
+        bus_errors_forget(lender->region);
+        munmap(lender->region, bytes);
     }
-    for (size_t i = 0; i < lender->told.guests; i++) free_window(lender, &lender->windows[i]);
-    close_file(lender->faults);
-    pageshare_free(&lender->machine);
-    if (lender->frames_at != NULL) {
-        /* (the caller's memory may map the file still, though no page shows it) */
-        madvise(lender->frames_at, bytes_of(lender->told.frames), MADV_REMOVE);
-        munmap(lender->frames_at, bytes_of(lender->told.frames));
-    }
-    close_file(lender->frames_fd);
-    free(lender->freed);
+    if (lender->interface.frames >= 0) close(lender->interface.frames);
+    free(lender->interface.pages);
+    free(lender->is_free);
     free(lender);
 }
 
-void lender_report(struct lender *lender, struct pageshare_totals *totals, struct lender_counts *counts) {
-    clockid_t clock;
-    pthread_mutex_lock(&lender->lock);
-    if (pageshare_report(&lender->machine, totals) != PAGESHARE_OK) broken(lender, "pageshare_report");
-    *counts = lender->counts;
-    pthread_mutex_unlock(&lender->lock);
-    if (pthread_getcpuclockid(lender->thread, &clock) == 0) counts->thread_ns = clock_ns(clock);
+const struct window_lender *lender_interface(const struct lender *lender) { return &lender->interface; }
+
+static bool punch(const struct lender *lender, size_t first, size_t count) {
+    const int mode = FALLOC_FL_PUNCH_HOLE | FALLOC_FL_KEEP_SIZE;
+    return fallocate(lender->interface.frames, mode, (off_t)bytes_of(first), (off_t)bytes_of(count)) == 0;
 }
 
-size_t lender_bytes(struct lender *lender) {
-    struct stat stat;
-    if (fstat(lender->frames_fd, &stat) == 0) return (size_t)stat.st_blocks * 512;
-    tell(lender, "fstat");
-    return 0;
+size_t lender_trim(struct lender *lender) {
+    size_t frames = lender->interface.frame_count, left = 0;
+    for (size_t first = 0, end = 0; first < frames; first = end + 1) {
+        for (end = first; end < frames && lender->is_free[end] == 1;) end++;
+        bool is_given = end == first || punch(lender, first, end - first);
+        if (!is_given) left += end - first;
+        for (size_t frame = first; frame < end && is_given; frame++) lender->is_free[frame] = 0;
+    }
+    return left;
+}
+
+void lender_count(struct lender *lender, struct pageshare_domain_totals *totals, struct lender_counts *counts) {
+    struct stat stat = {0};
+    pageshare_domain_report(&lender->domain, totals);
+    *counts = lender->counts;
+    if (fstat(lender->interface.frames, &stat) == 0) counts->frame_bytes = (size_t)stat.st_blocks * 512;
 }

@@ -1,71 +1,61 @@
-/* What window.c and lender.c have in common; nobody else includes it. */
+/*
+ * Lends frames of a domain in this process to windows (window/lender.h), and gives the memory of free frames back to the system.
+ * A lender is used by one thread at a time, which is the one that looks at windows.
+ */
 #ifndef MONITOR_LENDER_H
 #define MONITOR_LENDER_H
 
-#include "trouble.h"
-#include "window.h"
-#include <errno.h>
-#include <pthread.h>
-#include <stdatomic.h>
-#include <stdlib.h>
+#include "../window/lender.h"
+#include "journal.h"
+#include "pageshare.h"
+#include <stdbool.h>
+#include <stddef.h>
+#include <stdint.h>
 
-enum { NO_FD = -1 };
+enum lender_status {
+    LENDER_OK,
+    LENDER_NO_MEMORY, /* for tables */
+    LENDER_NO_FILE,   /* a file for frames, with seals, of that size */
+    LENDER_NO_RANDOM, /* for salts */
+    LENDER_REFUSED,   /* the library's status, in `cause` */
+};
+struct lender_result {
+    enum lender_status status;
+    int cause; /* an errno, or a status of the library, or 0 */
+};
+const char *lender_status_words(enum lender_status status);
 
-/* What is mapped at a page's place in its window: a frame, by its number, or one of these. */
-enum {
-    MAPPED_ZEROS = 1 << 20, /* anonymous memory, which begins as zeros */
-    MAPPED_FIRST,           /* the caller's memory of the beginning */
-    MAPPED_BITS = 21,
-    MAPPED_MOST = (1 << MAPPED_BITS) - 1
+/* Most slots and most frames of a lender: those of one machine. */
+enum { LENDER_PAGES_MOST = 1 << 20 };
+
+struct lender_config {
+    uint32_t slots;          /* most pages that are lent at a time, 1 to LENDER_PAGES_MOST */
+    uint32_t frames;         /* 2 to LENDER_PAGES_MOST, one of which is spare: as many as distinct pages are expected */
+    uint32_t recent;         /* pages whose fingerprints are remembered */
+    uint32_t hash;           /* an enum pageshare_hash_kind */
+    struct journal *journal; /* what is asked of the domain is written to it until it is full; NULL for none */
 };
 
-struct slot {
-    uint32_t mapped : MAPPED_BITS; /* a lent page shows it; a private page may have a copy of it */
-    bool lent : 1;
-    bool taken : 1; /* it was taken back since the last look */
-    bool kept : 1;  /* it may not be lent */
+struct lender;
+
+/* Salts are drawn at random. Unless the status is LENDER_OK *made is NULL. */
+struct lender_result lender_make(struct lender **made, const struct lender_config *config);
+/* Windows show the frames as long as they like. NULL is no lender. */
+void lender_free(struct lender *lender);
+
+/* What windows call. It is valid as long as the lender. */
+const struct window_lender *lender_interface(const struct lender *lender);
+
+/* Gives the memory of free frames back to the system; to be called once a second or so. Returns how many frames are left, of those
+ * that are free, for which the system refused it. */
+size_t lender_trim(struct lender *lender);
+
+/* What a lender counts, and the bytes that the system holds for frames. */
+struct lender_counts {
+    uint64_t lends, lend_ns, releases;
+    uint64_t no_memory; /* pages that weren't lent since the system had no memory for a frame */
+    size_t frame_bytes;
 };
-
-struct window {
-    uint32_t guest, pages;
-    uint8_t *at; /* what the guest sees */
-    int fd;      /* the file that was mapped there at first, shared, or NO_FD */
-    struct slot *slots;
-};
-
-struct lender {
-    pthread_mutex_t lock; /* round all below but what never changes: addresses, files and numbers */
-    struct pageshare machine;
-    struct lender_config told;
-    int frames_fd, faults;
-    uint8_t *frames_at;
-    bool *freed; /* of each frame: it is free, and the system may hold memory for it */
-    size_t mappings_most;
-    struct lender_counts counts;
-    atomic_uint waiting; /* pages to take back that wait for the lock: who lends lets them go first */
-    pthread_t thread;
-    bool has_thread;
-    struct window windows[];
-};
-
-static inline size_t bytes_of(uint32_t pages) { return (size_t)pages * PAGE; }
-
-static inline void tell(const struct lender *lender, const char *what) { lender->told.tell(lender->told.of, what, errno); }
-
-/* What can't be has happened: nothing that the guests read is sure any more. */
-_Noreturn static inline void broken(const struct lender *lender, const char *what) {
-    errno = 0;
-    tell(lender, what);
-    abort();
-}
-
-/* Lets the userfaultfd hear of these pages. */
-bool window_watch(const struct lender *lender, const struct window *window, uint32_t first, uint32_t count);
-
-/* Makes the lent pages of a run private. Called with the lock. */
-void window_take_back(struct lender *lender, struct window *window, uint32_t first, uint32_t count);
-
-/* The thread that takes pages back, of a lender, until it is cancelled. */
-void *take_back_thread(void *of);
+void lender_count(struct lender *lender, struct pageshare_domain_totals *totals, struct lender_counts *counts);
 
 #endif

@@ -3,11 +3,13 @@
  * Prints "tiny: ok" (status 0), or a line for each thing that isn't so and "tiny: WRONG" (status 1).
  */
 #define _GNU_SOURCE
+#include "../window/window.h"
+#include "lender.h"
 #include "trouble.h"
 #include "vm.h"
-#include "window.h"
 #include <stdlib.h>
 #include <string.h>
+#include <sys/mman.h>
 
 /*
  * Each stage ends with hlt. The guest's digit stands at 0x1000. Page 16 gets letters A in both guests, page 17 the digit, page 18
@@ -35,17 +37,16 @@ __asm__(".pushsection .rodata\n"
         ".popsection\n");
 extern const uint8_t tiny_begin[], tiny_end[];
 
-enum { GUESTS = 2, PAGES = 64, FRAMES = 512, CODE = 0x2000, DIGIT = 0x1000, PORT = 0xe9, FIRST = 16, LENT = 3 };
+enum { GUESTS = 2, PAGES = 64, FRAMES = 512, CODE = 0x2000, DIGIT = 0x1000, PORT = 0xe9, FIRST = 16, LOOKS = 8 };
+enum { PAGE = WINDOW_PAGE_BYTES, LETTERS = FIRST, DIGITS, ZEROS };
 
 static struct lender *lender;
+static struct windows *windows;
+static struct window *window[GUESTS];
+static uint8_t *ram[GUESTS];
 static struct vm vms[GUESTS];
 static char heard[GUESTS][16];
 static int wrong;
-
-static void tell(void *of, const char *what, int cause) {
-    (void)of;
-    fprintf(stderr, "lender: %s: %s\n", what, strerror(cause));
-}
 
 static bool wrote(struct processor *processor, uint16_t port, uint8_t byte) {
     char *text = heard[processor->vm->number];
@@ -68,63 +69,82 @@ static void stage(unsigned guest) {
 }
 
 static bool make(unsigned guest) {
-    uint8_t *ram = window_at(lender, guest);
-    vms[guest] = (struct vm){.number = guest, .wrote = wrote};
-    if (!vm_make(&vms[guest], ram, (size_t)PAGES * PAGE, 1, false)) return false;
-    memcpy(ram + CODE, tiny_begin, (size_t)(tiny_end - tiny_begin));
-    ram[DIGIT] = (uint8_t)('0' + guest);
+    const size_t bytes = (size_t)PAGES * PAGE;
+    void *at = mmap(NULL, bytes, PROT_READ | PROT_WRITE, MAP_PRIVATE | MAP_ANONYMOUS, -1, 0);
+    if (at == MAP_FAILED || window_make(&window[guest], windows, at, bytes, WINDOW_NO_CHILD).status != WINDOW_OK) return false;
+    ram[guest] = at;
+    vms[guest] = (struct vm){.number = guest, .wrote = wrote, .kvm = -1, .fd = -1};
+    if (!vm_make(&vms[guest], at, bytes, 1)) return false;
+    memcpy(ram[guest] + CODE, tiny_begin, (size_t)(tiny_end - tiny_begin));
+    ram[guest][DIGIT] = (uint8_t)('0' + guest);
     return vm_set_real(&vms[guest], CODE);
 }
 
-/* Whether the machine and the lender have so many. */
-static bool has(uint32_t mapped, uint32_t shared, uint32_t frames, uint64_t taken) {
-    struct pageshare_totals totals;
-    struct lender_counts counts;
-    lender_report(lender, &totals, &counts);
-    return totals.mapped == mapped && counts.lent_now == mapped && totals.shared == shared && totals.frames == frames &&
-           counts.taken == taken;
+static void look(int looks) {
+    for (int i = 0; i < looks; i++) check(windows_look(windows).status == WINDOW_OK, "a look comes out well");
+}
+
+/* Whether so many pages of letters are lent, in one frame, and so many copies were found. */
+static bool has(size_t lent, uint64_t copied) {
+    struct windows_counts counts;
+    size_t found = 0;
+    windows_count(windows, &counts);
+    for (unsigned i = 0; i < GUESTS; i++) found += window_page_is(window[i], LETTERS) == WINDOW_PAGE_LENT ? 1 : 0;
+    return found == lent && counts.copied == copied;
 }
 
 static void check_lent(void) {
-    for (unsigned i = 0; i < GUESTS; i++) {
-        stage(i);
-        check(window_lend(lender, i, FIRST, LENT) == LENT, "three pages of each guest are lent");
-    }
-    check(has(6, 4, 4, 0), "the letters and the zeros have a frame each, and each digit");
     for (unsigned i = 0; i < GUESTS; i++) stage(i);
+    look(LOOKS);
+    check(has(2, 0), "the letters of both are lent");
+    for (unsigned i = 0; i < GUESTS; i++) {
+        check(window_page_is(window[i], DIGITS) == WINDOW_PAGE_PRIVATE, "a page that nobody else has stays where it is");
+        check(window_page_is(window[i], ZEROS) == WINDOW_PAGE_ZERO, "zeros are given back");
+        stage(i);
+    }
     check(strcmp(heard[0], "A0.") == 0 && strcmp(heard[1], "A1.") == 0, "the guests read what they wrote");
-    check(has(6, 4, 4, 0), "reading takes nothing back");
+    look(1);
+    check(has(2, 0), "reading copies nothing");
 }
 
-static void check_taken(void) {
+static void check_copied(void) {
+    struct pageshare_domain_totals totals;
+    struct lender_counts before, after;
     stage(0);
-    check(has(5, 3, 4, 1), "a write takes one page back");
-    check(window_at(lender, 1)[(size_t)PAGE * FIRST + 5] == 'A', "the other guest keeps its letters");
+    check(ram[1][(size_t)PAGE * FIRST + 5] == 'A', "the other guest keeps its letters");
+    look(1);
+    check(has(1, 1), "a write makes a copy, which the next look finds");
     stage(0);
-    check(has(5, 3, 4, 1), "a write to a private page takes nothing back");
+    look(1);
+    check(has(1, 1), "a write to a private page copies nothing");
+    lender_count(lender, &totals, &before);
     stage(1);
-    check(has(4, 2, 3, 2), "the last page of a frame is taken back");
     stage(1);
+    look(1);
+    check(has(0, 2), "the last page of a frame is copied");
     check(strcmp(heard[0], "A0.BCA") == 0 && strcmp(heard[1], "A1.BCA") == 0, "both read their writes");
-    size_t before = lender_bytes(lender);
-    lender_trim(lender);
-    check(before - lender_bytes(lender) == PAGE, "a free frame's memory is given back");
-    for (unsigned i = 0; i < GUESTS; i++) check(window_lend(lender, i, FIRST, LENT) == 1, "the page is lent again");
-    check(has(6, 4, 4, 2), "and shared again");
+    check(lender_trim(lender) == 0, "free frames are given back");
+    lender_count(lender, &totals, &after);
+    check(before.frame_bytes > after.frame_bytes, "and their memory");
+    look(LOOKS);
+    check(has(2, 2), "the pages, which are equal again, are lent again");
 }
 
 int main(void) {
-    const uint32_t pages[GUESTS] = {PAGES, PAGES}, salts[GUESTS] = {0};
-    struct lender_config config = {
-        .frames = FRAMES, .pages = pages, .salts = salts, .guests = GUESTS, .hash = PAGESHARE_FOLD, .tell = tell};
-    lender = lender_make(&config);
-    if (lender == NULL) return 1;
-    bool made = true;
+    const struct lender_config config = {.slots = FRAMES, .frames = FRAMES, .recent = FRAMES, .hash = PAGESHARE_FOLD};
+    const struct windows_config never = {.pins = WINDOWS_PINS_NEVER};
+    bool made = lender_make(&lender, &config).status == LENDER_OK && windows_make(&windows, &never).status == WINDOW_OK;
+    made = made && windows_attach(windows, lender_interface(lender)).status == WINDOW_OK;
+    for (unsigned i = 0; i < GUESTS; i++) vms[i] = VM_NONE;
     for (unsigned i = 0; i < GUESTS && made; i++) made = make(i);
     check(made, "two machines are made");
     if (made) check_lent();
-    if (made && wrong == 0) check_taken();
-    for (unsigned i = 0; i < GUESTS; i++) vm_free(&vms[i]);
+    if (made && wrong == 0) check_copied();
+    for (unsigned i = 0; i < GUESTS; i++) {
+        vm_free(&vms[i]);
+        window_free(window[i], WINDOW_DROP);
+    }
+    windows_free(windows);
     lender_free(lender);
     puts(wrong == 0 ? "tiny: ok" : "tiny: WRONG");
     return wrong == 0 ? 0 : 1;

@@ -54,11 +54,11 @@ static bool make_chips(const struct vm *vm) {
     return ioctl(vm->fd, KVM_CREATE_PIT2, &timer) == 0 || trouble("KVM_CREATE_PIT2");
 }
 
-bool vm_make(struct vm *vm, uint8_t *ram, size_t bytes, unsigned processors, bool logged) {
+bool vm_make(struct vm *vm, uint8_t *ram, size_t bytes, unsigned processors) {
     vm->ram = ram;
     vm->bytes = bytes;
     vm->count = processors;
-    vm->fd = NO_FD;
+    vm->fd = vm->kvm = NO_FD;
     atomic_store(&vm->stop, false);
     for (unsigned i = 0; i < processors; i++) vm->processors[i] = (struct processor){.fd = NO_FD};
     vm->kvm = open("/dev/kvm", O_RDWR | O_CLOEXEC);
@@ -68,8 +68,7 @@ bool vm_make(struct vm *vm, uint8_t *ram, size_t bytes, unsigned processors, boo
     vm->run_bytes = (size_t)run_bytes;
     vm->fd = ioctl(vm->kvm, KVM_CREATE_VM, 0UL);
     if (vm->fd < 0) return trouble("KVM_CREATE_VM");
-    struct kvm_userspace_memory_region slot = {
-        .flags = logged ? KVM_MEM_LOG_DIRTY_PAGES : 0, .memory_size = bytes, .userspace_addr = (uintptr_t)ram};
+    struct kvm_userspace_memory_region slot = {.memory_size = bytes, .userspace_addr = (uintptr_t)ram};
     if (ioctl(vm->fd, KVM_SET_USER_MEMORY_REGION, &slot) < 0) return trouble("KVM_SET_USER_MEMORY_REGION");
     if (vm->has_chips && !make_chips(vm)) return false;
     for (unsigned i = 0; i < processors; i++)
@@ -84,6 +83,7 @@ void vm_free(struct vm *vm) {
     }
     if (vm->fd >= 0) close(vm->fd);
     if (vm->kvm >= 0) close(vm->kvm);
+    *vm = VM_NONE;
 }
 
 static bool set_registers(const struct processor *processor, const struct kvm_sregs *system, const struct kvm_regs *regs) {
@@ -120,7 +120,11 @@ bool vm_set_long(struct processor *processor, const struct vm_begin *begin) {
     return set_registers(processor, &system, &regs);
 }
 
-void vm_put(struct vm *vm, uint64_t at, const void *bytes, size_t length) { memcpy(vm->ram + at, bytes, length); }
+bool vm_put(struct vm *vm, uint64_t at, const void *bytes, size_t length) {
+    if (at > vm->bytes || length > vm->bytes - at) return false;
+    memcpy(vm->ram + at, bytes, length);
+    return true;
+}
 
 /* All memory mapped to itself, four levels; no page was accessed or written yet. */
 static void put_tables(struct vm *vm) {
@@ -144,8 +148,9 @@ static uint64_t put_elf(struct vm *vm, const uint8_t *image, size_t bytes) {
         memcpy(&part, image + head.e_phoff + i * sizeof part, sizeof part);
         if (part.p_type != PT_LOAD || part.p_memsz == 0) continue;
         if (part.p_offset > bytes || part.p_filesz > bytes - part.p_offset) return 0;
-        if (part.p_paddr < GUEST_CODE || part.p_paddr + part.p_memsz > GUEST_DATA || part.p_filesz > part.p_memsz) return 0;
-        vm_put(vm, part.p_paddr, image + part.p_offset, part.p_filesz);
+        /* (no sum of numbers that the file has, since it may wrap) */
+        if (part.p_paddr < GUEST_CODE || part.p_paddr > GUEST_DATA || part.p_memsz > GUEST_DATA - part.p_paddr) return 0;
+        if (part.p_filesz > part.p_memsz || !vm_put(vm, part.p_paddr, image + part.p_offset, part.p_filesz)) return 0;
     }
     return head.e_entry;
 }
@@ -178,8 +183,7 @@ bool vm_set_guest(struct vm *vm, const char *program, unsigned rest) {
     const struct guest_told told = {vm->number, vm->count, GUEST_DATA, vm->bytes, rest};
     uint64_t entry = load(vm, program);
     if (entry == 0) return false;
-    vm_put(vm, GUEST_GDT, table, sizeof table);
-    vm_put(vm, GUEST_TOLD, &told, sizeof told);
+    if (!vm_put(vm, GUEST_GDT, table, sizeof table) || !vm_put(vm, GUEST_TOLD, &told, sizeof told)) return false;
     put_tables(vm);
     for (unsigned i = 0; i < vm->count; i++) {
         const uint64_t stack = GUEST_STACKS + (uint64_t)(i + 1) * GUEST_STACK_BYTES - 8;
@@ -239,8 +243,8 @@ static enum vm_end run(struct processor *processor) {
     return VM_STOPPED;
 }
 
-static void *processor_thread(void *of) {
-    struct processor *processor = of;
+static void *processor_thread(void *opaque) {
+    struct processor *processor = opaque;
     atomic_store(&processor->end, run(processor));
     return NULL;
 }
@@ -278,9 +282,4 @@ void vm_stop(struct vm *vm) {
     for (unsigned i = 0; i < vm->count; i++)
         if (vm->processors[i].run != NULL) vm->processors[i].run->immediate_exit = 0;
     atomic_store(&vm->stop, false);
-}
-
-bool vm_written(struct vm *vm, uint64_t *bits) {
-    struct kvm_dirty_log log = {.slot = 0, .dirty_bitmap = bits};
-    return ioctl(vm->fd, KVM_GET_DIRTY_LOG, &log) == 0 || trouble("KVM_GET_DIRTY_LOG");
 }

@@ -30,9 +30,9 @@ struct vm {
     unsigned number;
     uint8_t *ram; /* the guest's memory from its address 0 on */
     size_t bytes;
-    /* Told of each byte that a processor writes to a port, on the processor's thread; false halts the processor. */
+    /* Called for each byte that a processor writes to a port, on the processor's thread; false halts the processor. */
     bool (*wrote)(struct processor *processor, uint16_t port, uint8_t byte);
-    void *of;       /* the caller's */
+    void *opaque;   /* the caller's */
     bool has_chips; /* it has a PC's interrupt controllers and timer */
 
     int kvm, fd;
@@ -42,11 +42,14 @@ struct vm {
     atomic_bool stop;
 };
 
+/* What a machine is before it is made, and after it was freed: vm_stop and vm_free do nothing with it. */
+#define VM_NONE ((struct vm){.kvm = -1, .fd = -1})
+
 /*
- * Makes a machine of 1 to VM_PROCESSORS processors whose memory is `ram`. `logged`: vm_written will be called. Answers false,
- * having told why; then vm_free frees what was made. `number`, `wrote`, `of` and `has_chips` are the caller's to set.
+ * Makes a machine of 1 to VM_PROCESSORS processors whose memory is `ram`. Returns false, having said why; then vm_free frees what was
+ * made. `number`, `wrote`, `opaque` and `has_chips` are the caller's to set.
  */
-bool vm_make(struct vm *vm, uint8_t *ram, size_t bytes, unsigned processors, bool logged);
+bool vm_make(struct vm *vm, uint8_t *ram, size_t bytes, unsigned processors);
 void vm_free(struct vm *vm);
 
 /* Sets a processor to real mode at an address below 64 KiB, all segments at 0. */
@@ -61,10 +64,10 @@ struct vm_begin {
 };
 bool vm_set_long(struct processor *processor, const struct vm_begin *begin);
 
-/* Writes through the slot's addresses, as the guest would: a page that is lent is taken back first. */
-void vm_put(struct vm *vm, uint64_t at, const void *bytes, size_t length);
+/* Writes through the slot's addresses, as the guest would. Returns false where that is out of the guest's memory. */
+bool vm_put(struct vm *vm, uint64_t at, const void *bytes, size_t length);
 
-/* Maps a file for reading. Answers NULL, having told why. */
+/* Maps a file for reading. Returns NULL, having said why. */
 const uint8_t *vm_map_file(const char *path, size_t *bytes);
 void vm_unmap_file(const uint8_t *image, size_t bytes);
 
@@ -80,8 +83,5 @@ bool vm_start(struct vm *vm);
 void vm_join(struct vm *vm);
 /* Stops all processors, and waits for their threads. */
 void vm_stop(struct vm *vm);
-
-/* The pages written since the last call, or since vm_start: a bit for each, in words of 64. */
-bool vm_written(struct vm *vm, uint64_t *bits);
 
 #endif

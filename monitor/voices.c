@@ -1,21 +1,26 @@
 #define _GNU_SOURCE
 #include "voices.h"
-#include "trouble.h"
+#include "clock.h"
 #include <inttypes.h>
+#include <stdio.h>
 #include <string.h>
 
 void voices_make(struct voices *voices, unsigned guest) {
     *voices = (struct voices){.guest = guest, .lock = PTHREAD_MUTEX_INITIALIZER};
 }
 
-/* Adds a byte, and answers whether the line is whole. A line that is too long loses its end. */
+/*
+ * Adds a byte, and returns whether the line is whole. A line that is too long loses its end. What a guest says goes to a terminal,
+ * so anything but printable ASCII is a question mark.
+ */
 static bool add(struct line *line, char byte) {
     if (byte == '\n') {
         line->text[line->length] = 0;
         line->length = 0;
         return true;
     }
-    if (byte != '\r' && line->length + 1 < sizeof line->text) line->text[line->length++] = byte;
+    bool is_printable = byte >= ' ' && byte <= '~';
+    if (byte != '\r' && line->length + 1 < sizeof line->text) line->text[line->length++] = is_printable ? byte : '?';
     return false;
 }
 

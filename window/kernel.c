@@ -1,0 +1,211 @@
+#define _GNU_SOURCE
+#include "kernel.h"
+#include <errno.h>
+#include <fcntl.h>
+#include <linux/userfaultfd.h>
+#include <sched.h>
+#include <stdio.h>
+#include <string.h>
+#include <sys/ioctl.h>
+#include <sys/mman.h>
+#include <sys/syscall.h>
+#include <time.h>
+#include <unistd.h>
+
+/* Tries of a call that the system asks to make again. */
+enum { TRIES = 64 };
+
+/* From Linux 6.8 on; older headers lack it. */
+enum { FEATURE_MOVE = 1 << 16, MOVE_DONT_WAKE = 1 };
+struct move {
+    uint64_t to, from, bytes, mode;
+    int64_t moved;
+};
+#define MOVE_PAGES _IOWR(UFFDIO, 0x05, struct move)
+
+/* From Linux 6.7 on; older headers lack it. */
+struct scan {
+    uint64_t size, flags, start, end, walk_end, regions, region_count, most_pages;
+    uint64_t inverted, all_of, any_of, answered;
+};
+struct region {
+    uint64_t start, end, categories;
+};
+#define SCAN_PAGES _IOWR('f', 16, struct scan)
+enum { IS_UNGUARDED = 1 << 1, IS_FILE = 1 << 2, IS_PRESENT = 1 << 3, IS_SWAPPED = 1 << 4, IS_ZERO_PAGE = 1 << 5 };
+
+/* Bits of an entry of /proc/self/pagemap. */
+static const uint64_t ENTRY_PRESENT = 1ull << 63, ENTRY_SWAPPED = 1ull << 62, ENTRY_FILE = 1ull << 61, ENTRY_GUARDED = 1ull << 57;
+
+static int error_of(int status) { return status < 0 ? errno : 0; }
+
+static struct uffdio_range range_of(const void *at, size_t pages) {
+    return (struct uffdio_range){.start = (uintptr_t)at, .len = bytes_of(pages)};
+}
+
+static int open_faults(int device) {
+    int opened = device > 0 ? device : open("/dev/userfaultfd", O_RDWR | O_CLOEXEC);
+    int fd = opened >= 0 ? ioctl(opened, USERFAULTFD_IOC_NEW, O_CLOEXEC | O_NONBLOCK) : NO_FILE;
+    int cause = errno;
+    if (device <= 0 && opened >= 0) close(opened);
+    if (fd < 0 && device <= 0) fd = (int)syscall(SYS_userfaultfd, O_CLOEXEC | O_NONBLOCK);
+    if (fd < 0 && opened >= 0) errno = cause;
+    return fd;
+}
+
+int faults_open(struct faults *faults, int device, bool never_move) {
+    const uint64_t protects = UFFD_FEATURE_PAGEFAULT_FLAG_WP | UFFD_FEATURE_WP_HUGETLBFS_SHMEM;
+    struct uffdio_api moving = {.api = UFFD_API, .features = protects | FEATURE_MOVE};
+    struct uffdio_api protecting = {.api = UFFD_API, .features = protects};
+    *faults = (struct faults){.fd = open_faults(device)};
+    if (faults->fd < 0) return errno;
+    faults->moves = !never_move && ioctl(faults->fd, UFFDIO_API, &moving) == 0;
+    if (faults->moves || ioctl(faults->fd, UFFDIO_API, &protecting) == 0) return 0;
+    int cause = errno;
+    close(faults->fd);
+    faults->fd = NO_FILE;
+    return cause;
+}
+
+int faults_watch(const struct faults *faults, void *at, size_t pages, enum faults_of of) {
+    struct uffdio_register watched = {.range = range_of(at, pages),
+                                      .mode = of == FAULTS_OF_MISSING ? UFFDIO_REGISTER_MODE_MISSING : UFFDIO_REGISTER_MODE_WP};
+    return error_of(ioctl(faults->fd, UFFDIO_REGISTER, &watched));
+}
+
+int faults_end_watch(const struct faults *faults, void *at, size_t pages) {
+    struct uffdio_range range = range_of(at, pages);
+    int cause = EAGAIN;
+    for (int i = 0; i < TRIES && (cause == EAGAIN || cause == ENOMEM); i++) {
+        if (i > 0) sched_yield();
+        cause = error_of(ioctl(faults->fd, UFFDIO_UNREGISTER, &range));
+    }
+    /* (who waited for what is mapped anew by now is woken here) */
+    int woken = error_of(ioctl(faults->fd, UFFDIO_WAKE, &range));
+    return cause != 0 ? cause : woken;
+}
+
+int faults_protect(const struct faults *faults, void *at, size_t pages) {
+    struct uffdio_writeprotect protect = {.range = range_of(at, pages), .mode = UFFDIO_WRITEPROTECT_MODE_WP};
+    int cause = EAGAIN;
+    for (int i = 0; i < TRIES && cause == EAGAIN; i++) cause = error_of(ioctl(faults->fd, UFFDIO_WRITEPROTECT, &protect));
+    return cause;
+}
+
+void faults_move(const struct faults *faults, void *to, void *from, size_t pages, bool *moved) {
+    int tries = 0;
+    for (size_t done = 0; done < pages;) {
+        struct move move = {.to = (uintptr_t)to + bytes_of(done),
+                            .from = (uintptr_t)from + bytes_of(done),
+                            .bytes = bytes_of(pages - done),
+                            .mode = MOVE_DONT_WAKE};
+        int cause = error_of(ioctl(faults->fd, MOVE_PAGES, &move));
+        size_t count = move.moved > 0 ? (size_t)move.moved / WINDOW_PAGE_BYTES : 0;
+        for (size_t i = 0; i < count; i++) moved[done + i] = true;
+        done += count;
+        if (count > 0) tries = 0;
+        else if (cause != EAGAIN || ++tries == TRIES) moved[done++] = false, tries = 0;
+    }
+}
+
+int faults_put(const struct faults *faults, void *to, void *from, bool *remapped) {
+    bool moved = false;
+    *remapped = false;
+    faults_move(faults, to, from, 1, &moved);
+    if (moved) return 0;
+    struct uffdio_copy copy = {.dst = (uintptr_t)to, .src = (uintptr_t)from, .len = WINDOW_PAGE_BYTES};
+    if (ioctl(faults->fd, UFFDIO_COPY, &copy) == 0) return 0;
+    *remapped = mremap(from, WINDOW_PAGE_BYTES, WINDOW_PAGE_BYTES, MREMAP_MAYMOVE | MREMAP_FIXED, to) != MAP_FAILED;
+    return *remapped ? 0 : errno;
+}
+
+int pagemap_open(struct pagemap *pagemap, bool never_scan) {
+    struct scan scan = {.size = sizeof scan};
+    *pagemap = (struct pagemap){.fd = open("/proc/self/pagemap", O_RDONLY | O_CLOEXEC)};
+    if (pagemap->fd < 0) return errno;
+    pagemap->scans = !never_scan && ioctl(pagemap->fd, SCAN_PAGES, &scan) >= 0;
+    return 0;
+}
+
+static int find_by_scan(int fd, const void *at, size_t pages, uint8_t *found) {
+    struct region regions[PAGEMAP_MOST];
+    struct scan scan = {.size = sizeof scan,
+                        .start = (uintptr_t)at,
+                        .end = (uintptr_t)at + bytes_of(pages),
+                        .regions = (uintptr_t)regions,
+                        .region_count = PAGEMAP_MOST,
+                        .inverted = IS_FILE | IS_ZERO_PAGE,
+                        .all_of = IS_FILE | IS_ZERO_PAGE | IS_UNGUARDED,
+                        .any_of = IS_PRESENT | IS_SWAPPED,
+                        .answered = IS_PRESENT};
+    while (scan.start < scan.end) {
+        int count = ioctl(fd, SCAN_PAGES, &scan);
+        if (count < 0) return errno;
+        for (int i = 0; i < count; i++) {
+            size_t first = (regions[i].start - (uintptr_t)at) / WINDOW_PAGE_BYTES;
+            size_t end = (regions[i].end - (uintptr_t)at) / WINDOW_PAGE_BYTES;
+            memset(found + first, (regions[i].categories & IS_PRESENT) != 0 ? PAGE_PRESENT : PAGE_SWAPPED, end - first);
+        }
+        if (scan.walk_end <= scan.start) return EIO;
+        scan.start = scan.walk_end;
+    }
+    return 0;
+}
+
+/* A guard's own mark reads as swapped; so does a page that is swapped out and guarded, which is found when it isn't guarded. */
+static uint8_t kind_of(uint64_t entry) {
+    if ((entry & (ENTRY_FILE | ENTRY_GUARDED)) != 0) return PAGE_NONE;
+    return (entry & ENTRY_PRESENT) != 0 ? PAGE_PRESENT : (entry & ENTRY_SWAPPED) != 0 ? PAGE_SWAPPED : PAGE_NONE;
+}
+
+static int read_entries(int fd, const void *at, size_t pages, uint64_t *entries) {
+    size_t wanted = pages * sizeof *entries;
+    ssize_t got = pread(fd, entries, wanted, (off_t)((uintptr_t)at / WINDOW_PAGE_BYTES * sizeof *entries));
+    if (got < 0) return errno;
+    return (size_t)got == wanted ? 0 : EIO;
+}
+
+int pagemap_find(const struct pagemap *pagemap, const void *at, size_t pages, uint8_t *found) {
+    uint64_t entries[PAGEMAP_MOST];
+    memset(found, PAGE_NONE, pages);
+    if (pagemap->scans) return find_by_scan(pagemap->fd, at, pages, found);
+    int cause = read_entries(pagemap->fd, at, pages, entries);
+    for (size_t i = 0; i < pages && cause == 0; i++) found[i] = kind_of(entries[i]);
+    return cause;
+}
+
+bool pagemap_is_own(const struct pagemap *pagemap, const void *at) {
+    uint64_t entry;
+    return read_entries(pagemap->fd, at, 1, &entry) == 0 && kind_of(entry) != PAGE_NONE;
+}
+
+size_t locked_kib(void) {
+    char line[256];
+    size_t kib = 0;
+    FILE *file = fopen("/proc/self/status", "re");
+    if (file == NULL) return 0;
+    while (fgets(line, sizeof line, file) != NULL)
+        if (sscanf(line, "VmLck: %zu", &kib) == 1) break;
+    fclose(file);
+    return kib;
+}
+
+size_t mappings_limit(void) {
+    enum { DEFAULT_LIMIT = 65530 };
+    size_t most = DEFAULT_LIMIT;
+    FILE *file = fopen("/proc/sys/vm/max_map_count", "re");
+    if (file == NULL) return most;
+    if (fscanf(file, "%zu", &most) != 1) most = DEFAULT_LIMIT;
+    fclose(file);
+    return most;
+}
+
+static uint64_t clock_ns(clockid_t clock) {
+    struct timespec now;
+    clock_gettime(clock, &now);
+    return (uint64_t)now.tv_sec * 1000000000u + (uint64_t)now.tv_nsec;
+}
+
+uint64_t clock_now_ns(void) { return clock_ns(CLOCK_MONOTONIC); }
+
+uint64_t clock_spent_ns(void) { return clock_ns(CLOCK_THREAD_CPUTIME_ID); }

@@ -1,0 +1,88 @@
+/* What windows ask of Linux. Calls return 0 or an errno, unless said otherwise. */
+#ifndef PAGESHARE_WINDOW_KERNEL_H
+#define PAGESHARE_WINDOW_KERNEL_H
+
+#include "lender.h"
+#include <stdbool.h>
+#include <stddef.h>
+#include <stdint.h>
+
+enum { NO_FILE = -1, NODE_WORDS = 16 /* memory nodes, 64 in a word */ };
+
+static inline size_t bytes_of(size_t pages) { return pages * WINDOW_PAGE_BYTES; }
+
+/* A userfaultfd of this process. */
+struct faults {
+    int fd;
+    bool moves; /* it has UFFDIO_MOVE */
+};
+
+/* `device`: a descriptor of /dev/userfaultfd, or 0: it is opened, or else the system call is tried. */
+int faults_open(struct faults *faults, int device, bool never_move);
+
+/* Whoever touches a page that is missing there, or writes to one that is protected, waits. */
+enum faults_of { FAULTS_OF_MISSING, FAULTS_OF_WRITES };
+int faults_watch(const struct faults *faults, void *at, size_t pages, enum faults_of of);
+/* Ends that, lifts write protection, and wakes who waits. The range may have been mapped anew in between. */
+int faults_end_watch(const struct faults *faults, void *at, size_t pages);
+/* Where it fails a part of the pages may be protected. */
+int faults_protect(const struct faults *faults, void *at, size_t pages);
+
+/*
+ * Moves pages out of their place, and tells of each whether it was moved: it isn't if it is missing, or the system has it in other
+ * uses too, as that of a device that has pinned it. Nobody is woken.
+ */
+void faults_move(const struct faults *faults, void *to, void *from, size_t pages, bool *moved);
+/* Puts a page at its place, where none is: it is moved, or copied where that can't be, or else its mapping is moved: *remapped. */
+int faults_put(const struct faults *faults, void *to, void *from, bool *remapped);
+
+/* What a look finds of a page. */
+enum { PAGE_NONE, PAGE_PRESENT, PAGE_SWAPPED };
+
+/* How it is told which pages have memory of their own. */
+struct pagemap {
+    int fd;
+    bool scans; /* it has PAGEMAP_SCAN */
+};
+int pagemap_open(struct pagemap *pagemap, bool never_scan);
+enum { PAGEMAP_MOST = 512 };
+/* Tells of up to PAGEMAP_MOST pages whether each has memory of its own: no file's page, not the page of zeros, no guard's mark. */
+int pagemap_find(const struct pagemap *pagemap, const void *at, size_t pages, uint8_t *found);
+/* Whether this page has memory of its own, asked in another way; false where that can't be told. */
+bool pagemap_is_own(const struct pagemap *pagemap, const void *at);
+
+/* A memory policy of mbind. */
+struct policy {
+    int mode;
+    unsigned long nodes[NODE_WORDS];
+};
+
+/* What was said of a range of memory. */
+struct advice {
+    bool dont_fork, wipe_on_fork, dont_dump, no_huge, huge, mergeable;
+    struct policy policy;
+};
+struct range_facts {
+    bool is_private; /* private anonymous memory, for reading and writing, without a gap */
+    bool is_uniform; /* all of it has the same advice */
+    bool is_locked;  /* a part of it is */
+    struct advice advice;
+};
+int range_read(struct range_facts *facts, const void *at, size_t pages);
+
+/* Says of a range that was mapped anew what was said of the window. `is_file`: frames are mapped there. */
+int advice_set(const struct advice *advice, void *at, size_t pages, bool is_file);
+/* Says that huge pages and KSM leave the range alone, or puts back what was said before. */
+int advice_begin(void *at, size_t pages);
+int advice_end(const struct advice *advice, void *at, size_t pages);
+
+/* KiB of this process that are locked. */
+size_t locked_kib(void);
+/* The system's limit of a process's mappings. */
+size_t mappings_limit(void);
+
+/* Nanoseconds of a clock that only runs forward, and of this thread's processor time. */
+uint64_t clock_now_ns(void);
+uint64_t clock_spent_ns(void);
+
+#endif

@@ -1,0 +1,317 @@
+/* Pages that are idle: zeros go back to the system, and others are asked about, lent, held, compared and mapped. */
+#define _GNU_SOURCE
+#include "bytes.h"
+#include "set.h"
+#include <errno.h>
+#include <string.h>
+#include <sys/mman.h>
+
+/* Pages in a row that are to be shown as frames or zeros. All of them lie over frames, or none. */
+struct hold {
+    struct window *window;
+    size_t first, count;
+    bool moves; /* they are taken out of their place; otherwise writes are guarded */
+    uint32_t targets[HOLD_MOST];
+    bool held[HOLD_MOST], equal[HOLD_MOST], shown[HOLD_MOST];
+};
+
+static uint8_t *place_of(const struct hold *hold, size_t i) {
+    if (hold->moves) return hold->window->windows->scratch + bytes_of(i);
+    return address_of(hold->window, hold->first + i);
+}
+
+static uint32_t number_of(const struct hold *hold, size_t i) { return hold->window->base + (uint32_t)(hold->first + i); }
+
+/* The pages are held that can be, and none where the system refuses. */
+static void take(struct hold *hold) {
+    struct windows *windows = hold->window->windows;
+    void *at = address_of(hold->window, hold->first);
+    bool is_over = hold->window->pages[hold->first].over == 1;
+    hold->moves = windows->faults.moves && !is_over;
+    if (!hold->moves && windows->pins != WINDOWS_PINS_NEVER) return;
+    if (!hold->moves) {
+        /* (the kernel's KSM lifts a guard; and what is left of a huge page takes all its memory until it is split) */
+        madvise(at, bytes_of(hold->count), MADV_UNMERGEABLE);
+        if (!is_over) madvise(at, bytes_of(hold->count), MADV_COLD);
+    }
+    int cause = faults_watch(&windows->faults, at, hold->count, hold->moves ? FAULTS_OF_MISSING : FAULTS_OF_WRITES);
+    if (cause != 0) {
+        note_failure(windows, WINDOW_NO_MAPPING, cause);
+        return;
+    }
+    if (hold->moves) {
+        faults_move(&windows->faults, windows->scratch, at, hold->count, hold->held);
+        return;
+    }
+    cause = faults_protect(&windows->faults, at, hold->count);
+    if (cause != 0) note_failure(windows, WINDOW_NO_MAPPING, cause);
+    else memset(hold->held, true, hold->count * sizeof hold->held[0]);
+}
+
+/* Nobody can write a page that is held. */
+static void compare(struct hold *hold) {
+    struct windows *windows = hold->window->windows;
+    for (size_t i = 0; i < hold->count; i++) {
+        if (!hold->held[i]) continue;
+        const uint8_t *page = place_of(hold, i);
+        uint32_t target = hold->targets[i];
+        hold->equal[i] = target == ZEROS ? is_zero(page) : are_equal(page, windows->frames_at + bytes_of(target));
+        trace_content(windows->trace, number_of(hold, i), page);
+        trace_guard(windows->trace, number_of(hold, i));
+        if (hold->equal[i] && target != ZEROS) trace_lend(windows->trace, number_of(hold, i), target);
+    }
+}
+
+/* How many pages from the i-th on can be mapped by one call. */
+static size_t run_of(const struct hold *hold, size_t i) {
+    size_t end = i + 1;
+    for (; end < hold->count && hold->equal[end]; end++)
+        if (hold->targets[i] == ZEROS ? hold->targets[end] != ZEROS : hold->targets[end] != hold->targets[end - 1] + 1) break;
+    return end - i;
+}
+
+static void map(struct hold *hold) {
+    struct windows *windows = hold->window->windows;
+    bool any_file = false;
+    for (size_t i = 0, count = 1; i < hold->count; i += count) {
+        count = hold->equal[i] ? run_of(hold, i) : 1;
+        if (!hold->equal[i]) continue;
+        bool is_file = hold->targets[i] != ZEROS;
+        /* (where a page was taken out of anonymous memory zeros are left) */
+        int cause = is_file || !hold->moves ? map_pages(hold->window, hold->first + i, count, hold->targets[i]) : 0;
+        if (cause != 0) {
+            windows->counts.no_mapping += count;
+            windows->counts.pause = WINDOWS_CROWDED;
+            note_failure(windows, WINDOW_NO_MAPPING, cause);
+            continue;
+        }
+        memset(hold->shown + i, true, count * sizeof hold->shown[0]);
+        any_file = any_file || is_file;
+    }
+    if (any_file) say_again(hold->window, hold->first, hold->count, true);
+}
+
+static bool is_stuck(const struct windows *windows, size_t page) {
+    for (size_t i = 0; i < windows->stuck_count; i++)
+        if (windows->stuck[i].page == page) return true;
+    return false;
+}
+
+/* Lets everyone go on who waits for these pages, but for those that could not be put back: their place must not be touched. */
+static void end_watch(struct hold *hold) {
+    struct windows *windows = hold->window->windows;
+    size_t step = windows->stuck_count == 0 ? hold->count : 1;
+    for (size_t i = 0; i < hold->count; i += step) {
+        if (is_stuck(windows, hold->first + i)) continue;
+        int cause = let_waiters_go(hold->window, hold->first + i, step);
+        if (cause != 0) note_failure(windows, WINDOW_STUCK, cause);
+    }
+}
+
+/* Puts back what was taken out and isn't shown. */
+static void let_go(struct hold *hold) {
+    struct windows *windows = hold->window->windows;
+    bool remapped = false, any_remapped = false;
+    for (size_t i = 0; i < hold->count && hold->moves; i++) {
+        if (!hold->held[i] || hold->shown[i]) continue;
+        int cause = faults_put(&windows->faults, address_of(hold->window, hold->first + i), place_of(hold, i), &remapped);
+        any_remapped = any_remapped || remapped;
+        if (cause == 0) continue;
+        note_failure(windows, WINDOW_STUCK, cause);
+        windows->stuck[windows->stuck_count++] =
+            (struct stuck){.window = hold->window, .page = (uint32_t)(hold->first + i), .scratch = (uint32_t)i};
+    }
+    end_watch(hold);
+    if (windows->stuck_count > 0 || !hold->moves) return;
+    int cause = any_remapped ? make_scratch(windows) : 0;
+    if (!any_remapped && madvise(windows->scratch, bytes_of(hold->count), MADV_DONTNEED) < 0) cause = errno;
+    if (cause != 0) note_failure(windows, WINDOW_NO_MAPPING, cause);
+}
+
+/* Notes what became of a page. */
+static void note_page(const struct hold *hold, size_t i) {
+    struct windows *windows = hold->window->windows;
+    size_t number = hold->first + i;
+    struct page *page = &hold->window->pages[number];
+    bool is_lent = hold->shown[i] && hold->targets[i] != ZEROS;
+    page->looks = 0;
+    page->asks = hold->held[i] ? 0 : ASKS_APART_MOST; /* (what is pinned is tried again later) */
+    if (!hold->held[i]) windows->counts.pinned++;
+    else if (!hold->equal[i]) windows->counts.changed++;
+    if (is_lent) {
+        page->shows = 1;
+        hold->window->parts[number / PART]--;
+        windows->counts.lends++;
+        windows->counts.lent++;
+        trace_map(windows->trace, number_of(hold, i));
+    } else if (hold->shown[i]) {
+        page->shows = 0;
+        note_zero(hold->window, number, true);
+        windows->counts.zeros++;
+        trace_discard(windows->trace, number_of(hold, i));
+    } else if (hold->held[i] && !is_stuck(windows, number)) {
+        trace_unguard(windows->trace, number_of(hold, i));
+    }
+}
+
+/*
+ * Shows frames, or zeros, in place of pages in a row, where a page is equal to what is to be shown. With the lock. A page that showed
+ * a frame of a lender that is gone shows a copy now, or the new lender's.
+ */
+static void settle(struct hold *hold) {
+    struct windows *windows = hold->window->windows;
+    uint64_t begun = clock_now_ns(), spent = clock_spent_ns();
+    bool was_past[HOLD_MOST];
+    for (size_t i = 0; i < hold->count; i++) {
+        const struct page *page = &hold->window->pages[hold->first + i];
+        was_past[i] = page->shows == 1 && page->past == 1;
+    }
+    take(hold);
+    compare(hold);
+    map(hold);
+    let_go(hold);
+    for (size_t i = 0; i < hold->count; i++) {
+        if (was_past[i] && hold->shown[i]) windows->past--;
+        note_page(hold, i);
+    }
+    uint64_t took = clock_now_ns() - begun;
+    windows->counts.map_ns += clock_spent_ns() - spent;
+    if (took > windows->counts.hold_most_ns) windows->counts.hold_most_ns = took;
+}
+
+/* Whether a page may be held. With the lock. */
+static bool can_settle(const struct window *window, size_t number) {
+    const struct page *page = &window->pages[number];
+    if (window->ends || page->out == 1 || is_pinned(window, number)) return false;
+    if (page->over == 1 && window->windows->pins != WINDOWS_PINS_NEVER) return false;
+    return page->shows == 0 || page->past == 1;
+}
+
+/* Settles pages of the batch from the i-th on that are in a row. Returns how many. Takes the lock. */
+static size_t settle_run(struct windows *windows, const struct batch *batch, size_t i, const uint32_t *targets) {
+    struct window *window = batch->window;
+    struct hold hold = {.window = window, .first = batch->pages[i]};
+    size_t count = 0;
+    lock_for_look(windows);
+    for (; hold.count < HOLD_MOST && i + count < batch->count; count++) {
+        size_t page = batch->pages[i + count];
+        if (page != hold.first + hold.count || targets[i + count] == WINDOW_NO_FRAME || windows->stuck_count > 0) break;
+        if (!can_settle(window, page) || window->pages[page].over != window->pages[hold.first].over) break;
+        if (targets[i + count] == ZEROS && window->pages[page].holds == 1) break;
+        hold.targets[hold.count++] = targets[i + count];
+    }
+    if (hold.count > 0) settle(&hold);
+    unlock_set(windows);
+    return count > 0 ? count : 1;
+}
+
+static void settle_all(struct windows *windows, struct batch *batch, const uint32_t *targets) {
+    for (size_t i = 0; i < batch->count;) i += settle_run(windows, batch, i, targets);
+    batch->count = 0;
+}
+
+void give_zeros_back(struct windows *windows, struct batch *batch) {
+    uint32_t targets[WINDOW_BATCH];
+    for (size_t i = 0; i < batch->count; i++) targets[i] = ZEROS;
+    settle_all(windows, batch, targets);
+}
+
+void lender_failed(struct windows *windows, int cause) {
+    windows->lender_waits = cause == ENOTCONN || cause == EPIPE || cause == ECONNRESET || cause == ETIMEDOUT;
+    note_failure(windows, WINDOW_LENDER_FAILED, cause);
+    lock_for_look(windows);
+    windows->counts.lender_failures++;
+    if (windows->lender_waits) windows->counts.pause = WINDOWS_NO_LENDER;
+    unlock_set(windows);
+}
+
+/* Leaves those pages of the batch that others have. Returns false where the lender didn't tell. */
+static bool ask(struct windows *windows, struct batch *batch) {
+    uint32_t numbers[WINDOW_BATCH];
+    unsigned char seen[WINDOW_BATCH] = {0};
+    size_t kept = 0;
+    for (size_t i = 0; i < batch->count; i++) numbers[i] = batch->window->base + batch->pages[i];
+    uint64_t begun = clock_spent_ns();
+    int cause = windows->lender.ask(windows->lender.opaque, numbers, batch->fingerprints, batch->count, seen);
+    uint64_t took = clock_spent_ns() - begun;
+    if (cause != 0) {
+        lender_failed(windows, cause);
+        return false;
+    }
+    lock_for_look(windows);
+    windows->counts.ask_ns += took;
+    windows->counts.asked += batch->count;
+    for (size_t i = 0; i < batch->count; i++) {
+        struct page *page = &batch->window->pages[batch->pages[i]];
+        if (seen[i] != 0) batch->pages[kept++] = batch->pages[i];
+        else if (page->asks < ASKS_APART_MOST) page->asks++;
+    }
+    windows->counts.seen += kept;
+    unlock_set(windows);
+    batch->count = kept;
+    return true;
+}
+
+/* Leaves those pages of the batch that can be lent, and copies them to the lender's buffer, with nothing guarded. */
+static void copy(struct windows *windows, struct batch *batch) {
+    size_t kept = 0;
+    lock_for_look(windows);
+    bool is_crowded = windows->counts.mappings + 2 * batch->count + 2 > windows->mappings_most;
+    if (is_crowded) {
+        windows->counts.no_mapping += batch->count;
+        windows->counts.pause = WINDOWS_CROWDED;
+    }
+    for (size_t i = 0; i < batch->count && !is_crowded; i++) {
+        uint32_t page = batch->pages[i];
+        if (!can_settle(batch->window, page) || batch->window->pages[page].holds == 1) continue;
+        copy_page(windows->lender.pages[kept], address_of(batch->window, page));
+        if (!is_zero(windows->lender.pages[kept])) batch->pages[kept++] = page;
+    }
+    unlock_set(windows);
+    batch->count = kept;
+}
+
+/* Takes the loans of a batch, so that each slot is released if its page doesn't come to show the frame. */
+static void take_loans(struct windows *windows, const struct batch *batch, const struct window_loan *loans, uint32_t *targets) {
+    lock_for_look(windows);
+    for (size_t i = 0; i < batch->count; i++) {
+        uint32_t number = batch->pages[i];
+        targets[i] = WINDOW_NO_FRAME;
+        if (loans[i].frame == WINDOW_NO_FRAME) {
+            windows->counts.no_frame++;
+            batch->window->pages[number].asks = ASKS_APART_MOST;
+            continue;
+        }
+        batch->window->pages[number].slot = loans[i].slot;
+        batch->window->pages[number].holds = 1;
+        batch->window->parts[number / PART]++;
+        if (loans[i].frame >= windows->lender.frame_count) {
+            note_failure(windows, WINDOW_LENDER_FAILED, EPROTO);
+            continue;
+        }
+        targets[i] = loans[i].frame;
+        trace_frame(windows->trace, loans[i].frame, windows->frames_at + bytes_of(loans[i].frame));
+    }
+    unlock_set(windows);
+}
+
+void share(struct windows *windows, struct batch *batch) {
+    uint32_t numbers[WINDOW_BATCH], targets[WINDOW_BATCH];
+    struct window_loan loans[WINDOW_BATCH];
+    bool can_ask = windows->has_lender && !windows->lender_waits && batch->count > 0;
+    if (can_ask && ask(windows, batch) && batch->count > 0) copy(windows, batch);
+    else batch->count = 0;
+    if (batch->count == 0) return;
+    for (size_t i = 0; i < batch->count; i++) numbers[i] = batch->window->base + batch->pages[i];
+    for (size_t i = 0; i < batch->count; i++) loans[i] = (struct window_loan){.frame = WINDOW_NO_FRAME};
+    uint64_t begun = clock_spent_ns();
+    int cause = windows->lender.lend(windows->lender.opaque, numbers, batch->count, loans);
+    windows->counts.lend_ns += clock_spent_ns() - begun;
+    if (cause != 0) {
+        lender_failed(windows, cause);
+        batch->count = 0;
+        return;
+    }
+    take_loans(windows, batch, loans, targets);
+    settle_all(windows, batch, targets);
+}

@@ -1,0 +1,259 @@
+/* Looks: what has memory of its own, what is idle, what is to be released. */
+#define _GNU_SOURCE
+#include "bytes.h"
+#include "set.h"
+#include <errno.h>
+
+/* What a look makes of a page. */
+enum finding { FOUND_NOTHING, FOUND_IDLE, FOUND_ZERO };
+
+/* Pages of a part that are idle. */
+struct findings {
+    size_t count;
+    uint32_t pages[PART];
+    uint64_t fingerprints[PART];
+    bool zero[PART];
+};
+
+/* A lent page has memory of its own: somebody wrote to it. It is asked for in another way, too, since nothing else is so grave. */
+static void find_copy(struct window *window, size_t number) {
+    struct windows *windows = window->windows;
+    if (!pagemap_is_own(&windows->pagemap, address_of(window, number))) return;
+    windows->counts.copied++;
+    trace_copy(windows->trace, window->base + (uint32_t)number, address_of(window, number));
+    stop_showing(window, number);
+}
+
+/* Whether it isn't this look's turn to ask about a page that nobody else had before. */
+static bool waits(const struct windows *windows, const struct page *page, size_t number) {
+    if (page->asks == 0 || page->looks < STILL) return false;
+    uint64_t apart = 1ull << page->asks;
+    return (windows->counts.looks + number) % apart != 0;
+}
+
+/* Takes a page's fingerprint, and compares it with the last look's. */
+static enum finding take_fingerprint(struct window *window, size_t number, uint64_t *fingerprint) {
+    struct windows *windows = window->windows;
+    struct page *page = &window->pages[number];
+    if (waits(windows, page, number)) return FOUND_NOTHING;
+    *fingerprint = fingerprint_of(windows->lender.salt, address_of(window, number));
+    uint32_t part = (uint32_t)(*fingerprint & ((1u << FINGERPRINT_BITS) - 1));
+    bool is_same = page->looks > 0 && page->fingerprint == part;
+    if (!is_same) page->asks = 0;
+    page->looks = is_same ? (page->looks < STILL ? page->looks + 1u : STILL) & 3u : 1u;
+    page->fingerprint = part & ((1u << FINGERPRINT_BITS) - 1);
+    if (page->looks < STILL) return FOUND_NOTHING;
+    return *fingerprint == windows->fingerprint_of_zeros ? FOUND_ZERO : FOUND_IDLE;
+}
+
+static enum finding look_at(struct window *window, size_t number, uint8_t found, uint64_t *fingerprint) {
+    struct windows *windows = window->windows;
+    struct page *page = &window->pages[number];
+    bool is_past = page->past == 1 && page->shows == 1;
+    if (page->out == 1) return FOUND_NOTHING;
+    if (found != PAGE_NONE && page->zero == 1) note_zero(window, number, false);
+    if (page->shows == 1 && found != PAGE_NONE) {
+        find_copy(window, number);
+        return FOUND_NOTHING;
+    }
+    bool can_be_lent = (found == PAGE_PRESENT || is_past) && page->holds == 0 && window->advice.dont_fork && !window->ends;
+    if (!can_be_lent || is_pinned(window, number)) return FOUND_NOTHING;
+    if (page->over == 1 && windows->pins != WINDOWS_PINS_NEVER) return FOUND_NOTHING;
+    return take_fingerprint(window, number, fingerprint);
+}
+
+#ifdef WINDOW_TRACE
+/* Records what some lent pages show: what was read was the frame's if the page has no copy afterwards. */
+static void trace_part(struct window *window, size_t first, size_t count) {
+    enum { EACH = 16 };
+    unsigned char bytes[WINDOW_PAGE_BYTES] __attribute__((aligned(8)));
+    for (size_t page = first + window->windows->counts.looks % EACH; page < first + count; page += EACH) {
+        if (window->pages[page].shows == 0) continue;
+        copy_page(bytes, address_of(window, page));
+        if (!pagemap_is_own(&window->windows->pagemap, address_of(window, page)))
+            trace_shows(window->windows->trace, window->base + (uint32_t)page, bytes);
+    }
+}
+#endif
+
+/* Looks at a part. Returns false where the window has ended. Takes the lock. */
+static bool look_at_part(struct window *window, size_t first, size_t count, struct findings *findings) {
+    struct windows *windows = window->windows;
+    uint8_t found[PART];
+    findings->count = 0;
+    lock_for_look(windows);
+    bool goes_on = !window->ended && windows->stuck_count == 0;
+    int cause = goes_on ? pagemap_find(&windows->pagemap, address_of(window, first), count, found) : 0;
+    if (cause != 0) note_failure(windows, WINDOW_NO_PAGEMAP, cause);
+    for (size_t i = 0; i < count && goes_on && cause == 0; i++) {
+        if (found[i] == PAGE_NONE && windows->past == 0) continue;
+        uint64_t fingerprint = 0;
+        enum finding finding = look_at(window, first + i, found[i], &fingerprint);
+        if (finding == FOUND_NOTHING) continue;
+        findings->pages[findings->count] = (uint32_t)(first + i);
+        findings->fingerprints[findings->count] = fingerprint;
+        findings->zero[findings->count++] = finding == FOUND_ZERO;
+    }
+#ifdef WINDOW_TRACE
+    if (goes_on && windows->trace != NULL) trace_part(window, first, count);
+#endif
+    unlock_set(windows);
+    return goes_on;
+}
+
+static void add(struct batch *batch, const struct findings *findings, size_t i) {
+    batch->pages[batch->count] = findings->pages[i];
+    batch->fingerprints[batch->count++] = findings->fingerprints[i];
+}
+
+static void look_at_window(struct windows *windows, struct window *window) {
+    struct findings findings;
+    struct batch zeros = {.window = window}, idle = {.window = window};
+    bool goes_on = true;
+    for (size_t first = 0; first < window->count && goes_on; first += PART) {
+        size_t count = window->count - first < PART ? window->count - first : PART;
+        goes_on = look_at_part(window, first, count, &findings);
+        for (size_t i = 0; i < findings.count; i++) {
+            struct batch *batch = findings.zero[i] ? &zeros : &idle;
+            add(batch, &findings, i);
+            if (batch->count < WINDOW_BATCH) continue;
+            if (findings.zero[i]) give_zeros_back(windows, &zeros);
+            else share(windows, &idle);
+        }
+    }
+    give_zeros_back(windows, &zeros);
+    share(windows, &idle);
+}
+
+/* Slots that are to be released, of one call. */
+struct slots {
+    size_t count;
+    uint64_t slots[WINDOW_BATCH];
+    struct window *windows[WINDOW_BATCH];
+    uint32_t pages[WINDOW_BATCH];
+};
+
+static void collect_part(struct slots *slots, struct window *window, size_t first) {
+    for (size_t page = first; page < window->count && page < first + PART && slots->count < WINDOW_BATCH; page++) {
+        if (window->pages[page].holds == 0 || window->pages[page].shows == 1) continue;
+        slots->slots[slots->count] = window->pages[page].slot;
+        slots->windows[slots->count] = window;
+        slots->pages[slots->count++] = (uint32_t)page;
+    }
+}
+
+static void collect(struct windows *windows, struct slots *slots) {
+    slots->count = 0;
+    lock_for_look(windows);
+    for (struct window *window = windows->first; window != NULL && slots->count < WINDOW_BATCH; window = window->next)
+        for (size_t first = 0; first < window->count; first += PART)
+            if (window->parts[first / PART] > 0) collect_part(slots, window, first);
+    unlock_set(windows);
+}
+
+void release_slots(struct windows *windows) {
+    struct slots slots;
+    while (windows->has_lender && !windows->lender_waits) {
+        collect(windows, &slots);
+        if (slots.count == 0) return;
+        int cause = windows->lender.release(windows->lender.opaque, slots.slots, slots.count);
+        if (cause != 0) {
+            lender_failed(windows, cause);
+            return;
+        }
+        lock_for_look(windows);
+        for (size_t i = 0; i < slots.count; i++) {
+            slots.windows[i]->pages[slots.pages[i]].holds = 0;
+            slots.windows[i]->parts[slots.pages[i] / PART]--;
+            trace_release(windows->trace, slots.windows[i]->base + slots.pages[i]);
+        }
+        unlock_set(windows);
+    }
+}
+
+static bool has_slots(const struct window *window) {
+    for (size_t part = 0; part < (window->count + PART - 1) / PART; part++)
+        if (window->parts[part] > 0) return true;
+    return false;
+}
+
+/* Frees windows that have ended, and hold no slot any more. */
+static void free_ended(struct windows *windows) {
+    lock_for_look(windows);
+    for (struct window **at = &windows->first; *at != NULL;) {
+        struct window *window = *at;
+        if (!window->ended || has_slots(window)) {
+            at = &window->next;
+            continue;
+        }
+        *at = window->next;
+        free_window(window);
+    }
+    unlock_set(windows);
+}
+
+/* Whether memory of a window is locked. */
+static bool is_any_locked(struct windows *windows) {
+    bool is_locked = false;
+    lock_for_look(windows);
+    for (struct window *window = windows->first; window != NULL && !is_locked; window = window->next) {
+        struct range_facts facts;
+        if (!window->ended && range_read(&facts, window->at, window->count) == 0) is_locked = facts.is_locked;
+    }
+    unlock_set(windows);
+    return is_locked;
+}
+
+/* Looks whether memory was locked since the last look. */
+static void look_for_locks(struct windows *windows) {
+    size_t kib = locked_kib();
+    if (kib == windows->locked_kib) return;
+    windows->locked_kib = kib;
+    windows->is_locked = kib > 0 && is_any_locked(windows);
+    if (windows->is_locked) {
+        take_all_home(windows);
+        return;
+    }
+    /* (the scratch area may have been filled) */
+    lock_for_look(windows);
+    int cause = windows->stuck_count == 0 ? make_scratch(windows) : 0;
+    if (cause != 0) note_failure(windows, WINDOW_NO_MAPPING, cause);
+    unlock_set(windows);
+}
+
+/* What a look begins with. Returns false where nothing can be looked at. */
+static bool begin(struct windows *windows) {
+    look_for_locks(windows);
+    lock_for_look(windows);
+    int cause = free_stuck(windows);
+    windows->counts.looks++;
+    windows->counts.pause = !windows->has_lender ? WINDOWS_NO_LENDER : WINDOWS_LENDING;
+    if (windows->is_locked) windows->counts.pause = WINDOWS_LOCKED;
+    if (cause != 0) windows->counts.pause = WINDOWS_HELD;
+    if (cause != 0) note_failure(windows, WINDOW_STUCK, cause);
+    if (windows->is_locked) note_failure(windows, WINDOW_LOCKED, EPERM);
+    if (windows->advice_cause != 0) note_failure(windows, WINDOW_ADVICE, windows->advice_cause);
+    windows->advice_cause = 0;
+    unlock_set(windows);
+    return cause == 0;
+}
+
+struct window_result windows_look(struct windows *windows) {
+    static const unsigned char zeros[WINDOW_PAGE_BYTES] __attribute__((aligned(8)));
+    uint64_t begun = clock_spent_ns();
+    windows->result = result_of(WINDOW_OK, 0);
+    windows->lender_waits = false;
+    windows->fingerprint_of_zeros = fingerprint_of(windows->lender.salt, zeros);
+    bool can_look = begin(windows);
+    release_slots(windows);
+    lock_for_look(windows);
+    struct window *window = windows->first;
+    unlock_set(windows);
+    for (; window != NULL && can_look && !windows->is_locked; window = window->next) look_at_window(windows, window);
+    release_slots(windows);
+    free_ended(windows);
+    lock_for_look(windows);
+    windows->counts.look_ns += clock_spent_ns() - begun;
+    unlock_set(windows);
+    return windows->result;
+}

@@ -1,0 +1,117 @@
+/* What windows know of their pages, and what is mapped in their place. */
+#define _GNU_SOURCE
+#include "set.h"
+#include <errno.h>
+#include <sys/mman.h>
+#include <time.h>
+
+void note_failure(struct windows *windows, enum window_status status, int cause) {
+    if (windows->result.status == WINDOW_OK) windows->result = result_of(status, cause);
+}
+
+void lock_for_look(struct windows *windows) {
+    const struct timespec pause = {.tv_nsec = 20000};
+    enum { PAUSES = 100 };
+    for (int i = 0; i < PAUSES && atomic_load(&windows->waiting) > 0; i++) nanosleep(&pause, NULL);
+    pthread_mutex_lock(&windows->lock);
+}
+
+bool are_one_mapping(const struct page *before, const struct page *after) {
+    if (before->over == 0 || after->over == 0) return before->over == after->over;
+    return before->past == after->past && before->frame + 1 == after->frame;
+}
+
+size_t mappings_of(const struct window *window, size_t first, size_t count) {
+    size_t found = 0;
+    for (size_t page = first > 0 ? first : 1; page <= first + count && page < window->count; page++)
+        found += are_one_mapping(&window->pages[page - 1], &window->pages[page]) ? 0 : 1;
+    return found;
+}
+
+void stop_showing(struct window *window, size_t number) {
+    struct page *page = &window->pages[number];
+    if (page->shows == 0) return;
+    page->shows = 0;
+    page->looks = 0;
+    page->asks = 0;
+    if (page->past == 1) window->windows->past--;
+    if (page->holds == 0) return;
+    window->windows->counts.lent--;
+    window->parts[number / PART]++;
+}
+
+int map_pages(struct window *window, size_t first, size_t count, uint32_t frame) {
+    struct windows *windows = window->windows;
+    bool is_file = frame != ZEROS;
+    int kind = MAP_PRIVATE | MAP_FIXED | MAP_NORESERVE | (is_file ? 0 : MAP_ANONYMOUS);
+    off_t from = is_file ? (off_t)bytes_of(frame) : 0;
+    void *at = address_of(window, first);
+    if (mmap(at, bytes_of(count), PROT_READ | PROT_WRITE, kind, is_file ? windows->frames_fd : NO_FILE, from) == MAP_FAILED)
+        return errno;
+    windows->counts.mappings -= mappings_of(window, first, count);
+    for (size_t i = 0; i < count; i++) {
+        struct page *page = &window->pages[first + i];
+        page->over = is_file ? 1 : 0;
+        page->past = 0;
+        page->frame = is_file ? (frame + (uint32_t)i) & (WINDOW_FRAMES_MOST - 1) : 0;
+    }
+    windows->counts.mappings += mappings_of(window, first, count);
+    if (!is_file) say_again(window, first, count, false);
+    return 0;
+}
+
+void say_again(struct window *window, size_t first, size_t count, bool is_file) {
+    int cause = advice_set(&window->advice, address_of(window, first), count, is_file);
+    if (cause != 0) window->windows->advice_cause = cause;
+}
+
+int make_scratch(struct windows *windows) {
+    const int kind = MAP_PRIVATE | MAP_ANONYMOUS | MAP_NORESERVE | (windows->scratch != NULL ? MAP_FIXED : 0);
+    uint8_t *at = mmap(windows->scratch, bytes_of(HOLD_MOST), PROT_READ | PROT_WRITE, kind, NO_FILE, 0);
+    if (at == MAP_FAILED) return errno;
+    windows->scratch = at;
+    int cause = advice_begin(at, HOLD_MOST);
+    if (cause != 0) return cause;
+    /* (a page that a child has, too, can't be moved back; and the kernel moves pages only from where there was one) */
+    if (madvise(at, bytes_of(HOLD_MOST), MADV_DONTFORK) < 0) return errno;
+    *at = 1;
+    if (madvise(at, bytes_of(HOLD_MOST), MADV_DONTNEED) < 0) return errno;
+    /* (pages are only moved to what is watched. Were it for missing pages, mlockall would wait here for ever.) */
+    return windows->faults.moves ? faults_watch(&windows->faults, at, HOLD_MOST, FAULTS_OF_WRITES) : 0;
+}
+
+int let_waiters_go(struct window *window, size_t first, size_t count) {
+    struct windows *windows = window->windows;
+    int cause = faults_end_watch(&windows->faults, address_of(window, first), count);
+    for (size_t page = first; page < first + count && cause != 0 && windows->stuck_count < HOME_MOST; page++)
+        windows->stuck[windows->stuck_count++] = (struct stuck){.window = window, .page = (uint32_t)page, .scratch = NOWHERE};
+    return cause;
+}
+
+int free_stuck(struct windows *windows) {
+    size_t left = 0;
+    int cause = 0;
+    bool remapped = false, any = false;
+    for (size_t i = 0; i < windows->stuck_count; i++) {
+        struct stuck stuck = windows->stuck[i];
+        uint8_t *at = address_of(stuck.window, stuck.page);
+        int failed = 0;
+        if (stuck.scratch != NOWHERE) {
+            failed = faults_put(&windows->faults, at, windows->scratch + bytes_of(stuck.scratch), &remapped);
+            any = any || remapped;
+            if (failed == 0) stuck.scratch = NOWHERE;
+        }
+        if (failed == 0) failed = faults_end_watch(&windows->faults, at, 1);
+        if (failed == 0) {
+            trace_unguard(windows->trace, stuck.window->base + stuck.page);
+            continue;
+        }
+        cause = failed;
+        windows->stuck[left++] = stuck;
+    }
+    windows->stuck_count = left;
+    if (left > 0) return cause;
+    if (any) return make_scratch(windows);
+    if (windows->faults.moves) madvise(windows->scratch, bytes_of(HOLD_MOST), MADV_DONTNEED);
+    return 0;
+}

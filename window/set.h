@@ -1,0 +1,170 @@
+/* What the files of windows have in common; nobody else includes it. */
+#ifndef PAGESHARE_WINDOW_SET_H
+#define PAGESHARE_WINDOW_SET_H
+
+#include "kernel.h"
+#include "trace.h"
+#include "window.h"
+#include <pthread.h>
+#include <stdatomic.h>
+
+enum {
+    PART = PAGEMAP_MOST, /* pages that one step of a look, or of a long call, handles under the lock */
+    HOLD_MOST = 32,      /* pages that are held at once */
+    HOME_MOST = 64,      /* pages that are guarded at once while they are copied home */
+    STILL = 3,           /* looks with the same fingerprint that make a page idle */
+    ASKS_APART_MOST = 3, /* a page that nobody else has is asked about at each 2^n-th look, n up to this */
+    PINS_MOST = UINT16_MAX,
+    FINGERPRINT_BITS = 24
+};
+
+/* In place of a frame's number: the page is zeros, and goes back to the system. */
+static const uint32_t ZEROS = WINDOW_NO_FRAME - 1;
+
+/*
+ * A page. It is lent if it shows; it was copied, or given up, and its slot is to be released, if it holds a slot and doesn't show;
+ * it shows and holds none if its lender is gone.
+ */
+struct page {
+    uint64_t slot;
+    uint32_t frame : 26; /* that is mapped at its place */
+    uint32_t over : 1;   /* a frame is mapped at its place; the page is that frame or a private copy */
+    uint32_t shows : 1;  /* as far as is known it is the frame */
+    uint32_t holds : 1;  /* the lender counts the slot */
+    uint32_t past : 1;   /* the frame is of a lender that is gone */
+    uint32_t out : 1;    /* it has left the window */
+    uint32_t zero : 1;   /* it was given back as zeros, and has no memory since */
+    uint32_t fingerprint : FINGERPRINT_BITS; /* its last bits, at the last look */
+    uint32_t looks : 2;                      /* looks with that fingerprint, at most STILL */
+    uint32_t asks : 3;                       /* how often it was asked about in vain, at most ASKS_APART_MOST */
+};
+
+struct window {
+    struct windows *windows;
+    struct window *next;
+    uint8_t *at;
+    size_t count;  /* of pages */
+    uint32_t base; /* the number of its first page among all windows' */
+    struct page *pages;
+    uint16_t *parts;     /* of each part: slots that are to be released */
+    uint16_t *pins;      /* of each page; NULL: none was pinned yet */
+    struct advice found; /* what was said of the range before it was a window */
+    struct advice advice;
+    bool ends;  /* nothing is lent of it any more */
+    bool ended; /* the range is the caller's again; only slots are left to release */
+};
+
+/* A page that was held and could not be let go. `scratch`: its place in the scratch area, or NOWHERE if it is at its own. */
+struct stuck {
+    struct window *window;
+    uint32_t page, scratch;
+};
+static const uint32_t NOWHERE = UINT32_MAX;
+
+struct windows {
+    pthread_mutex_t lock; /* round all below but what never changes, and what only the looking thread uses */
+    atomic_uint waiting;  /* threads that wait for the lock: looks let them go first */
+    struct window *first;
+    struct faults faults;
+    struct pagemap pagemap;
+    uint8_t *scratch; /* room for HOLD_MOST pages that are held; NULL without UFFDIO_MOVE */
+    struct stuck stuck[HOME_MOST];
+    size_t stuck_count;
+    size_t past; /* pages that show frames of a lender that is gone */
+    enum windows_pins pins;
+    size_t mappings_most, locked_kib;
+    bool is_locked;
+    int advice_cause; /* what the system refused advice with, since the last look; or 0 */
+    struct windows_counts counts;
+    const char *trace_path;
+    struct trace *trace;
+
+    /* Of the looking thread. */
+    struct window_lender lender;
+    bool has_lender, lender_waits; /* waits: it didn't answer, and is left alone until the next look */
+    int frames_fd;
+    const uint8_t *frames_at; /* the frames' file, for reading */
+    uint64_t fingerprint_of_zeros;
+    struct window_result result; /* of the look under way: the first thing that went wrong */
+};
+
+static inline uint8_t *address_of(const struct window *window, size_t page) { return window->at + bytes_of(page); }
+
+static inline struct window_result result_of(enum window_status status, int cause) {
+    return (struct window_result){.status = status, .cause = cause};
+}
+
+static inline bool is_pinned(const struct window *window, size_t page) { return window->pins != NULL && window->pins[page] > 0; }
+
+/* For all threads but the looking one. */
+static inline void lock_set(struct windows *windows) {
+    atomic_fetch_add(&windows->waiting, 1);
+    pthread_mutex_lock(&windows->lock);
+    atomic_fetch_sub(&windows->waiting, 1);
+}
+/* For the looking thread. */
+void lock_for_look(struct windows *windows);
+static inline void unlock_set(struct windows *windows) { pthread_mutex_unlock(&windows->lock); }
+
+/* Notes something that went wrong in a look; the first is what the look returns. */
+void note_failure(struct windows *windows, enum window_status status, int cause);
+
+/* Whether one mapping of the system can hold both pages. */
+bool are_one_mapping(const struct page *before, const struct page *after);
+/* How many mappings begin at these pages, or at the one behind them. */
+size_t mappings_of(const struct window *window, size_t first, size_t count);
+
+/* Notes that a page was given back as zeros, or that it has memory again. */
+static inline void note_zero(struct window *window, size_t page, bool is_zero) {
+    window->windows->counts.zeros_now += (is_zero ? 1u : 0u) - (size_t)window->pages[page].zero;
+    window->pages[page].zero = is_zero ? 1 : 0;
+}
+
+/* What a page shows no longer: its slot, if it holds one, is to be released. */
+void stop_showing(struct window *window, size_t page);
+
+/* Makes the scratch area, or makes it anew. Returns 0 or an errno. */
+int make_scratch(struct windows *windows);
+
+/* Maps frames in a row in place of pages, or zeros. Returns 0 or an errno, and then nothing has changed. */
+int map_pages(struct window *window, size_t first, size_t count, uint32_t frame);
+
+/* Says of pages that were mapped anew what was said of the window; frames are among them, or only memory of their own. With the lock. */
+void say_again(struct window *window, size_t first, size_t count, bool is_file);
+
+/* Ends the watch over pages, and wakes who waits. Returns 0, or an errno: then the pages are among those that are stuck. With the lock. */
+int let_waiters_go(struct window *window, size_t first, size_t count);
+
+/* Puts pages back that a look could not. Returns 0, or an errno while some are left. With the lock. */
+int free_stuck(struct windows *windows);
+
+/* A step of a long call: with the lock, for at most PART pages. */
+typedef struct window_result step(struct window *window, size_t first, size_t count);
+/* Does a step after the other up to the first that fails, and takes the lock for each, so that nobody waits long. */
+struct window_result for_parts(struct window *window, size_t first, size_t count, step *one);
+
+/* Frees a window's tables. */
+void free_window(struct window *window);
+
+/* Gives pages, at most PART, memory of their own in place of frames and copies of frames. With the lock. */
+struct window_result take_home(struct window *window, size_t first, size_t count);
+/* Takes everything home, in parts, since the windows' memory is locked. Takes the lock. */
+void take_all_home(struct windows *windows);
+
+/* The pages of one window that a step of a look found idle. */
+struct batch {
+    struct window *window;
+    size_t count;
+    uint32_t pages[WINDOW_BATCH]; /* of the window, ascending */
+    uint64_t fingerprints[WINDOW_BATCH];
+};
+/* Notes that a lender's call failed. One that isn't there is asked nothing more in this look. Takes the lock. */
+void lender_failed(struct windows *windows, int cause);
+/* Gives idle pages of zeros back to the system. Empties the batch. */
+void give_zeros_back(struct windows *windows, struct batch *batch);
+/* Asks about idle pages and lends those that others have. Empties the batch. */
+void share(struct windows *windows, struct batch *batch);
+/* Releases the slots that no page shows. */
+void release_slots(struct windows *windows);
+
+#endif

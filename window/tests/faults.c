@@ -1,0 +1,80 @@
+#define _GNU_SOURCE
+#include "faults.h"
+#include <errno.h>
+#include <linux/userfaultfd.h>
+#include <stdarg.h>
+#include <stddef.h>
+#include <sys/ioctl.h>
+#include <sys/mman.h>
+#include <sys/types.h>
+
+struct planned planned;
+
+int __real_ioctl(int fd, unsigned long request, ...);
+int __wrap_ioctl(int fd, unsigned long request, ...);
+int __real_madvise(void *at, size_t bytes, int advice);
+int __wrap_madvise(void *at, size_t bytes, int advice);
+void *__real_mremap(void *at, size_t old_bytes, size_t bytes, int flags, ...);
+void *__wrap_mremap(void *at, size_t old_bytes, size_t bytes, int flags, ...);
+int __real_fallocate(int fd, int mode, off_t from, off_t bytes);
+int __wrap_fallocate(int fd, int mode, off_t from, off_t bytes);
+
+/* As the kernel's: to, from, bytes, mode, moved. */
+struct move {
+    uint64_t to, from, bytes, mode;
+    int64_t moved;
+};
+#define MOVE_PAGES _IOWR(UFFDIO, 0x05, struct move)
+
+static bool fails(int *count) {
+    if (*count == 0) return false;
+    (*count)--;
+    return true;
+}
+
+static int refuse(int cause) {
+    errno = cause;
+    return -1;
+}
+
+static bool is_put(uint64_t to) { return to >= planned.window && to < planned.window_end && planned.puts > 0; }
+
+int __wrap_ioctl(int fd, unsigned long request, ...) {
+    va_list rest;
+    va_start(rest, request);
+    void *with = va_arg(rest, void *);
+    va_end(rest);
+    if (request == UFFDIO_WRITEPROTECT && fails(&planned.protects)) {
+        struct uffdio_writeprotect half = *(struct uffdio_writeprotect *)with;
+        half.range.len = half.range.len / 8192 * 4096;
+        __real_ioctl(fd, request, &half);
+        return refuse(ENOMEM);
+    }
+    if (request == UFFDIO_UNREGISTER && fails(&planned.releases)) return refuse(EINVAL);
+    if (request == MOVE_PAGES && is_put(((struct move *)with)->to)) return refuse(ENOMEM);
+    if (request == UFFDIO_COPY && is_put(((struct uffdio_copy *)with)->dst)) return refuse(ENOMEM);
+    return __real_ioctl(fd, request, with);
+}
+
+int __wrap_madvise(void *at, size_t bytes, int advice) {
+    if (advice == MADV_POPULATE_WRITE && fails(&planned.populates)) return refuse(EINVAL);
+    return __real_madvise(at, bytes, advice);
+}
+
+void *__wrap_mremap(void *at, size_t old_bytes, size_t bytes, int flags, ...) {
+    va_list rest;
+    va_start(rest, flags);
+    void *to = va_arg(rest, void *);
+    va_end(rest);
+    if (is_put((uintptr_t)to)) {
+        planned.puts--;
+        errno = ENOMEM;
+        return MAP_FAILED;
+    }
+    return __real_mremap(at, old_bytes, bytes, flags, to);
+}
+
+int __wrap_fallocate(int fd, int mode, off_t from, off_t bytes) {
+    if (fails(&planned.punches)) return refuse(EINTR);
+    return __real_fallocate(fd, mode, from, bytes);
+}

@@ -1,0 +1,19 @@
+/* System calls that fail when a test wants it. Linked with -Wl,--wrap for ioctl, madvise, mremap, fallocate. */
+#ifndef PAGESHARE_WINDOW_FAULTS_H
+#define PAGESHARE_WINDOW_FAULTS_H
+
+#include <stdbool.h>
+#include <stdint.h>
+
+/* Each counts calls that are yet to fail. */
+struct planned {
+    int protects;  /* write protection fails half-way, having protected half of the range */
+    int puts;      /* a page can't be moved into a window, nor copied, nor remapped */
+    int releases;  /* a registration isn't ended */
+    int populates; /* MADV_POPULATE_WRITE fails with EINVAL */
+    int punches;   /* fallocate fails with EINTR */
+    uintptr_t window, window_end; /* where pages can't be put */
+};
+extern struct planned planned;
+
+#endif

@@ -1,0 +1,85 @@
+/* A set of windows, a lender of this process, and memory for tests. */
+#ifndef PAGESHARE_WINDOW_FIXTURE_H
+#define PAGESHARE_WINDOW_FIXTURE_H
+
+#include "../../monitor/lender.h"
+#include "check.h"
+#include <sys/mman.h>
+#include <unistd.h>
+
+enum { PAGE = WINDOW_PAGE_BYTES };
+
+struct fixture {
+    struct windows *windows;
+    struct lender *lender;
+};
+
+static inline struct fixture fixture_make(const struct windows_config *config, uint32_t frames) {
+    struct fixture fixture = {0};
+    const struct lender_config lending = {.slots = 200000, .frames = frames, .recent = 300000, .hash = PAGESHARE_FOLD};
+    struct lender_result made = lender_make(&fixture.lender, &lending);
+    check(made.status == LENDER_OK, "a lender is made");
+    must(windows_make(&fixture.windows, config), "windows_make");
+    if (made.status != LENDER_OK || fixture.windows == NULL) exit(1);
+    must(windows_attach(fixture.windows, lender_interface(fixture.lender)), "windows_attach");
+    return fixture;
+}
+
+/* All windows are freed by now; their slots are released here. */
+static inline void fixture_free(struct fixture *fixture) {
+    struct pageshare_domain_totals totals;
+    struct lender_counts counts;
+    must(windows_look(fixture->windows), "the last look");
+    lender_count(fixture->lender, &totals, &counts);
+    check(totals.slots == 0 && totals.frames == 0, "no slot is left");
+    windows_free(fixture->windows);
+    lender_free(fixture->lender);
+}
+
+static inline uint8_t *memory(size_t pages) {
+    void *at = mmap(NULL, pages * PAGE, PROT_READ | PROT_WRITE, MAP_PRIVATE | MAP_ANONYMOUS | MAP_NORESERVE, -1, 0);
+    if (at == MAP_FAILED) perror("mmap"), exit(1);
+    return at;
+}
+
+static inline struct window *window_over(struct fixture *fixture, uint8_t *at, size_t pages) {
+    struct window *window;
+    must(window_make(&window, fixture->windows, at, pages * PAGE, WINDOW_NO_CHILD), "window_make");
+    if (window == NULL) exit(1);
+    return window;
+}
+
+/* Fills each page with a byte that it shares with every `apart`-th other. */
+static inline void fill(uint8_t *at, size_t pages, size_t apart) {
+    for (size_t i = 0; i < pages; i++) memset(at + i * PAGE, (int)(i % apart % 250 + 1), PAGE);
+}
+
+static inline struct windows_counts counts_of(const struct fixture *fixture) {
+    struct windows_counts counts;
+    windows_count(fixture->windows, &counts);
+    return counts;
+}
+
+/* Looks until so many pages are lent, at most 40 times. Returns how many are. */
+static inline size_t look_until(struct fixture *fixture, size_t lent) {
+    for (int i = 0; i < 40 && counts_of(fixture).lent != lent; i++) windows_look(fixture->windows);
+    return counts_of(fixture).lent;
+}
+
+static inline void look_often(struct fixture *fixture, int looks) {
+    for (int i = 0; i < looks; i++) windows_look(fixture->windows);
+}
+
+/* A number behind a word of a file such as /proc/self/status; -1 where there is none. */
+static inline long number_in(const char *path, const char *word) {
+    char line[256];
+    long number = -1;
+    FILE *file = fopen(path, "r");
+    if (file == NULL) return -1;
+    while (fgets(line, sizeof line, file) != NULL)
+        if (strncmp(line, word, strlen(word)) == 0 && sscanf(line + strlen(word), "%ld", &number) == 1) break;
+    fclose(file);
+    return number;
+}
+
+#endif

@@ -1,0 +1,170 @@
+/*
+ * What the system refuses in the middle of something: guards that fail half-way, pages that can't be put back, copies and punches
+ * that fail. Nobody waits for ever, no byte is lost, and what failed is done later. Prints "guards: ok" (status 0) or what isn't so.
+ */
+#define _GNU_SOURCE
+#include "faults.h"
+#include "fixture.h"
+#include <errno.h>
+#include <pthread.h>
+#include <time.h>
+
+enum { PAGES = 64 };
+
+struct write {
+    uint8_t *at;
+    atomic_bool is_done;
+    pthread_t thread;
+};
+
+static void *write_byte(void *opaque) {
+    struct write *write = opaque;
+    *(volatile uint8_t *)write->at = 200;
+    atomic_store(&write->is_done, true);
+    return NULL;
+}
+
+static void start(struct write *write, uint8_t *at) {
+    *write = (struct write){.at = at};
+    check(pthread_create(&write->thread, NULL, write_byte, write) == 0, "a thread that writes");
+}
+
+static bool is_done_in_time(struct write *write) {
+    const struct timespec pause = {.tv_nsec = 1000000};
+    for (int i = 0; i < 2000 && !atomic_load(&write->is_done); i++) nanosleep(&pause, NULL);
+    return atomic_load(&write->is_done);
+}
+
+/* The guard fails half-way: nobody waits, and the pages are lent by a later look. */
+static void guard_fails(void) {
+    const struct windows_config config = {.pins = WINDOWS_PINS_NEVER, .never_move = true};
+    struct fixture fixture = fixture_make(&config, PAGES);
+    uint8_t *at = memory(PAGES);
+    struct window *window = window_over(&fixture, at, PAGES);
+    struct write write;
+    fill(at, PAGES, 1);
+    planned.protects = 100;
+    look_often(&fixture, 8);
+    check(planned.protects < 100 && counts_of(&fixture).lent == 0, "with no guard nothing is lent");
+    start(&write, at);
+    check(is_done_in_time(&write), "a write doesn't wait for a guard that failed");
+    pthread_join(write.thread, NULL);
+    planned.protects = 0;
+    check(look_until(&fixture, PAGES - 1) == PAGES - 1, "later the other pages are lent");
+    check(at[0] == 200 && at[1] == 1, "each reads as it was written");
+    must(window_free(window, WINDOW_DROP), "window_free");
+    fixture_free(&fixture);
+}
+
+static void make_differ(uint8_t *at, size_t page) { at[page * PAGE + 100] ^= 1; }
+
+/* A lender that changes pages while it is asked: then they must be put back. */
+static const struct window_lender *inner;
+static uint8_t *changed_at;
+static int lend_changing(void *opaque, const uint32_t *pages, size_t count, struct window_loan *loans) {
+    int cause = inner->lend(opaque, pages, count, loans);
+    for (size_t i = 0; i < count && changed_at != NULL; i++) make_differ(changed_at, pages[i]);
+    return cause;
+}
+
+/* Pages that changed since they were lent can't be put back for some time. */
+static void put_fails(void) {
+    const struct windows_config config = {.pins = WINDOWS_PINS_NEVER};
+    struct fixture fixture = fixture_make(&config, PAGES);
+    uint8_t *at = memory(PAGES);
+    struct window *window = window_over(&fixture, at, PAGES);
+    struct window_lender changing = *lender_interface(fixture.lender);
+    struct write write;
+    inner = lender_interface(fixture.lender);
+    changing.lend = lend_changing;
+    windows_detach(fixture.windows);
+    must(windows_attach(fixture.windows, &changing), "windows_attach");
+    fill(at, PAGES, 1);
+    changed_at = at;
+    planned = (struct planned){.puts = 3, .window = (uintptr_t)at, .window_end = (uintptr_t)at + PAGES * PAGE};
+    struct window_result result = {0};
+    for (int i = 0; i < 20 && result.status != WINDOW_STUCK; i++) result = windows_look(fixture.windows);
+    if (planned.puts == 3) {
+        puts("left out: pages that can't be put back, since this system can't move pages");
+    } else {
+        check(result.status == WINDOW_STUCK && result.cause == ENOMEM, "the look tells of pages that are stuck");
+        start(&write, at + 5 * PAGE);
+        check(window_discard(window, 6, 1).status == WINDOW_OK || planned.puts == 0, "a discard tries to put them back");
+        changed_at = NULL;
+        for (int i = 0; i < 5; i++) result = windows_look(fixture.windows);
+        check(is_done_in_time(&write), "a write goes on when they are put back");
+        pthread_join(write.thread, NULL);
+        check(at[5 * PAGE] == 200 && at[7 * PAGE] == 1 && at[7 * PAGE + 100] != 1, "no byte of them is lost");
+    }
+    planned = (struct planned){0};
+    changed_at = NULL;
+    must(window_free(window, WINDOW_DROP), "window_free");
+    fixture_free(&fixture);
+}
+
+/* A registration can't be ended at once. */
+static void release_fails(bool never_move) {
+    const struct windows_config config = {.pins = WINDOWS_PINS_NEVER, .never_move = never_move};
+    struct fixture fixture = fixture_make(&config, PAGES);
+    uint8_t *at = memory(PAGES);
+    struct window *window = window_over(&fixture, at, PAGES);
+    fill(at, PAGES, 1);
+    planned.releases = 1;
+    struct window_result result = {0};
+    for (int i = 0; i < 20 && result.status != WINDOW_STUCK; i++) result = windows_look(fixture.windows);
+    check(result.status == WINDOW_STUCK && result.cause == EINVAL, "the look tells so");
+    check(look_until(&fixture, PAGES) == PAGES, "a later look ends it");
+    must(window_free(window, WINDOW_TAKE_HOME), "window_free");
+    check(at[0] == 1 && at[(PAGES - 1) * PAGE] == 1, "no byte is lost");
+    fixture_free(&fixture);
+}
+
+/* A page can't get memory: the call says so, once, and nothing has changed. */
+static void populate_fails(void) {
+    const struct windows_config config = {.pins = WINDOWS_PINS_NEVER};
+    struct fixture fixture = fixture_make(&config, PAGES);
+    uint8_t *at = memory(PAGES);
+    struct window *window = window_over(&fixture, at, PAGES);
+    fill(at, PAGES, 1);
+    check(look_until(&fixture, PAGES) == PAGES, "all pages are lent");
+    planned.populates = 1;
+    struct window_result result = window_pin(window, 3, 1);
+    check(result.status == WINDOW_NO_MAPPING && result.cause == EINVAL, "window_pin returns what the system said");
+    check(window_unpin(window, 3, 1).status == WINDOW_BAD_RANGE, "the page isn't pinned");
+    must(window_pin(window, 3, 1), "window_pin");
+    must(window_unpin(window, 3, 1), "window_unpin");
+    must(window_free(window, WINDOW_DROP), "window_free");
+    fixture_free(&fixture);
+}
+
+/* The memory of free frames can't be given back at once: it is given back later. */
+static void punch_fails(void) {
+    const struct windows_config config = {.pins = WINDOWS_PINS_NEVER};
+    struct fixture fixture = fixture_make(&config, PAGES);
+    uint8_t *at = memory(PAGES);
+    struct window *window = window_over(&fixture, at, PAGES);
+    struct pageshare_domain_totals totals;
+    struct lender_counts counts;
+    fill(at, PAGES, PAGES / 2);
+    check(look_until(&fixture, PAGES) == PAGES, "all pages are lent");
+    must(window_discard(window, 0, PAGES), "window_discard");
+    must(windows_look(fixture.windows), "windows_look");
+    planned.punches = 1;
+    check(lender_trim(fixture.lender) == PAGES / 2, "a trim tells how many frames it could not give back");
+    check(lender_trim(fixture.lender) == 0, "the next one gives them back");
+    lender_count(fixture.lender, &totals, &counts);
+    check(totals.frames == 0 && counts.frame_bytes == 0, "the file holds nothing");
+    must(window_free(window, WINDOW_DROP), "window_free");
+    fixture_free(&fixture);
+}
+
+int main(void) {
+    guard_fails();
+    put_fails();
+    release_fails(false);
+    release_fails(true);
+    populate_fails();
+    punch_fails();
+    puts(check_count() == 0 ? "guards: ok" : "guards: WRONG");
+    return check_count() == 0 ? 0 : 1;
+}

@@ -1,0 +1,482 @@
+/*
+ * What becomes of pages, one matter after the other: see main. Prints "pages: ok" (status 0) or what isn't so (status 1).
+ */
+#define _GNU_SOURCE
+#include "../kernel.h"
+#include "fixture.h"
+#include "ring.h"
+#include <errno.h>
+#include <fcntl.h>
+#include <linux/userfaultfd.h>
+#include <sys/ioctl.h>
+#include <sys/syscall.h>
+#include <sys/wait.h>
+
+enum { PAGES = 64 };
+
+static const struct windows_config never_pinned = {.pins = WINDOWS_PINS_NEVER};
+
+static bool are_bytes(const uint8_t *at, int byte) {
+    for (size_t i = 0; i < PAGE; i++)
+        if (at[i] != byte) return false;
+    return true;
+}
+
+/* Equal pages are lent, a write makes a copy, the copy is found, released, and lent again when it is equal once more. */
+static void lives(void) {
+    struct fixture fixture = fixture_make(&never_pinned, PAGES);
+    uint8_t *at = memory(PAGES);
+    struct window *window = window_over(&fixture, at, PAGES);
+    struct pageshare_domain_totals totals;
+    struct lender_counts counts;
+    fill(at, PAGES, PAGES / 2);
+    check(look_until(&fixture, PAGES) == PAGES, "all pages are lent");
+    lender_count(fixture.lender, &totals, &counts);
+    check(totals.frames == PAGES / 2 && totals.slots == PAGES, "two pages have a frame");
+    check(counts.frame_bytes == PAGES / 2 * PAGE, "the file holds so many");
+    for (size_t i = 0; i < PAGES; i++) check(are_bytes(at + i * PAGE, (int)(i % (PAGES / 2) + 1)), "a lent page reads as before");
+    at[5 * PAGE] = 99;
+    check(at[5 * PAGE] == 99 && at[(5 + PAGES / 2) * PAGE] == 6, "a write changes one page");
+    must(windows_look(fixture.windows), "windows_look");
+    check(counts_of(&fixture).lent == PAGES - 1 && counts_of(&fixture).copied == 1, "the next look finds the copy");
+    lender_count(fixture.lender, &totals, &counts);
+    check(totals.slots == PAGES - 1, "and its slot is released");
+    at[5 * PAGE] = 6;
+    check(look_until(&fixture, PAGES) == PAGES, "a copy that is equal again is lent again");
+    must(window_free(window, WINDOW_TAKE_HOME), "window_free");
+    for (size_t i = 0; i < PAGES; i++) check(are_bytes(at + i * PAGE, (int)(i % (PAGES / 2) + 1)), "what is home reads as before");
+    fixture_free(&fixture);
+    for (size_t i = 0; i < PAGES; i++) check(are_bytes(at + i * PAGE, (int)(i % (PAGES / 2) + 1)), "without a lender, too");
+    munmap(at, PAGES * PAGE);
+}
+
+/* Zeros go back to the system, and pages that nobody else has stay where they are. */
+static void zeros_and_singles(void) {
+    struct fixture fixture = fixture_make(&never_pinned, PAGES);
+    uint8_t *at = memory(PAGES), resident[PAGES];
+    struct window *window = window_over(&fixture, at, PAGES);
+    fill(at, PAGES, PAGES);
+    memset(at, 0, PAGES / 2 * PAGE);
+    look_often(&fixture, 20);
+    struct windows_counts counts = counts_of(&fixture);
+    check(counts.lends == 0 && counts.zeros == PAGES / 2, "zeros are given back, and nothing is lent");
+    check(mincore(at, PAGES * PAGE, resident) == 0 && resident[0] == 0 && resident[PAGES / 2] == 1, "zeros take no memory");
+    check(are_bytes(at, 0) && are_bytes(at + (PAGES - 1) * PAGE, PAGES), "all read as before");
+    must(window_free(window, WINDOW_DROP), "window_free");
+    fixture_free(&fixture);
+}
+
+/* Numbers that are out of a window change nothing. */
+static void bounds(void) {
+    struct fixture fixture = fixture_make(&never_pinned, PAGES);
+    uint8_t *at = memory(PAGES + 1);
+    struct window *window = window_over(&fixture, at, PAGES), *other;
+    memset(at + PAGES * PAGE, 7, PAGE);
+    const size_t firsts[] = {PAGES, 0, PAGES - 1, SIZE_MAX, 2, SIZE_MAX / PAGE}, counts[] = {1, PAGES + 1, 2, 2, SIZE_MAX, 3};
+    for (size_t i = 0; i < sizeof firsts / sizeof firsts[0]; i++) {
+        check(window_discard(window, firsts[i], counts[i]).status == WINDOW_BAD_RANGE, "window_discard refuses what is outside");
+        check(window_pin(window, firsts[i], counts[i]).status == WINDOW_BAD_RANGE, "window_pin refuses it");
+        check(window_unpin(window, firsts[i], counts[i]).status == WINDOW_BAD_RANGE, "window_unpin refuses it");
+        check(window_cut(window, firsts[i], counts[i]).status == WINDOW_BAD_RANGE, "window_cut refuses it");
+    }
+    check(window_page_is(window, PAGES) == WINDOW_PAGE_OUT, "no page is behind the last one");
+    check(are_bytes(at + PAGES * PAGE, 7), "what is behind the window is as it was");
+    check(window_make(&other, fixture.windows, at + PAGE, PAGE, 0).status == WINDOW_BAD_RANGE && other == NULL, "windows don't overlap");
+    check(window_make(&other, fixture.windows, at + 1, PAGE, 0).status == WINDOW_BAD_RANGE, "a window begins with a page");
+    check(window_make(&other, fixture.windows, at, PAGE + 1, 0).status == WINDOW_BAD_RANGE, "and ends with one");
+    struct window_lender bad = *lender_interface(fixture.lender);
+    check(windows_attach(fixture.windows, &bad).status == WINDOW_HAS_LENDER, "there is one lender at a time");
+    windows_detach(fixture.windows);
+    bad.frame_count = WINDOW_FRAMES_MOST;
+    check(windows_attach(fixture.windows, &bad).status == WINDOW_BAD_LENDER, "its file has all its frames");
+    must(windows_attach(fixture.windows, lender_interface(fixture.lender)), "windows_attach");
+    must(window_free(window, WINDOW_DROP), "window_free");
+    fixture_free(&fixture);
+    void *shared = mmap(NULL, PAGE, PROT_READ | PROT_WRITE, MAP_SHARED | MAP_ANONYMOUS, -1, 0);
+    struct windows *windows;
+    must(windows_make(&windows, &never_pinned), "windows_make");
+    check(window_make(&other, windows, shared, PAGE, 0).status == WINDOW_BAD_MEMORY, "shared memory is no window");
+    windows_free(windows);
+}
+
+/* A page that was copied lies over a frame, which may hold another guest's bytes by now. A discard shows zeros. */
+static void discards(void) {
+    struct fixture fixture = fixture_make(&never_pinned, 4);
+    uint8_t *at = memory(4);
+    struct window *window = window_over(&fixture, at, 2), *other = window_over(&fixture, at + 2 * PAGE, 2);
+    memset(at, 'a', 2 * PAGE);
+    check(look_until(&fixture, 2) == 2, "two pages have a frame");
+    at[0] = 'A', at[PAGE] = 'A';
+    look_often(&fixture, 1);
+    memset(at + 2 * PAGE, 's', 2 * PAGE); /* (their frame is the one that is free now) */
+    check(look_until(&fixture, 2) == 2 || look_until(&fixture, 4) == 4, "two other pages have a frame");
+    must(window_discard(window, 0, 2), "window_discard");
+    check(are_bytes(at, 0) && are_bytes(at + PAGE, 0), "a discard shows zeros");
+    look_often(&fixture, 2);
+    check(are_bytes(at, 0) && are_bytes(at + 2 * PAGE, 's'), "and goes on to");
+    must(window_free(window, WINDOW_DROP), "window_free");
+    must(window_free(other, WINDOW_DROP), "window_free");
+    fixture_free(&fixture);
+}
+
+static int file_of(int byte) {
+    char bytes[PAGE];
+    int fd = memfd_create("disk", MFD_CLOEXEC);
+    memset(bytes, byte, sizeof bytes);
+    check(fd >= 0 && write(fd, bytes, sizeof bytes) == PAGE, "a file");
+    return fd;
+}
+
+/* What a device reads into a page that it has pinned is what is read there. */
+static void pinned(void) {
+    const struct windows_config config = {.pins = WINDOWS_PINS_POSSIBLE};
+    struct fixture fixture = fixture_make(&config, PAGES);
+    uint8_t *at = memory(PAGES);
+    struct window *window = window_over(&fixture, at, PAGES);
+    struct ring ring;
+    int disk = file_of('d');
+    fill(at, PAGES, 1);
+    if (!ring_pin(&ring, at, PAGE)) {
+        puts("left out: pages that a device has pinned, since there is no io_uring");
+    } else {
+        size_t lent = look_until(&fixture, PAGES - 1);
+        if (lent == 0) puts("(pages can't be moved here, so none is lent where devices may pin)");
+        check(lent == PAGES - 1 || lent == 0, "all pages but the pinned one are lent");
+        check(ring_read(&ring, disk, at, PAGE) && are_bytes(at, 'd'), "what the device reads arrives");
+        ring_unpin(&ring);
+        at[PAGE] = 1, at[2 * PAGE] = 2; /* (copies, which might be pinned) */
+        look_often(&fixture, 12);
+        check(window_page_is(window, 1) == WINDOW_PAGE_PRIVATE, "a copy stays private where devices may pin");
+    }
+    windows_set_pins(fixture.windows, WINDOWS_PINS_NEVER);
+    fill(at, PAGES, 1);
+    check(look_until(&fixture, PAGES) == PAGES, "where they never do it is lent");
+    must(window_pin(window, 8, 1), "window_pin");
+    must(window_pin(window, 8, 2), "window_pin");
+    check(window_page_is(window, 8) == WINDOW_PAGE_PRIVATE, "a pinned page is private when the call returns");
+    if (ring_pin(&ring, at + 8 * PAGE, PAGE)) {
+        look_often(&fixture, 8);
+        check(ring_read(&ring, disk, at + 8 * PAGE, PAGE) && are_bytes(at + 8 * PAGE, 'd'), "and stays so");
+        ring_unpin(&ring);
+    }
+    check(window_free(window, WINDOW_TAKE_HOME).status == WINDOW_PINNED, "a window with pinned pages isn't taken home");
+    must(window_unpin(window, 8, 1), "window_unpin");
+    memset(at + 8 * PAGE, 1, PAGE);
+    look_often(&fixture, 12);
+    check(window_page_is(window, 8) == WINDOW_PAGE_PRIVATE, "a page that was pinned twice is pinned still");
+    must(window_unpin(window, 8, 2), "window_unpin");
+    check(window_unpin(window, 8, 1).status == WINDOW_BAD_RANGE, "a page that isn't pinned isn't unpinned");
+    check(look_until(&fixture, PAGES) == PAGES, "then it is lent");
+    close(disk);
+    must(window_free(window, WINDOW_DROP), "window_free");
+    fixture_free(&fixture);
+}
+
+/* The line of flags of a mapping, from /proc/self/smaps. */
+static void flags_of(const uint8_t *at, char *flags, size_t most) {
+    char line[512];
+    uintptr_t begin, end;
+    bool here = false;
+    FILE *file = fopen("/proc/self/smaps", "r");
+    *flags = 0;
+    while (file != NULL && fgets(line, sizeof line, file) != NULL) {
+        if (sscanf(line, "%lx-%lx ", &begin, &end) == 2) here = (uintptr_t)at >= begin && (uintptr_t)at < end;
+        if (here && strncmp(line, "VmFlags:", 8) == 0) snprintf(flags, most, "%s", line + 8);
+    }
+    if (file != NULL) fclose(file);
+}
+
+static bool has_flags(const uint8_t *at, const char *wanted) {
+    char flags[512];
+    flags_of(at, flags, sizeof flags);
+    for (size_t i = 0; i + 1 < strlen(wanted); i += 3) {
+        const char flag[4] = {' ', wanted[i], wanted[i + 1], 0};
+        if (strstr(flags, flag) == NULL) return false;
+    }
+    return true;
+}
+
+static int policy_of(const uint8_t *at) {
+    int mode = -1;
+    unsigned long nodes[16];
+    return syscall(SYS_get_mempolicy, &mode, nodes, 1024ul, at, 2) == 0 ? mode : -1;
+}
+
+/* What was said of the range holds where pages are lent, discarded and home again. */
+static void advice(void) {
+    struct fixture fixture = fixture_make(&never_pinned, PAGES);
+    uint8_t *at = memory(PAGES);
+    const unsigned long node = 1;
+    madvise(at, PAGES * PAGE, MADV_DONTDUMP);
+    madvise(at, PAGES * PAGE, MADV_WIPEONFORK);
+    madvise(at, PAGES * PAGE, MADV_NOHUGEPAGE);
+    bool merges = madvise(at, PAGES * PAGE, MADV_MERGEABLE) == 0;
+    bool binds = syscall(SYS_mbind, at, PAGES * PAGE, 2 /* MPOL_BIND */, &node, 2ul, 0) == 0;
+    if (!binds) puts("left out: memory policies, which this system refuses");
+    struct window *window = window_over(&fixture, at, PAGES);
+    fill(at, PAGES, 1);
+    check(look_until(&fixture, PAGES) == PAGES, "all pages are lent");
+    check(has_flags(at, "dd dc nh"), "a lent page isn't dumped, has no huge pages, and no child has it");
+    check(!binds || policy_of(at) == 2, "its copy comes from the same memory node");
+    must(window_discard(window, 3, 1), "window_discard");
+    check(has_flags(at + 3 * PAGE, "dd dc nh wf"), "the same of a discarded page");
+    must(window_free(window, WINDOW_TAKE_HOME), "window_free");
+    check(has_flags(at, merges ? "dd dc nh wf mg" : "dd dc nh wf"), "and of one that is home");
+    check(!binds || policy_of(at) == 2, "its memory policy, too");
+    fixture_free(&fixture);
+}
+
+/* A range that a child would have isn't lent until no child has it. */
+static void children(void) {
+    struct fixture fixture = fixture_make(&never_pinned, PAGES);
+    uint8_t *at = memory(PAGES);
+    struct window *window;
+    must(window_make(&window, fixture.windows, at, PAGES * PAGE, 0), "window_make");
+    fill(at, PAGES, 1);
+    look_often(&fixture, 12);
+    check(counts_of(&fixture).lends == 0, "nothing is lent that a child would have");
+    must(window_advise(window, MADV_DONTFORK), "window_advise");
+    check(look_until(&fixture, PAGES) == PAGES, "what no child has is lent");
+    must(window_advise(window, MADV_DOFORK), "window_advise");
+    check(counts_of(&fixture).lent == 0, "for a child all is taken home");
+    pid_t child = fork();
+    if (child == 0) _exit(are_bytes(at + PAGE, 1) ? 0 : 1);
+    int status = -1;
+    check(child > 0 && waitpid(child, &status, 0) == child && status == 0, "the child reads what is its parent's");
+    check(window_advise(window, MADV_SEQUENTIAL).status == WINDOW_ADVICE, "other advice is refused");
+    must(window_free(window, WINDOW_DROP), "window_free");
+    fixture_free(&fixture);
+}
+
+/* Locked memory: the kernel would copy each frame that is mapped. */
+static void locked(void) {
+    struct fixture fixture = fixture_make(&never_pinned, PAGES);
+    uint8_t *at = memory(PAGES);
+    struct window *window = window_over(&fixture, at, PAGES), *other;
+    fill(at, PAGES, 1);
+    check(look_until(&fixture, PAGES) == PAGES, "all pages are lent");
+    if (mlockall(MCL_CURRENT | MCL_FUTURE) != 0) {
+        puts("left out: locked memory, which this user may not have");
+    } else {
+        check(windows_look(fixture.windows).status == WINDOW_LOCKED, "the look says that memory is locked");
+        check(counts_of(&fixture).pause == WINDOWS_LOCKED && counts_of(&fixture).lent == 0, "nothing is lent any more");
+        check(are_bytes(at + 3 * PAGE, 1), "and all is as it was");
+        uint8_t *more = memory(1);
+        check(window_make(&other, fixture.windows, more, PAGE, WINDOW_NO_CHILD).status == WINDOW_LOCKED, "locked memory is no window");
+        struct windows *windows;
+        check(windows_make(&windows, &never_pinned).status == WINDOW_LOCKED && windows == NULL, "nor are there new sets");
+        munlockall();
+        check(look_until(&fixture, PAGES) == PAGES, "when nothing is locked all is lent again");
+    }
+    must(window_free(window, WINDOW_DROP), "window_free");
+    fixture_free(&fixture);
+}
+
+/* Huge pages are split, so that what is lent of them is given back. */
+static void huge(bool never_move) {
+    enum { HUGE_PAGES = 4096, HUGE_BYTES = 2 << 20 };
+    const struct windows_config config = {.pins = WINDOWS_PINS_NEVER, .never_move = never_move};
+    struct fixture fixture = fixture_make(&config, PAGES);
+    uint8_t *found = memory(HUGE_PAGES + HUGE_BYTES / PAGE);
+    uint8_t *at = found + (HUGE_BYTES - (uintptr_t)found % HUGE_BYTES) % HUGE_BYTES;
+    madvise(at, HUGE_PAGES * PAGE, MADV_HUGEPAGE);
+    memset(at, 3, HUGE_PAGES * PAGE);
+    long huge_kib = number_in("/proc/self/smaps_rollup", "AnonHugePages:"), anonymous = number_in("/proc/self/smaps_rollup", "Anonymous:");
+    long split = number_in("/proc/vmstat", "thp_split_page ");
+    struct window *window = window_over(&fixture, at, HUGE_PAGES);
+    if (huge_kib < HUGE_PAGES * 4) {
+        puts("left out: huge pages, of which this system gave none");
+    } else {
+        for (size_t i = 0; i < HUGE_PAGES; i += 8) at[i * PAGE] = (uint8_t)(i / 8), at[i * PAGE + 1] = (uint8_t)(i / 2048 + 20);
+        size_t lent = look_until(&fixture, HUGE_PAGES / 8 * 7);
+        check(lent == HUGE_PAGES / 8 * 7, "seven of eight pages are lent");
+        long given = anonymous - number_in("/proc/self/smaps_rollup", "Anonymous:");
+        check(given > HUGE_PAGES * 4 / 8 * 6 && number_in("/proc/self/smaps_rollup", "AnonHugePages:") == 0, "their memory is given back");
+        check(number_in("/proc/vmstat", "thp_split_page ") - split >= HUGE_PAGES / 512, "at once, since the huge pages are split");
+        check(at[8 * PAGE] == 1 && at[9 * PAGE] == 3, "each page reads as before");
+    }
+    must(window_free(window, WINDOW_DROP), "window_free");
+    check(has_flags(at, "hg"), "the range may have huge pages again");
+    munmap(found, (HUGE_PAGES + HUGE_BYTES / PAGE) * PAGE);
+    fixture_free(&fixture);
+}
+
+/* A guest ends: nothing of it becomes private, and the others go on. */
+static void ends(void) {
+    enum { MANY = 8192 };
+    struct fixture fixture = fixture_make(&never_pinned, MANY + 16);
+    uint8_t *at[3];
+    struct window *window[3];
+    for (int i = 0; i < 3; i++) {
+        at[i] = memory(MANY);
+        window[i] = window_over(&fixture, at[i], MANY);
+        for (uint32_t page = 0; page < MANY; page++) memcpy(at[i] + (size_t)page * PAGE, &(uint32_t){page + 1}, 4);
+    }
+    check(look_until(&fixture, 3 * MANY) == 3 * MANY, "all pages of three guests are lent");
+    long before = number_in("/proc/self/smaps_rollup", "Anonymous:");
+    must(window_free(window[1], WINDOW_DROP), "window_free");
+    long after = number_in("/proc/self/smaps_rollup", "Anonymous:");
+    check(after - before < 1024, "a guest that ends takes no memory");
+    check(are_bytes(at[1] + PAGE, 0), "its range is zeros");
+    must(windows_look(fixture.windows), "windows_look");
+    check(counts_of(&fixture).lent == 2 * MANY && counts_of(&fixture).windows == 2, "the others' pages are lent still");
+    struct window *anew = window_over(&fixture, at[1], MANY);
+    for (uint32_t page = 0; page < MANY; page++) memcpy(at[1] + (size_t)page * PAGE, &(uint32_t){page + 1}, 4);
+    check(look_until(&fixture, 3 * MANY) == 3 * MANY, "a new guest is lent like the first");
+    must(window_free(anew, WINDOW_DROP), "window_free");
+    must(window_free(window[0], WINDOW_DROP), "window_free");
+    must(window_free(window[2], WINDOW_DROP), "window_free");
+    fixture_free(&fixture);
+}
+
+static size_t mappings_in(const uint8_t *at, size_t pages) {
+    char line[512];
+    uintptr_t begin, end;
+    size_t count = 0;
+    FILE *file = fopen("/proc/self/maps", "r");
+    while (file != NULL && fgets(line, sizeof line, file) != NULL)
+        if (sscanf(line, "%lx-%lx ", &begin, &end) == 2 && begin < (uintptr_t)at + pages * PAGE && end > (uintptr_t)at) count++;
+    if (file != NULL) fclose(file);
+    return count;
+}
+
+/* Mappings are counted as the system counts them, and lending ends where they would be too many. */
+static void mappings(void) {
+    enum { MANY = 4096, MOST = 1500 };
+    const struct windows_config config = {.pins = WINDOWS_PINS_NEVER, .mappings_most = MOST};
+    struct fixture fixture = fixture_make(&config, MANY);
+    uint8_t *at = memory(MANY);
+    struct window *window = window_over(&fixture, at, MANY);
+    for (uint32_t page = 0; page < MANY; page++) memcpy(at + (size_t)page * PAGE, &(uint32_t){page * 2654435761u % (MANY / 2) + 1}, 4);
+    look_often(&fixture, 20);
+    struct windows_counts counts = counts_of(&fixture);
+    size_t found = mappings_in(at, MANY);
+    check(counts.lent > 100 && counts.lent < MANY && counts.pause == WINDOWS_CROWDED, "lending ends before all pages are lent");
+    check(counts.mappings <= MOST && found <= MOST, "there are no more mappings than there may be");
+    check(counts.mappings <= found + 16 && found <= counts.mappings + 16, "as many are counted as the system has");
+    must(window_discard(window, 0, MANY), "window_discard");
+    must(windows_look(fixture.windows), "windows_look");
+    check(counts_of(&fixture).mappings == 1 && mappings_in(at, MANY) <= 2, "discarded pages are one mapping");
+    must(window_free(window, WINDOW_DROP), "window_free");
+    fixture_free(&fixture);
+}
+
+/* Another userfaultfd has a part of the window: its pages aren't held, the others are. */
+static void second_userfaultfd(void) {
+    struct fixture fixture = fixture_make(&never_pinned, PAGES);
+    uint8_t *at = memory(PAGES);
+    struct window *window = window_over(&fixture, at, PAGES);
+    struct faults other;
+    fill(at, PAGES, 1);
+    check(faults_open(&other, 0, false) == 0, "a second userfaultfd");
+    check(faults_watch(&other, at, PAGES / 2, FAULTS_OF_WRITES) == 0, "it has a part of the window");
+    look_often(&fixture, 16);
+    check(counts_of(&fixture).lent < PAGES && are_bytes(at, 1), "nothing is lost");
+    check(faults_end_watch(&other, at, PAGES / 2) == 0, "it leaves it");
+    close(other.fd);
+    check(look_until(&fixture, PAGES) == PAGES, "then all is lent");
+    must(window_free(window, WINDOW_DROP), "window_free");
+    fixture_free(&fixture);
+}
+
+/* What is told of each kind of page: a guard's own mark is no copy. */
+static void marks(bool never_scan) {
+    enum { KINDS = 8 };
+    const uint8_t wanted[KINDS] = {PAGE_NONE, PAGE_NONE, PAGE_PRESENT, PAGE_NONE, PAGE_NONE, PAGE_NONE, PAGE_PRESENT, PAGE_NONE};
+    struct pagemap pagemap;
+    struct faults faults;
+    uint8_t found[KINDS];
+    int fd = memfd_create("frames", MFD_CLOEXEC);
+    check(fd >= 0 && ftruncate(fd, KINDS * PAGE) == 0, "a file");
+    uint8_t *at = mmap(NULL, KINDS * PAGE, PROT_READ | PROT_WRITE, MAP_PRIVATE, fd, 0);
+    check(pagemap_open(&pagemap, never_scan) == 0 && faults_open(&faults, 0, false) == 0, "pagemap and userfaultfd");
+    madvise(at, KINDS * PAGE, MADV_RANDOM);
+    check(faults_watch(&faults, at, KINDS, FAULTS_OF_WRITES) == 0, "the pages can be guarded");
+    volatile uint8_t read = at[1 * PAGE]; /* (a frame that was read) */
+    at[2 * PAGE] = 1;                     /* a copy */
+    read = at[4 * PAGE], read = at[5 * PAGE], (void)read;
+    for (size_t page = 3; page < 6; page++) check(faults_protect(&faults, at + page * PAGE, 1) == 0, "a guard");
+    fallocate(fd, FALLOC_FL_PUNCH_HOLE | FALLOC_FL_KEEP_SIZE, 5 * PAGE, PAGE); /* (leaves a mark) */
+    at[6 * PAGE] = 1;
+    fallocate(fd, FALLOC_FL_PUNCH_HOLE | FALLOC_FL_KEEP_SIZE, 6 * PAGE, PAGE);
+    check(pagemap_find(&pagemap, at, KINDS, found) == 0, "pages are told");
+    for (size_t page = 0; page < KINDS; page++) {
+        check(found[page] == wanted[page], "each kind of page is told as what it is");
+        check(pagemap_is_own(&pagemap, at + page * PAGE) == (wanted[page] != PAGE_NONE), "in both ways");
+    }
+    close(faults.fd), close(pagemap.fd), close(fd);
+    munmap(at, KINDS * PAGE);
+}
+
+/* A lender that goes away, and another that comes. */
+static int no_answer(void *opaque, const uint64_t *slots, size_t count) {
+    (void)opaque, (void)slots, (void)count;
+    return ENOTCONN;
+}
+static void lenders(void) {
+    struct fixture fixture = fixture_make(&never_pinned, PAGES);
+    uint8_t *at = memory(PAGES);
+    struct window *window = window_over(&fixture, at, PAGES);
+    fill(at, PAGES, 2);
+    check(look_until(&fixture, PAGES) == PAGES, "all pages are lent");
+    windows_detach(fixture.windows);
+    lender_free(fixture.lender);
+    check(are_bytes(at, 1) && are_bytes(at + PAGE, 2), "pages read as before when their lender is gone");
+    at[0] = 9;
+    must(windows_look(fixture.windows), "windows_look");
+    check(counts_of(&fixture).pause == WINDOWS_NO_LENDER, "the set says that it has none");
+    const struct lender_config lending = {.slots = PAGES, .frames = PAGES, .recent = PAGES * 4, .hash = PAGESHARE_FOLD};
+    check(lender_make(&fixture.lender, &lending).status == LENDER_OK, "another lender");
+    struct window_lender silent = *lender_interface(fixture.lender);
+    silent.release = no_answer;
+    must(windows_attach(fixture.windows, &silent), "windows_attach");
+    check(look_until(&fixture, PAGES - 1) == PAGES - 1, "its frames take the place of the first one's");
+    at[PAGE] = 9;
+    struct window_result result = windows_look(fixture.windows);
+    check(result.status == WINDOW_LENDER_FAILED && result.cause == ENOTCONN, "a lender that doesn't answer is told");
+    check(at[PAGE] == 9 && at[3 * PAGE] == 2, "and nothing is lost");
+    windows_detach(fixture.windows);
+    must(window_free(window, WINDOW_TAKE_HOME), "window_free");
+    check(at[0] == 9 && at[2 * PAGE] == 1, "all comes home without a lender");
+    windows_free(fixture.windows);
+    lender_free(fixture.lender);
+}
+
+/* Pages that leave a window are the caller's. */
+static void cuts(void) {
+    struct fixture fixture = fixture_make(&never_pinned, PAGES);
+    uint8_t *at = memory(PAGES);
+    struct window *window = window_over(&fixture, at, PAGES);
+    fill(at, PAGES, 1);
+    check(look_until(&fixture, PAGES) == PAGES, "all pages are lent");
+    must(window_cut(window, 4, 8), "window_cut");
+    check(are_bytes(at + 4 * PAGE, 1) && window_page_is(window, 4) == WINDOW_PAGE_OUT, "pages that leave keep their content");
+    check(munmap(at + 4 * PAGE, 8 * PAGE) == 0, "they can be unmapped");
+    look_often(&fixture, 8);
+    check(counts_of(&fixture).lent == PAGES - 8 && are_bytes(at + 12 * PAGE, 1), "the others are lent still");
+    must(window_cut(window, 0, PAGES), "window_cut");
+    must(window_free(window, WINDOW_TAKE_HOME), "window_free");
+    fixture_free(&fixture);
+}
+
+int main(void) {
+    lives();
+    zeros_and_singles();
+    bounds();
+    discards();
+    pinned();
+    advice();
+    children();
+    locked();
+    huge(false);
+    huge(true);
+    ends();
+    mappings();
+    second_userfaultfd();
+    marks(false);
+    marks(true);
+    lenders();
+    cuts();
+    puts(check_count() == 0 ? "pages: ok" : "pages: WRONG");
+    return check_count() == 0 ? 0 : 1;
+}

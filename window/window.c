@@ -1,0 +1,152 @@
+/* Windows, as they come and go. */
+#define _GNU_SOURCE
+#include "set.h"
+#include <errno.h>
+#include <stdlib.h>
+#include <sys/mman.h>
+
+void free_window(struct window *window) {
+    free(window->pages);
+    free(window->parts);
+    free(window->pins);
+    free(window);
+}
+
+/* The first numbers that no window has, for `count` pages. Returns false where there are none. With the lock. */
+static bool find_numbers(const struct windows *windows, size_t count, uint32_t *base) {
+    uint64_t from = 0;
+    for (const struct window *window = windows->first; window != NULL;) {
+        bool meets = from < (uint64_t)window->base + window->count && window->base < from + count;
+        if (meets) from = (uint64_t)window->base + window->count;
+        window = meets ? windows->first : window->next;
+    }
+    *base = (uint32_t)from;
+    return from + count <= UINT32_MAX;
+}
+
+static bool meets_other(const struct windows *windows, const uint8_t *at, size_t pages) {
+    for (const struct window *window = windows->first; window != NULL; window = window->next)
+        if (!window->ended && at < window->at + bytes_of(window->count) && window->at < at + bytes_of(pages)) return true;
+    return false;
+}
+
+/* Whether a range can be a window, and what was said of it. */
+static struct window_result read_range(void *at, size_t bytes, struct range_facts *facts) {
+    size_t pages = bytes / WINDOW_PAGE_BYTES;
+    if (pages == 0 || bytes % WINDOW_PAGE_BYTES != 0 || (uintptr_t)at % WINDOW_PAGE_BYTES != 0 || pages >= UINT32_MAX)
+        return result_of(WINDOW_BAD_RANGE, EINVAL);
+    int cause = range_read(facts, at, pages);
+    if (cause != 0) return result_of(WINDOW_NO_PAGEMAP, cause);
+    if (!facts->is_private || !facts->is_uniform) return result_of(WINDOW_BAD_MEMORY, EINVAL);
+    return facts->is_locked ? result_of(WINDOW_LOCKED, EPERM) : result_of(WINDOW_OK, 0);
+}
+
+static struct window *make_tables(struct windows *windows, void *at, size_t pages) {
+    struct window *window = calloc(1, sizeof *window);
+    if (window == NULL) return NULL;
+    *window = (struct window){.windows = windows, .at = at, .count = pages};
+    window->pages = calloc(pages, sizeof *window->pages);
+    window->parts = calloc((pages + PART - 1) / PART, sizeof *window->parts);
+    if (window->pages != NULL && window->parts != NULL) return window;
+    free_window(window);
+    return NULL;
+}
+
+/* Says for a new window what its range needs. */
+static struct window_result prepare(struct window *window, const struct range_facts *facts, unsigned flags) {
+    window->found = window->advice = facts->advice;
+    int cause = advice_begin(window->at, window->count);
+    if (cause == 0 && (flags & WINDOW_NO_CHILD) != 0) {
+        window->advice.dont_fork = true;
+        if (madvise(window->at, bytes_of(window->count), MADV_DONTFORK) < 0) cause = errno;
+    }
+    return cause == 0 ? result_of(WINDOW_OK, 0) : result_of(WINDOW_ADVICE, cause);
+}
+
+struct window_result window_make(struct window **made, struct windows *windows, void *at, size_t bytes, unsigned flags) {
+    struct range_facts facts;
+    *made = NULL;
+    struct window_result result = read_range(at, bytes, &facts);
+    if (result.status != WINDOW_OK) return result;
+    struct window *window = make_tables(windows, at, bytes / WINDOW_PAGE_BYTES);
+    if (window == NULL) return result_of(WINDOW_NO_MEMORY, ENOMEM);
+    result = prepare(window, &facts, flags);
+    lock_set(windows);
+    bool fits = !meets_other(windows, window->at, window->count) && find_numbers(windows, window->count, &window->base);
+    if (result.status == WINDOW_OK && !fits) result = result_of(WINDOW_BAD_RANGE, EINVAL);
+    if (result.status == WINDOW_OK) {
+        window->next = windows->first;
+        windows->first = window;
+        windows->counts.windows++;
+        windows->counts.pages += window->count;
+        windows->counts.mappings++;
+        *made = window;
+    }
+    unlock_set(windows);
+    if (*made == NULL) free_window(window);
+    return result;
+}
+
+/* Takes all pages home. Where that fails the window is as it was. */
+static struct window_result leave_home(struct window *window) {
+    struct windows *windows = window->windows;
+    lock_set(windows);
+    window->ends = true;
+    unlock_set(windows);
+    struct window_result result = for_parts(window, 0, window->count, take_home);
+    if (result.status == WINDOW_OK) return result;
+    lock_set(windows);
+    window->ends = false;
+    unlock_set(windows);
+    return result;
+}
+
+struct window_result window_free(struct window *window, enum window_end end) {
+    if (window == NULL) return result_of(WINDOW_OK, 0);
+    struct windows *windows = window->windows;
+    struct window_result result =
+        end == WINDOW_TAKE_HOME ? leave_home(window) : window_discard(window, 0, window->count);
+    if (result.status != WINDOW_OK) return result;
+    uint8_t *at = window->at;
+    size_t count = window->count;
+    struct advice found = window->found;
+    lock_set(windows);
+    windows->counts.windows--;
+    windows->counts.pages -= count;
+    windows->counts.mappings -= 1 + mappings_of(window, 0, count);
+    for (size_t page = 0; page < count; page++) note_zero(window, page, false);
+    window->ended = window->ends = true;
+    unlock_set(windows);
+    int cause = advice_end(&found, at, count);
+    return cause == 0 ? result : result_of(WINDOW_ADVICE, cause);
+}
+
+struct window_result window_advise(struct window *window, int advice) {
+    struct windows *windows = window->windows;
+    struct window_result result = result_of(WINDOW_OK, 0);
+    bool is_known = advice == MADV_DONTFORK || advice == MADV_DOFORK || advice == MADV_DONTDUMP || advice == MADV_DODUMP;
+    if (!is_known) return result_of(WINDOW_ADVICE, EINVAL);
+    lock_set(windows);
+    if (advice == MADV_DOFORK) window->advice.dont_fork = false;
+    if (advice == MADV_DONTDUMP || advice == MADV_DODUMP) window->advice.dont_dump = advice == MADV_DONTDUMP;
+    unlock_set(windows);
+    /* (a child would go on showing frames that are released) */
+    if (advice == MADV_DOFORK) result = for_parts(window, 0, window->count, take_home);
+    if (result.status != WINDOW_OK) return result;
+    if (madvise(window->at, bytes_of(window->count), advice) < 0) return result_of(WINDOW_ADVICE, errno);
+    lock_set(windows);
+    if (advice == MADV_DONTFORK) window->advice.dont_fork = true;
+    unlock_set(windows);
+    return result;
+}
+
+enum window_page window_page_is(struct window *window, size_t page) {
+    enum window_page is = WINDOW_PAGE_OUT;
+    lock_set(window->windows);
+    if (page < window->count && window->pages[page].out == 0)
+        is = window->pages[page].shows == 1  ? WINDOW_PAGE_LENT
+             : window->pages[page].zero == 1 ? WINDOW_PAGE_ZERO
+                                             : WINDOW_PAGE_PRIVATE;
+    unlock_set(window->windows);
+    return is;
+}

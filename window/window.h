@@ -1,0 +1,177 @@
+/*
+ * Windows: ranges of a process's memory whose idle pages are lent, while those who use the memory go on reading and writing it.
+ *
+ * A page of a window is at each moment
+ *   private: memory of its own;
+ *   lent:    a frame of the lender's file is mapped in its place, privately, and nothing guards it;
+ *   copied:  it was lent and somebody wrote to it, so the kernel made a private copy over the frame. A later look finds the copy, and
+ *            only then is the page's slot released.
+ * So a write waits for nobody: to a lent page it costs the kernel's own copy. A page is held only for the moment in which it is
+ * compared with its frame, byte by byte, and the frame is mapped. No lender is called meanwhile.
+ *
+ * windows_look, windows_attach and windows_detach are called by one thread at a time. All other calls may come from any thread at any
+ * time, but windows_free. Nobody waits long: the lock inside is never held while a lender is called, nor over a long run of pages.
+ *
+ * What whoever uses the memory owes:
+ * - Nobody discards (madvise), maps, unmaps, moves or protects a part of a window: window_discard and window_cut are there for it. A
+ *   private page can be the copy of a frame, and a discard would uncover the frame.
+ * - Nobody else registers a part of a window with a userfaultfd, or locks its memory (mlock): window_cut or window_free first.
+ * - Devices that write to pages by their physical addresses: see enum windows_pins.
+ */
+#ifndef PAGESHARE_WINDOW_H
+#define PAGESHARE_WINDOW_H
+
+#include "lender.h"
+#include <stdbool.h>
+#include <stddef.h>
+#include <stdint.h>
+
+/* What a call came to. `cause` is an errno, or 0. */
+enum window_status {
+    WINDOW_OK,
+    WINDOW_NO_MEMORY,     /* for tables */
+    WINDOW_NO_FAULTS,     /* no userfaultfd that write-protects shared memory or moves pages: Linux 6.4, and the right to it */
+    WINDOW_NO_PAGEMAP,    /* the system doesn't tell which pages were copied */
+    WINDOW_LOCKED,        /* memory is locked (mlock, mlockall): the kernel would copy each frame that is mapped */
+    WINDOW_BAD_RANGE,     /* not whole pages, out of the window, too many pages, or in another window already */
+    WINDOW_BAD_MEMORY,    /* not private anonymous memory that is readable and writable, or not of one kind throughout */
+    WINDOW_BAD_LENDER,    /* a lender's parts are missing or out of range, or its file isn't that large */
+    WINDOW_HAS_LENDER,    /* windows_attach without windows_detach */
+    WINDOW_PINNED,        /* pages that window_pin counts would have to leave their memory */
+    WINDOW_TOO_MANY_PINS, /* a page is pinned 65,535 times */
+    WINDOW_NO_MAPPING,    /* the system has no mapping, or no memory for one: nothing has changed */
+    WINDOW_STUCK,         /* the system refused to put pages back that were held: the next look tries again. Whoever uses them waits */
+    WINDOW_LENDER_FAILED, /* the lender returned `cause` */
+    WINDOW_ADVICE,        /* the system refused to set a range's advice or memory policy again */
+};
+struct window_result {
+    enum window_status status;
+    int cause;
+};
+/* A few words on a status. */
+const char *window_status_words(enum window_status status);
+
+/* All windows of a process that have one lender. */
+struct windows;
+/* One range. */
+struct window;
+
+/*
+ * Whether a device, or the kernel for one, may write to pages by their physical addresses: O_DIRECT, io_uring's buffers, VFIO,
+ * vhost with pinned pages. Where it may, only pages are lent that UFFDIO_MOVE takes (Linux 6.8), which refuses pinned pages. A page
+ * that was lent once and copied can't be moved, and so stays private from then on.
+ */
+enum windows_pins { WINDOWS_PINS_POSSIBLE, WINDOWS_PINS_NEVER };
+
+/* Zeros are good defaults. */
+struct windows_config {
+    enum windows_pins pins;
+    int faults;           /* a descriptor of /dev/userfaultfd, for who may not open it; 0: it is opened. Stays the caller's */
+    size_t mappings_most; /* mappings that windows may need in all; 0: the system's limit less 2,000 */
+    bool never_move;      /* as on a kernel without UFFDIO_MOVE; for tests */
+    bool never_scan;      /* as on a kernel without PAGEMAP_SCAN; for tests */
+    const char *trace;    /* a file for a record of events, where the library was built with WINDOW_TRACE; NULL: none */
+};
+
+/* Makes a set without windows or lender. Unless the status is WINDOW_OK *made is NULL. */
+struct window_result windows_make(struct windows **made, const struct windows_config *config);
+/* No other call runs or follows. Windows that are left are freed as by WINDOW_DROP; no slot is released. NULL is no set. */
+void windows_free(struct windows *windows);
+
+/* From the next look on pages are lent by this lender, whose struct is copied. */
+struct window_result windows_attach(struct windows *windows, const struct window_lender *lender);
+/*
+ * The lender is gone for good, and no slot of its counts any more. What windows show stays: its file lives as long as it is mapped.
+ * Pages that show its frames are lent anew when there is a lender again.
+ */
+void windows_detach(struct windows *windows);
+/* Calls `each` for every slot that is not released yet, until it returns something else than 0, and returns that or 0. `shown`:
+ * the page may show the slot's frame still. By the thread that looks. */
+int windows_each_slot(struct windows *windows, int (*each)(void *opaque, uint32_t page, uint64_t slot, bool shown), void *opaque);
+
+/* Devices may pin from now on, or no longer. */
+void windows_set_pins(struct windows *windows, enum windows_pins pins);
+
+enum {
+    WINDOW_NO_CHILD = 1 /* no child of a fork needs the range, so MADV_DONTFORK is said for it */
+};
+/*
+ * Makes a range of private anonymous memory a window, of whole pages, with what it contains. Its advice is set again for frames that
+ * are mapped: MADV_DONTDUMP, DONTFORK, NOHUGEPAGE and a memory policy (mbind). MADV_NOHUGEPAGE is said for it, and MADV_UNMERGEABLE,
+ * since the kernel's KSM would merge pages that are held; window_free puts both back. Nothing is lent of a range that a child would
+ * have (no MADV_DONTFORK): a child would go on showing frames that are released.
+ */
+struct window_result window_make(struct window **made, struct windows *windows, void *at, size_t bytes, unsigned flags);
+
+/* How a window ends. */
+enum window_end {
+    WINDOW_TAKE_HOME, /* each page gets memory of its own: whoever uses the range goes on */
+    WINDOW_DROP,      /* nobody uses the range any more: it is zeros afterwards */
+};
+/*
+ * Ends a window; the range is the caller's again, and window means nothing any more. Slots are released by later looks. Where the
+ * status isn't WINDOW_OK the window is as it was, but that some pages may be private. NULL is no window.
+ */
+struct window_result window_free(struct window *window, enum window_end end);
+
+/* Says `advice` for the whole window, now and for frames that are mapped later: MADV_DONTFORK, MADV_DOFORK, MADV_DONTDUMP or
+ * MADV_DODUMP; else WINDOW_ADVICE with EINVAL. */
+struct window_result window_advise(struct window *window, int advice);
+
+/* The pages' content is given up: they are zeros and take no memory. Those that leave a window are zeroed, too. */
+struct window_result window_discard(struct window *window, size_t first, size_t count);
+
+/*
+ * Pages are about to be pinned by a device, and get memory of their own until window_unpin was called as often as window_pin. A page
+ * that is not pinned isn't unpinned either. Where the status isn't WINDOW_OK no page's count has changed.
+ */
+struct window_result window_pin(struct window *window, size_t first, size_t count);
+struct window_result window_unpin(struct window *window, size_t first, size_t count);
+
+/* Pages get memory of their own and leave the window for good: their range is the caller's to unmap, protect, lock or move. */
+struct window_result window_cut(struct window *window, size_t first, size_t count);
+
+/*
+ * A look at all windows, to be called once a second or so:
+ *   find     copies, whose slots are released; pages of zeros, which the system gets back;
+ *   idle     pages with the same fingerprint at three looks;
+ *   ask      which of them the lender has seen elsewhere, too. The others stay where they are;
+ *   lend     those, from copies of their bytes, with nothing guarded;
+ *   hold     each, by UFFDIO_MOVE or by write protection; compare it with its frame; map the frame; and let who waited go on.
+ * Returns the first thing that went wrong, having done what could be done all the same.
+ */
+struct window_result windows_look(struct windows *windows);
+
+/* Why nothing is lent at the moment, of all windows. */
+enum windows_pause {
+    WINDOWS_LENDING,
+    WINDOWS_NO_LENDER, /* none is attached, or it didn't answer at the last look */
+    WINDOWS_LOCKED,    /* memory was locked: all pages got memory of their own */
+    WINDOWS_HELD,      /* pages couldn't be put back (WINDOW_STUCK) */
+    WINDOWS_CROWDED,   /* as many mappings as there may be */
+};
+
+/* Counts of a set, since it was made, but for the first seven. */
+struct windows_counts {
+    enum windows_pause pause;
+    size_t windows, pages;
+    size_t lent;        /* pages that show a frame, and weren't found copied */
+    size_t zeros_now;   /* pages that were given back as zeros, and weren't found written */
+    size_t mappings;    /* of the system, that windows take */
+    size_t table_bytes; /* of tables */
+    uint64_t looks, lends, copied, zeros, discarded, taken_home;
+    uint64_t asked, seen;              /* questions, and those of pages that were seen elsewhere */
+    uint64_t changed;                  /* pages written between their lend and the comparison, which stay private */
+    uint64_t pinned;                   /* pages that the system refused to move or guard */
+    uint64_t no_frame, no_mapping;     /* pages that weren't lent since the lender, or the system, had none */
+    uint64_t lender_failures;
+    uint64_t look_ns, ask_ns, lend_ns, map_ns; /* processor time of looks: all; in the lender's calls; from hold to wake */
+    uint64_t hold_most_ns;                     /* the longest time that a page was held, by the clock */
+};
+void windows_count(struct windows *windows, struct windows_counts *counts);
+
+/* What a page is, as far as looks know. ZERO: it was given back as zeros. */
+enum window_page { WINDOW_PAGE_PRIVATE, WINDOW_PAGE_LENT, WINDOW_PAGE_ZERO, WINDOW_PAGE_OUT };
+enum window_page window_page_is(struct window *window, size_t page);
+
+#endif

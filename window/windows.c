@@ -1,0 +1,190 @@
+/* Sets of windows, and their lenders. */
+#define _GNU_SOURCE
+#include "set.h"
+#include <errno.h>
+#include <fcntl.h>
+#include <stdlib.h>
+#include <string.h>
+#include <sys/mman.h>
+#include <sys/stat.h>
+#include <unistd.h>
+
+/* Mappings that are left to the rest of the process. */
+enum { MAPPINGS_SPARE = 2000 };
+
+const char *window_status_words(enum window_status status) {
+    static const char *const words[] = {
+        [WINDOW_OK] = "done",
+        [WINDOW_NO_MEMORY] = "no memory for tables",
+        [WINDOW_NO_FAULTS] = "no userfaultfd that can guard pages",
+        [WINDOW_NO_PAGEMAP] = "the system doesn't tell which pages were copied",
+        [WINDOW_LOCKED] = "memory is locked, so nothing can be lent",
+        [WINDOW_BAD_RANGE] = "the range is not whole pages of one window",
+        [WINDOW_BAD_MEMORY] = "the range is not private anonymous memory of one kind",
+        [WINDOW_BAD_LENDER] = "the lender lacks something, or its file is too short or not sealed",
+        [WINDOW_HAS_LENDER] = "a lender is attached already",
+        [WINDOW_PINNED] = "pages are pinned",
+        [WINDOW_TOO_MANY_PINS] = "a page is pinned too often",
+        [WINDOW_NO_MAPPING] = "the system refused a mapping or a guard",
+        [WINDOW_STUCK] = "pages that were held can't be put back yet",
+        [WINDOW_LENDER_FAILED] = "the lender failed",
+        [WINDOW_ADVICE] = "advice or a memory policy was refused",
+    };
+    size_t count = sizeof words / sizeof words[0];
+    return (size_t)status < count && words[status] != NULL ? words[status] : "unknown";
+}
+
+static struct window_result open_parts(struct windows *windows, const struct windows_config *config) {
+    struct range_facts facts;
+    int cause = faults_open(&windows->faults, config->faults, config->never_move);
+    if (cause != 0) return result_of(WINDOW_NO_FAULTS, cause);
+    cause = pagemap_open(&windows->pagemap, config->never_scan);
+    if (cause != 0) return result_of(WINDOW_NO_PAGEMAP, cause);
+    int refused = make_scratch(windows);
+    if (windows->scratch == NULL) return result_of(WINDOW_NO_MAPPING, refused);
+    /* (with mlockall all new memory is locked, and refuses to be discarded) */
+    cause = range_read(&facts, windows->scratch, HOLD_MOST);
+    if (cause != 0) return result_of(WINDOW_NO_PAGEMAP, cause);
+    if (facts.is_locked) return result_of(WINDOW_LOCKED, EPERM);
+    return refused == 0 ? result_of(WINDOW_OK, 0) : result_of(WINDOW_NO_MAPPING, refused);
+}
+
+struct window_result windows_make(struct windows **made, const struct windows_config *config) {
+    struct windows *windows = calloc(1, sizeof *windows);
+    *made = NULL;
+    if (windows == NULL) return result_of(WINDOW_NO_MEMORY, ENOMEM);
+    pthread_mutex_init(&windows->lock, NULL);
+    windows->faults.fd = windows->pagemap.fd = windows->frames_fd = NO_FILE;
+    windows->pins = config->pins;
+    windows->trace_path = config->trace;
+    windows->mappings_most = config->mappings_most;
+    if (windows->mappings_most == 0) {
+        size_t limit = mappings_limit();
+        windows->mappings_most = limit > MAPPINGS_SPARE ? limit - MAPPINGS_SPARE : 0;
+    }
+    windows->counts.pause = WINDOWS_NO_LENDER;
+    struct window_result result = open_parts(windows, config);
+    if (result.status == WINDOW_OK) *made = windows;
+    else windows_free(windows);
+    return result;
+}
+
+static void close_file(int fd) {
+    if (fd >= 0) close(fd);
+}
+
+static void forget_frames(struct windows *windows) {
+    if (windows->frames_at != NULL) munmap((void *)(uintptr_t)windows->frames_at, bytes_of(windows->lender.frame_count));
+    close_file(windows->frames_fd);
+    windows->frames_at = NULL;
+    windows->frames_fd = NO_FILE;
+    windows->has_lender = false;
+}
+
+void windows_free(struct windows *windows) {
+    if (windows == NULL) return;
+    for (struct window *window = windows->first, *next; window != NULL; window = next) {
+        next = window->next;
+        if (!window->ended) window_discard(window, 0, window->count);
+        free_window(window);
+    }
+    forget_frames(windows);
+    close_file(windows->faults.fd);
+    close_file(windows->pagemap.fd);
+    if (windows->scratch != NULL) munmap(windows->scratch, bytes_of(HOLD_MOST));
+#ifdef WINDOW_TRACE
+    if (windows->trace != NULL) trace_close(windows->trace);
+#endif
+    pthread_mutex_destroy(&windows->lock);
+    free(windows);
+}
+
+/* Whether the lender's file has all frames, and can't be cut short: who reads a frame behind its end would be killed. */
+static bool is_whole(const struct window_lender *lender) {
+    struct stat stat;
+    int seals = fcntl(lender->frames, F_GET_SEALS);
+    return fstat(lender->frames, &stat) == 0 && (size_t)stat.st_size >= bytes_of(lender->frame_count) && seals >= 0 &&
+           (seals & F_SEAL_SHRINK) != 0;
+}
+
+struct window_result windows_attach(struct windows *windows, const struct window_lender *lender) {
+    if (windows->has_lender) return result_of(WINDOW_HAS_LENDER, EBUSY);
+    bool has_all = lender->ask != NULL && lender->lend != NULL && lender->release != NULL && lender->pages != NULL;
+    if (!has_all || lender->frame_count == 0 || lender->frame_count > WINDOW_FRAMES_MOST || !is_whole(lender))
+        return result_of(WINDOW_BAD_LENDER, EINVAL);
+    int fd = fcntl(lender->frames, F_DUPFD_CLOEXEC, 0);
+    if (fd < 0) return result_of(WINDOW_BAD_LENDER, errno);
+    void *at = mmap(NULL, bytes_of(lender->frame_count), PROT_READ, MAP_SHARED | MAP_NORESERVE, fd, 0);
+    if (at == MAP_FAILED) {
+        int cause = errno;
+        close(fd);
+        return result_of(WINDOW_NO_MAPPING, cause);
+    }
+    lock_for_look(windows);
+    windows->lender = *lender;
+    windows->frames_fd = fd;
+    windows->frames_at = at;
+    windows->has_lender = true;
+    windows->lender_waits = false;
+#ifdef WINDOW_TRACE
+    if (windows->trace_path != NULL && windows->trace == NULL)
+        windows->trace = trace_open(windows->trace_path, lender->frame_count);
+#endif
+    unlock_set(windows);
+    return result_of(WINDOW_OK, 0);
+}
+
+/* No slot of the window counts any more; what it shows is of the past. */
+static void detach_window(struct window *window) {
+    struct windows *windows = window->windows;
+    for (size_t i = 0; i < window->count; i++) {
+        struct page *page = &window->pages[i];
+        if (page->over == 1) {
+            if (page->shows == 1 && page->past == 0) windows->past++;
+            page->past = 1;
+        }
+        if (page->shows == 1 && page->holds == 1) windows->counts.lent--;
+        page->holds = 0;
+        page->looks = 0;
+    }
+    memset(window->parts, 0, (window->count + PART - 1) / PART * sizeof window->parts[0]);
+}
+
+void windows_detach(struct windows *windows) {
+    if (!windows->has_lender) return;
+    lock_for_look(windows);
+    for (struct window *window = windows->first; window != NULL; window = window->next) detach_window(window);
+    forget_frames(windows);
+    windows->counts.pause = WINDOWS_NO_LENDER;
+    unlock_set(windows);
+}
+
+int windows_each_slot(struct windows *windows, int (*each)(void *opaque, uint32_t page, uint64_t slot, bool shown), void *opaque) {
+    int stopped = 0;
+    lock_for_look(windows);
+    for (struct window *window = windows->first; window != NULL && stopped == 0; window = window->next)
+        for (size_t i = 0; i < window->count && stopped == 0; i++) {
+            const struct page *page = &window->pages[i];
+            if (page->holds == 1) stopped = each(opaque, window->base + (uint32_t)i, page->slot, page->shows == 1);
+        }
+    unlock_set(windows);
+    return stopped;
+}
+
+void windows_set_pins(struct windows *windows, enum windows_pins pins) {
+    lock_set(windows);
+    windows->pins = pins;
+    unlock_set(windows);
+}
+
+void windows_count(struct windows *windows, struct windows_counts *counts) {
+    lock_set(windows);
+    *counts = windows->counts;
+    counts->table_bytes = sizeof *windows;
+    for (const struct window *window = windows->first; window != NULL; window = window->next) {
+        size_t parts = (window->count + PART - 1) / PART;
+        counts->table_bytes += sizeof *window + window->count * sizeof window->pages[0] + parts * sizeof window->parts[0];
+        if (window->pins != NULL) counts->table_bytes += window->count * sizeof window->pins[0];
+    }
+    unlock_set(windows);
+}
