@@ -14,7 +14,8 @@ enum {
     BUSY_PART = 4,      /* while much is found it is so many times shorter */
     CALM_PART = 2,      /* while nothing is found it is so many times longer */
     CALM_LOOKS = 30,    /* looks that find nothing until then */
-    MUCH = 64,          /* pages found in a look that make the next one come sooner */
+    MUCH_PART = 128,    /* a look that finds one in so many pages, and MUCH of them, makes the next one come sooner */
+    MUCH = 256,
     LITTLE = 4,
     PATH_ROOM = 256
 };
@@ -158,7 +159,7 @@ static void choose_period(const struct windows_counts *now) {
     uint64_t found = now->lends - my.before.lends + (now->zeros - my.before.zeros);
     uint64_t asked = now->asked - my.before.asked;
     my.calm = found <= LITTLE && asked <= MUCH ? my.calm + 1 : 0;
-    if (found >= MUCH) my.period_ms = told.period_ms / BUSY_PART;
+    if (found >= MUCH && found >= now->pages / MUCH_PART) my.period_ms = told.period_ms / BUSY_PART;
     else if (my.calm >= CALM_LOOKS) my.period_ms = my.period_ms < told.period_ms * CALM_PART ? my.period_ms + told.period_ms / 4 : my.period_ms;
     else my.period_ms = told.period_ms;
     if (my.period_ms == 0) my.period_ms = 1;
