@@ -44,6 +44,8 @@ struct domain {
     int listener, status_listener, poll, wake;
     int faults_device; /* /dev/userfaultfd, or NOTHING; all domains have the one */
     bool is_deaf;      /* the system has no descriptor for another connection: none is taken until the next tick */
+    struct pageshare_host_totals counted; /* the library's totals, as they were last counted */
+    uint64_t counted_until_ns;            /* and until when they are told */
     uint64_t start_ns, next_tick_ns, messages, asked, lends, releases, refused, faults, turned_away;
     pthread_t thread;
     bool has_thread;

@@ -32,15 +32,24 @@ static void list_clients(struct domain *domain, struct status_totals *totals, st
     }
 }
 
+/* The library looks at each slot to count them. So that asking often doesn't slow clients down, that takes one part in 20 of the time. */
+static const struct pageshare_host_totals *count(struct domain *domain) {
+    enum { PART = 20 };
+    uint64_t begin = now_ns();
+    if (begin < domain->counted_until_ns) return &domain->counted;
+    if (pageshare_host_report(&domain->host, &domain->counted) != PAGESHARE_HOST_OK) tell("the library's totals aren't there");
+    domain->counted_until_ns = now_ns() + (now_ns() - begin) * PART;
+    return &domain->counted;
+}
+
 static void fill(struct domain *domain, struct status_totals *totals, struct status_client *clients) {
-    struct pageshare_host_totals counted = {0};
-    if (pageshare_host_report(&domain->host, &counted) != PAGESHARE_HOST_OK) trouble("the library's totals");
+    const struct pageshare_host_totals *counted = count(domain);
     *totals = (struct status_totals){.version = STATUS_VERSION,
-                                     .lent_pages = counted.slots,
-                                     .frames = counted.frames,
+                                     .lent_pages = counted->slots,
+                                     .frames = counted->frames,
                                      .frames_most = domain->frames.count,
-                                     .shared_pages = counted.shared,
-                                     .reclaimed_pages = counted.reclaimed,
+                                     .shared_pages = counted->shared,
+                                     .reclaimed_pages = counted->reclaimed,
                                      .frame_bytes = frames_memory(&domain->frames),
                                      .host_bytes = host_bytes(),
                                      .messages = domain->messages,

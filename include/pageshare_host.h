@@ -1,0 +1,285 @@
+/*
+ * The host of VMM processes that share memory, in C11 or C++11: the functions of libpageshare_host.a.
+ *
+ * A host has machines with frames, and sessions. Each VMM process that is connected is a client with a session. What it sends is
+ * bytes: a packet of its SOCK_SEQPACKET connection is one message. pageshare_host_receive takes the packet and makes the packet to
+ * reply with. It moves no byte itself: sockets, descriptors and processes are the caller's.
+ *
+ *     struct pageshare_host host = PAGESHARE_HOST_NONE;
+ *     struct pageshare_host_shape shape = {.machines = 4, .slots = 1000000, .frames = 500000, ..};
+ *     if (pageshare_host_make(&host, &shape, region, region_bytes) != PAGESHARE_HOST_OK) ..
+ *     pageshare_host_connect(&host, name, &connection);                               a peer has connected
+ *     struct pageshare_host_received got = pageshare_host_receive(&host, connection, packet, length, ..);
+ *     ..
+ *     pageshare_host_disconnect(&host, connection);                                   the connection has ended
+ *     do pageshare_host_end(&host, connection, freed, 128, &count); while (count);    the peer's process has ended
+ *
+ * No call has a condition on its numbers or on a packet's bytes: a wrong one is answered by a status above 0. Only a packet that
+ * is at fault changes something then: its session takes no more messages. docs/FORMATS.md has the format of messages.
+ *
+ * What the caller owes, and nothing checks:
+ *
+ * - A handle begins as PAGESHARE_HOST_NONE or as zeros, and these calls alone read and write its members. It isn't copied. One call
+ *   at a time works on it.
+ * - Each pointer is not null, also where its count is 0, is aligned for its type, and points to as many elements as are named
+ *   beside it, for as long as the call runs. What a call writes to overlaps no other argument of it. Nobody writes meanwhile to what
+ *   it reads: a client can write to a buffer that it shares with the host, so copy the pages out of it first.
+ * - A count of elements makes less than 2^63 bytes.
+ * - The region is the library's until the host is freed: nobody else writes to it, but that the memory of free frames may be given
+ *   back to the system while no call runs.
+ * - A name is drawn at random for each connection, and told to nobody else.
+ * - pageshare_host_end is called only when nothing shows the session's frames any more: its process has ended, and no other process
+ *   has its mappings.
+ */
+#ifndef PAGESHARE_HOST_H
+#define PAGESHARE_HOST_H
+
+#include <stdbool.h>
+#include <stddef.h>
+#include <stdint.h>
+
+#ifdef __cplusplus
+extern "C" {
+#endif
+
+/*
+ * Messages. All numbers are little endian, and a packet holds one message and nothing else. These structs are a packet's bytes on a
+ * machine that is little endian; a packet ends after the last of `count` elements.
+ */
+
+#define PAGESHARE_HOST_VERSION 1
+#define PAGESHARE_HOST_NAME_BYTES 16
+#define PAGESHARE_HOST_MAX_PAGES 128      /* the most pages (or slots) in one message */
+#define PAGESHARE_HOST_MAX_MESSAGE 2056   /* the bytes of the longest message, of either side */
+#define PAGESHARE_HOST_NO_FRAME UINT32_MAX
+
+enum pageshare_host_kind {
+    /* from a client */
+    PAGESHARE_HOST_HELLO = 1,    /* the first message, once. Reply: WELCOME */
+    PAGESHARE_HOST_ASK = 2,      /* whether other pages have these fingerprints. Reply: SEEN */
+    PAGESHARE_HOST_LEND = 3,     /* lends the first `count` pages of the buffer. Reply: LOANS */
+    PAGESHARE_HOST_RELEASE = 4,  /* releases slots; one that isn't the client's stays as it is. No reply */
+    /* from the host */
+    PAGESHARE_HOST_WELCOME = 17,
+    PAGESHARE_HOST_SEEN = 18,
+    PAGESHARE_HOST_LOANS = 19
+};
+
+/* 8 bytes for a new session. 24 bytes to take up the session with this name, whose connection has ended. If there is none, a new
+ * session begins: WELCOME says which by its name. */
+struct pageshare_host_hello {
+    uint32_t kind, version;
+    uint8_t name[PAGESHARE_HOST_NAME_BYTES];
+};
+
+/* `page` is a number of the client's choice for each of its pages, so that a page that asks again doesn't see itself. */
+struct pageshare_host_question {
+    uint64_t page, fingerprint;
+};
+
+struct pageshare_host_ask {
+    uint32_t kind, count;
+    struct pageshare_host_question questions[PAGESHARE_HOST_MAX_PAGES];
+};
+
+struct pageshare_host_lend {
+    uint32_t kind, count;
+};
+
+struct pageshare_host_release {
+    uint32_t kind, count;
+    uint64_t slots[PAGESHARE_HOST_MAX_PAGES];
+};
+
+struct pageshare_host_welcome {
+    uint32_t kind, version;
+    uint8_t name[PAGESHARE_HOST_NAME_BYTES]; /* the session's */
+    uint32_t frames;                         /* in the file of frames */
+    uint32_t salt;                           /* of fingerprints */
+    uint32_t most;                           /* pages in one message */
+};
+
+/* seen[i] is 1 where another page had the fingerprint of questions[i] lately, and else 0. */
+struct pageshare_host_seen {
+    uint32_t kind, count;
+    uint8_t seen[PAGESHARE_HOST_MAX_PAGES];
+};
+
+struct pageshare_host_lent {
+    uint64_t slot;    /* the page's slot; 0 where it isn't lent */
+    uint32_t frame;   /* the frame that holds the page's bytes; PAGESHARE_HOST_NO_FRAME where it isn't lent */
+    uint32_t sharers; /* how many slots have the frame, with this one; 0 where it isn't lent */
+};
+
+struct pageshare_host_loans {
+    uint32_t kind, count;
+    struct pageshare_host_lent loans[PAGESHARE_HOST_MAX_PAGES];
+};
+
+/* What a call answers. Numbers that libpageshare has too mean the same there. */
+enum pageshare_host_status {
+    PAGESHARE_HOST_OK = 0,
+    PAGESHARE_HOST_ERROR_FRAMES = 1,    /* fewer than 2 frames for each machine, or more than 1,048,576 */
+    PAGESHARE_HOST_ERROR_MEMORY = 4,    /* memory was refused */
+    PAGESHARE_HOST_ERROR_IN_USE = 5,    /* the handle holds a host already */
+    PAGESHARE_HOST_ERROR_NO_HOST = 6,   /* the handle holds no host, or one that isn't made yet */
+    PAGESHARE_HOST_ERROR_REGION = 13,   /* the region has room for another number of frames, or isn't aligned to 4,096 */
+    PAGESHARE_HOST_ERROR_MACHINES = 16, /* no machine, or more than 64 */
+    PAGESHARE_HOST_ERROR_SLOTS = 17,    /* no slots, or more than 1,048,576 for each machine */
+    PAGESHARE_HOST_ERROR_SESSIONS = 18, /* room for no session, or for more than 65,536 */
+    PAGESHARE_HOST_ERROR_RECENT = 19,   /* room for no question, or for more than 16,777,216 */
+    PAGESHARE_HOST_ERROR_NO_ROOM = 20,  /* connect: there are as many sessions as there may be */
+    PAGESHARE_HOST_ERROR_NO_SESSION = 32, /* no session with this number takes messages (disconnect, end, session: there is none) */
+    PAGESHARE_HOST_ERROR_SHORT = 33,      /* receive: the reply needs PAGESHARE_HOST_MAX_MESSAGE bytes, freed 128 numbers */
+    /* Faults of a packet, in the order in which they are looked for. The session takes no more messages; its slots stay. */
+    PAGESHARE_HOST_FAULT_HEAD = 64,     /* fewer than 8 bytes */
+    PAGESHARE_HOST_FAULT_KIND = 65,     /* a client sends no message of this kind */
+    PAGESHARE_HOST_FAULT_VERSION = 66,  /* HELLO: another version */
+    PAGESHARE_HOST_FAULT_COUNT = 67,    /* more than 128 pages or slots */
+    PAGESHARE_HOST_FAULT_LENGTH = 68,   /* another number of bytes than the kind and the count say */
+    PAGESHARE_HOST_FAULT_EARLY = 69,    /* the first message isn't HELLO */
+    PAGESHARE_HOST_FAULT_AGAIN = 70,    /* HELLO in a session that has begun */
+    PAGESHARE_HOST_FAULT_PAGES = 71,    /* LEND of more pages than the buffer has */
+    PAGESHARE_HOST_FAULT_CLIENTS = 72   /* HELLO: no client can enter */
+};
+
+/* A handle: room for one host. Its members are the library's. */
+struct pageshare_host {
+    void *private_at;
+    bool private_live;
+};
+
+/* What a handle begins as: it holds no host. */
+#define PAGESHARE_HOST_NONE {NULL, false}
+
+/* What a host is made of. All memory is taken when it is made; no other call asks for any. */
+struct pageshare_host_shape {
+    uint32_t machines; /* 1 to 64. Equal pages meet, since a page's hash says which machine it goes to */
+    uint32_t slots;    /* the pages that may be lent at a time, of each machine: 1 to 1,048,576 */
+    uint32_t frames;   /* of each machine, 2 to 1,048,576. One of them is spare: it is in use only within a call */
+    uint32_t sessions; /* the most sessions at a time: 1 to 65,536 */
+    uint32_t recent;   /* how many questions are remembered: 1 to 16,777,216 */
+    uint32_t quota;    /* the most slots of one session */
+    uint32_t salt;     /* of the pages' hash. Drawn at random, and kept secret from clients */
+    uint32_t fingerprints; /* the salt of fingerprints, which clients are told: another one */
+    uint64_t seed;     /* drawn at random and kept secret: who knows it can make questions take long */
+};
+
+/* Memory of the caller's for the frames of one machine: room for `pages` pages of 4,096 bytes from `at` on. */
+struct pageshare_host_region {
+    void *at;
+    size_t pages;
+};
+
+/*
+ * Begins a host. Answers 0, or the first cause that holds in this order: 5, 16, 17, 1, 18, 19, 4. Each other call but
+ * pageshare_host_add and pageshare_host_free answers 6 until it is made. Pages are found by the fast hash (PAGESHARE_FOLD).
+ */
+uint32_t pageshare_host_begin(struct pageshare_host *host, const struct pageshare_host_shape *shape);
+
+/*
+ * Gives a host that was begun the frames of its next machine. With those of the last machine the host is made. Answers 0, 6 (no host
+ * was begun, or it is made), 13 (the region has room for another number of frames) or 4 (memory; the handle holds nothing then, and
+ * the library doesn't touch the regions again).
+ */
+uint32_t pageshare_host_add(struct pageshare_host *host, struct pageshare_host_region region);
+
+/* Frees the host, whoever is connected, or one that was begun. Answers 0 or 6; the handle holds none afterwards. */
+uint32_t pageshare_host_free(struct pageshare_host *host);
+
+/*
+ * Makes a host over a region of machines * frames pages, aligned to 4,096 bytes. Frame n is the 4,096 bytes at 4096 n of it, whatever
+ * machine has it. Answers 0 or what pageshare_host_begin and pageshare_host_add answer; unless it is 0, the handle holds nothing.
+ */
+static inline uint32_t pageshare_host_make(struct pageshare_host *host, const struct pageshare_host_shape *shape, void *region,
+                                           size_t region_bytes) {
+    struct pageshare_host_region part;
+    uint32_t machine, status = pageshare_host_begin(host, shape);
+    if (status != PAGESHARE_HOST_OK) return status;
+    if ((uintptr_t)region % 4096 != 0 || region_bytes / 4096 < (uint64_t)shape->machines * shape->frames)
+        status = PAGESHARE_HOST_ERROR_REGION;
+    for (machine = 0; status == PAGESHARE_HOST_OK && machine < shape->machines; machine++) {
+        part.at = (uint8_t *)region + (size_t)machine * shape->frames * 4096;
+        part.pages = shape->frames;
+        status = pageshare_host_add(host, part);
+    }
+    if (status != PAGESHARE_HOST_OK) pageshare_host_free(host);
+    return status;
+}
+
+/*
+ * A peer has connected: its session gets a number and has said nothing yet. `name` is drawn at random for it. Answers 0, 6 or 20.
+ */
+uint32_t pageshare_host_connect(struct pageshare_host *host, const uint8_t name[PAGESHARE_HOST_NAME_BYTES], uint32_t *session);
+
+struct pageshare_host_received {
+    uint32_t status;      /* an enum pageshare_host_status. Unless it is 0, reply and freed stay as they are */
+    uint32_t reply_bytes; /* the bytes of the reply, or 0: there is none */
+    uint32_t freed;       /* how many numbers stand in `freed` */
+    uint32_t resumed;     /* HELLO took up the session with this number, which is free now; else PAGESHARE_HOST_NO_FRAME */
+};
+
+/*
+ * Receives one packet of a session: `length` bytes, as many as there are. `pages` are the pages of its buffer, copied out of it; only
+ * LEND reads them, so page_count may be 0 for a packet of another kind. The reply goes to `reply`, of at least
+ * PAGESHARE_HOST_MAX_MESSAGE bytes. After RELEASE freed[i] is the frame that slot i's release freed, or PAGESHARE_HOST_NO_FRAME;
+ * give 128 numbers. What it does changes no slot of another session, whatever the bytes are.
+ */
+struct pageshare_host_received pageshare_host_receive(struct pageshare_host *host, uint32_t session, const uint8_t *bytes,
+                                                      size_t length, const uint8_t (*pages)[4096], size_t page_count,
+                                                      uint8_t *reply, size_t reply_room, uint32_t *freed, size_t freed_room);
+
+/*
+ * A session's connection has ended. A session that has slots, or may have some, keeps its number and its slots until
+ * pageshare_host_end, or until another connection takes it up by its name. Answers 0, 6 or 32.
+ */
+uint32_t pageshare_host_disconnect(struct pageshare_host *host, uint32_t session);
+
+/*
+ * A session's process has ended: releases at most `room` of its slots. *count is how many, and for the i-th of them freed[i] is the
+ * frame that is free since, or PAGESHARE_HOST_NO_FRAME. From the first call on the session takes no message. Call it until *count is
+ * 0: then the session's number may be another's. Give room for one number at least. Answers 0, 6, 32 or 33 (no room); unless it is 0,
+ * freed and *count stay as they are.
+ */
+uint32_t pageshare_host_end(struct pageshare_host *host, uint32_t session, uint32_t *freed, size_t room, size_t *count);
+
+enum pageshare_host_state {
+    PAGESHARE_HOST_STATE_SILENT = 1,  /* connected, and has said nothing */
+    PAGESHARE_HOST_STATE_TALKING = 2, /* connected, and has said HELLO */
+    PAGESHARE_HOST_STATE_GONE = 3,    /* its connection has ended; it can be taken up by its name */
+    PAGESHARE_HOST_STATE_BROKEN = 4,  /* sent a packet at fault; its slots stay until its process ends */
+    PAGESHARE_HOST_STATE_ENDED = 5    /* its process has ended, and its slots are being released */
+};
+
+struct pageshare_host_session {
+    uint32_t state;    /* an enum pageshare_host_state */
+    uint32_t slots;    /* how many slots it has */
+    uint32_t fault;    /* the fault that broke it, or 0 */
+    uint32_t reserved; /* 0 */
+    uint64_t messages; /* how many messages it sent, without the one at fault */
+};
+
+/* Gets what is known of a session. Answers 0, 6 or 32. */
+uint32_t pageshare_host_session(struct pageshare_host *host, uint32_t session, struct pageshare_host_session *told);
+
+/* What a host counts. */
+struct pageshare_host_totals {
+    uint32_t machines;
+    uint32_t clients;   /* the sessions that have said HELLO and haven't ended */
+    uint32_t slots;     /* the slots that sessions have */
+    uint32_t frames;    /* the frames in use */
+    uint32_t shared;    /* the slots whose frame another slot has, too */
+    uint32_t reclaimed; /* slots less frames: what sharing saves */
+};
+
+/* Gets the host's totals. It looks at each slot. Answers 0 or 6. */
+uint32_t pageshare_host_report(struct pageshare_host *host, struct pageshare_host_totals *totals);
+
+/* A page's fingerprint under a salt, as a client computes it. */
+uint64_t pageshare_host_fingerprint(uint32_t salt, const uint8_t page[4096]);
+
+#ifdef __cplusplus
+}
+#endif
+
+#endif
