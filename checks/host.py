@@ -133,9 +133,9 @@ PLACE = None
 class Host:
     """A host that runs as the user daemon, with one domain."""
 
-    def __init__(self, *more, memory="1G", name="web", program=HOST, user=("--user", "daemon")):
+    def __init__(self, *more, memory="1G", name="web", program=None, user=("--user", "daemon")):
         self.socket, self.log = PLACE.room / f"{name}.sock", PLACE.room / f"{name}.log"
-        self.words = [program, "--domain", f"{name}={self.socket}", "--memory", memory, "--group", str(NOBODY), *user, *more]
+        self.words = [program or HOST, "--domain", f"{name}={self.socket}", "--memory", memory, "--group", str(NOBODY), *user, *more]
         PLACE.started.append(self)
         self.start()
 
@@ -791,7 +791,8 @@ def wait_until_still(host, clients, seconds=60):
     while time.time() - begin < seconds:
         time.sleep(5)
         state = host.status()
-        if state["clients"] == clients and abs(state["reclaimed_bytes"] - before) < 1 << 20:
+        is_still = state["clients"] == clients and abs(state["reclaimed_bytes"] - before) < 1 << 20
+        if is_still and time.time() - begin > 18:
             return
         before = state["reclaimed_bytes"]
 
@@ -817,7 +818,7 @@ def run_case(name):
 
 
 def main():
-    global PLACE
+    global PLACE, HOST, LIBRARY  # pylint: disable=global-statement
     names = sys.argv[1:]
     if names == ["--list"]:
         for name, run in CASES.items():
@@ -834,9 +835,10 @@ def main():
         if not it.exists():
             print(f"{it} isn't there: make host")
             return 1
-    OUT.mkdir(parents=True, exist_ok=True)
     PLACE = Place()
     atexit.register(PLACE.remove)
+    # (so that a build meanwhile changes nothing)
+    HOST, LIBRARY = (pathlib.Path(shutil.copy(it, PLACE.room)) for it in (HOST, LIBRARY))
     signal.signal(signal.SIGTERM, lambda *_: sys.exit(1))
     verdicts = {name: run_case(name) for name in names or [name for name in CASES if name not in LONG]}
     failed = [name for name, verdict in verdicts.items() if verdict.startswith("FAILED")]
