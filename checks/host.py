@@ -357,7 +357,7 @@ def case_fuzz():
 def case_stress():
     """Threads that write, check and discard under the library, in two processes; with descriptors closed; with parts that leave."""
     program, host = compile_c("stress"), Host(memory="256M")
-    for words in ((), ("close",), ("fewer",)):
+    for words in ((), ("close",), ("raw",), ("fewer",)):
         ran = [subprocess.Popen([*AS_NOBODY, program, "10", "48", "2", *words], env=preloaded(host), text=True, stdout=subprocess.PIPE,
                                 stderr=subprocess.STDOUT) for _ in range(2)]
         time.sleep(6)

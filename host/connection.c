@@ -17,6 +17,7 @@ enum {
     MUCH_PART = 128,    /* a look that finds one in so many pages, and MUCH of them, makes the next one come sooner */
     MUCH = 256,
     LITTLE = 4,
+    EAGER_LOOKS = 8,    /* looks that come sooner after there is a new host or a new window */
     PATH_ROOM = 256
 };
 static const uint64_t retry_ns = 1000000000, scan_ns = 1000000000;
@@ -37,7 +38,8 @@ static struct {
     bool is_attached, was_told, is_refused;
     uint64_t next_try_ns, next_scan_ns;
     struct windows_counts before;
-    unsigned period_ms, calm;
+    unsigned period_ms, calm, eager;
+    size_t windows_before;
     enum window_status trouble; /* of the last look, so that it is told once */
 } my = {.remote = REMOTE_CLOSED};
 
@@ -108,6 +110,7 @@ static void attach(void) {
     if (my.is_attached) windows_detach(my.windows);
     struct window_result result = windows_attach(my.windows, &lender);
     my.is_attached = result.status == WINDOW_OK;
+    my.eager = EAGER_LOOKS;
     if (!my.is_attached) tell("the host's frames can't be used: %s", window_status_words(result.status));
 }
 
@@ -158,8 +161,12 @@ static void tell_look(struct window_result result) {
 static void choose_period(const struct windows_counts *now) {
     uint64_t found = now->lends - my.before.lends + (now->zeros - my.before.zeros);
     uint64_t asked = now->asked - my.before.asked;
+    if (now->windows > my.windows_before) my.eager = EAGER_LOOKS;
+    my.windows_before = now->windows;
+    bool is_eager = my.eager > 0 && my.is_attached;
+    my.eager -= is_eager;
     my.calm = found <= LITTLE && asked <= MUCH ? my.calm + 1 : 0;
-    if (found >= MUCH && found >= now->pages / MUCH_PART) my.period_ms = told.period_ms / BUSY_PART;
+    if (is_eager || (found >= MUCH && found >= now->pages / MUCH_PART)) my.period_ms = told.period_ms / BUSY_PART;
     else if (my.calm >= CALM_LOOKS) my.period_ms = my.period_ms < told.period_ms * CALM_PART ? my.period_ms + told.period_ms / 4 : my.period_ms;
     else my.period_ms = told.period_ms;
     if (my.period_ms == 0) my.period_ms = 1;

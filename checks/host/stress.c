@@ -1,9 +1,9 @@
 /*
  * A stand-in for a monitor, to be run under libpageshare-window.so: threads write, check, discard and move pages of one window all the
- * time, while children are forked, and it says how many words were wrong. Words: SECONDS MIB THREADS [close] [fewer]
+ * time, while children are forked, and it says how many words were wrong. Words: SECONDS MIB THREADS [close|raw] [fewer]
  *
- * close: after a third of the time it closes all descriptors from 3 on, as monitors do that don't know who opened them. fewer: parts
- * of the window are unmapped, protected and locked, too, so that they leave it.
+ * close: after a third of the time it closes all descriptors from 3 on, as monitors do that don't know who opened them; raw: by the
+ * system call, which the library doesn't see. fewer: parts of the window are unmapped, protected and locked, too, so that they leave it.
  */
 #define _GNU_SOURCE
 #include <pthread.h>
@@ -89,8 +89,12 @@ int main(int count, char **words) {
     pthread_t ids[THREADS_MOST];
     if (count < 4) return 2;
     unsigned seconds = (unsigned)atoi(words[1]);
-    bool closes = false, fewer = false;
-    for (int i = 4; i < count; i++) closes |= strcmp(words[i], "close") == 0, fewer |= strcmp(words[i], "fewer") == 0;
+    bool closes = false, raw = false, fewer = false;
+    for (int i = 4; i < count; i++) {
+        closes |= strcmp(words[i], "close") == 0;
+        raw |= strcmp(words[i], "raw") == 0;
+        fewer |= strcmp(words[i], "fewer") == 0;
+    }
     size_t all = (size_t)atoi(words[2]) * 256;
     threads = (uint64_t)atoi(words[3]) % (THREADS_MOST + 1);
     pages = all - KEPT_MOST;
@@ -105,6 +109,7 @@ int main(int count, char **words) {
     for (unsigned second = 0; second < seconds; second++) {
         sleep(1);
         if (closes && second == seconds / 3) close_range(3, ~0u, 0);
+        if (raw && second == seconds / 3) syscall(SYS_close_range, 3, ~0u, 0);
         if (fewer) leave_in_part(area + all * PAGE, second);
         pid_t child = fork();
         if (child == 0) _exit(0);
