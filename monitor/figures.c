@@ -79,10 +79,13 @@ static double map_us(const struct windows_counts *counts) {
 static void print_lending(const struct figures *figures, FILE *to) {
     const struct sample *now = last(figures);
     const struct windows_counts *counts = &now->windows;
-    fprintf(to, "lends                     %" PRIu64 ", and %" PRIu64 " pages of zeros, %.1f us each, %.1f of it held and mapped\n",
+    fprintf(to,
+            "lends                     %" PRIu64 ", and %" PRIu64 " pages of zeros, %.1f us each, %.1f of it held and mapped\n",
             counts->lends, counts->zeros, lend_us(counts), map_us(counts));
     fprintf(to, "held at most              %.0f us\n", 1e-3 * (double)counts->hold_most_ns);
-    fprintf(to, "copies found              %" PRIu64 "; %" PRIu64 " pages changed before they were mapped, %" PRIu64 " weren't held\n",
+    fprintf(to,
+            "copies found              %" PRIu64 "; %" PRIu64 " pages changed before they were mapped, %" PRIu64
+            " weren't held\n",
             counts->copied, counts->changed, counts->pinned);
     fprintf(to, "asked                     %" PRIu64 ", of which others had %" PRIu64 "\n", counts->asked, counts->seen);
     fprintf(to, "at the end                %zu pages lent in %" PRIu32 " frames, %zu mappings\n", counts->lent,
@@ -102,8 +105,8 @@ void figures_print(struct figures *figures, FILE *to) {
     fprintf(to, "pages saved of the bound  %" PRIu64 " of %zu (%.1f %%); %zu pages, %zu distinct\n", now->saved,
             can_be_saved(figures), 100 * ratio((double)now->saved, (double)can_be_saved(figures)), figures->bound.pages,
             figures->bound.distinct);
-    fprintf(to, "rounds                    %" PRIu64 ", %.1f ms of a processor each (in %.1f ms); %" PRIu64 " wrong\n", now->rounds,
-            figures->round_ms, figures->round_wall_ms, figures->wrong);
+    fprintf(to, "rounds                    %" PRIu64 ", %.1f ms of a processor each (in %.1f ms); %" PRIu64 " wrong\n",
+            now->rounds, figures->round_ms, figures->round_wall_ms, figures->wrong);
     fprintf(to, "a seldom write            %.0f cycles\n", figures->write_cycles);
     fprintf(to, "processor s               %.1f, and %.2f of ksmd\n", now->processor, now->helper);
     fprintf(to, "page tables, KiB          %.0f\n", figures->table_bytes / 1024);
@@ -134,8 +137,8 @@ bool figures_json(struct figures *figures, const char *path) {
             " \"wrong\": %" PRIu64 ", \"write_cycles\": %.0f, \"processor_s\": %.2f, \"ksmd_s\": %.2f, \"table_bytes\": %.0f,\n",
             figures->wrong, figures->write_cycles, now->processor, now->helper, figures->table_bytes);
     fprintf(file,
-            " \"lends\": %" PRIu64 ", \"zeros\": %" PRIu64 ", \"lend_us\": %.2f, \"map_us\": %.2f, \"hold_most_us\": %.0f, \"copied\": %" PRIu64
-            ", \"changed\": %" PRIu64 ",\n",
+            " \"lends\": %" PRIu64 ", \"zeros\": %" PRIu64
+            ", \"lend_us\": %.2f, \"map_us\": %.2f, \"hold_most_us\": %.0f, \"copied\": %" PRIu64 ", \"changed\": %" PRIu64 ",\n",
             counts->lends, counts->zeros, lend_us(counts), map_us(counts), 1e-3 * (double)counts->hold_most_ns, counts->copied,
             counts->changed);
     fprintf(file,
@@ -167,8 +170,8 @@ static void draw_axes(const struct figures *figures, FILE *file, double most) {
     double seconds = last(figures)->at, step = nice_step(most / MIB, 6), second = nice_step(seconds, 8);
     for (double mib = 0; mib * MIB <= most; mib += step) {
         double y = y_of(mib * MIB, most);
-        fprintf(file, "<path d=\"M%d %.1fH%d\" stroke=\"#ddd\"/><text x=\"%d\" y=\"%.1f\" text-anchor=\"end\">%.0f</text>\n", LEFT,
-                y, WIDTH - RIGHT, LEFT - 6, y + 4, mib);
+        fprintf(file, "<path d=\"M%d %.1fH%d\" stroke=\"#ddd\"/><text x=\"%d\" y=\"%.1f\" text-anchor=\"end\">%.0f</text>\n",
+                LEFT, y, WIDTH - RIGHT, LEFT - 6, y + 4, mib);
     }
     for (double at = 0; at <= seconds; at += second)
         fprintf(file, "<text x=\"%.1f\" y=\"%d\" text-anchor=\"middle\">%.0f</text>\n", x_of(figures, at), HEIGHT - BOTTOM + 18,
@@ -183,10 +186,10 @@ bool figures_svg(const struct figures *figures, const char *path) {
     fprintf(file,
             "<svg xmlns=\"http://www.w3.org/2000/svg\" width=\"%d\" height=\"%d\" font-family=\"sans-serif\" font-size=\"12\">\n",
             WIDTH, HEIGHT);
-    fprintf(
-        file,
-        "<rect width=\"%d\" height=\"%d\" fill=\"white\"/>\n<text x=\"%d\" y=\"20\" font-size=\"14\">MiB held for the guests' pages (%s)</text>\n",
-        WIDTH, HEIGHT, LEFT, figures->name);
+    fprintf(file,
+            "<rect width=\"%d\" height=\"%d\" fill=\"white\"/>\n<text x=\"%d\" y=\"20\" font-size=\"14\">MiB held for the "
+            "guests' pages (%s)</text>\n",
+            WIDTH, HEIGHT, LEFT, figures->name);
     draw_axes(figures, file, most);
     fprintf(file, "<path d=\"M%d %.1fH%d\" stroke=\"#c0392b\" stroke-dasharray=\"6 4\"/>\n", LEFT, y_of(bound, most),
             WIDTH - RIGHT);

@@ -2,8 +2,8 @@
 #ifndef MONITOR_FIGURES_H
 #define MONITOR_FIGURES_H
 
-#include "count.h"
 #include "../window/window.h"
+#include "count.h"
 #include "looker.h"
 #include <stdbool.h>
 #include <stddef.h>
@@ -16,7 +16,7 @@ struct sample {
     uint64_t rounds;
     uint64_t saved;           /* pages that share a frame with others, less those frames */
     double processor, helper; /* processor seconds of this process, and of the kernel's ksmd */
-    struct looked looked;           /* where pages are lent */
+    struct looked looked;     /* where pages are lent */
     struct windows_counts windows;
 };
 

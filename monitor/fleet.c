@@ -244,7 +244,8 @@ static bool run(struct fleet *fleet) {
         take_sample(fleet);
         next++;
         /* (the last ones have some time to settle) */
-        if (fleet->renew == 0 || passed < (renewed + 1) * fleet->renew * second || passed + LATE_S * second > fleet->seconds * second)
+        if (fleet->renew == 0 || passed < (renewed + 1) * fleet->renew * second ||
+            passed + LATE_S * second > fleet->seconds * second)
             continue;
         right = renew(fleet, (unsigned)(renewed++ % fleet->guests));
     }
@@ -289,7 +290,8 @@ static bool count_bound(struct fleet *fleet) {
         struct guest *guest = &fleet->guest[at / pages];
         uint32_t page = at % pages, part = pages - page < LOOK_MOST ? pages - page : LOOK_MOST;
         const uint8_t *from = guest->ram + (size_t)page * PAGE;
-        if (page % LOOK_MOST == 0 && mincore((void *)(uintptr_t)from, (size_t)part * PAGE, resident) < 0) return trouble("mincore");
+        if (page % LOOK_MOST == 0 && mincore((void *)(uintptr_t)from, (size_t)part * PAGE, resident) < 0)
+            return trouble("mincore");
         if ((resident[page % LOOK_MOST] & 1) == 0) continue;
         list[count++] = from;
         if (guest->window == NULL || window_page_is(guest->window, page) == WINDOW_PAGE_PRIVATE) fleet->figures.own++;

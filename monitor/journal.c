@@ -64,8 +64,8 @@ bool journal_head(struct journal *journal, uint32_t frames, uint32_t slots, uint
     journal->of_frame = calloc(frames, sizeof *journal->of_frame);
     journal->frame_of = calloc(slots, sizeof *journal->frame_of);
     journal->region = region;
-    wrote(journal, fprintf(journal->text, "pageshare journal 2\nframes %" PRIu32 "\npages %" PRIu32 "\nsalts %" PRIu32 "\n", frames,
-                           slots, salt));
+    wrote(journal, fprintf(journal->text, "pageshare journal 2\nframes %" PRIu32 "\npages %" PRIu32 "\nsalts %" PRIu32 "\n",
+                           frames, slots, salt));
     return journal->of_frame != NULL && journal->frame_of != NULL;
 }
 
@@ -81,8 +81,8 @@ static void spell(char *hex, const uint8_t *bytes) {
 static void write_end(struct journal *journal) {
     wrote(journal, fprintf(journal->text, "end %" PRIu32 "\n", journal->requests));
     wrote(journal, fprintf(journal->replay,
-                           "report entries %" PRIu32 " mapped %" PRIu32 " shared %" PRIu32 " frames %" PRIu32 " reclaimed %" PRIu32
-                           " hints %" PRIu32 "\n",
+                           "report entries %" PRIu32 " mapped %" PRIu32 " shared %" PRIu32 " frames %" PRIu32
+                           " reclaimed %" PRIu32 " hints %" PRIu32 "\n",
                            journal->requests, journal->lent, journal->shared, journal->frames, journal->lent - journal->frames,
                            journal->hints));
     atomic_store(&journal->ended, true);
@@ -119,7 +119,8 @@ static void write_verdict(struct journal *journal, const struct pageshare_loan *
     }
 }
 
-struct pageshare_loan journal_lend(struct journal *journal, struct pageshare_domain *domain, uint32_t client, const uint8_t *page) {
+struct pageshare_loan journal_lend(struct journal *journal, struct pageshare_domain *domain, uint32_t client,
+                                   const uint8_t *page) {
     char hex[2 * STEP + 1];
     bool open = is_open(journal);
     struct pageshare_loan loan = pageshare_domain_lend(domain, client, page);
@@ -158,7 +159,8 @@ static void write_release(struct journal *journal, uint32_t slot, bool is_free) 
     if (is_free) journal->frames--;
 }
 
-uint32_t journal_release(struct journal *journal, struct pageshare_domain *domain, uint32_t client, uint64_t slot, uint32_t *freed) {
+uint32_t journal_release(struct journal *journal, struct pageshare_domain *domain, uint32_t client, uint64_t slot,
+                         uint32_t *freed) {
     bool open = is_open(journal);
     if (open) write_loads(journal, (uint32_t)slot);
     uint32_t status = pageshare_domain_release(domain, client, slot, freed);

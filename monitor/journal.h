@@ -25,10 +25,12 @@ bool journal_head(struct journal *journal, uint32_t frames, uint32_t slots, uint
  * Asks the domain as pageshare_domain_lend does; written are 64 stores and a proposal of the slot. Where the journal is NULL or has
  * ended nothing is written.
  */
-struct pageshare_loan journal_lend(struct journal *journal, struct pageshare_domain *domain, uint32_t client, const uint8_t *page);
+struct pageshare_loan journal_lend(struct journal *journal, struct pageshare_domain *domain, uint32_t client,
+                                   const uint8_t *page);
 
 /* The same as pageshare_domain_release does; written are 64 loads of what is in the slot's frame, and the release. */
-uint32_t journal_release(struct journal *journal, struct pageshare_domain *domain, uint32_t client, uint64_t slot, uint32_t *freed);
+uint32_t journal_release(struct journal *journal, struct pageshare_domain *domain, uint32_t client, uint64_t slot,
+                         uint32_t *freed);
 
 /* It has ended when it had no room for another lend or release: then the last lines are written. Any thread may ask. */
 bool journal_has_ended(const struct journal *journal);

@@ -17,7 +17,7 @@ struct lender {
     struct pageshare_domain domain;
     struct journal *journal;
     uint32_t client;
-    uint8_t *region;       /* the frames, for writing */
+    uint8_t *region;        /* the frames, for writing */
     unsigned char *is_free; /* of each frame: it is free, and the system may hold memory for it */
     struct lender_counts counts;
 };
@@ -40,7 +40,8 @@ static struct lender_result result_of(enum lender_status status, int cause) {
 static int ask(void *opaque, const uint32_t *pages, const uint64_t *fingerprints, size_t count, unsigned char *seen) {
     struct lender *lender = opaque;
     for (size_t i = 0; i < count; i++)
-        if (pageshare_domain_ask(&lender->domain, lender->client, pages[i], fingerprints[i], seen + i) != PAGESHARE_OK) return EINVAL;
+        if (pageshare_domain_ask(&lender->domain, lender->client, pages[i], fingerprints[i], seen + i) != PAGESHARE_OK)
+            return EINVAL;
     return 0;
 }
 

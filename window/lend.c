@@ -10,13 +10,14 @@
 struct hold {
     struct window *window;
     size_t first, count;
-    bool moves; /* they are taken out of their place; otherwise writes are guarded */
+    bool moves;     /* they are taken out of their place; otherwise writes are guarded */
+    size_t scratch; /* where they are then, in the scratch area */
     uint32_t targets[HOLD_MOST];
     bool held[HOLD_MOST], equal[HOLD_MOST], shown[HOLD_MOST];
 };
 
 static uint8_t *place_of(const struct hold *hold, size_t i) {
-    if (hold->moves) return hold->window->windows->scratch + bytes_of(i);
+    if (hold->moves) return hold->window->windows->scratch + bytes_of(hold->scratch + i);
     return address_of(hold->window, hold->first + i);
 }
 
@@ -34,13 +35,16 @@ static void take(struct hold *hold) {
         madvise(at, bytes_of(hold->count), MADV_UNMERGEABLE);
         if (!is_over) madvise(at, bytes_of(hold->count), MADV_COLD);
     }
-    int cause = faults_watch(&windows->faults, at, hold->count, hold->moves ? FAULTS_OF_MISSING : FAULTS_OF_WRITES);
+    int cause = hold->moves && windows->scratch_used + hold->count > SCRATCH ? clear_scratch(windows) : 0;
+    if (cause == 0) cause = faults_watch(&windows->faults, at, hold->count, hold->moves ? FAULTS_OF_MISSING : FAULTS_OF_WRITES);
     if (cause != 0) {
         note_failure(windows, WINDOW_NO_MAPPING, cause);
         return;
     }
     if (hold->moves) {
-        faults_move(&windows->faults, windows->scratch, at, hold->count, hold->held);
+        hold->scratch = windows->scratch_used;
+        windows->scratch_used += hold->count;
+        faults_move(&windows->faults, place_of(hold, 0), at, hold->count, hold->held);
         return;
     }
     cause = faults_protect(&windows->faults, at, hold->count);
@@ -119,12 +123,11 @@ static void let_go(struct hold *hold) {
         if (cause == 0) continue;
         note_failure(windows, WINDOW_STUCK, cause);
         windows->stuck[windows->stuck_count++] =
-            (struct stuck){.window = hold->window, .page = (uint32_t)(hold->first + i), .scratch = (uint32_t)i};
+            (struct stuck){.window = hold->window, .page = (uint32_t)(hold->first + i), .scratch = (uint32_t)(hold->scratch + i)};
     }
     end_watch(hold);
     if (windows->stuck_count > 0 || !hold->moves) return;
     int cause = any_remapped ? make_scratch(windows) : 0;
-    if (!any_remapped && madvise(windows->scratch, bytes_of(hold->count), MADV_DONTNEED) < 0) cause = errno;
     if (cause != 0) note_failure(windows, WINDOW_NO_MAPPING, cause);
 }
 

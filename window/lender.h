@@ -36,7 +36,7 @@ struct window_loan {
  */
 struct window_lender {
     void *opaque;
-    int frames;           /* descriptor of the frames' file, sealed against shrinking, open for reading at least; stays the lender's */
+    int frames; /* descriptor of the frames' file, sealed against shrinking, open for reading at least; stays the lender's */
     uint32_t frame_count; /* 1 to WINDOW_FRAMES_MOST */
     uint32_t salt;        /* of fingerprints: the same for all who lend to one domain, and never the domain's secret salt */
     unsigned char (*pages)[WINDOW_PAGE_BYTES]; /* buffer for WINDOW_BATCH pages */

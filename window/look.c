@@ -253,6 +253,8 @@ struct window_result windows_look(struct windows *windows) {
     release_slots(windows);
     free_ended(windows);
     lock_for_look(windows);
+    int cause = clear_scratch(windows);
+    if (cause != 0 && !windows->is_locked) note_failure(windows, WINDOW_NO_MAPPING, cause);
     windows->counts.look_ns += clock_spent_ns() - begun;
     unlock_set(windows);
     return windows->result;

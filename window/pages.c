@@ -67,17 +67,25 @@ void say_again(struct window *window, size_t first, size_t count, bool is_file) 
 
 int make_scratch(struct windows *windows) {
     const int kind = MAP_PRIVATE | MAP_ANONYMOUS | MAP_NORESERVE | (windows->scratch != NULL ? MAP_FIXED : 0);
-    uint8_t *at = mmap(windows->scratch, bytes_of(HOLD_MOST), PROT_READ | PROT_WRITE, kind, NO_FILE, 0);
+    uint8_t *at = mmap(windows->scratch, bytes_of(SCRATCH), PROT_READ | PROT_WRITE, kind, NO_FILE, 0);
     if (at == MAP_FAILED) return errno;
     windows->scratch = at;
-    int cause = advice_begin(at, HOLD_MOST);
+    windows->scratch_used = 0;
+    int cause = advice_begin(at, SCRATCH);
     if (cause != 0) return cause;
     /* (a page that a child has, too, can't be moved back; and the kernel moves pages only from where there was one) */
-    if (madvise(at, bytes_of(HOLD_MOST), MADV_DONTFORK) < 0) return errno;
+    if (madvise(at, bytes_of(SCRATCH), MADV_DONTFORK) < 0) return errno;
     *at = 1;
-    if (madvise(at, bytes_of(HOLD_MOST), MADV_DONTNEED) < 0) return errno;
+    if (madvise(at, bytes_of(SCRATCH), MADV_DONTNEED) < 0) return errno;
     /* (pages are only moved to what is watched. Were it for missing pages, mlockall would wait here for ever.) */
-    return windows->faults.moves ? faults_watch(&windows->faults, at, HOLD_MOST, FAULTS_OF_WRITES) : 0;
+    return windows->faults.moves ? faults_watch(&windows->faults, at, SCRATCH, FAULTS_OF_WRITES) : 0;
+}
+
+int clear_scratch(struct windows *windows) {
+    if (windows->stuck_count > 0 || windows->scratch_used == 0) return 0;
+    if (madvise(windows->scratch, bytes_of(SCRATCH), MADV_DONTNEED) < 0) return errno;
+    windows->scratch_used = 0;
+    return 0;
 }
 
 int let_waiters_go(struct window *window, size_t first, size_t count) {
@@ -111,7 +119,5 @@ int free_stuck(struct windows *windows) {
     }
     windows->stuck_count = left;
     if (left > 0) return cause;
-    if (any) return make_scratch(windows);
-    if (windows->faults.moves) madvise(windows->scratch, bytes_of(HOLD_MOST), MADV_DONTNEED);
-    return 0;
+    return any ? make_scratch(windows) : clear_scratch(windows);
 }

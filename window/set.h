@@ -10,7 +10,8 @@
 
 enum {
     PART = PAGEMAP_MOST, /* pages that one step of a look, or of a long call, handles under the lock */
-    HOLD_MOST = 32,      /* pages that are held at once */
+    HOLD_MOST = 64,      /* pages that are held at once */
+    SCRATCH = 512,       /* pages that were taken out are discarded together, since that interrupts all processors */
     HOME_MOST = 64,      /* pages that are guarded at once while they are copied home */
     STILL = 3,           /* looks with the same fingerprint that make a page idle */
     ASKS_APART_MOST = 3, /* a page that nobody else has is asked about at each 2^n-th look, n up to this */
@@ -27,13 +28,13 @@ static const uint32_t ZEROS = WINDOW_NO_FRAME - 1;
  */
 struct page {
     uint64_t slot;
-    uint32_t frame : 26; /* that is mapped at its place */
-    uint32_t over : 1;   /* a frame is mapped at its place; the page is that frame or a private copy */
-    uint32_t shows : 1;  /* as far as is known it is the frame */
-    uint32_t holds : 1;  /* the lender counts the slot */
-    uint32_t past : 1;   /* the frame is of a lender that is gone */
-    uint32_t out : 1;    /* it has left the window */
-    uint32_t zero : 1;   /* it was given back as zeros, and has no memory since */
+    uint32_t frame : 26;                     /* that is mapped at its place */
+    uint32_t over : 1;                       /* a frame is mapped at its place; the page is that frame or a private copy */
+    uint32_t shows : 1;                      /* as far as is known it is the frame */
+    uint32_t holds : 1;                      /* the lender counts the slot */
+    uint32_t past : 1;                       /* the frame is of a lender that is gone */
+    uint32_t out : 1;                        /* it has left the window */
+    uint32_t zero : 1;                       /* it was given back as zeros, and has no memory since */
     uint32_t fingerprint : FINGERPRINT_BITS; /* its last bits, at the last look */
     uint32_t looks : 2;                      /* looks with that fingerprint, at most STILL */
     uint32_t asks : 3;                       /* how often it was asked about in vain, at most ASKS_APART_MOST */
@@ -67,7 +68,8 @@ struct windows {
     struct window *first;
     struct faults faults;
     struct pagemap pagemap;
-    uint8_t *scratch; /* room for HOLD_MOST pages that are held; NULL without UFFDIO_MOVE */
+    uint8_t *scratch; /* room for SCRATCH pages that are held, or were */
+    size_t scratch_used;
     struct stuck stuck[HOME_MOST];
     size_t stuck_count;
     size_t past; /* pages that show frames of a lender that is gone */
@@ -125,6 +127,8 @@ void stop_showing(struct window *window, size_t page);
 
 /* Makes the scratch area, or makes it anew. Returns 0 or an errno. */
 int make_scratch(struct windows *windows);
+/* Discards what is in the scratch area, unless something is stuck there. Returns 0 or an errno. With the lock. */
+int clear_scratch(struct windows *windows);
 
 /* Maps frames in a row in place of pages, or zeros. Returns 0 or an errno, and then nothing has changed. */
 int map_pages(struct window *window, size_t first, size_t count, uint32_t frame);

@@ -16,9 +16,9 @@ struct trace {
     FILE *file;
     int cause; /* the first failure of a write, or 0 */
     uint32_t frames;
-    uint64_t *of_frame;             /* each frame's content in the record */
-    uint64_t of_page[TRACE_PAGES];  /* each page's */
-    uint32_t held[TRACE_PAGES];     /* the frame that each page holds in the record */
+    uint64_t *of_frame;            /* each frame's content in the record */
+    uint64_t of_page[TRACE_PAGES]; /* each page's */
+    uint32_t held[TRACE_PAGES];    /* the frame that each page holds in the record */
 };
 
 struct trace *trace_open(const char *path, uint32_t frames) {

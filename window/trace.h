@@ -37,10 +37,14 @@ void trace_discard(struct trace *trace, uint32_t page);
 
 #else
 
-static inline void trace_content(struct trace *trace, uint32_t page, const uint8_t *bytes) { (void)trace, (void)page, (void)bytes; }
+static inline void trace_content(struct trace *trace, uint32_t page, const uint8_t *bytes) {
+    (void)trace, (void)page, (void)bytes;
+}
 static inline void trace_copy(struct trace *trace, uint32_t page, const uint8_t *bytes) { (void)trace, (void)page, (void)bytes; }
 static inline void trace_shows(struct trace *trace, uint32_t page, const uint8_t *bytes) { (void)trace, (void)page, (void)bytes; }
-static inline void trace_frame(struct trace *trace, uint32_t frame, const uint8_t *bytes) { (void)trace, (void)frame, (void)bytes; }
+static inline void trace_frame(struct trace *trace, uint32_t frame, const uint8_t *bytes) {
+    (void)trace, (void)frame, (void)bytes;
+}
 static inline void trace_guard(struct trace *trace, uint32_t page) { (void)trace, (void)page; }
 static inline void trace_unguard(struct trace *trace, uint32_t page) { (void)trace, (void)page; }
 static inline void trace_lend(struct trace *trace, uint32_t page, uint32_t frame) { (void)trace, (void)page, (void)frame; }

@@ -104,8 +104,7 @@ static struct window_result leave_home(struct window *window) {
 struct window_result window_free(struct window *window, enum window_end end) {
     if (window == NULL) return result_of(WINDOW_OK, 0);
     struct windows *windows = window->windows;
-    struct window_result result =
-        end == WINDOW_TAKE_HOME ? leave_home(window) : window_discard(window, 0, window->count);
+    struct window_result result = end == WINDOW_TAKE_HOME ? leave_home(window) : window_discard(window, 0, window->count);
     if (result.status != WINDOW_OK) return result;
     uint8_t *at = window->at;
     size_t count = window->count;

@@ -40,7 +40,7 @@ enum window_status {
     WINDOW_PINNED,        /* pages that window_pin counts would have to leave their memory */
     WINDOW_TOO_MANY_PINS, /* a page is pinned 65,535 times */
     WINDOW_NO_MAPPING,    /* the system has no mapping, or no memory for one: nothing has changed */
-    WINDOW_STUCK,         /* the system refused to put pages back that were held: the next look tries again. Whoever uses them waits */
+    WINDOW_STUCK, /* the system refused to put pages back that were held: the next look tries again. Whoever uses them waits */
     WINDOW_LENDER_FAILED, /* the lender returned `cause` */
     WINDOW_ADVICE,        /* the system refused to set a range's advice or memory policy again */
 };
@@ -160,10 +160,10 @@ struct windows_counts {
     size_t mappings;    /* of the system, that windows take */
     size_t table_bytes; /* of tables */
     uint64_t looks, lends, copied, zeros, discarded, taken_home;
-    uint64_t asked, seen;              /* questions, and those of pages that were seen elsewhere */
-    uint64_t changed;                  /* pages written between their lend and the comparison, which stay private */
-    uint64_t pinned;                   /* pages that the system refused to move or guard */
-    uint64_t no_frame, no_mapping;     /* pages that weren't lent since the lender, or the system, had none */
+    uint64_t asked, seen;          /* questions, and those of pages that were seen elsewhere */
+    uint64_t changed;              /* pages written between their lend and the comparison, which stay private */
+    uint64_t pinned;               /* pages that the system refused to move or guard */
+    uint64_t no_frame, no_mapping; /* pages that weren't lent since the lender, or the system, had none */
     uint64_t lender_failures;
     uint64_t look_ns, ask_ns, lend_ns, map_ns; /* processor time of looks: all; in the lender's calls; from hold to wake */
     uint64_t hold_most_ns;                     /* the longest time that a page was held, by the clock */

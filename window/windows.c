@@ -43,7 +43,7 @@ static struct window_result open_parts(struct windows *windows, const struct win
     int refused = make_scratch(windows);
     if (windows->scratch == NULL) return result_of(WINDOW_NO_MAPPING, refused);
     /* (with mlockall all new memory is locked, and refuses to be discarded) */
-    cause = range_read(&facts, windows->scratch, HOLD_MOST);
+    cause = range_read(&facts, windows->scratch, SCRATCH);
     if (cause != 0) return result_of(WINDOW_NO_PAGEMAP, cause);
     if (facts.is_locked) return result_of(WINDOW_LOCKED, EPERM);
     return refused == 0 ? result_of(WINDOW_OK, 0) : result_of(WINDOW_NO_MAPPING, refused);
@@ -91,7 +91,7 @@ void windows_free(struct windows *windows) {
     forget_frames(windows);
     close_file(windows->faults.fd);
     close_file(windows->pagemap.fd);
-    if (windows->scratch != NULL) munmap(windows->scratch, bytes_of(HOLD_MOST));
+    if (windows->scratch != NULL) munmap(windows->scratch, bytes_of(SCRATCH));
 #ifdef WINDOW_TRACE
     if (windows->trace != NULL) trace_close(windows->trace);
 #endif
@@ -159,7 +159,8 @@ void windows_detach(struct windows *windows) {
     unlock_set(windows);
 }
 
-int windows_each_slot(struct windows *windows, int (*each)(void *opaque, uint32_t page, uint64_t slot, bool shown), void *opaque) {
+int windows_each_slot(struct windows *windows, int (*each)(void *opaque, uint32_t page, uint64_t slot, bool shown),
+                      void *opaque) {
     int stopped = 0;
     lock_for_look(windows);
     for (struct window *window = windows->first; window != NULL && stopped == 0; window = window->next)

@@ -33,6 +33,8 @@ static inline uint64_t draw(uint64_t *state, uint64_t below) {
 
 /* A guest's load and store: no sanitizer sees a guest's, and the kernel orders them with those of windows. */
 __attribute__((no_sanitize_thread, noinline, unused)) static uint64_t guest_load(const volatile uint64_t *at) { return *at; }
-__attribute__((no_sanitize_thread, noinline, unused)) static void guest_store(volatile uint64_t *at, uint64_t value) { *at = value; }
+__attribute__((no_sanitize_thread, noinline, unused)) static void guest_store(volatile uint64_t *at, uint64_t value) {
+    *at = value;
+}
 
 #endif

@@ -7,11 +7,11 @@
 
 /* Each counts calls that are yet to fail. */
 struct planned {
-    int protects;  /* write protection fails half-way, having protected half of the range */
-    int puts;      /* a page can't be moved into a window, nor copied, nor remapped */
-    int releases;  /* a registration isn't ended */
-    int populates; /* MADV_POPULATE_WRITE fails with EINVAL */
-    int punches;   /* fallocate fails with EINTR */
+    int protects;                 /* write protection fails half-way, having protected half of the range */
+    int puts;                     /* a page can't be moved into a window, nor copied, nor remapped */
+    int releases;                 /* a registration isn't ended */
+    int populates;                /* MADV_POPULATE_WRITE fails with EINVAL */
+    int punches;                  /* fallocate fails with EINTR */
     uintptr_t window, window_end; /* where pages can't be put */
 };
 extern struct planned planned;

@@ -81,7 +81,8 @@ int main(void) {
     for (uint32_t i = 0; i < MANY; i++) memcpy(many + (size_t)i * PAGE, &(uint32_t){i % (MANY / 2) + 1}, 4);
     for (uint32_t i = 0; i < FEW; i++) memcpy(few + (size_t)i * PAGE, &(uint32_t){i + 1}, 4);
     look_often(&matter.fixture, 14);
-    printf("%zu of %d pages are lent\n| while    | longest wait of a write, us: half of the times at most | and ever |\n|---|---|---|\n",
+    printf("%zu of %d pages are lent\n| while    | longest wait of a write, us: half of the times at most | and ever "
+           "|\n|---|---|---|\n",
            counts_of(&matter.fixture).lent, MANY + FEW);
     check(pthread_create(&writer, NULL, write_on, NULL) == 0, "a thread that writes");
     measure(&matter, "nothing");

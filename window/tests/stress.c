@@ -188,13 +188,15 @@ static uint64_t end(void) {
     }
     windows_count(windows, &counts);
     lender_count(lender, &totals, &lent);
-    printf("%llu checked writes, %" PRIu64 " lends, %" PRIu64 " copies found, %" PRIu64 " zeros, %" PRIu64 " changed before they were mapped\n",
+    printf("%llu checked writes, %" PRIu64 " lends, %" PRIu64 " copies found, %" PRIu64 " zeros, %" PRIu64
+           " changed before they were mapped\n",
            (unsigned long long)atomic_load(&writes_done), counts.lends, counts.copied, counts.zeros, counts.changed);
-    printf("%" PRIu64 " discarded, %" PRIu64 " taken home, %" PRIu64 " not held, %" PRIu64 " without a frame; %.1f us a lend to hold and map, a hold at most %.0f us\n",
+    printf("%" PRIu64 " discarded, %" PRIu64 " taken home, %" PRIu64 " not held, %" PRIu64
+           " without a frame; %.1f us a lend to hold and map, a hold at most %.0f us\n",
            counts.discarded, counts.taken_home, counts.pinned, counts.no_frame,
            1e-3 * (double)counts.map_ns / (double)(counts.lends + counts.zeros + 1), 1e-3 * (double)counts.hold_most_ns);
-    printf("%" PRIu64 " looks, %zu lent now, %" PRIu32 " frames, %zu mappings, %u failures\n", counts.looks, counts.lent, totals.frames,
-           counts.mappings, atomic_load(&failures));
+    printf("%" PRIu64 " looks, %zu lent now, %" PRIu32 " frames, %zu mappings, %u failures\n", counts.looks, counts.lent,
+           totals.frames, counts.mappings, atomic_load(&failures));
     check(counts.lends > 0 && counts.copied > 0, "pages were lent, and copied");
     for (unsigned i = 0; i < GUESTS; i++) must(window_free(guests[i].window, WINDOW_DROP), "window_free");
     must(windows_look(windows), "the last look");
