@@ -112,8 +112,9 @@ class Place:
             if not is_there(program) and not (install(package) and is_there(program)):
                 raise LeftOut(f"there is no {program} (package {package}; INSTALL=1 installs it)")
         kernel, modules = find_kernel()
-        self.initrd = self.room / "initrd"
+        self.initrd, self.small_initrd = self.room / "initrd", self.room / "small_initrd"
         self.initrd.write_bytes(initramfs(shutil.which("busybox"), modules))
+        self.small_initrd.write_bytes(initramfs(shutil.which("busybox"), modules, 12 << 20))
         self.kernel = kernel
 
     def clean(self):
@@ -514,7 +515,7 @@ def case_memory():
     rows = {"host": row}
     try:
         rows.update(ksm_rows(GUESTS, seconds))
-    except LeftOut as cause:
+    except (LeftOut, RuntimeError) as cause:
         print(f"  left out: {cause}")
     print(f"  {'':10} {'pages before':>13} {'end':>8} {'distinct':>9} {'saved of bound':>15} {'s to 95 %':>10}")
     for name, it in rows.items():
@@ -764,7 +765,7 @@ def case_figure():
         host = Host()
         # Each guest has a name of its own for the socket, which is there only when its turn has come.
         links = [PLACE.room / f"{work}{number}.sock" for number in range(most)]
-        made = [guest(number, types.SimpleNamespace(socket=link), mib=128, work=work, own=4) for number, link in enumerate(links)]
+        made = [guest(number, types.SimpleNamespace(socket=link), mib=128, work=work, own=4, initrd=PLACE.small_initrd) for number, link in enumerate(links)]
         for it in made:
             it.wait(600)
         for count, link in enumerate(links, 1):

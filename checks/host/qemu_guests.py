@@ -80,7 +80,7 @@ class Guest:
     """One QEMU process with a Linux guest."""
 
     def __init__(self, place, number, library=None, domain=None, mib=256, more=(), environment=None, wrap=(), machine="q35", work="busy",
-                 accelerator="tcg,tb-size=32", own=8):
+                 accelerator="tcg,tb-size=32", own=8, initrd=None):
         self.number, self.mib, self.place = number, mib, place
         self.out, self.log = place.room / f"out{number}", place.room / f"log{number}"
         self.monitor, self.count_file = place.room / f"qmp{number}", place.room / f"counts{number}"
@@ -91,7 +91,7 @@ class Guest:
             words.update(PAGESHARE_SOCKET=str(domain), LD_PRELOAD=str(library), PAGESHARE_COUNTS=str(self.count_file))
         command = [*wrap, QEMU, "-machine", machine, "-accel", accelerator, "-cpu", "host" if accelerator == "kvm" else "max", "-m", str(mib)]
         command += ["-nodefaults", "-display", "none", "-serial", f"file:{self.out}", "-qmp", f"unix:{self.monitor},server,nowait"]
-        command += ["-device", "virtio-balloon-pci,id=balloon0", "-kernel", str(place.kernel), "-initrd", str(place.initrd)]
+        command += ["-device", "virtio-balloon-pci,id=balloon0", "-kernel", str(place.kernel), "-initrd", str(initrd or place.initrd)]
         command += ["-append", f"console=ttyS0 quiet no_timer_check rdinit=/init seed={number} work={work} own={own}", "-no-reboot", *more]
         with open(self.log, "w", encoding="utf-8") as log:
             self.process = subprocess.Popen(command, env=words, stdin=subprocess.DEVNULL, stdout=log, stderr=subprocess.STDOUT)
