@@ -284,9 +284,9 @@ def try_hostile(host):
     host.stop()
 
 
-def host_sources():
-    """What the Makefile builds the host of."""
-    found = re.search(r"HOST_SOURCES = \$\(addprefix host/,(.*)\)", (TOP / "Makefile").read_text())
+def sources(variable):
+    """What the Makefile builds the host or the library of."""
+    found = re.search(rf"{variable} = \$\(addprefix host/,([^)]*)\)", (TOP / "Makefile").read_text())
     return [TOP / "host" / name for name in found[1].split()]
 
 
@@ -295,14 +295,28 @@ def case_sanitizers():
     library = os.environ.get("HOST_LIBRARY", str(TOP / "out/libpageshare_host.a"))
     for kind in ("address,undefined", "thread"):
         program = OUT / f"host-{kind.split(',')[0]}"
-        words = [CC, *FLAGS, f"-fsanitize={kind}", "-fno-sanitize-recover=all", f"-I{TOP / 'include'}", f"-I{TOP / 'window'}"]
-        if subprocess.run([*words, "-o", program, *host_sources(), library]).returncode != 0:
+        words = [CC, *FLAGS, f"-fsanitize={kind}", "-fno-sanitize-recover=all", f"-I{TOP / 'include'}"]
+        if subprocess.run([*words, "-o", program, *sources("HOST_SOURCES"), library]).returncode != 0:
             raise LeftOut(f"the sanitizers: {CC} doesn't build with -fsanitize={kind}")
         host = Host(memory="64M", program=program, user=())
         try_hostile(host)
         said = read(host.log)
         must("Sanitizer" not in said and "runtime error" not in said, said[-2000:])
         PLACE.clean()
+    stress_undefined()
+
+
+def stress_undefined():
+    """The stress under a library that is built with the undefined behaviour sanitizer."""
+    library, program, host = PLACE.room / "undefined" / LIBRARY.name, compile_c("stress"), Host(memory="64M")
+    library.parent.mkdir(exist_ok=True)
+    words = [CC, *FLAGS, "-fsanitize=undefined", "-fno-sanitize-recover=all", "-fPIC", "-shared", "-fvisibility=hidden"]
+    words += [f"-I{TOP / name}" for name in ("include", "window", "host")]
+    words += ["-o", library, *sources("WINDOW_SOURCES"), *sorted((TOP / "window").glob("*.c")), "-ldl"]
+    must(subprocess.run(words).returncode == 0, "the library doesn't build with -fsanitize=undefined")
+    ran = subprocess.run([*AS_NOBODY, program, "6", "16", "2"], env=preloaded(host, {"LD_PRELOAD": str(library)}), capture_output=True, text=True)
+    print(f"  {ran.stdout.splitlines()[-1:]}")
+    must(ran.returncode == 0 and "runtime error" not in ran.stderr, ran.stdout + ran.stderr)
 
 
 def hostile_run(path):
