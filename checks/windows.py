@@ -27,13 +27,23 @@ WRAPS = {
     "guards": ["ioctl", "madvise", "mremap", "fallocate"],
     "full": ["memfd_create", "fcntl"],
 }
-MORE = {"guards": ["faults"], "pages": ["ring"], "stress": [], "full": [], "stalls": []}
+MORE = {"guards": ["faults"], "pages": ["ring"], "stress": ["ring"], "full": [], "stalls": []}
 TRACE = "window.trace"
 
+# file, a line's part that stands there once, what stands there instead, and words for the stress
+PINS = "windows->pins != WINDOWS_PINS_NEVER"
+BODIES = {
+    "lends without a comparison": ("lend.c", "are_equal(page, windows->frames_at + bytes_of(target))", "true", []),
+    "holds nothing": ("lend.c", f"if (!hold->moves && {PINS}) return;", "hold->moves = false, memset(hold->held, 1, hold->count); return;", []),
+    "takes what is shown for copies": ("kernel.c", "(ENTRY_FILE | ENTRY_GUARDED)", "ENTRY_GUARDED", ["--scan", "0"]),
+    "discards over a frame": ("home.c", "map_pages(window, first, count, ZEROS) != 0", "madvise(address_of(window, first), bytes_of(count), MADV_DONTNEED) != 0", []),
+    "guards what may be pinned": ("windows.c", "windows->pins = config->pins", "windows->pins = WINDOWS_PINS_NEVER", ["--pins", "1", "--move", "0"]),
+}
 
-def run(words):
+
+def run(words, **more):
     print("$ " + " ".join(str(word).replace(f"{TOP}/", "") for word in words), flush=True)
-    return subprocess.run(words, timeout=1800)
+    return subprocess.run(words, timeout=1800, **more)
 
 
 def must(words):
@@ -80,6 +90,31 @@ def sanitized(library, seconds):
             must([build("pages", library, [f"-fsanitize={name}"], suffix)])
 
 
+def wrong(library):
+    """Each wrong body must be found."""
+    program, missed = TOP / "out/window_trace", []
+    for name, (file, part, instead, more) in BODIES.items():
+        folder = OUT / "wrong"
+        shutil.rmtree(folder, ignore_errors=True)
+        for part_of in ["window", "monitor", "include"]:
+            shutil.copytree(TOP / part_of, folder / part_of)
+        text = (folder / "window" / file).read_text()
+        if text.count(part) != 1:
+            sys.exit(f"{name}: its line stands {text.count(part)} times in {file}")
+        (folder / "window" / file).write_text(text.replace(part, instead))
+        sources = [folder / source.relative_to(TOP) for source in [TESTS / "stress.c", TESTS / "ring.c", *WINDOW, *LENDER]]
+        flags = [flag for flag in FLAGS if flag != "-Werror"] + ["-w", "-DWINDOW_TRACE", f"-I{folder / 'include'}"]
+        must([CC, *flags, "-o", OUT / "stress_wrong", *sources, library])
+        words = [OUT / "stress_wrong", "--seconds", "20", "--writes", "40000000", "--trace", OUT / "wrong.trace", *more]
+        found = run(words, capture_output=True).returncode != 0
+        if not found and program.exists():
+            found = run([program, OUT / "wrong.trace"]).returncode == 1
+        print(f"{name}: {'found' if found else 'NOT FOUND'}", flush=True)
+        missed += [] if found else [name]
+    if missed:
+        sys.exit("not found: " + ", ".join(missed))
+
+
 def main():
     library = pathlib.Path(sys.argv[1] if len(sys.argv) > 1 else TOP / "out/libpageshare.a")
     seconds = sys.argv[2] if len(sys.argv) > 2 else "10"
@@ -99,12 +134,14 @@ def main():
     must([build("full", library)])
     must([build("stalls", library)])
     stress = build("stress", library)
-    for way in [[], ["--move", "0"], ["--scan", "0"]]:
+    for way in [[], ["--move", "0"], ["--scan", "0"], ["--pins", "1", "--rest", "7"]]:
         must([stress, "--seconds", seconds, *way])
     sanitized(library, seconds)
     record = build("stress", library, ["-DWINDOW_TRACE"], "_trace")
     must([record, "--seconds", seconds, "--writes", "1000000", "--trace", OUT / TRACE])
     play(OUT / TRACE)
+    if os.environ.get("WRONG") == "1":
+        wrong(library)
     print("ok")
 
 

@@ -9,7 +9,7 @@
  *     --rest HUNDREDTHS                        how long a processor rests after each round of its checks
  *     --way lend|plain|ksm                     idle pages are lent; or nothing is done; or they are left to the kernel's KSM
  *     --round MILLISECONDS                     a look at all guests' pages so often
- *     --frames HUNDREDTHS                      frames, of all pages
+ *     --frames HUNDREDTHS, --slots HUNDREDTHS  frames, and most pages that are lent, of all pages
  *     --renew SECONDS                          so often a guest ends, and another begins in its place
  *     --trace FILE                             a record of events, where windows are built for it
  *     --journal FILE --requests N              what was asked of the domain, and to FILE.replay the lines that `pageshare replay`
@@ -56,7 +56,7 @@ struct guest {
 
 struct fleet {
     enum way way;
-    unsigned guests, mib, seconds, processors, rest, round_ms, frames, renew;
+    unsigned guests, mib, seconds, processors, rest, round_ms, frames, slots, renew;
     uint32_t requests;
     bool watch;
     const char *journal_path, *json, *svg, *program, *kernel, *initrd, *words, *trace;
@@ -161,9 +161,9 @@ static uint8_t *make_memory(const struct fleet *fleet) {
 static bool make_lender(struct fleet *fleet) {
     const struct windows_config windows = {.pins = WINDOWS_PINS_NEVER, .trace = fleet->trace};
     uint32_t pages = fleet->guests * pages_of(fleet);
-    struct lender_config config = {.slots = pages,
+    struct lender_config config = {.slots = (uint32_t)((uint64_t)pages * fleet->slots / 100),
                                    .frames = (uint32_t)((uint64_t)pages * fleet->frames / 100),
-                                   .recent = 2 * pages,
+                                   .recent = pages / 2,
                                    .hash = fleet->journal_path != NULL ? PAGESHARE_SHA256 : PAGESHARE_FOLD};
     if (fleet->journal_path != NULL && (fleet->journal = journal_open(fleet->journal_path, fleet->requests)) == NULL)
         return trouble(fleet->journal_path);
@@ -398,6 +398,7 @@ static bool set_option(struct fleet *fleet, int option) {
     case 'r': return number(optarg, 0, 255, &fleet->rest);
     case 'o': return number(optarg, 1, 60000, &fleet->round_ms);
     case 'f': return number(optarg, 1, 100, &fleet->frames);
+    case 'l': return number(optarg, 1, 100, &fleet->slots);
     case 'e': return number(optarg, 1, 86400, &fleet->renew);
     case 'q': right = number(optarg, 1000, 400000, &found), fleet->requests = found; return right;
     case 'w': right = word(optarg, WAYS, 3, &found), fleet->way = (enum way)found; return right;
@@ -418,8 +419,8 @@ static bool read_options(struct fleet *fleet, int count, char **words) {
         {"guests", 1, NULL, 'g'}, {"mib", 1, NULL, 'm'},     {"seconds", 1, NULL, 's'},  {"processors", 1, NULL, 'p'},
         {"rest", 1, NULL, 'r'},   {"round", 1, NULL, 'o'},   {"requests", 1, NULL, 'q'}, {"way", 1, NULL, 'w'},
         {"renew", 1, NULL, 'e'},  {"journal", 1, NULL, 'j'}, {"json", 1, NULL, 'J'},     {"svg", 1, NULL, 'S'},
-        {"watch", 0, NULL, 'W'},  {"trace", 1, NULL, 't'},   {"frames", 1, NULL, 'f'},   {"kernel", 1, NULL, 'k'},
-        {"initrd", 1, NULL, 'n'}, {"words", 1, NULL, 'x'},   {NULL, 0, NULL, 0}};
+        {"watch", 0, NULL, 'W'},  {"trace", 1, NULL, 't'},   {"slots", 1, NULL, 'l'},    {"frames", 1, NULL, 'f'},
+        {"kernel", 1, NULL, 'k'}, {"initrd", 1, NULL, 'n'},  {"words", 1, NULL, 'x'},    {NULL, 0, NULL, 0}};
     int option;
     while ((option = getopt_long(count, words, "", options, NULL)) != -1)
         if (!set_option(fleet, option)) return false;
@@ -431,8 +432,15 @@ static bool read_options(struct fleet *fleet, int count, char **words) {
 }
 
 int main(int count, char **words) {
-    static struct fleet fleet = {
-        .guests = 3, .mib = 128, .seconds = 30, .processors = 1, .rest = 50, .round_ms = 1000, .frames = 40, .requests = 100000};
+    static struct fleet fleet = {.guests = 3,
+                                 .mib = 128,
+                                 .seconds = 30,
+                                 .processors = 1,
+                                 .rest = 50,
+                                 .round_ms = 1000,
+                                 .frames = 40,
+                                 .slots = 60,
+                                 .requests = 100000};
     for (unsigned i = 0; i < GUESTS; i++) fleet.guest[i].vm = VM_NONE;
     if (!read_options(&fleet, count, words)) {
         fputs("fleet: bad command line; fleet.c has its form at its head\n", stderr);

@@ -136,6 +136,8 @@ int main(void) {
     bool made = lender_make(&lender, &config).status == LENDER_OK && windows_make(&windows, &never).status == WINDOW_OK;
     made = made && windows_attach(windows, lender_interface(lender)).status == WINDOW_OK;
     for (unsigned i = 0; i < GUESTS; i++) vms[i] = VM_NONE;
+    vm_stop(&vms[0]);
+    vm_free(&vms[0]); /* (one that was never made) */
     for (unsigned i = 0; i < GUESTS && made; i++) made = make(i);
     check(made, "two machines are made");
     if (made) check_lent();

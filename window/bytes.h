@@ -8,7 +8,7 @@
 #include "lender.h"
 #include <stdbool.h>
 
-enum { WORDS = WINDOW_PAGE_BYTES / sizeof(uint64_t), LANES = 4 };
+enum { WORDS = WINDOW_PAGE_BYTES / sizeof(uint64_t), LANES = 8 };
 
 static inline uint64_t word_of(const uint8_t *page, size_t word) {
     return __atomic_load_n((const uint64_t *)(const void *)page + word, __ATOMIC_RELAXED);
@@ -34,13 +34,14 @@ static inline bool is_zero(const uint8_t *page) {
 /* A guess whether pages are equal: 64 bits of the page under a salt. */
 static inline uint64_t fingerprint_of(uint32_t salt, const uint8_t *page) {
     const uint64_t odd = 0x9e3779b97f4a7c15u;
-    uint64_t sums[LANES] = {salt + odd, salt + 2 * odd, salt + 3 * odd, salt + 4 * odd};
+    uint64_t sums[LANES], sum = 0;
+    for (size_t lane = 0; lane < LANES; lane++) sums[lane] = salt + (lane + 1) * odd;
     for (size_t i = 0; i < WORDS; i += LANES)
         for (size_t lane = 0; lane < LANES; lane++) {
             sums[lane] = (sums[lane] ^ word_of(page, i + lane)) * odd;
             sums[lane] ^= sums[lane] >> 29;
         }
-    uint64_t sum = sums[0] + 3 * sums[1] + 5 * sums[2] + 7 * sums[3];
+    for (size_t lane = 0; lane < LANES; lane++) sum += (2 * lane + 1) * sums[lane];
     return (sum ^ sum >> 32) * odd;
 }
 

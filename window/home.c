@@ -75,6 +75,21 @@ struct window_result window_discard(struct window *window, size_t first, size_t 
     return for_parts(window, first, count, discard_part);
 }
 
+/* Pages have memory of their own now. */
+static void note_home(struct window *window, size_t first, size_t count) {
+    struct windows *windows = window->windows;
+    windows->counts.mappings -= mappings_of(window, first, count);
+    for (size_t page = first; page < first + count; page++) {
+        window->pages[page].over = 0;
+        window->pages[page].looks = 0;
+        stop_showing(window, page);
+        window->pages[page].past = 0;
+        trace_copy(windows->trace, window->base + (uint32_t)page, address_of(window, page));
+    }
+    windows->counts.mappings += mappings_of(window, first, count);
+    windows->counts.taken_home += count;
+}
+
 /* Copies pages over frames aside, guarded, and moves the copies to their place in one step for who reads or writes meanwhile. */
 static struct window_result bring_home(struct window *window, size_t first, size_t count) {
     struct windows *windows = window->windows;
@@ -94,23 +109,10 @@ static struct window_result bring_home(struct window *window, size_t first, size
     if (cause == 0 && mremap(home, bytes_of(count), bytes_of(count), MREMAP_MAYMOVE | MREMAP_FIXED, at) == MAP_FAILED)
         cause = errno;
     if (cause != 0) munmap(home, bytes_of(count));
+    else note_home(window, first, count);
     int kept = let_waiters_go(window, first, count);
     if (cause != 0) return result_of(WINDOW_NO_MAPPING, cause);
     return kept != 0 ? result_of(WINDOW_STUCK, kept) : result_of(WINDOW_OK, 0);
-}
-
-static void note_home(struct window *window, size_t first, size_t count) {
-    struct windows *windows = window->windows;
-    windows->counts.mappings -= mappings_of(window, first, count);
-    for (size_t page = first; page < first + count; page++) {
-        window->pages[page].over = 0;
-        window->pages[page].looks = 0;
-        stop_showing(window, page);
-        window->pages[page].past = 0;
-        trace_copy(windows->trace, window->base + (uint32_t)page, address_of(window, page));
-    }
-    windows->counts.mappings += mappings_of(window, first, count);
-    windows->counts.taken_home += count;
 }
 
 struct window_result take_home(struct window *window, size_t first, size_t count) {
@@ -121,7 +123,6 @@ struct window_result take_home(struct window *window, size_t first, size_t count
         run = least(alike(window, first + done, count - done), HOME_MOST);
         if (window->pages[first + done].over == 0) continue;
         result = bring_home(window, first + done, run);
-        if (result.status == WINDOW_OK) note_home(window, first + done, run);
     }
     return result;
 }

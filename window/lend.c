@@ -143,7 +143,7 @@ static void note_page(const struct hold *hold, size_t i) {
     else if (!hold->equal[i]) windows->counts.changed++;
     if (is_lent) {
         page->shows = 1;
-        hold->window->parts[number / PART]--;
+        hold->window->parts[number / PART].releases--;
         windows->counts.lends++;
         windows->counts.lent++;
         trace_map(windows->trace, number_of(hold, i));
@@ -171,6 +171,7 @@ static void settle(struct hold *hold) {
     }
     take(hold);
     compare(hold);
+    trace_dawdle();
     map(hold);
     let_go(hold);
     for (size_t i = 0; i < hold->count; i++) {
@@ -287,7 +288,7 @@ static void take_loans(struct windows *windows, const struct batch *batch, const
         }
         batch->window->pages[number].slot = loans[i].slot;
         batch->window->pages[number].holds = 1;
-        batch->window->parts[number / PART]++;
+        batch->window->parts[number / PART].releases++;
         if (loans[i].frame >= windows->lender.frame_count) {
             note_failure(windows, WINDOW_LENDER_FAILED, EPROTO);
             continue;

@@ -10,9 +10,10 @@ enum finding { FOUND_NOTHING, FOUND_IDLE, FOUND_ZERO };
 /* Pages of a part that are idle. */
 struct findings {
     size_t count;
+    bool changes; /* something in the part changes, or is about to be idle */
     uint32_t pages[PART];
     uint64_t fingerprints[PART];
-    bool zero[PART];
+    bool zero[PART], asked_before[PART];
 };
 
 /* A lent page has memory of its own: somebody wrote to it. It is asked for in another way, too, since nothing else is so grave. */
@@ -24,18 +25,18 @@ static void find_copy(struct window *window, size_t number) {
     stop_showing(window, number);
 }
 
-/* Whether it isn't this look's turn to ask about a page that nobody else had before. */
-static bool waits(const struct windows *windows, const struct page *page, size_t number) {
+/* Whether it isn't this look's turn to ask about a page that nobody else had before. Looks that left its part out count. */
+static bool waits(const struct window *window, const struct page *page, size_t number) {
     if (page->asks == 0 || page->looks < STILL) return false;
-    uint64_t apart = 1ull << page->asks;
-    return (windows->counts.looks + number) % apart != 0;
+    uint64_t taken = window->parts[number / PART].rest + 1u, apart = (1u << page->asks) / taken;
+    return apart > 1 && (window->windows->counts.looks / taken + number) % apart != 0;
 }
 
 /* Takes a page's fingerprint, and compares it with the last look's. */
 static enum finding take_fingerprint(struct window *window, size_t number, uint64_t *fingerprint) {
     struct windows *windows = window->windows;
     struct page *page = &window->pages[number];
-    if (waits(windows, page, number)) return FOUND_NOTHING;
+    if (waits(window, page, number)) return FOUND_NOTHING;
     *fingerprint = fingerprint_of(windows->lender.salt, address_of(window, number));
     uint32_t part = (uint32_t)(*fingerprint & ((1u << FINGERPRINT_BITS) - 1));
     bool is_same = page->looks > 0 && page->fingerprint == part;
@@ -76,24 +77,54 @@ static void trace_part(struct window *window, size_t first, size_t count) {
 }
 #endif
 
+/* Whether this look leaves a part out. */
+static bool rests(struct part *part) {
+    if (part->left == 0) return false;
+    part->left--;
+    return true;
+}
+
+/* Where the same few pages have memory of their own, and none is new to the idle ones, fewer looks do: what is late then is memory. */
+static void set_rest(const struct windows *windows, struct part *part, const struct findings *findings, uint16_t own) {
+    bool is_calm = !findings->changes && own == part->own;
+    for (size_t i = 0; i < findings->count; i++) is_calm = is_calm && findings->asked_before[i];
+    unsigned rest = is_calm ? 2u * part->rest + 1 : 0;
+    part->rest = (uint8_t)(rest > windows->rest_most ? windows->rest_most : rest);
+    part->left = part->rest;
+    part->own = own;
+}
+
 /* Looks at a part. Returns false where the window has ended. Takes the lock. */
 static bool look_at_part(struct window *window, size_t first, size_t count, struct findings *findings) {
     struct windows *windows = window->windows;
     uint8_t found[PART];
+    uint16_t own = 0;
     findings->count = 0;
+    findings->changes = false;
     lock_for_look(windows);
     bool goes_on = !window->ended && windows->stuck_count == 0;
+    if (goes_on && rests(&window->parts[first / PART])) {
+        unlock_set(windows);
+        return true;
+    }
     int cause = goes_on ? pagemap_find(&windows->pagemap, address_of(window, first), count, found) : 0;
     if (cause != 0) note_failure(windows, WINDOW_NO_PAGEMAP, cause);
     for (size_t i = 0; i < count && goes_on && cause == 0; i++) {
         if (found[i] == PAGE_NONE && windows->past == 0) continue;
         uint64_t fingerprint = 0;
+        const struct page *page = &window->pages[first + i];
+        unsigned before = page->looks;
         enum finding finding = look_at(window, first + i, found[i], &fingerprint);
+        own++;
+        /* (it is about to be idle, or is so no more; what is written at each look changes nothing) */
+        findings->changes = findings->changes || (page->looks < STILL && (page->looks > 1 || before == STILL));
         if (finding == FOUND_NOTHING) continue;
         findings->pages[findings->count] = (uint32_t)(first + i);
         findings->fingerprints[findings->count] = fingerprint;
+        findings->asked_before[findings->count] = window->pages[first + i].asks == ASKS_APART_MOST;
         findings->zero[findings->count++] = finding == FOUND_ZERO;
     }
+    if (goes_on) set_rest(windows, &window->parts[first / PART], findings, own);
 #ifdef WINDOW_TRACE
     if (goes_on && windows->trace != NULL) trace_part(window, first, count);
 #endif
@@ -147,7 +178,7 @@ static void collect(struct windows *windows, struct slots *slots) {
     lock_for_look(windows);
     for (struct window *window = windows->first; window != NULL && slots->count < WINDOW_BATCH; window = window->next)
         for (size_t first = 0; first < window->count; first += PART)
-            if (window->parts[first / PART] > 0) collect_part(slots, window, first);
+            if (window->parts[first / PART].releases > 0) collect_part(slots, window, first);
     unlock_set(windows);
 }
 
@@ -164,7 +195,7 @@ void release_slots(struct windows *windows) {
         lock_for_look(windows);
         for (size_t i = 0; i < slots.count; i++) {
             slots.windows[i]->pages[slots.pages[i]].holds = 0;
-            slots.windows[i]->parts[slots.pages[i] / PART]--;
+            slots.windows[i]->parts[slots.pages[i] / PART].releases--;
             trace_release(windows->trace, slots.windows[i]->base + slots.pages[i]);
         }
         unlock_set(windows);
@@ -173,7 +204,7 @@ void release_slots(struct windows *windows) {
 
 static bool has_slots(const struct window *window) {
     for (size_t part = 0; part < (window->count + PART - 1) / PART; part++)
-        if (window->parts[part] > 0) return true;
+        if (window->parts[part].releases > 0) return true;
     return false;
 }
 

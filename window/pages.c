@@ -37,7 +37,7 @@ void stop_showing(struct window *window, size_t number) {
     if (page->past == 1) window->windows->past--;
     if (page->holds == 0) return;
     window->windows->counts.lent--;
-    window->parts[number / PART]++;
+    window->parts[number / PART].releases++;
 }
 
 int map_pages(struct window *window, size_t first, size_t count, uint32_t frame) {

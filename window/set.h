@@ -40,6 +40,14 @@ struct page {
     uint32_t asks : 3;                       /* how often it was asked about in vain, at most ASKS_APART_MOST */
 };
 
+/* PART pages of a window. */
+struct part {
+    uint16_t releases; /* slots that are to be released */
+    uint16_t own;      /* pages that had memory of their own at the last look */
+    uint8_t rest;      /* looks that leave it out, since nothing changes there; and how many of them are left */
+    uint8_t left;
+};
+
 struct window {
     struct windows *windows;
     struct window *next;
@@ -47,7 +55,7 @@ struct window {
     size_t count;  /* of pages */
     uint32_t base; /* the number of its first page among all windows' */
     struct page *pages;
-    uint16_t *parts;     /* of each part: slots that are to be released */
+    struct part *parts;
     uint16_t *pins;      /* of each page; NULL: none was pinned yet */
     struct advice found; /* what was said of the range before it was a window */
     struct advice advice;
@@ -75,6 +83,7 @@ struct windows {
     size_t past; /* pages that show frames of a lender that is gone */
     enum windows_pins pins;
     size_t mappings_most, locked_kib;
+    unsigned rest_most;
     bool is_locked;
     int advice_cause; /* what the system refused advice with, since the last look; or 0 */
     struct windows_counts counts;

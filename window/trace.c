@@ -9,6 +9,7 @@
 #include <inttypes.h>
 #include <stdio.h>
 #include <stdlib.h>
+#include <time.h>
 
 static const uint32_t NOTHING = UINT32_MAX;
 
@@ -118,6 +119,11 @@ void trace_discard(struct trace *trace, uint32_t page) {
     if (!is_recorded(trace, page)) return;
     trace->of_page[page] = 0;
     write_event(trace, "discard", page);
+}
+
+void trace_dawdle(void) {
+    const struct timespec pause = {.tv_nsec = 50000};
+    nanosleep(&pause, NULL);
 }
 
 #else

@@ -34,6 +34,8 @@ void trace_lend(struct trace *trace, uint32_t page, uint32_t frame);
 void trace_map(struct trace *trace, uint32_t page);
 void trace_release(struct trace *trace, uint32_t page);
 void trace_discard(struct trace *trace, uint32_t page);
+/* Gives others time to write, where that must not matter. */
+void trace_dawdle(void);
 
 #else
 
@@ -51,6 +53,7 @@ static inline void trace_lend(struct trace *trace, uint32_t page, uint32_t frame
 static inline void trace_map(struct trace *trace, uint32_t page) { (void)trace, (void)page; }
 static inline void trace_release(struct trace *trace, uint32_t page) { (void)trace, (void)page; }
 static inline void trace_discard(struct trace *trace, uint32_t page) { (void)trace, (void)page; }
+static inline void trace_dawdle(void) {}
 
 #endif
 

@@ -87,25 +87,23 @@ struct window_result window_make(struct window **made, struct windows *windows, 
     return result;
 }
 
-/* Takes all pages home. Where that fails the window is as it was. */
-static struct window_result leave_home(struct window *window) {
-    struct windows *windows = window->windows;
-    lock_set(windows);
-    window->ends = true;
-    unlock_set(windows);
-    struct window_result result = for_parts(window, 0, window->count, take_home);
-    if (result.status == WINDOW_OK) return result;
-    lock_set(windows);
-    window->ends = false;
-    unlock_set(windows);
-    return result;
+/* Nothing is lent of a window any more, or again. */
+static void set_ends(struct window *window, bool ends) {
+    lock_set(window->windows);
+    window->ends = ends;
+    unlock_set(window->windows);
 }
 
 struct window_result window_free(struct window *window, enum window_end end) {
     if (window == NULL) return result_of(WINDOW_OK, 0);
     struct windows *windows = window->windows;
-    struct window_result result = end == WINDOW_TAKE_HOME ? leave_home(window) : window_discard(window, 0, window->count);
-    if (result.status != WINDOW_OK) return result;
+    set_ends(window, true);
+    struct window_result result =
+        end == WINDOW_TAKE_HOME ? for_parts(window, 0, window->count, take_home) : window_discard(window, 0, window->count);
+    if (result.status != WINDOW_OK) {
+        set_ends(window, false);
+        return result;
+    }
     uint8_t *at = window->at;
     size_t count = window->count;
     struct advice found = window->found;

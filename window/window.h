@@ -30,7 +30,7 @@
 enum window_status {
     WINDOW_OK,
     WINDOW_NO_MEMORY,     /* for tables */
-    WINDOW_NO_FAULTS,     /* no userfaultfd that write-protects shared memory or moves pages: Linux 6.4, and the right to it */
+    WINDOW_NO_FAULTS,     /* no userfaultfd that write-protects shared memory: Linux 5.19, and the right to it */
     WINDOW_NO_PAGEMAP,    /* the system doesn't tell which pages were copied */
     WINDOW_LOCKED,        /* memory is locked (mlock, mlockall): the kernel would copy each frame that is mapped */
     WINDOW_BAD_RANGE,     /* not whole pages, out of the window, too many pages, or in another window already */
@@ -68,9 +68,11 @@ struct windows_config {
     enum windows_pins pins;
     int faults;           /* a descriptor of /dev/userfaultfd, for who may not open it; 0: it is opened. Stays the caller's */
     size_t mappings_most; /* mappings that windows may need in all; 0: the system's limit less 2,000 */
-    bool never_move;      /* as on a kernel without UFFDIO_MOVE; for tests */
-    bool never_scan;      /* as on a kernel without PAGEMAP_SCAN; for tests */
-    const char *trace;    /* a file for a record of events, where the library was built with WINDOW_TRACE; NULL: none */
+    uint8_t
+        rest_most; /* a part of a window where nothing changes is left out of up to so many looks, 1, 3, 7 and so on; 0: of none */
+    bool never_move;   /* as on a kernel without UFFDIO_MOVE; for tests */
+    bool never_scan;   /* as on a kernel without PAGEMAP_SCAN; for tests */
+    const char *trace; /* a file for a record of events, where the library was built with WINDOW_TRACE; NULL: none */
 };
 
 /* Makes a set without windows or lender. Unless the status is WINDOW_OK *made is NULL. */

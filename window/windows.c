@@ -58,6 +58,7 @@ struct window_result windows_make(struct windows **made, const struct windows_co
     windows->pins = config->pins;
     windows->trace_path = config->trace;
     windows->mappings_most = config->mappings_most;
+    windows->rest_most = config->rest_most;
     if (windows->mappings_most == 0) {
         size_t limit = mappings_limit();
         windows->mappings_most = limit > MAPPINGS_SPARE ? limit - MAPPINGS_SPARE : 0;

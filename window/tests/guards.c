@@ -153,7 +153,7 @@ static void punch_fails(void) {
     check(lender_trim(fixture.lender) == PAGES / 2, "a trim tells how many frames it could not give back");
     check(lender_trim(fixture.lender) == 0, "the next one gives them back");
     lender_count(fixture.lender, &totals, &counts);
-    check(totals.frames == 0 && counts.frame_bytes == 0, "the file holds nothing");
+    check(totals.frames == 0 && counts.frame_bytes <= PAGE, "the file holds nothing but perhaps the spare frame");
     must(window_free(window, WINDOW_DROP), "window_free");
     fixture_free(&fixture);
 }

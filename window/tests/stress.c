@@ -1,8 +1,9 @@
 /*
  * Windows of threads in place of guests. Each writes words of its own and checks them, while a thread looks without a pause, pages
- * are discarded and pinned, windows come and go, and children are forked. There are fewer frames than pages.
+ * are discarded, pinned and swapped out, devices read into pinned pages, windows come and go, and children are forked. There are
+ * fewer frames than pages. With --pins 1 windows aren't told which pages are pinned.
  *
- *     stress [--writes N] [--seconds N] [--trace FILE] [--move 0] [--scan 0] [--pages N] [--seed N]
+ *     stress [--writes N] [--seconds N] [--trace FILE] [--move 0] [--scan 0] [--pins 1] [--rest N] [--pages N] [--seed N]
  *
  * Ends after so many checked writes, or so many seconds. Prints figures, and "stress: ok" (status 0) or "stress: WRONG" (1).
  */
@@ -10,6 +11,7 @@
 #include "../../monitor/lender.h"
 #include "../window.h"
 #include "check.h"
+#include "ring.h"
 #include <errno.h>
 #include <inttypes.h>
 #include <pthread.h>
@@ -20,7 +22,7 @@
 #include <time.h>
 #include <unistd.h>
 
-enum { GUESTS = 3, WRITERS = 2, VALUES = 4, CHECKED = 8, PAGES_MOST = 4096 };
+enum { GUESTS = 3, WRITERS = 2, VALUES = 4, CHECKED = 8, PAGES_MOST = 4096, DEVICE_VALUE = 7 };
 
 struct guest {
     uint8_t *at;
@@ -46,6 +48,9 @@ static uint64_t writes_most = 2000000, seed = 1;
 static atomic_bool stop;
 static atomic_ullong writes_done;
 static atomic_uint failures;
+static bool pins_unknown, has_ring = true;
+static int disk;
+static uint64_t device_reads, page_outs;
 
 static volatile uint64_t *word_of(const struct writer *writer, uint32_t page) {
     return (volatile uint64_t *)(void *)(writer->guest->at + (size_t)page * WINDOW_PAGE_BYTES) + 64 * writer->number + 7;
@@ -144,15 +149,48 @@ static void fork_child(void) {
     if (child > 0) waitpid(child, NULL, 0);
 }
 
+static void pause_for(long milliseconds) {
+    const struct timespec rest = {.tv_nsec = milliseconds * 1000000};
+    nanosleep(&rest, NULL);
+}
+
+/* A device pins a page, and reads into it while others write to it before and after. */
+static void read_by_device(struct guest *guest, uint64_t *state) {
+    struct ring ring;
+    uint32_t page = (uint32_t)draw(state, pages);
+    uint8_t *at = guest->at + (size_t)page * WINDOW_PAGE_BYTES;
+    if (!pins_unknown) must(window_pin(guest->window, page, 1), "window_pin");
+    has_ring = ring_pin(&ring, at, WINDOW_PAGE_BYTES);
+    if (has_ring) {
+        pause_for(3);
+        pthread_rwlock_wrlock(&guest->lock);
+        check(ring_read(&ring, disk, at, WINDOW_PAGE_BYTES), "a device reads");
+        for (unsigned i = 0; i < WRITERS; i++) writers[guest - guests][i].values[page] = DEVICE_VALUE;
+        pthread_rwlock_unlock(&guest->lock);
+        ring_unpin(&ring);
+        device_reads++;
+    }
+    if (!pins_unknown) must(window_unpin(guest->window, page, 1), "window_unpin");
+}
+
+/* The system swaps pages out, where it has swap. */
+static void page_out(struct guest *guest, uint64_t *state) {
+    uint32_t first = (uint32_t)draw(state, pages), count = 1 + (uint32_t)draw(state, 64);
+    if (count > pages - first) count = pages - first;
+    madvise(guest->at + (size_t)first * WINDOW_PAGE_BYTES, (size_t)count * WINDOW_PAGE_BYTES, MADV_PAGEOUT);
+    page_outs++;
+}
+
 static void disturb(uint64_t *state) {
-    const struct timespec rest = {.tv_nsec = 1000000};
     struct guest *guest = &guests[draw(state, GUESTS)];
     uint64_t what = draw(state, 100);
     if (what < 40) discard(guest, state);
+    else if (what >= 90 && has_ring) read_by_device(guest, state);
     else if (what < 70) pin(guest, state);
     else if (what < 72) renew(guest, state);
     else if (what < 76) fork_child();
-    nanosleep(&rest, NULL);
+    else if (what < 86) page_out(guest, state);
+    pause_for(1);
 }
 
 static void make_guests(void) {
@@ -173,6 +211,9 @@ static void make(const struct windows_config *config) {
     must(windows_make(&windows, config), "windows_make");
     check(lender_make(&lender, &lending).status == LENDER_OK, "a lender is made");
     must(windows_attach(windows, lender_interface(lender)), "windows_attach");
+    const uint64_t word = DEVICE_VALUE;
+    disk = memfd_create("disk", MFD_CLOEXEC);
+    for (size_t i = 0; i < WINDOW_PAGE_BYTES / sizeof word; i++) check(write(disk, &word, sizeof word) == sizeof word, "a disk");
     make_guests();
 }
 
@@ -195,6 +236,8 @@ static uint64_t end(void) {
            " without a frame; %.1f us a lend to hold and map, a hold at most %.0f us\n",
            counts.discarded, counts.taken_home, counts.pinned, counts.no_frame,
            1e-3 * (double)counts.map_ns / (double)(counts.lends + counts.zeros + 1), 1e-3 * (double)counts.hold_most_ns);
+    printf("%" PRIu64 " reads by a device%s, %" PRIu64 " times pages were to be swapped out\n", device_reads,
+           has_ring ? "" : " (left out: there is no io_uring)", page_outs);
     printf("%" PRIu64 " looks, %zu lent now, %" PRIu32 " frames, %zu mappings, %u failures\n", counts.looks, counts.lent,
            totals.frames, counts.mappings, atomic_load(&failures));
     check(counts.lends > 0 && counts.copied > 0, "pages were lent, and copied");
@@ -219,6 +262,8 @@ int main(int count, char **words) {
         if (strcmp(words[i], "--trace") == 0) config.trace = words[i + 1];
         if (strcmp(words[i], "--move") == 0) config.never_move = true;
         if (strcmp(words[i], "--scan") == 0) config.never_scan = true;
+        if (strcmp(words[i], "--rest") == 0) config.rest_most = (uint8_t)strtoul(words[i + 1], NULL, 10);
+        if (strcmp(words[i], "--pins") == 0) config.pins = WINDOWS_PINS_POSSIBLE, pins_unknown = true;
     }
     if (pages == 0 || pages > PAGES_MOST) return 2;
     state = seed * 77;
