@@ -1,4 +1,4 @@
-.PHONY: test edits build demo install uninstall dist package traces commands estimate fleet no-thread embed windows guests fuzz tenants soak hints bench bench-v3
+.PHONY: test edits build demo install uninstall dist package traces commands estimate fleet no-thread embed windows guests host fuzz tenants soak hints bench bench-v3
 
 # The gate is these two commands. Both say how far they are and what failed, and leave the times of their steps at out/gate.tsv. On
 # a machine that has run none of it all is done from nothing.
@@ -141,3 +141,32 @@ out/proved.a: $(SOURCES)
 	checks/build.py pageshare_c $@
 out/v3/proved.a: $(SOURCES)
 	checks/build.py pageshare_c $@ --cpu x86-64-v3
+
+# Outside the gate: a host for processes of virtual machine monitors (docs/HOST.md), and the library that is preloaded into them.
+# `make host CHECK=1` (root) runs checks/host.py over them, and `make host FIGURE=1` draws what 1 to 8 guests share.
+host: out/host/pageshare-host out/host/libpageshare-window.so
+	$(if $(CHECK),checks/host.py)
+	$(if $(FIGURE),checks/host.py figure)
+
+# (HOST_LIBRARY names another library than the proved one)
+HOST_LIBRARY = out/libpageshare_host.a
+HOST_FLAGS = -std=c11 -O2 -g -Wall -Wextra -Wconversion -Werror -pthread -Iinclude -Iwindow -Ihost $(CFLAGS)
+HOST_SOURCES = $(addprefix host/,hostd.c settings.c domain.c clients.c frames.c report.c status.c)
+WINDOW_SOURCES = $(addprefix host/,preload.c sharing.c connection.c remote.c devices.c) $(wildcard window/*.c)
+HOST_HEADERS = $(wildcard host/*.h window/*.h include/*.h)
+
+out/host/pageshare-host: $(HOST_SOURCES) $(HOST_HEADERS) $(HOST_LIBRARY)
+	@mkdir -p $(@D)
+	$(CC) $(HOST_FLAGS) -o $@ $(HOST_SOURCES) $(HOST_LIBRARY)
+
+out/host/libpageshare-window.so: $(WINDOW_SOURCES) $(HOST_HEADERS)
+	@mkdir -p $(@D)
+	$(CC) $(HOST_FLAGS) -fPIC -shared -fvisibility=hidden -o $@ $(WINDOW_SOURCES) -ldl
+
+out/libpageshare_host.a: $(SOURCES)
+	@test -d crates/pageshare_host_c || { echo 'make host: the crate pageshare_host_c, which decides what pages share, is missing here.'; \
+	  echo 'HOST_LIBRARY=FILE names another library with the functions of include/pageshare_host.h.'; exit 1; }
+	checks/build.py pageshare_host_c $(@D)/proved_host.a
+	rm -f $@
+	printf 'create $@\naddlib $(@D)/proved_host.a\naddlib %s/c/liblibc_c.a\nsave\nend\n' "$$(dirname "$$(rt doc)")" | ar -M
+	rm $(@D)/proved_host.a

@@ -1,0 +1,179 @@
+/*
+ * Random calls and packets over the library's C entry (pageshare_host.h), beside a plain list of what is lent to whom. After each call:
+ * every page that is lent has a frame with its bytes, no freed frame is one of them, and what one session does takes no slot of
+ * another. For libFuzzer; with -DPLAIN_LOOP it draws the bytes itself, for FUZZ_SECONDS.
+ */
+#include "pageshare_host.h"
+#include <stdio.h>
+#include <stdlib.h>
+#include <string.h>
+#include <time.h>
+
+enum { PAGE = 4096, MACHINES = 2, FRAMES = 24, SLOTS = 40, SESSIONS = 6, LOANS_MOST = MACHINES * SLOTS + 1, BUFFER = 128, ROOM = 70000 };
+
+struct loan {
+    uint64_t slot;
+    uint32_t session, frame;
+    uint8_t content;
+};
+
+static _Alignas(PAGE) uint8_t region[MACHINES * FRAMES][PAGE];
+static uint8_t pages[BUFFER][PAGE];
+static struct loan loans[LOANS_MOST];
+static size_t loan_count;
+static uint8_t names[SESSIONS][PAGESHARE_HOST_NAME_BYTES];
+static uint8_t next_name;
+
+int LLVMFuzzerTestOneInput(const uint8_t *data, size_t length);
+
+static void must(bool is_so, const char *what) {
+    if (is_so) return;
+    fprintf(stderr, "fuzz: %s\n", what);
+    __builtin_trap();
+}
+
+static void check_all(void) {
+    for (size_t i = 0; i < loan_count; i++) {
+        const uint8_t *frame = region[loans[i].frame];
+        must(frame[0] == loans[i].content && memcmp(frame, frame + 1, PAGE - 1) == 0, "a lent page's frame has other bytes");
+    }
+}
+
+static void check_freed(const uint32_t *freed, size_t count) {
+    for (size_t i = 0; i < count; i++) {
+        must(freed[i] == PAGESHARE_HOST_NO_FRAME || freed[i] < MACHINES * FRAMES, "a freed frame that isn't there");
+        for (size_t at = 0; at < loan_count; at++) must(loans[at].frame != freed[i], "a freed frame that a page has");
+    }
+}
+
+static void forget(uint32_t session) {
+    for (size_t i = loan_count; i-- > 0;)
+        if (loans[i].session == session) loans[i] = loans[--loan_count];
+}
+
+static void note_loans(uint32_t session, const uint8_t *reply) {
+    struct pageshare_host_loans answer;
+    memcpy(&answer, reply, 8);
+    memcpy(answer.loans, reply + 8, answer.count * sizeof *answer.loans);
+    for (uint32_t i = 0; i < answer.count; i++) {
+        const struct pageshare_host_lent *lent = &answer.loans[i];
+        if (lent->frame == PAGESHARE_HOST_NO_FRAME) continue;
+        must(lent->frame < MACHINES * FRAMES && loan_count < LOANS_MOST, "a loan that can't be");
+        for (size_t at = 0; at < loan_count; at++) must(loans[at].slot != lent->slot, "a slot that was lent already");
+        loans[loan_count++] = (struct loan){lent->slot, session, lent->frame, pages[i][0]};
+    }
+}
+
+static void note_releases(uint32_t session, const uint8_t *bytes, uint32_t count) {
+    for (uint32_t i = 0; i < count; i++) {
+        uint64_t slot;
+        memcpy(&slot, bytes + 8 + 8 * i, sizeof slot);
+        for (size_t at = loan_count; at-- > 0;)
+            if (loans[at].slot == slot && loans[at].session == session) loans[at] = loans[--loan_count];
+    }
+}
+
+/* A packet of random bytes, at times with a good head, or with slots that are there. */
+static size_t make_packet(uint8_t *packet, const uint8_t **data, size_t *left) {
+    uint8_t how = (*data)[0], count = (*data)[1];
+    size_t length = *left < (size_t)count * 16 + 8 ? *left : (size_t)count * 16 + 8;
+    uint32_t head[2] = {how % 8, count % 160u};
+    memcpy(packet, *data, length);
+    if (how & 8) {
+        memset(packet, 0, 8 + 16 * 160);
+        memcpy(packet, head, sizeof head);
+        if (length > 8) memcpy(packet + 8, *data, length - 8);
+        length = head[0] == 2 ? 8 + 16u * head[1] : head[0] == 4 ? 8 + 8u * head[1] : 8;
+        if (head[0] == 1) head[1] = PAGESHARE_HOST_VERSION, memcpy(packet, head, sizeof head), length = how & 16 ? 24 : 8;
+        if (head[0] == 1) memcpy(packet + 8, names[count % SESSIONS], PAGESHARE_HOST_NAME_BYTES);
+        for (uint32_t i = 0; head[0] == 4 && i < head[1] && loan_count; i++)
+            memcpy(packet + 8 + 8 * i, &loans[(i + how) % loan_count].slot, 8);
+    }
+    size_t used = *left < 4 ? *left : 4;
+    *data += used;
+    *left -= used;
+    return length;
+}
+
+static void receive(struct pageshare_host *host, uint32_t session, const uint8_t *packet, size_t length, uint32_t buffer) {
+    static uint8_t reply[PAGESHARE_HOST_MAX_MESSAGE];
+    static uint32_t freed[PAGESHARE_HOST_MAX_PAGES];
+    uint32_t head[2] = {0, 0};
+    struct pageshare_host_received got = pageshare_host_receive(host, session, packet, length, (const uint8_t(*)[PAGE])pages, buffer,
+                                                                reply, sizeof reply, freed, PAGESHARE_HOST_MAX_PAGES);
+    if (got.status != PAGESHARE_HOST_OK) return;
+    must(length >= 8 && got.reply_bytes <= sizeof reply && got.freed <= PAGESHARE_HOST_MAX_PAGES, "an answer out of range");
+    memcpy(head, packet, sizeof head);
+    if (head[0] == PAGESHARE_HOST_RELEASE) note_releases(session, packet, head[1]);
+    check_freed(freed, got.freed);
+    if (head[0] == PAGESHARE_HOST_LEND) note_loans(session, reply);
+    if (got.resumed == PAGESHARE_HOST_NO_FRAME) return;
+    for (size_t i = 0; i < loan_count; i++)
+        if (loans[i].session == got.resumed) loans[i].session = session;
+}
+
+/* One call, made of a few bytes. */
+static void step(struct pageshare_host *host, const uint8_t **data, size_t *left) {
+    static uint8_t packet[ROOM];
+    uint8_t what = (*data)[0], more = (*data)[1];
+    uint32_t session = more % SESSIONS, freed[8];
+    size_t count = 0;
+    *data += 2;
+    *left -= 2;
+    switch (what % 8) {
+    case 0: {
+        uint8_t name[PAGESHARE_HOST_NAME_BYTES] = {++next_name, more};
+        if (pageshare_host_connect(host, name, &session) == PAGESHARE_HOST_OK) {
+            must(session < SESSIONS, "a session's number");
+            memcpy(names[session], name, sizeof name);
+        }
+        break;
+    }
+    case 1: pageshare_host_disconnect(host, session); break;
+    case 2:
+        if (pageshare_host_end(host, session, freed, 1 + what / 8 % 8, &count) != PAGESHARE_HOST_OK) break;
+        forget(session); /* (which of them is released first isn't told) */
+        check_freed(freed, count);
+        break;
+    case 3: memset(pages[more % BUFFER], what / 8 % 16, PAGE); break;
+    default: {
+        if (*left < 2) return;
+        size_t length = make_packet(packet, data, left);
+        receive(host, session, packet, length, what & 8 ? BUFFER : more % (BUFFER + 1));
+    }
+    }
+}
+
+int LLVMFuzzerTestOneInput(const uint8_t *data, size_t length) {
+    struct pageshare_host host = PAGESHARE_HOST_NONE;
+    struct pageshare_host_shape shape = {.machines = MACHINES, .slots = SLOTS, .frames = FRAMES, .sessions = SESSIONS, .recent = 64,
+                                         .quota = 60, .salt = 5, .fingerprints = 6, .seed = 7};
+    struct pageshare_host_totals totals;
+    if (pageshare_host_make(&host, &shape, region, sizeof region) != PAGESHARE_HOST_OK) return 0;
+    loan_count = 0;
+    next_name = 0;
+    memset(names, 0, sizeof names);
+    for (uint32_t i = 0; i < BUFFER; i++) memset(pages[i], (int)(i % 16), PAGE);
+    while (length >= 2) {
+        step(&host, &data, &length);
+        check_all();
+        must(pageshare_host_report(&host, &totals) == PAGESHARE_HOST_OK && totals.slots >= loan_count, "slots are lost");
+    }
+    pageshare_host_free(&host);
+    return 0;
+}
+
+#ifdef PLAIN_LOOP
+int main(void) {
+    static uint8_t drawn[4096];
+    const char *seconds = getenv("FUZZ_SECONDS");
+    time_t end = time(NULL) + (seconds ? atol(seconds) : 10);
+    uint64_t seed = 1, runs = 0;
+    for (; time(NULL) < end; runs++) {
+        for (size_t i = 0; i < sizeof drawn; i++) seed = seed * 6364136223846793005u + 1442695040888963407u, drawn[i] = (uint8_t)(seed >> 56);
+        LLVMFuzzerTestOneInput(drawn, sizeof drawn / (1 + runs % 8));
+    }
+    printf("runs %llu\n", (unsigned long long)runs);
+    return 0;
+}
+#endif

@@ -1,0 +1,198 @@
+"""Unmodified QEMU guests with Debian's kernel and busybox, whose first process (init.sh) checks all that it reads."""
+import json
+import os
+import pathlib
+import re
+import shutil
+import signal
+import socket
+import subprocess
+import time
+
+HERE = pathlib.Path(__file__).resolve().parent
+QEMU = "qemu-system-x86_64"
+NOBODY = 65534
+PAGE = 4096
+
+
+def read(path):
+    try:
+        return pathlib.Path(path).read_text(errors="replace")
+    except OSError:
+        return ""
+
+
+def archive(files):
+    """An initramfs (cpio, newc) of folders, files and devices: a list of (name, mode, bytes)."""
+    out = bytearray()
+    for number, (name, mode, data) in enumerate([*files, ("TRAILER!!!", 0, b"")], 1):
+        numbers = [number, mode, 0, 0, 1, 0, len(data), 0, 0, 0, 0, len(name) + 1, 0]
+        if mode == CONSOLE:
+            numbers[9:11] = [5, 1]
+        out += b"070701" + b"".join(b"%08x" % it for it in numbers) + name.encode() + b"\0"
+        out += bytes(-len(out) % 4)
+        out += data + bytes(-len(data) % 4)
+    return bytes(out)
+
+
+FOLDER, FILE, PROGRAM, CONSOLE = 0o040755, 0o100644, 0o100755, 0o020600
+
+
+def initramfs(busybox, modules, most_bytes=23 << 20):
+    """busybox, init.sh and some MiB of the kernel's modules."""
+    files = [(name, FOLDER, b"") for name in ("bin", "dev", "modules")]
+    files += [("dev/console", CONSOLE, b""), ("bin/busybox", PROGRAM, pathlib.Path(busybox).read_bytes())]
+    files += [("init", PROGRAM, (HERE / "init.sh").read_bytes())]
+    found = sorted(pathlib.Path(modules).rglob("*.ko"))
+    first = [it for it in found if re.match(r"virtio(_|\.)", it.name)]
+    size = 0
+    for it in [*first, *[it for it in found if it not in first]]:
+        data = it.read_bytes()
+        if size + len(data) <= most_bytes:
+            size += len(data)
+            files.append((f"modules/{it.name}", FILE, data))
+    return archive(files)
+
+
+class Qmp:
+    """QEMU's monitor."""
+
+    def __init__(self, path):
+        self.socket = socket.socket(socket.AF_UNIX)
+        self.socket.settimeout(120)
+        self.socket.connect(str(path))
+        self.lines = self.socket.makefile("r")
+        self.lines.readline()
+        self.do("qmp_capabilities")
+
+    def do(self, command, **arguments):
+        self.socket.sendall(json.dumps({"execute": command, "arguments": arguments}).encode() + b"\n")
+        while True:
+            answer = json.loads(self.lines.readline())
+            if "return" in answer or "error" in answer:
+                return answer
+
+    def monitor(self, line):
+        return self.do("human-monitor-command", **{"command-line": line})
+
+
+class Guest:
+    """One QEMU process with a Linux guest."""
+
+    def __init__(self, place, number, library=None, domain=None, mib=256, more=(), environment=None, wrap=(), machine="q35", work="busy",
+                 accelerator="tcg,tb-size=32", own=8, initrd=None):
+        self.number, self.mib, self.place = number, mib, place
+        self.out, self.log = place.room / f"out{number}", place.room / f"log{number}"
+        self.monitor, self.count_file = place.room / f"qmp{number}", place.room / f"counts{number}"
+        for path in (self.out, self.log, self.monitor, self.count_file):
+            path.unlink(missing_ok=True)
+        words = dict(os.environ, **(environment or {}))
+        if library:
+            words.update(PAGESHARE_SOCKET=str(domain), LD_PRELOAD=str(library), PAGESHARE_COUNTS=str(self.count_file))
+        command = [*wrap, QEMU, "-machine", machine, "-accel", accelerator, "-cpu", "host" if accelerator == "kvm" else "max", "-m", str(mib)]
+        command += ["-nodefaults", "-display", "none", "-serial", f"file:{self.out}", "-qmp", f"unix:{self.monitor},server,nowait"]
+        command += ["-device", "virtio-balloon-pci,id=balloon0", "-kernel", str(place.kernel), "-initrd", str(initrd or place.initrd)]
+        command += ["-append", f"console=ttyS0 quiet no_timer_check rdinit=/init seed={number} work={work} own={own}", "-no-reboot", *more]
+        with open(self.log, "w", encoding="utf-8") as log:
+            self.process = subprocess.Popen(command, env=words, stdin=subprocess.DEVNULL, stdout=log, stderr=subprocess.STDOUT)
+        self.pid, self.qmp_made = self.process.pid, None
+
+    def qmp(self):
+        if not self.qmp_made:
+            self.qmp_made = Qmp(self.monitor)
+        return self.qmp_made
+
+    def is_alive(self):
+        return self.process.poll() is None
+
+    def wait(self, seconds=300, word="ready"):
+        end = time.time() + seconds
+        while time.time() < end:
+            if word in read(self.out):
+                return self
+            if not self.is_alive():
+                raise RuntimeError(f"guest {self.number} ended: {read(self.log)[-600:]} {read(self.out)[-300:]}")
+            time.sleep(0.25)
+        raise RuntimeError(f"guest {self.number} said no {word!r} in {seconds} s: {read(self.out)[-300:]}")
+
+    def ticks(self):
+        return read(self.out).count("tick ")
+
+    def wrong(self):
+        text = read(self.out)
+        return text.count("WRONG") + len(re.findall(r"segfault|Oops|BUG:|Kernel panic|traps:", text))
+
+    def counts(self):
+        try:
+            return json.loads(read(self.count_file) or "{}")
+        except ValueError:
+            return {}
+
+    def said(self):
+        """The library's lines on standard error."""
+        return [it for it in read(self.log).splitlines() if it.startswith("pageshare:")]
+
+    def processor_seconds(self):
+        fields = read(f"/proc/{self.pid}/stat").rsplit(")", 1)[-1].split()
+        return (int(fields[11]) + int(fields[12])) / os.sysconf("SC_CLK_TCK") if len(fields) > 12 else 0.0
+
+    def memory(self):
+        """Of the process, in KiB: Pss, and anonymous."""
+        whole = dict(re.findall(r"^(\w+):\s+(\d+) kB", read(f"/proc/{self.pid}/smaps_rollup"), re.M))
+        return {"pss": int(whole.get("Pss", 0)), "anonymous": int(whole.get("Anonymous", 0)), "rss": int(whole.get("Rss", 0))}
+
+    def ram(self):
+        """Of the guest's RAM alone, in pages: anonymous, and by Pss; and how many mappings it has."""
+        parts = re.split(r"^(?=[0-9a-f]+-[0-9a-f]+ )", read(f"/proc/{self.pid}/smaps"), flags=re.M)[1:]
+        spans = [tuple(int(it, 16) for it in part.split(" ", 1)[0].split("-")) for part in parts]
+        begin = self.ram_begin(spans)
+        found = {"anonymous": 0, "pss": 0, "ksm": 0, "mappings": 0}
+        for (low, _), part in zip(spans, parts):
+            if begin is not None and begin <= low < begin + (self.mib << 20):
+                numbers = dict(re.findall(r"^(\w+):\s+(\d+) kB", part, re.M))
+                found["anonymous"] += int(numbers.get("Anonymous", 0)) // 4
+                found["pss"] += int(numbers.get("Pss", 0)) // 4
+                found["ksm"] += int(numbers.get("KSM", 0)) // 4
+                found["mappings"] += 1
+        return found
+
+    def ram_begin(self, spans):
+        """Where the RAM begins: a run of mappings without a gap that is at least as large, aligned to 2 MiB."""
+        if not hasattr(self, "begin"):
+            self.begin = None
+            for low, high in spans:
+                if high - low == self.mib << 20:
+                    self.begin = low
+        return self.begin
+
+    def remember_ram(self):
+        """Before anything is lent of it, the RAM is one mapping."""
+        self.ram()
+        return self
+
+    def kill(self):
+        if self.is_alive():
+            self.process.send_signal(signal.SIGKILL)
+        self.process.wait()
+        if self.qmp_made:
+            self.qmp_made.socket.close()
+
+
+def distinct(paths):
+    """Of images of memory: pages, pages of zeros, and how many different contents the others have."""
+    import hashlib
+
+    contents, pages, zeros = set(), 0, 0
+    for path in paths:
+        with open(path, "rb") as file:
+            while data := file.read(PAGE):
+                pages += 1
+                if data.count(0) == len(data):
+                    zeros += 1
+                else:
+                    contents.add(hashlib.blake2b(data, digest_size=16).digest())
+    return {"pages": pages, "zeros": zeros, "distinct": len(contents), "others": pages - zeros}
+
+
+def is_there(program):
+    return shutil.which(program) is not None

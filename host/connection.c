@@ -1,0 +1,223 @@
+#define _GNU_SOURCE
+#include "connection.h"
+#include "remote.h"
+#include "sharing.h"
+#include "trouble.h"
+#include <fcntl.h>
+#include <pthread.h>
+#include <stdlib.h>
+#include <sys/syscall.h>
+#include <unistd.h>
+
+enum {
+    PERIOD_MS = 1000,   /* between two looks */
+    BUSY_PART = 4,      /* while much is found it is so many times shorter */
+    CALM_PART = 2,      /* while nothing is found it is so many times longer */
+    CALM_LOOKS = 30,    /* looks that find nothing until then */
+    MUCH_PART = 128,    /* a look that finds one in so many pages, and MUCH of them, makes the next one come sooner */
+    MUCH = 256,
+    LITTLE = 4,
+    EAGER_LOOKS = 8,    /* looks that come sooner after there is a new host or a new window */
+    PATH_ROOM = 256
+};
+static const uint64_t retry_ns = 1000000000, scan_ns = 1000000000;
+
+/* What the environment says. */
+static struct {
+    char socket[PATH_ROOM];
+    char trace[PATH_ROOM];
+    unsigned period_ms;
+    unsigned flags; /* of window_make */
+    int counts;     /* a file for the counts, or NOTHING */
+} told = {.period_ms = PERIOD_MS, .counts = NOTHING};
+
+/* The thread's own. */
+static struct {
+    struct remote remote;
+    struct windows *windows;
+    bool is_attached, was_told, is_refused;
+    uint64_t next_try_ns, next_scan_ns;
+    struct windows_counts before;
+    unsigned period_ms, calm, eager;
+    size_t windows_before;
+    enum window_status trouble; /* of the last look, so that it is told once */
+} my = {.remote = REMOTE_CLOSED};
+
+bool connection_is_wanted(void) {
+    const char *path = getenv("PAGESHARE_SOCKET");
+    return path && *path;
+}
+
+/* Takes this library off LD_PRELOAD, and leaves others there. */
+static void end_preload(void) {
+    static const char separators[] = ": ";
+    const char *list = getenv("LD_PRELOAD");
+    char kept[1024] = "";
+    if (!list || strlen(list) >= sizeof kept) return;
+    for (size_t length; *list; list += length + (list[length] != 0)) {
+        length = strcspn(list, separators);
+        char entry[sizeof kept];
+        memcpy(entry, list, length);
+        entry[length] = 0;
+        if (length == 0 || strstr(entry, "libpageshare-window.so")) continue;
+        if (*kept) strcat(kept, ":");
+        strcat(kept, entry);
+    }
+    if (*kept) setenv("LD_PRELOAD", kept, 1);
+    else unsetenv("LD_PRELOAD");
+}
+
+static void read_path(const char *name, char to[PATH_ROOM]) {
+    const char *value = getenv(name);
+    snprintf(to, PATH_ROOM, "%s", value ? value : "");
+}
+
+void connection_prepare(void) {
+    char counts[PATH_ROOM];
+    const char *period = getenv("PAGESHARE_PERIOD_MS"), *fork = getenv("PAGESHARE_DONTFORK");
+    read_path("PAGESHARE_SOCKET", told.socket);
+    read_path("PAGESHARE_TRACE", told.trace);
+    read_path("PAGESHARE_COUNTS", counts);
+    unsigned long asked = period ? strtoul(period, NULL, 10) : PERIOD_MS;
+    told.period_ms = asked >= 1 && asked <= 3600000 ? (unsigned)asked : PERIOD_MS;
+    told.flags = fork && strcmp(fork, "1") == 0 ? WINDOW_NO_CHILD : 0;
+    if (*counts) told.counts = sharing_own((int)syscall(SYS_openat, AT_FDCWD, counts, O_WRONLY | O_CREAT | O_TRUNC | O_CLOEXEC, 0644));
+    my.period_ms = told.period_ms;
+    end_preload();
+}
+
+/* ---- the host ---- */
+
+/* Makes the set of windows, which needs the host's descriptor where the process may make no userfaultfd itself. */
+static bool make_windows(void) {
+    struct windows_config config = {.pins = ranges_devices() == DEVICES_NONE ? WINDOWS_PINS_NEVER : WINDOWS_PINS_POSSIBLE,
+                                    .faults = my.remote.faults_device > 0 ? my.remote.faults_device : 0,
+                                    .trace = *told.trace ? told.trace : NULL};
+    struct window_result result = windows_make(&my.windows, &config);
+    if (result.status == WINDOW_OK) {
+        ranges_use(my.windows);
+        return true;
+    }
+    errno = result.cause;
+    my.is_refused = true;
+    remote_disconnect(&my.remote);
+    ranges_refuse(window_status_words(result.status));
+    return false;
+}
+
+static void attach(void) {
+    struct window_lender lender = remote_lender(&my.remote);
+    if (my.is_attached) windows_detach(my.windows);
+    struct window_result result = windows_attach(my.windows, &lender);
+    my.is_attached = result.status == WINDOW_OK;
+    my.eager = EAGER_LOOKS;
+    if (!my.is_attached) tell("the host's frames can't be used: %s", window_status_words(result.status));
+}
+
+/* Connects where there is no connection, not too often. Returns whether there is one. */
+static bool connect_host(void) {
+    if (my.remote.socket >= 0) return my.is_attached;
+    if (my.is_refused || now_ns() < my.next_try_ns) return false;
+    my.next_try_ns = now_ns() + retry_ns;
+    enum remote_found found = remote_connect(&my.remote, told.socket);
+    if (found == REMOTE_NONE) {
+        if (!my.was_told) tell("no host at %s (%s); it is tried again each second", told.socket, strerror(errno));
+        my.was_told = true;
+        return false;
+    }
+    if (my.was_told) tell("connected to the host at %s", told.socket);
+    my.was_told = false;
+    if (!my.windows && !make_windows()) return false;
+    if (found == REMOTE_NEW || !my.is_attached) attach();
+    return my.is_attached;
+}
+
+/* ---- looks ---- */
+
+/* Descriptors that came by a socket are seen here alone. */
+static void scan_devices(void) {
+    if (now_ns() < my.next_scan_ns) return;
+    my.next_scan_ns = now_ns() + scan_ns;
+    enum devices found = devices_open();
+    if (found == DEVICES_PIN_PAGES && ranges_devices() == DEVICES_NONE) windows_set_pins(my.windows, WINDOWS_PINS_POSSIBLE);
+    if (found == DEVICES_WRITE_ALL) ranges_refuse("a device is given to the guest and writes to its memory (VFIO, vDPA)");
+}
+
+static void tell_look(struct window_result result) {
+    bool is_news = result.status != my.trouble && result.status != WINDOW_OK;
+    my.trouble = result.status;
+    if (result.status == WINDOW_LENDER_FAILED) {
+        if (my.remote.socket < 0 && !my.was_told) {
+            tell("the host at %s doesn't answer (%s); what is shared stays, and it is tried again each second", told.socket,
+                 strerror(result.cause));
+            my.was_told = true;
+        }
+    } else if (is_news) {
+        tell("a look: %s%s%s", window_status_words(result.status), result.cause ? ": " : "", result.cause ? strerror(result.cause) : "");
+    }
+}
+
+/* The time until the next look. */
+static void choose_period(const struct windows_counts *now) {
+    uint64_t found = now->lends - my.before.lends + (now->zeros - my.before.zeros);
+    uint64_t asked = now->asked - my.before.asked;
+    if (now->windows > my.windows_before) my.eager = EAGER_LOOKS;
+    my.windows_before = now->windows;
+    bool is_eager = my.eager > 0 && my.is_attached;
+    my.eager -= is_eager;
+    my.calm = found <= LITTLE && asked <= MUCH ? my.calm + 1 : 0;
+    if (is_eager || (found >= MUCH && found >= now->pages / MUCH_PART)) my.period_ms = told.period_ms / BUSY_PART;
+    else if (my.calm >= CALM_LOOKS) my.period_ms = my.period_ms < told.period_ms * CALM_PART ? my.period_ms + told.period_ms / 4 : my.period_ms;
+    else my.period_ms = told.period_ms;
+    if (my.period_ms == 0) my.period_ms = 1;
+    my.before = *now;
+}
+
+/* The counts as JSON, for tests and for who wants to know. */
+static void write_counts(const struct windows_counts *now) {
+    char text[2048];
+    if (told.counts < 0) return;
+    int length = snprintf(
+        text, sizeof text,
+        "{\"connected\":%d,\"pause\":%d,\"windows\":%zu,\"pages\":%zu,\"lent\":%zu,\"zeros_now\":%zu,\"mappings\":%zu,"
+        "\"table_bytes\":%zu,\"looks\":%llu,"
+        "\"lends\":%llu,\"copied\":%llu,\"zeros\":%llu,\"discarded\":%llu,\"taken_home\":%llu,\"asked\":%llu,\"seen\":%llu,\"changed\":%llu,"
+        "\"pinned\":%llu,\"no_frame\":%llu,\"no_mapping\":%llu,\"lender_failures\":%llu,\"look_ns\":%llu,\"ask_ns\":%llu,\"lend_ns\":%llu,"
+        "\"map_ns\":%llu,\"hold_most_ns\":%llu,\"processor_ns\":%llu,\"period_ms\":%u,\"devices\":%d}\n",
+        my.remote.socket >= 0, (int)now->pause, now->windows, now->pages, now->lent, now->zeros_now, now->mappings, now->table_bytes,
+        (unsigned long long)now->looks, (unsigned long long)now->lends, (unsigned long long)now->copied, (unsigned long long)now->zeros,
+        (unsigned long long)now->discarded, (unsigned long long)now->taken_home, (unsigned long long)now->asked,
+        (unsigned long long)now->seen, (unsigned long long)now->changed, (unsigned long long)now->pinned,
+        (unsigned long long)now->no_frame, (unsigned long long)now->no_mapping, (unsigned long long)now->lender_failures,
+        (unsigned long long)now->look_ns, (unsigned long long)now->ask_ns, (unsigned long long)now->lend_ns,
+        (unsigned long long)now->map_ns, (unsigned long long)now->hold_most_ns,
+        (unsigned long long)clock_ns(CLOCK_THREAD_CPUTIME_ID), my.period_ms, (int)ranges_devices());
+    bool fits = length > 0 && (size_t)length < sizeof text;
+    if (!fits || pwrite(told.counts, text, (size_t)length, 0) != length || ftruncate(told.counts, length) != 0) {
+        close(told.counts);
+        told.counts = NOTHING;
+    }
+}
+
+/* One turn of the thread. */
+static void turn(void) {
+    struct windows_counts counts;
+    if (connect_host()) ranges_open(told.flags);
+    if (!my.windows) return;
+    scan_devices();
+    tell_look(windows_look(my.windows));
+    windows_count(my.windows, &counts);
+    choose_period(&counts);
+    write_counts(&counts);
+}
+
+void *connection_thread(void *unused) {
+    pthread_setname_np(pthread_self(), "pageshare");
+    sharing_stay_inside();
+    for (;;) {
+        struct timespec pause = {.tv_sec = my.period_ms / 1000, .tv_nsec = (long)(my.period_ms % 1000) * 1000000};
+        nanosleep(&pause, NULL);
+        turn();
+    }
+    return unused;
+}

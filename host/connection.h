@@ -1,0 +1,26 @@
+/*
+ * The thread of a process that shares: it connects to the host, looks at the windows, and looks more often while much is found.
+ * Beside it, what sharing.c has for this thread alone.
+ */
+#ifndef HOST_CONNECTION_H
+#define HOST_CONNECTION_H
+
+#include "devices.h"
+#include "window.h"
+#include <stdbool.h>
+
+/* Whether PAGESHARE_SOCKET names a host. */
+bool connection_is_wanted(void);
+/* Reads the environment, before the thread begins. Children of the process get no preloaded library. */
+void connection_prepare(void);
+void *connection_thread(void *unused);
+
+/* The set that windows are made in. */
+void ranges_use(struct windows *set);
+void ranges_open(unsigned flags);
+bool ranges_any(void);
+enum devices ranges_devices(void);
+/* Lending ends for good, since something is missing. */
+void ranges_refuse(const char *why);
+
+#endif

@@ -1,0 +1,91 @@
+#define _GNU_SOURCE
+/*
+ * pageshare-host: owns the memory that processes of virtual machine monitors share, and decides by the proved library which of their
+ * pages share a frame. One thread serves one domain. This file reads the options, makes the domains and waits for a signal.
+ */
+#include "domain.h"
+#include "trouble.h"
+#include <fcntl.h>
+#include <grp.h>
+#include <pwd.h>
+#include <signal.h>
+#include <stdlib.h>
+#include <sys/prctl.h>
+#include <sys/resource.h>
+#include <unistd.h>
+
+#ifndef PAGESHARE_HOST_RELEASE
+#define PAGESHARE_HOST_RELEASE "0.1.0"
+#endif
+
+/* Clients guard their pages by a userfaultfd, which also has to hold up the kernel's own writes. Making one takes this device. */
+static int open_faults_device(void) {
+    int device = open("/dev/userfaultfd", O_RDWR | O_CLOEXEC);
+    if (device < 0)
+        tell("/dev/userfaultfd: %s; only clients that may make a userfaultfd themselves can lend", strerror(errno));
+    return device;
+}
+
+/* Becomes another user for good. */
+static bool become(const char *name) {
+    const struct passwd *user = getpwnam(name);
+    if (!user) {
+        tell("--user %s: there is no such user", name);
+        return false;
+    }
+    return (initgroups(name, user->pw_gid) == 0 && setgid(user->pw_gid) == 0 && setuid(user->pw_uid) == 0) || trouble(name);
+}
+
+/* A descriptor for each connection, process and buffer's file. */
+static void raise_limits(void) {
+    struct rlimit files;
+    if (getrlimit(RLIMIT_NOFILE, &files) != 0) return;
+    files.rlim_cur = files.rlim_max;
+    if (setrlimit(RLIMIT_NOFILE, &files) != 0) trouble("limit of descriptors");
+}
+
+static bool start_all(struct domain *domains, const struct settings *settings, size_t *begun, int faults_device) {
+    for (; *begun < settings->domain_count; ++*begun)
+        if (!domain_bind(&domains[*begun], &settings->domains[*begun], faults_device)) return ++*begun, false;
+    if (*settings->user && !become(settings->user)) return false;
+    if (prctl(PR_SET_DUMPABLE, 0) != 0) trouble("prctl"); /* processes of the same user can't reach into this one */
+    for (size_t i = 0; i < settings->domain_count; i++)
+        if (!domain_make(&domains[i])) return false;
+    for (size_t i = 0; i < settings->domain_count; i++)
+        if (!domain_start(&domains[i])) return false;
+    return true;
+}
+
+/* Serves until a signal asks it to end. */
+static int serve_all(const struct settings *settings) {
+    static struct domain domains[DOMAINS_MOST];
+    size_t begun = 0;
+    sigset_t ends;
+    int got, faults_device = open_faults_device();
+    sigemptyset(&ends);
+    sigaddset(&ends, SIGINT);
+    sigaddset(&ends, SIGTERM);
+    sigaddset(&ends, SIGHUP);
+    if (sigprocmask(SIG_BLOCK, &ends, NULL) != 0 || signal(SIGPIPE, SIG_IGN) == SIG_ERR) return trouble("signals"), 1;
+    raise_limits();
+    bool good = start_all(domains, settings, &begun, faults_device);
+    for (size_t i = 0; good && i < begun; i++)
+        tell("domain %s serves at %s: up to %u clients, %llu MiB of frames", settings->domains[i].name, settings->domains[i].socket,
+             settings->domains[i].clients, (unsigned long long)(settings->domains[i].memory >> 20));
+    if (good && sigwait(&ends, &got) != 0) good = false;
+    for (size_t i = 0; i < begun; i++) domain_end(&domains[i]);
+    if (faults_device >= 0) close(faults_device);
+    return good ? 0 : 1;
+}
+
+int main(int count, char **words) {
+    static struct settings settings;
+    if (!settings_read(&settings, count, words)) return 2;
+    switch (settings.task) {
+    case TASK_HELP: return fputs(settings_help, stdout) < 0;
+    case TASK_VERSION: return puts("pageshare-host " PAGESHARE_HOST_RELEASE) < 0;
+    case TASK_STATUS: return status_show(settings.status, settings.form, settings.watch);
+    case TASK_SERVE: break;
+    }
+    return serve_all(&settings);
+}

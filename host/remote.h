@@ -1,0 +1,41 @@
+/*
+ * A host in another process as a lender of windows (window/lender.h): one connection, its descriptors and its buffer.
+ *
+ * All calls are made by one thread. A call waits at most some seconds for the host; then the connection counts as broken.
+ */
+#ifndef HOST_REMOTE_H
+#define HOST_REMOTE_H
+
+#include "lender.h"
+#include "pageshare_host.h"
+#include <stdbool.h>
+#include <sys/types.h>
+
+struct remote {
+    int socket;        /* NOTHING where there is no connection */
+    int frames;        /* the file of frames, open for reading; stays open when the connection breaks */
+    int faults_device; /* /dev/userfaultfd, or NOTHING where the host had none to give */
+    unsigned char (*pages)[WINDOW_PAGE_BYTES];
+    uint32_t frame_count, salt;
+    bool has_name;
+    uint8_t name[PAGESHARE_HOST_NAME_BYTES]; /* the session's: a new connection takes it up by this name */
+    ino_t file; /* of the frames' file, so that another host's is known */
+};
+
+/* What a connection is. */
+enum remote_found {
+    REMOTE_NONE,    /* no host, or one that doesn't answer; errno has the cause */
+    REMOTE_RESUMED, /* the session before, with its slots */
+    REMOTE_NEW      /* another session: no slot of before counts */
+};
+
+#define REMOTE_CLOSED {.socket = -1, .frames = -1, .faults_device = -1}
+
+/* Connects to the host at a path. Where it returns REMOTE_NEW, whoever used the lender before has to attach it anew. */
+enum remote_found remote_connect(struct remote *remote, const char *path);
+/* Ends the connection; frames that are mapped stay, and so does what remote_connect takes a session up by. */
+void remote_disconnect(struct remote *remote);
+/* The lender; `remote` stays where it is meanwhile. */
+struct window_lender remote_lender(struct remote *remote);
+
+#endif

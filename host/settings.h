@@ -1,0 +1,46 @@
+/* What the host is told: by its command line, and by a settings file whose lines are the same options. */
+#ifndef HOST_SETTINGS_H
+#define HOST_SETTINGS_H
+
+#include <stdbool.h>
+#include <stddef.h>
+#include <stdint.h>
+#include <sys/types.h>
+
+/* Limits of one host. NAME_MOST and PATH_MOST are with the closing zero; a socket's address has room for 108 bytes, and the status
+ * socket's name is 7 longer than the domain's. */
+enum { DOMAINS_MOST = 16, NAME_MOST = 64, PATH_MOST = 101, CLIENTS_MOST = 4096 };
+
+/* One domain: clients that may read each other's lent pages. */
+struct domain_settings {
+    char name[NAME_MOST];
+    char socket[PATH_MOST];
+    uint64_t memory;        /* bytes: the most that frames take */
+    uint64_t client_memory; /* bytes: the most that one client may have lent; 0: all */
+    uint32_t clients;       /* the most at a time */
+    uint32_t client_rate;   /* messages that are taken of one client in a second */
+    mode_t mode;            /* of the socket */
+    gid_t group;            /* of the socket; (gid_t)-1: as it comes */
+    bool trust_peers;       /* takes clients that are root or of the host's own user */
+};
+
+enum task { TASK_SERVE, TASK_STATUS, TASK_HELP, TASK_VERSION };
+enum status_form { STATUS_TABLE, STATUS_JSON, STATUS_PROMETHEUS };
+
+struct settings {
+    enum task task;
+    struct domain_settings usual; /* what domains begin with */
+    struct domain_settings domains[DOMAINS_MOST];
+    size_t domain_count;
+    char user[NAME_MOST]; /* whom the host becomes after it opened /dev/userfaultfd; "": it stays who it is */
+    char status[PATH_MOST];
+    enum status_form form;
+    bool watch;
+};
+
+/* Reads the command line. Returns false where a word or a line of the file is wrong, after it has told which. */
+bool settings_read(struct settings *settings, int count, char **words);
+
+extern const char settings_help[];
+
+#endif

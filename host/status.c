@@ -1,0 +1,161 @@
+#define _GNU_SOURCE
+#include "status.h"
+#include "trouble.h"
+#include <stdlib.h>
+#include <sys/socket.h>
+#include <sys/time.h>
+#include <sys/un.h>
+#include <unistd.h>
+
+struct report {
+    struct status_totals totals;
+    struct status_client clients[STATUS_CLIENTS_MOST];
+};
+
+/* A number that is printed: its name in JSON and, behind "pageshare_", for Prometheus. */
+struct number {
+    const char *name, *help;
+    bool is_counter;
+    size_t at;
+    uint64_t unit; /* what it is multiplied by */
+};
+#define OF_TOTALS(NAME, MEMBER, IS_COUNTER, UNIT, HELP) {NAME, HELP, IS_COUNTER, offsetof(struct status_totals, MEMBER), UNIT}
+#define OF_CLIENT(NAME, MEMBER, IS_COUNTER, UNIT, HELP) {NAME, HELP, IS_COUNTER, offsetof(struct status_client, MEMBER), UNIT}
+
+static const struct number of_totals[] = {
+    OF_TOTALS("clients", clients, false, 1, "Processes that have lent pages or may"),
+    OF_TOTALS("lent_bytes", lent_pages, false, PAGE, "Clients' memory that frames stand for"),
+    OF_TOTALS("shared_bytes", shared_pages, false, PAGE, "Lent memory whose frame another page has too"),
+    OF_TOTALS("frame_bytes", frames, false, PAGE, "Frames in use"),
+    OF_TOTALS("reclaimed_bytes", reclaimed_pages, false, PAGE, "Lent memory less frames: what sharing gives back"),
+    OF_TOTALS("limit_bytes", frames_most, false, PAGE, "The most that frames may take"),
+    OF_TOTALS("file_bytes", frame_bytes, false, 1, "Memory of the file of frames"),
+    OF_TOTALS("host_bytes", host_bytes, false, 1, "Memory of the host process itself"),
+    OF_TOTALS("messages_total", messages, true, 1, "Messages taken"),
+    OF_TOTALS("asked_pages_total", pages_asked, true, 1, "Pages that clients asked about"),
+    OF_TOTALS("lent_pages_total", lends, true, 1, "Pages that were lent"),
+    OF_TOTALS("released_pages_total", releases, true, 1, "Pages that were released"),
+    OF_TOTALS("refused_pages_total", refused, true, 1, "Pages for which there was no slot or no frame"),
+    OF_TOTALS("faults_total", faults, true, 1, "Clients that sent what is no message"),
+    OF_TOTALS("turned_away_total", turned_away, true, 1, "Connections that were not taken"),
+    OF_TOTALS("processor_nanoseconds_total", machine_ns, true, 1, "Processor time of the domain's thread"),
+    OF_TOTALS("uptime_nanoseconds", uptime_ns, false, 1, "How long the domain has been served"),
+};
+static const struct number of_client[] = {
+    OF_CLIENT("pid", pid, false, 1, "Process"),
+    OF_CLIENT("uid", uid, false, 1, "User"),
+    OF_CLIENT("connected", connected, false, 1, "1 where the client is connected"),
+    OF_CLIENT("client_lent_bytes", lent_pages, false, PAGE, "Memory that the client has lent"),
+    OF_CLIENT("client_messages_total", messages, true, 1, "Messages taken of the client"),
+    OF_CLIENT("client_lent_pages_total", lends, true, 1, "Pages that the client has lent"),
+};
+enum { TOTALS_COUNT = sizeof of_totals / sizeof *of_totals, CLIENT_COUNT = sizeof of_client / sizeof *of_client, LABELS = 3 };
+
+static uint64_t value_of(const struct number *number, const void *record) {
+    uint64_t value;
+    memcpy(&value, (const char *)record + number->at, sizeof value);
+    return value * number->unit;
+}
+
+/* Connects, and takes the one message that is sent. */
+static bool receive(const char *socket_path, struct report *report) {
+    struct sockaddr_un name = {.sun_family = AF_UNIX};
+    struct timeval patience = {.tv_sec = 5};
+    int length = snprintf(name.sun_path, sizeof name.sun_path, "%s%s", socket_path, STATUS_SUFFIX);
+    if (length < 0 || (size_t)length >= sizeof name.sun_path) return (errno = ENAMETOOLONG, trouble(socket_path));
+    int from = socket(AF_UNIX, SOCK_SEQPACKET | SOCK_CLOEXEC, 0);
+    if (from < 0) return trouble("socket");
+    ssize_t got = -1;
+    if (setsockopt(from, SOL_SOCKET, SO_RCVTIMEO, &patience, sizeof patience) == 0 &&
+        connect(from, (const struct sockaddr *)&name, sizeof name) == 0)
+        got = recv(from, report, sizeof *report, 0);
+    int cause = errno;
+    close(from);
+    if (got < 0) return (errno = cause, trouble(name.sun_path));
+    size_t totals = sizeof report->totals;
+    bool is_whole = (size_t)got >= totals && report->totals.version == STATUS_VERSION && report->totals.listed <= STATUS_CLIENTS_MOST &&
+                    (size_t)got == totals + report->totals.listed * sizeof *report->clients;
+    if (!is_whole) tell("%s: not a status of this version", name.sun_path);
+    report->totals.domain[NAME_MOST - 1] = 0;
+    return is_whole;
+}
+
+static double mib(uint64_t pages) { return (double)pages * PAGE / (1 << 20); }
+
+static void show_table(const struct report *report) {
+    const struct status_totals *totals = &report->totals;
+    printf("domain %s: %llu clients, up %llu s, %.1f %% of one processor since\n", totals->domain, (unsigned long long)totals->clients,
+           (unsigned long long)(totals->uptime_ns / 1000000000u), 100.0 * (double)totals->machine_ns / (double)(totals->uptime_ns + 1));
+    printf("%12s %12s %12s %12s %12s\n", "lent MiB", "shared", "frames", "reclaimed", "frames most");
+    printf("%12.1f %12.1f %12.1f %12.1f %12.1f\n", mib(totals->lent_pages), mib(totals->shared_pages), mib(totals->frames),
+           mib(totals->reclaimed_pages), mib(totals->frames_most));
+    printf("file of frames %.1f MiB, host %.1f MiB; pages lent %llu, released %llu, refused %llu; faults %llu, turned away %llu\n",
+           (double)totals->frame_bytes / (1 << 20), (double)totals->host_bytes / (1 << 20), (unsigned long long)totals->lends,
+           (unsigned long long)totals->releases, (unsigned long long)totals->refused, (unsigned long long)totals->faults,
+           (unsigned long long)totals->turned_away);
+    if (totals->listed) printf("%12s %12s %12s %12s  %s\n", "process", "user", "lent MiB", "messages", "connected");
+    for (size_t i = 0; i < totals->listed; i++) {
+        const struct status_client *client = &report->clients[i];
+        printf("%12llu %12llu %12.1f %12llu  %s\n", (unsigned long long)client->pid, (unsigned long long)client->uid,
+               mib(client->lent_pages), (unsigned long long)client->messages, client->connected ? "yes" : "no");
+    }
+    if (totals->listed < totals->clients) printf("%12s and %llu more\n", "", (unsigned long long)(totals->clients - totals->listed));
+}
+
+static void show_json(const struct report *report) {
+    printf("{\"domain\":\"%s\"", report->totals.domain); /* (a name has no character that JSON escapes) */
+    for (size_t i = 0; i < TOTALS_COUNT; i++)
+        printf(",\"%s\":%llu", of_totals[i].name, (unsigned long long)value_of(&of_totals[i], &report->totals));
+    printf(",\"processes\":[");
+    for (size_t c = 0; c < report->totals.listed; c++)
+        for (size_t i = 0; i < CLIENT_COUNT; i++)
+            printf("%s\"%s\":%llu%s", i ? "," : c ? ",{" : "{", of_client[i].name,
+                   (unsigned long long)value_of(&of_client[i], &report->clients[c]), i + 1 == CLIENT_COUNT ? "}" : "");
+    printf("]}\n");
+}
+
+static void show_prometheus(const struct report *report) {
+    const char *domain = report->totals.domain;
+    for (size_t i = 0; i < TOTALS_COUNT; i++) {
+        const struct number *number = &of_totals[i];
+        printf("# HELP pageshare_%s %s\n# TYPE pageshare_%s %s\n", number->name, number->help, number->name,
+               number->is_counter ? "counter" : "gauge");
+        printf("pageshare_%s{domain=\"%s\"} %llu\n", number->name, domain, (unsigned long long)value_of(number, &report->totals));
+    }
+    for (size_t i = LABELS - 1; i < CLIENT_COUNT; i++) {
+        const struct number *number = &of_client[i];
+        const char *name = i < LABELS ? "client_connected" : number->name;
+        printf("# HELP pageshare_%s %s\n# TYPE pageshare_%s %s\n", name, number->help, name, number->is_counter ? "counter" : "gauge");
+        for (size_t c = 0; c < report->totals.listed; c++)
+            printf("pageshare_%s{domain=\"%s\",pid=\"%llu\",uid=\"%llu\"} %llu\n", name, domain,
+                   (unsigned long long)report->clients[c].pid, (unsigned long long)report->clients[c].uid,
+                   (unsigned long long)value_of(number, &report->clients[c]));
+    }
+}
+
+/* A line for one second, where a table is watched that goes to no terminal. */
+static void show_line(const struct report *report, bool is_first) {
+    const struct status_totals *totals = &report->totals;
+    if (is_first) printf("%8s %8s %12s %12s %12s %12s\n", "seconds", "clients", "lent MiB", "shared", "frames", "reclaimed");
+    printf("%8llu %8llu %12.1f %12.1f %12.1f %12.1f\n", (unsigned long long)(totals->uptime_ns / 1000000000u),
+           (unsigned long long)totals->clients, mib(totals->lent_pages), mib(totals->shared_pages), mib(totals->frames),
+           mib(totals->reclaimed_pages));
+}
+
+int status_show(const char *socket_path, enum status_form form, bool watch) {
+    static struct report report;
+    bool is_terminal = isatty(STDOUT_FILENO) == 1;
+    for (bool is_first = true;; is_first = false) {
+        if (!receive(socket_path, &report)) return 1;
+        if (form == STATUS_JSON) show_json(&report);
+        else if (form == STATUS_PROMETHEUS) show_prometheus(&report);
+        else if (watch && !is_terminal) show_line(&report, is_first);
+        else {
+            if (watch) printf("\033[H\033[J"); /* the terminal is cleared, and the table drawn anew */
+            show_table(&report);
+        }
+        if (fflush(stdout) != 0) return 1;
+        if (!watch) return 0;
+        sleep(1);
+    }
+}

@@ -1,0 +1,40 @@
+/* How the host and the preloaded library tell of a failure, and clocks. */
+#ifndef HOST_TROUBLE_H
+#define HOST_TROUBLE_H
+
+#include <errno.h>
+#include <stdarg.h>
+#include <stdbool.h>
+#include <stdint.h>
+#include <stdio.h>
+#include <string.h>
+#include <time.h>
+
+enum { PAGE = 4096, NOTHING = -1 };
+
+/* Writes one line on standard error. */
+__attribute__((format(printf, 1, 2))) static inline void tell(const char *form, ...) {
+    char line[512];
+    va_list words;
+    va_start(words, form);
+    vsnprintf(line, sizeof line, form, words);
+    va_end(words);
+    fprintf(stderr, "pageshare: %s\n", line);
+}
+
+/* The same, with the cause that errno has. Returns false. */
+static inline bool trouble(const char *what) {
+    tell("%s: %s", what, strerror(errno));
+    return false;
+}
+
+/* Nanoseconds of a clock. */
+static inline uint64_t clock_ns(clockid_t clock) {
+    struct timespec t;
+    if (clock_gettime(clock, &t) != 0) return 0;
+    return (uint64_t)t.tv_sec * 1000000000u + (uint64_t)t.tv_nsec;
+}
+
+static inline uint64_t now_ns(void) { return clock_ns(CLOCK_MONOTONIC); }
+
+#endif
