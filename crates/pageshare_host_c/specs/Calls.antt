@@ -1,5 +1,5 @@
 -- Connections and sessions, as C names them.
-use Rattle.std.specs.Prelude.{◌≡◌, ℕ, Bool, true, false, List, [], length, Option, Some, None, if◌then◌else◌, MatchBool, ◌==◌}
+use Rattle.std.specs.Prelude.{◌≡◌, ℕ, List, length, Option, Some, None, if◌then◌else◌, MatchBool, ◌==◌}
 use Rattle.share_domain.specs.declared.report.DomainReport.{DomainReport}
 use Rattle.share_domain.specs.Totals.{domain_totals}
 use Rattle.host_sessions.specs.declared.session.Begun.{Begun}

@@ -1,6 +1,6 @@
 -- What tells the contents of a handle apart.
 use Rattle.std.specs.Prelude.{◌≡◌, ℕ, zero, suc, List, Option, Some, None, refl, ◌⊎◌}
-use Rattle.std.proofs.Common.{inl, inr, ap}
+use Rattle.std.proofs.Common.{inl, inr}
 use Rattle.std.specs.Coded.{Coded, code_by, coded×, coded_ℕ, coded_list, coded_option, coded⊎}
 use Rattle.host_messages.specs.declared.fault.MessageFault.{MessageFault}
 use Rattle.host_messages.specs.declared.fault.MessageFault.TheVariants as message

@@ -23,12 +23,6 @@ abbrev pub free_status : Option Hosted → ℕ
 free_status None = 6
 free_status (Some h) = 0
 
--- the handle with another host, if there is one that is made
-abbrev pub changed : (HostView → HostView) → Option Hosted → Option Hosted
-changed f None = None
-changed f (Some (Waiting w)) = Some (Waiting w)
-changed f (Some (Made h)) = Some (Made (f h))
-
 -- What a call does to a host that is made, by what C sees of it; otherwise what C sees is this, and nothing changed.
 abbrev pub AtHost : Type 0 → (HostView → HostView → Type 0) → Option Hosted → Option Hosted → Type 0
 AtHost otherwise does None new = otherwise × (new ≡ None)
@@ -54,6 +48,11 @@ one_added None = None
 one_added (Some (Waiting w)) = Some (next_stage w)
 one_added (Some (Made h)) = Some (Made h)
 
+-- whether a host waits for no frames: all its machines have theirs
+abbrev pub awaits_none : Hosted → Bool
+awaits_none (Waiting w) = false
+awaits_none (Made h) = true
+
 -- how many frames the next machine has, or 0 if the host waits for none
 abbrev pub frames_awaited : Hosted → ℕ
 frames_awaited (Waiting w) = w.shape.frames
@@ -62,8 +61,7 @@ frames_awaited (Made h) = 0
 -- the first cause for which a region of so many pages isn't added, or 0
 abbrev pub add_cause : ℕ → Option Hosted → ℕ
 add_cause pages None = 6
-add_cause pages (Some (Waiting w)) = if pages == w.shape.frames then 0 else 13
-add_cause pages (Some (Made h)) = 6
+add_cause pages (Some h) = if awaits_none h then 6 else if pages == frames_awaited h then 0 else 13
 
 -- The frames of one machine are added, or not: for the first cause that holds, and then the handle is as it was; or for lack of
 -- memory, and then it holds nothing.

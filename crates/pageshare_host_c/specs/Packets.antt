@@ -1,5 +1,5 @@
 -- What C is told of a packet.
-use Rattle.std.specs.Prelude.{◌≡◌, ℕ, Bool, true, false, ◌||◌, nat_lt, MatchBool, List, [], ◌++◌, length, drop, Option, Some, None}
+use Rattle.std.specs.Prelude.{◌≡◌, ℕ, ◌||◌, nat_lt, MatchBool, List, [], ◌++◌, length, drop, Option, Some, None}
 use Rattle.page_digest.specs.Hashes.{fold_hash}
 use Rattle.host_messages.specs.declared.fault.MessageFault.{MessageFault}
 use Rattle.host_messages.specs.declared.fault.MessageFault.TheVariants as message
@@ -8,8 +8,10 @@ use Rattle.host_sessions.specs.declared.answer.Received.{Received}
 use Rattle.host_sessions.specs.declared.answer.Received.TheVariants as got
 use Rattle.host_sessions.specs.declared.session.SessionFault.{SessionFault}
 use Rattle.host_sessions.specs.declared.session.SessionFault.TheVariants as fault
+use Rattle.host_sessions.specs.Others.{SparesOthers}
 use Rattle.host_sessions.specs.Replies.{reply_of}
 use Rattle.host_sessions.specs.Steps.{HostView, Receives}
+use Rattle.host_sessions.specs.Table.{session_at}
 use Rattle.pageshare_host_c.specs.Hosts.{AtHost}
 use Rattle.pageshare_host_c.specs.declared.hosted.Hosted.{Hosted}
 use Rattle.pageshare_host_c.specs.declared.receive.ReceivedPacket.{ReceivedPacket}
@@ -78,10 +80,11 @@ pub record IsRefused (status : ℕ) (told : ReceivedPacket) (reply reply' freed 
   pub reply-is : reply' ≡ reply
   pub freed-is : freed' ≡ freed
 
--- a packet that a host received
+-- a packet that a host received. Each slot that another client holds is still held by it, with the same frame
 pub record ReceivesPacket (session : ℕ) (bytes : List ℕ) (pages : List (List ℕ)) (told : ReceivedPacket) (reply reply' freed freed' : List ℕ) (old new : HostView) : Type 0 where
   pub received : Received
   pub receives : Receives fold_hash session bytes pages received old new
+  pub others : SparesOthers (session_at old.sessions session) old.domain new.domain
   pub tells : Tells received told reply reply' freed freed'
 
 -- a packet for which there are buffers

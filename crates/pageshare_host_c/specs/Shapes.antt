@@ -1,5 +1,5 @@
 -- The numbers of a host, and the first cause for which there is none with these numbers.
-use Rattle.std.specs.Prelude.{ℕ, ◌≤◌, Bool, ◌||◌, nat_lt, if◌then◌else◌}
+use Rattle.std.specs.Prelude.{ℕ, Bool, ◌||◌, nat_lt, if◌then◌else◌}
 use Rattle.page_model.specs.declared.limits.TheConstants.{MAX_FRAMES, MAX_PAGES}
 use Rattle.recent_fingerprints.specs.declared.limits.TheConstants.{MAX_PLACES}
 use Rattle.share_domain.specs.declared.config.TheConstants.{MAX_MACHINES, MAX_CLIENTS}

@@ -1,8 +1,8 @@
 //! Hosts that are begun, and then made by the frames of their machines.
-ghost use Rattle.std.specs.Prelude.{◌≡◌, ◌≢◌, ◌≤◌, Some, IfOk, IfSome};
+ghost use Rattle.std.specs.Prelude.{◌≡◌, ◌≢◌, ◌≤◌, ◌==◌, Some, IfOk, IfSome};
 ghost use Rattle.machine_frames.specs.FrameMap.{no_frames};
 ghost use Rattle.page_model.specs.declared.limits.TheConstants.{MAX_FRAMES};
-ghost use Rattle.pageshare_host_c.specs.Hosts.{frames_awaited, one_added, AddsFrames, BeginsHost};
+ghost use Rattle.pageshare_host_c.specs.Hosts.{awaits_none, frames_awaited, one_added, AddsFrames, BeginsHost};
 ghost use Rattle.pageshare_host_c.specs.declared.hosted.Hosted.TheVariants as hosted;
 ghost use Rattle.pageshare_host_c.specs.Shapes.{IsFit};
 
@@ -43,6 +43,7 @@ pub(crate) fn begin(alloc: Global, host: &mut HostHandle, shape: &HostShape) -> 
 /// Returns how many frames the next machine has, or 0 if the host waits for none.
 fn frames_awaited(hosted: &Hosted) -> u32
     ensures awaited { result ≡ frames_awaited hosted.now }
+    ensures none { awaits_none hosted.now ≡ (result == 0) }
     ensures limit { result ≤ MAX_FRAMES }
 {
     match hosted {

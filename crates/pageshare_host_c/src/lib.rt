@@ -56,11 +56,7 @@ pub extern "C" fn pageshare_host_begin(
 /// The status is 0, 6 if no host was begun or it is made, 13 if the region has room for another number of frames, or 4 if memory was
 /// refused: then the handle holds nothing.
 #[unsafe(no_mangle)]
-pub extern "C" fn pageshare_host_add(
-    alloc: Global,
-    host: &mut HostHandle,
-    region: Region,
-) -> u32
+pub extern "C" fn pageshare_host_add(alloc: Global, host: &mut HostHandle, region: Region) -> u32
     ensures { AddsFrames region.pages host.old.slot.host host.new.slot.host result }
 {
     add_frames(alloc, host, region)

@@ -1,5 +1,5 @@
 //! Packets of sessions, as C hands them in.
-ghost use Rattle.std.specs.Prelude.{◌≡◌, ◌≤◌, ◌++◌, length, drop, Some};
+ghost use Rattle.std.specs.Prelude.{◌≡◌, ◌≤◌, length, Some};
 ghost use Rattle.host_messages.specs.declared.limits.TheConstants.{MAX_IN_MESSAGE, MAX_MESSAGE_BYTES};
 ghost use Rattle.pageshare_host_c.specs.Packets.{ReceivesAt, Tells, status_of, fault_status, message_status, resumed_of, frees_of, put_front, refused};
 
