@@ -26,10 +26,10 @@ has() {
     command -v "$1" > /dev/null 2>&1
 }
 
-# Compiles C source $1 (without its suffix) to a program of that name.
+# Compiles C source $1 (without its suffix) to a program of that name, with the library, or with $2.
 compile() {
     # shellcheck disable=SC2086
-    ${CC:-cc} -std=c11 -D_POSIX_C_SOURCE=200809L $flags -I"$top/include" -o "$built/$(basename "$1")" "$top/$1.c" "$library" ||
+    ${CC:-cc} -std=c11 -D_POSIX_C_SOURCE=200809L $flags -I"$top/include" -o "$built/$(basename "$1")" "$top/$1.c" "${2:-$library}" ||
         fail "$1.c does not compile"
 }
 
@@ -85,6 +85,12 @@ else
     # (natively: the program beside the checker has 100 runs)
     [ "$("$built/domain_calls" 1000)" = ok ] || fail 'domain_calls 1000 failed'
     echo 'domain_calls 1000: as it should be'
+    if [ -f "$folder/libpageshare_host.a" ]; then
+        compile checks/embed/host_calls "$folder/libpageshare_host.a"
+        run host_calls ok
+    else
+        echo "left out: the calls of a host, since there is no $folder/libpageshare_host.a"
+    fi
     if [ -n "${FULL:-}" ]; then
         # shellcheck disable=SC2086
         ${CC:-cc} -std=c11 -O2 -I"$top/include" -o "$built/full_count" "$top/checks/embed/full_count.c" "$library" || fail 'full_count.c does not compile'

@@ -223,7 +223,8 @@ struct pageshare_host_received {
  * Receives one packet of a session: `length` bytes, as many as there are. `pages` are the pages of its buffer, copied out of it; only
  * LEND reads them, so page_count may be 0 for a packet of another kind. The reply goes to `reply`, of at least
  * PAGESHARE_HOST_MAX_MESSAGE bytes. After RELEASE freed[i] is the frame that slot i's release freed, or PAGESHARE_HOST_NO_FRAME;
- * give 128 numbers. What it does changes no slot of another session, whatever the bytes are.
+ * give 128 numbers. What it does changes no slot of another session, whatever the bytes are. The status is 0, or the first cause that
+ * holds in this order: 6, 33, 32, a fault. At 6, 33 and 32 nothing has changed.
  */
 struct pageshare_host_received pageshare_host_receive(struct pageshare_host *host, uint32_t session, const uint8_t *bytes,
                                                       size_t length, const uint8_t (*pages)[4096], size_t page_count,
@@ -238,8 +239,8 @@ uint32_t pageshare_host_disconnect(struct pageshare_host *host, uint32_t session
 /*
  * A session's process has ended: releases at most `room` of its slots. *count is how many, and for the i-th of them freed[i] is the
  * frame that is free since, or PAGESHARE_HOST_NO_FRAME. From the first call on the session takes no message. Call it until *count is
- * 0: then the session's number may be another's. Give room for one number at least. Answers 0, 6, 32 or 33 (no room); unless it is 0,
- * freed and *count stay as they are.
+ * 0: then the session's number may be another's. Give room for one number at least. Answers 0, or the first cause that holds in this
+ * order: 6, 33 (no room), 32; unless it is 0, freed and *count stay as they are.
  */
 uint32_t pageshare_host_end(struct pageshare_host *host, uint32_t session, uint32_t *freed, size_t room, size_t *count);
 

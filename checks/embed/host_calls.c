@@ -1,0 +1,286 @@
+/*
+ * A host over the library, as a program calls it: its statuses, a dialogue of two clients, each fault of a packet, a session that is
+ * taken up, and sessions that end. What each call must give was worked out by hand. Prints "ok", or what failed.
+ */
+#include "check.h"
+#include "pageshare_host.h"
+#include <stdlib.h>
+#include <string.h>
+
+enum { PAGE = 4096, FRAMES = 5, SESSIONS = 3, QUOTA = 4, FREED = PAGESHARE_HOST_MAX_PAGES };
+
+static const uint8_t names[4][PAGESHARE_HOST_NAME_BYTES] = {{1}, {2}, {3}, {4}};
+static const struct pageshare_host_shape shape = {
+    .machines = 1, .slots = 8, .frames = FRAMES, .sessions = SESSIONS, .recent = 16, .quota = QUOTA, .salt = 9, .fingerprints = 7, .seed = 5};
+
+/* ---- packets */
+
+/* What the last packet of a session came to. */
+static struct pageshare_host_received got;
+static uint8_t reply[PAGESHARE_HOST_MAX_MESSAGE];
+static uint32_t freed[FREED];
+static uint8_t pages[QUOTA + 1][PAGE];
+
+static void receive(struct pageshare_host *host, uint32_t session, const void *bytes, size_t length, size_t count) {
+    memset(reply, 0xaa, sizeof reply);
+    memset(freed, 0xbb, sizeof freed);
+    got = pageshare_host_receive(host, session, bytes, length, (const uint8_t(*)[PAGE])pages, count, reply, sizeof reply, freed, FREED);
+}
+
+/* A session's first message: it wants the session with a name, or a new one. */
+static void hello(struct pageshare_host *host, uint32_t session, const uint8_t *name) {
+    struct pageshare_host_hello message = {.kind = PAGESHARE_HOST_HELLO, .version = PAGESHARE_HOST_VERSION};
+    if (name != NULL) memcpy(message.name, name, sizeof message.name);
+    receive(host, session, &message, name != NULL ? sizeof message : 8, 0);
+}
+
+static void lend(struct pageshare_host *host, uint32_t session, uint32_t count) {
+    struct pageshare_host_lend message = {.kind = PAGESHARE_HOST_LEND, .count = count};
+    receive(host, session, &message, sizeof message, QUOTA + 1);
+}
+
+static void release(struct pageshare_host *host, uint32_t session, uint64_t first, uint64_t second) {
+    struct pageshare_host_release message = {.kind = PAGESHARE_HOST_RELEASE, .count = 2, .slots = {first, second}};
+    receive(host, session, &message, 24, 0);
+}
+
+static struct pageshare_host_lent loan(size_t at) {
+    struct pageshare_host_lent told;
+    memcpy(&told, reply + 8 + at * sizeof told, sizeof told);
+    return told;
+}
+
+static bool is_welcome(const uint8_t *name) {
+    struct pageshare_host_welcome told;
+    memcpy(&told, reply, sizeof told);
+    return got.status == PAGESHARE_HOST_OK && got.reply_bytes == 36 && got.freed == 0 && told.kind == PAGESHARE_HOST_WELCOME &&
+           told.version == PAGESHARE_HOST_VERSION && memcmp(told.name, name, sizeof told.name) == 0 && told.frames == FRAMES && told.salt == 7 &&
+           told.most == PAGESHARE_HOST_MAX_PAGES;
+}
+
+/* Whether a session is told of so. */
+static bool is_told(struct pageshare_host *host, uint32_t session, uint32_t state, uint32_t slots, uint32_t fault, uint64_t messages) {
+    struct pageshare_host_session told = {9, 9, 9, 9, 9};
+    return pageshare_host_session(host, session, &told) == PAGESHARE_HOST_OK && told.state == state && told.slots == slots &&
+           told.fault == fault && told.reserved == 0 && told.messages == messages;
+}
+
+static bool counts(struct pageshare_host *host, uint32_t clients, uint32_t slots, uint32_t frames, uint32_t shared) {
+    struct pageshare_host_totals told = {9, 9, 9, 9, 9, 9};
+    return pageshare_host_report(host, &told) == PAGESHARE_HOST_OK && told.machines == 1 && told.clients == clients && told.slots == slots &&
+           told.frames == frames && told.shared == shared && told.reclaimed == slots - frames;
+}
+
+/* ---- without a host */
+
+/* Each call says that the handle holds no host that is made, and what it writes to stays. */
+static void check_none(struct pageshare_host *host) {
+    struct pageshare_host_session told = {9, 9, 9, 9, 9};
+    struct pageshare_host_totals totals = {9, 9, 9, 9, 9, 9};
+    uint32_t number = 77, frames[1] = {78};
+    size_t count = 79;
+    CHECK(pageshare_host_connect(host, names[0], &number) == PAGESHARE_HOST_ERROR_NO_HOST && number == 77);
+    CHECK(pageshare_host_disconnect(host, 0) == PAGESHARE_HOST_ERROR_NO_HOST);
+    CHECK(pageshare_host_end(host, 0, frames, 1, &count) == PAGESHARE_HOST_ERROR_NO_HOST && frames[0] == 78 && count == 79);
+    CHECK(pageshare_host_session(host, 0, &told) == PAGESHARE_HOST_ERROR_NO_HOST && told.state == 9 && told.messages == 9);
+    CHECK(pageshare_host_report(host, &totals) == PAGESHARE_HOST_ERROR_NO_HOST && totals.machines == 9);
+    hello(host, 0, NULL);
+    CHECK(got.status == PAGESHARE_HOST_ERROR_NO_HOST && got.reply_bytes == 0 && got.freed == 0 && got.resumed == PAGESHARE_HOST_NO_FRAME);
+    CHECK(reply[0] == 0xaa && freed[0] == 0xbbbbbbbb);
+}
+
+/* The status for a shape in which one number is another. */
+static uint32_t status_of(size_t member, uint32_t number) {
+    struct pageshare_host host = PAGESHARE_HOST_NONE;
+    struct pageshare_host_shape other = shape;
+    memcpy((uint8_t *)&other + member, &number, sizeof number);
+    uint32_t status = pageshare_host_begin(&host, &other);
+    if (status == PAGESHARE_HOST_OK) pageshare_host_free(&host);
+    return status;
+}
+
+static void check_shapes(void) {
+    CHECK(status_of(offsetof(struct pageshare_host_shape, machines), 0) == PAGESHARE_HOST_ERROR_MACHINES);
+    CHECK(status_of(offsetof(struct pageshare_host_shape, machines), 65) == PAGESHARE_HOST_ERROR_MACHINES);
+    CHECK(status_of(offsetof(struct pageshare_host_shape, machines), 64) == PAGESHARE_HOST_OK);
+    CHECK(status_of(offsetof(struct pageshare_host_shape, slots), 0) == PAGESHARE_HOST_ERROR_SLOTS);
+    CHECK(status_of(offsetof(struct pageshare_host_shape, slots), 1048577) == PAGESHARE_HOST_ERROR_SLOTS);
+    CHECK(status_of(offsetof(struct pageshare_host_shape, frames), 1) == PAGESHARE_HOST_ERROR_FRAMES);
+    CHECK(status_of(offsetof(struct pageshare_host_shape, frames), 1048577) == PAGESHARE_HOST_ERROR_FRAMES);
+    CHECK(status_of(offsetof(struct pageshare_host_shape, sessions), 0) == PAGESHARE_HOST_ERROR_SESSIONS);
+    CHECK(status_of(offsetof(struct pageshare_host_shape, sessions), 65537) == PAGESHARE_HOST_ERROR_SESSIONS);
+    CHECK(status_of(offsetof(struct pageshare_host_shape, recent), 0) == PAGESHARE_HOST_ERROR_RECENT);
+    CHECK(status_of(offsetof(struct pageshare_host_shape, recent), 16777217) == PAGESHARE_HOST_ERROR_RECENT);
+}
+
+/* A host is begun, and made by the frames of its machine. */
+static void check_begun(struct pageshare_host *host, void *region) {
+    struct pageshare_host_region part = {region, FRAMES};
+    struct pageshare_host_region short_part = {region, FRAMES - 1};
+    check_none(host);
+    CHECK(pageshare_host_free(host) == PAGESHARE_HOST_ERROR_NO_HOST);
+    CHECK(pageshare_host_add(host, part) == PAGESHARE_HOST_ERROR_NO_HOST);
+    CHECK(pageshare_host_begin(host, &shape) == PAGESHARE_HOST_OK);
+    check_none(host);
+    CHECK(pageshare_host_begin(host, &shape) == PAGESHARE_HOST_ERROR_IN_USE);
+    CHECK(pageshare_host_add(host, short_part) == PAGESHARE_HOST_ERROR_REGION);
+    CHECK(pageshare_host_free(host) == PAGESHARE_HOST_OK && pageshare_host_free(host) == PAGESHARE_HOST_ERROR_NO_HOST);
+    CHECK(pageshare_host_make(host, &shape, region, (FRAMES - 1) * PAGE) == PAGESHARE_HOST_ERROR_REGION);
+    CHECK(pageshare_host_make(host, &shape, region, FRAMES * PAGE) == PAGESHARE_HOST_OK);
+    CHECK(pageshare_host_begin(host, &shape) == PAGESHARE_HOST_ERROR_IN_USE);
+    CHECK(pageshare_host_add(host, part) == PAGESHARE_HOST_ERROR_NO_HOST);
+    CHECK(counts(host, 0, 0, 0, 0));
+}
+
+/* ---- a dialogue */
+
+/* Two clients connect and say hello; the buffers must be long enough. */
+static void check_hello(struct pageshare_host *host) {
+    const uint32_t bare[2] = {PAGESHARE_HOST_HELLO, PAGESHARE_HOST_VERSION};
+    uint32_t number = 77;
+    hello(host, 0, NULL);
+    CHECK(got.status == PAGESHARE_HOST_ERROR_NO_SESSION && reply[0] == 0xaa);
+    for (uint32_t i = 0; i < SESSIONS; i++) CHECK(pageshare_host_connect(host, names[i], &number) == PAGESHARE_HOST_OK && number == i);
+    CHECK(pageshare_host_connect(host, names[3], &number) == PAGESHARE_HOST_ERROR_NO_ROOM && number == SESSIONS - 1);
+    CHECK(is_told(host, 0, PAGESHARE_HOST_STATE_SILENT, 0, 0, 0));
+    got = pageshare_host_receive(host, 0, (const uint8_t *)bare, 8, (const uint8_t(*)[PAGE])pages, 0, reply, sizeof reply - 1, freed, FREED);
+    CHECK(got.status == PAGESHARE_HOST_ERROR_SHORT);
+    got = pageshare_host_receive(host, 0, (const uint8_t *)bare, 8, (const uint8_t(*)[PAGE])pages, 0, reply, sizeof reply, freed, FREED - 1);
+    CHECK(got.status == PAGESHARE_HOST_ERROR_SHORT);
+    CHECK(is_told(host, 0, PAGESHARE_HOST_STATE_SILENT, 0, 0, 0));
+    hello(host, 0, NULL);
+    CHECK(is_welcome(names[0]) && got.resumed == PAGESHARE_HOST_NO_FRAME);
+    hello(host, 1, names[3]);
+    CHECK(is_welcome(names[1]) && got.resumed == PAGESHARE_HOST_NO_FRAME);
+    CHECK(is_told(host, 1, PAGESHARE_HOST_STATE_TALKING, 0, 0, 1));
+}
+
+static void check_ask(struct pageshare_host *host) {
+    struct pageshare_host_ask ask = {.kind = PAGESHARE_HOST_ASK, .count = 3, .questions = {{1, 50}, {2, 50}, {1, 50}}};
+    const uint32_t head[2] = {PAGESHARE_HOST_SEEN, 3};
+    receive(host, 0, &ask, 8 + 3 * 16, 0);
+    CHECK(got.status == PAGESHARE_HOST_OK && got.reply_bytes == 11 && memcmp(reply, head, 8) == 0);
+    CHECK(reply[8] == 0 && reply[9] == 1 && reply[10] == 1 && reply[11] == 0xaa);
+}
+
+/* Session 0 lends five pages, of which the first two are equal, and may have four slots. Session 1 lends the first page, too. */
+static void check_lends(struct pageshare_host *host, const uint8_t *region, uint64_t slots[5]) {
+    for (size_t i = 0; i <= QUOTA; i++) memset(pages[i], (int)(i == 0 ? 1 : i), PAGE);
+    lend(host, 0, QUOTA + 1);
+    CHECK(got.status == PAGESHARE_HOST_OK && got.reply_bytes == 8 + 5 * 16 && got.freed == 0);
+    for (size_t i = 0; i < QUOTA; i++) {
+        slots[i] = loan(i).slot;
+        CHECK(loan(i).frame < FRAMES && memcmp(region + loan(i).frame * (size_t)PAGE, pages[i], PAGE) == 0);
+    }
+    CHECK(loan(0).frame == loan(1).frame && loan(0).sharers == 1 && loan(1).sharers == 2 && loan(2).sharers == 1);
+    CHECK(loan(4).slot == 0 && loan(4).frame == PAGESHARE_HOST_NO_FRAME && loan(4).sharers == 0);
+    uint32_t shared_frame = loan(0).frame;
+    lend(host, 1, 1);
+    slots[4] = loan(0).slot;
+    CHECK(got.reply_bytes == 24 && loan(0).frame == shared_frame && loan(0).sharers == 3);
+    CHECK(counts(host, 2, 5, 3, 3));
+}
+
+/* A session's release of another's slot does nothing. */
+static void check_releases(struct pageshare_host *host, const uint64_t slots[5]) {
+    release(host, 1, slots[2], slots[0]);
+    CHECK(got.status == PAGESHARE_HOST_OK && got.reply_bytes == 0 && got.freed == 2 && freed[0] == PAGESHARE_HOST_NO_FRAME);
+    CHECK(freed[1] == PAGESHARE_HOST_NO_FRAME && freed[2] == 0xbbbbbbbb && counts(host, 2, 5, 3, 3));
+    release(host, 0, slots[0], slots[2]);
+    CHECK(got.freed == 2 && freed[0] == PAGESHARE_HOST_NO_FRAME && freed[1] < FRAMES && counts(host, 2, 3, 2, 2));
+    CHECK(is_told(host, 0, PAGESHARE_HOST_STATE_TALKING, 2, 0, 4) && is_told(host, 1, PAGESHARE_HOST_STATE_TALKING, 1, 0, 3));
+}
+
+/* ---- connections that end */
+
+/* Session 2 takes up session 0, which is free then. */
+static void check_resumed(struct pageshare_host *host) {
+    uint32_t number = 77;
+    CHECK(pageshare_host_disconnect(host, 0) == PAGESHARE_HOST_OK && is_told(host, 0, PAGESHARE_HOST_STATE_GONE, 2, 0, 4));
+    lend(host, 0, 1);
+    CHECK(got.status == PAGESHARE_HOST_ERROR_NO_SESSION);
+    hello(host, 2, names[0]);
+    CHECK(is_welcome(names[0]) && got.resumed == 0);
+    CHECK(is_told(host, 2, PAGESHARE_HOST_STATE_TALKING, 2, 0, 5));
+    CHECK(pageshare_host_disconnect(host, 0) == PAGESHARE_HOST_ERROR_NO_SESSION);
+    CHECK(pageshare_host_connect(host, names[3], &number) == PAGESHARE_HOST_OK && number == 0);
+    CHECK(pageshare_host_disconnect(host, 0) == PAGESHARE_HOST_OK);
+    CHECK(pageshare_host_disconnect(host, SESSIONS) == PAGESHARE_HOST_ERROR_NO_SESSION);
+}
+
+/* A new session's packet is at fault with this status. The session takes no more, and its number is free after the connection. */
+static void check_fault(struct pageshare_host *host, const void *bytes, size_t length, uint32_t status) {
+    uint32_t number = 77;
+    CHECK(pageshare_host_connect(host, names[3], &number) == PAGESHARE_HOST_OK && number == 0);
+    receive(host, number, bytes, length, 0);
+    CHECK(got.status == status && got.reply_bytes == 0 && reply[0] == 0xaa);
+    CHECK(is_told(host, number, PAGESHARE_HOST_STATE_BROKEN, 0, status, 0));
+    hello(host, number, NULL);
+    CHECK(got.status == PAGESHARE_HOST_ERROR_NO_SESSION);
+    CHECK(pageshare_host_disconnect(host, number) == PAGESHARE_HOST_OK);
+}
+
+static void check_faults(struct pageshare_host *host) {
+    const uint32_t unknown[2] = {9, 1}, version[2] = {PAGESHARE_HOST_HELLO, 2}, many[2] = {PAGESHARE_HOST_LEND, 129};
+    const uint32_t longer[3] = {PAGESHARE_HOST_LEND, 1, 0}, early[2] = {PAGESHARE_HOST_LEND, 1};
+    check_fault(host, unknown, 7, PAGESHARE_HOST_FAULT_HEAD);
+    check_fault(host, unknown, 8, PAGESHARE_HOST_FAULT_KIND);
+    check_fault(host, version, 8, PAGESHARE_HOST_FAULT_VERSION);
+    check_fault(host, many, 8, PAGESHARE_HOST_FAULT_COUNT);
+    check_fault(host, longer, 12, PAGESHARE_HOST_FAULT_LENGTH);
+    check_fault(host, early, 8, PAGESHARE_HOST_FAULT_EARLY);
+    lend(host, 2, QUOTA + 2);
+    CHECK(got.status == PAGESHARE_HOST_FAULT_PAGES && is_told(host, 2, PAGESHARE_HOST_STATE_BROKEN, 2, PAGESHARE_HOST_FAULT_PAGES, 5));
+    hello(host, 1, NULL);
+    CHECK(got.status == PAGESHARE_HOST_FAULT_AGAIN && is_told(host, 1, PAGESHARE_HOST_STATE_BROKEN, 1, PAGESHARE_HOST_FAULT_AGAIN, 3));
+    CHECK(counts(host, 2, 3, 2, 2));
+}
+
+/* ---- processes that end */
+
+/* Session 2's process ends: its two slots are released in two calls, and the third one frees its number. */
+static void check_ends(struct pageshare_host *host) {
+    uint32_t frames[1] = {78};
+    size_t count = 79;
+    CHECK(pageshare_host_end(host, 2, frames, 0, &count) == PAGESHARE_HOST_ERROR_SHORT && frames[0] == 78 && count == 79);
+    CHECK(pageshare_host_end(host, 0, frames, 1, &count) == PAGESHARE_HOST_ERROR_NO_SESSION && frames[0] == 78 && count == 79);
+    uint32_t freed_frames = 0;
+    for (int i = 0; i < 2; i++) {
+        CHECK(pageshare_host_end(host, 2, frames, 1, &count) == PAGESHARE_HOST_OK && count == 1);
+        freed_frames += frames[0] != PAGESHARE_HOST_NO_FRAME;
+        CHECK(is_told(host, 2, PAGESHARE_HOST_STATE_ENDED, (uint32_t)(1 - i), 0, 5));
+    }
+    CHECK(freed_frames == 1);
+    frames[0] = 78;
+    CHECK(pageshare_host_end(host, 2, frames, 1, &count) == PAGESHARE_HOST_OK && count == 0 && frames[0] == 78);
+    CHECK(pageshare_host_end(host, 2, frames, 1, &count) == PAGESHARE_HOST_ERROR_NO_SESSION);
+    CHECK(counts(host, 1, 1, 1, 0));
+    CHECK(pageshare_host_end(host, 1, frames, 1, &count) == PAGESHARE_HOST_OK && count == 1 && frames[0] < FRAMES);
+    CHECK(counts(host, 1, 0, 0, 0) || counts(host, 0, 0, 0, 0));
+    CHECK(pageshare_host_end(host, 1, frames, 1, &count) == PAGESHARE_HOST_OK && count == 0 && counts(host, 0, 0, 0, 0));
+}
+
+int main(void) {
+    struct pageshare_host host = PAGESHARE_HOST_NONE;
+    uint64_t slots[5];
+    uint8_t *region = aligned_alloc(PAGE, (size_t)FRAMES * PAGE);
+    CHECK(region != NULL);
+    if (region == NULL) return 1;
+    memset(region, 0, (size_t)FRAMES * PAGE);
+    check_shapes();
+    check_begun(&host, region);
+    check_hello(&host);
+    check_ask(&host);
+    check_lends(&host, region, slots);
+    check_releases(&host, slots);
+    check_resumed(&host);
+    check_faults(&host);
+    check_ends(&host);
+    CHECK(pageshare_host_fingerprint(7, pages[0]) == pageshare_host_fingerprint(7, pages[1]));
+    CHECK(pageshare_host_fingerprint(7, pages[0]) != pageshare_host_fingerprint(7, pages[2]));
+    CHECK(pageshare_host_free(&host) == PAGESHARE_HOST_OK);
+    check_none(&host);
+    free(region);
+    if (failures == 0) puts("ok");
+    return failures == 0 ? 0 : 1;
+}

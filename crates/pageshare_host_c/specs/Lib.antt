@@ -1,0 +1,7 @@
+pub mod Shapes
+pub mod Given
+pub mod Hosts
+pub mod HostedCode
+pub mod Held
+pub mod Packets
+pub mod Calls

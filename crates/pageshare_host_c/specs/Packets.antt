@@ -1,0 +1,99 @@
+-- What C is told of a packet.
+use Rattle.std.specs.Prelude.{◌≡◌, ℕ, ◌||◌, nat_lt, MatchBool, List, [], ◌++◌, length, drop, Option, Some, None}
+use Rattle.page_digest.specs.Hashes.{fold_hash}
+use Rattle.host_messages.specs.declared.fault.MessageFault.{MessageFault}
+use Rattle.host_messages.specs.declared.fault.MessageFault.TheVariants as message
+use Rattle.host_messages.specs.declared.limits.TheConstants.{MAX_IN_MESSAGE, MAX_MESSAGE_BYTES, NO_FRAME}
+use Rattle.host_sessions.specs.declared.answer.Received.{Received}
+use Rattle.host_sessions.specs.declared.answer.Received.TheVariants as got
+use Rattle.host_sessions.specs.declared.session.SessionFault.{SessionFault}
+use Rattle.host_sessions.specs.declared.session.SessionFault.TheVariants as fault
+use Rattle.host_sessions.specs.Others.{SparesOthers}
+use Rattle.host_sessions.specs.Replies.{reply_of}
+use Rattle.host_sessions.specs.Steps.{HostView, Receives}
+use Rattle.host_sessions.specs.Table.{session_at}
+use Rattle.pageshare_host_c.specs.Hosts.{AtHost}
+use Rattle.pageshare_host_c.specs.declared.hosted.Hosted.{Hosted}
+use Rattle.pageshare_host_c.specs.declared.receive.ReceivedPacket.{ReceivedPacket}
+
+abbrev pub message_status : MessageFault → ℕ
+message_status message.Head = 64
+message_status message.Kind = 65
+message_status message.Version = 66
+message_status message.Count = 67
+message_status message.Length = 68
+message_status message.Answer = 73
+
+abbrev pub fault_status : SessionFault → ℕ
+fault_status (fault.Message f) = message_status f
+fault_status fault.Early = 69
+fault_status fault.Again = 70
+fault_status fault.Pages = 71
+fault_status fault.Clients = 72
+
+abbrev pub status_of : Received → ℕ
+status_of got.NoSession = 32
+status_of (got.Fault f) = fault_status f
+status_of (got.Welcome welcome resumed) = 0
+status_of (got.Seen answers) = 0
+status_of (got.Loans loans) = 0
+status_of (got.Released freed) = 0
+
+abbrev pub number_of : Option ℕ → ℕ
+number_of None = NO_FRAME
+number_of (Some n) = n
+
+-- the session that was taken up
+abbrev pub resumed_of : Received → ℕ
+resumed_of got.NoSession = NO_FRAME
+resumed_of (got.Fault f) = NO_FRAME
+resumed_of (got.Welcome welcome resumed) = number_of resumed
+resumed_of (got.Seen answers) = NO_FRAME
+resumed_of (got.Loans loans) = NO_FRAME
+resumed_of (got.Released freed) = NO_FRAME
+
+-- the frames that are free since
+abbrev pub frees_of : Received → List ℕ
+frees_of got.NoSession = []
+frees_of (got.Fault f) = []
+frees_of (got.Welcome welcome resumed) = []
+frees_of (got.Seen answers) = []
+frees_of (got.Loans loans) = []
+frees_of (got.Released freed) = freed.items
+
+-- a buffer with these at its front
+abbrev pub put_front : List ℕ → List ℕ → List ℕ
+put_front xs room = xs ++ drop (length xs) room
+
+abbrev pub refused : ℕ → ReceivedPacket
+refused status = record { status = status; reply_bytes = 0; freed = 0; resumed = NO_FRAME }
+
+-- C is told what came of a packet: the reply's bytes, and the frames that are free since
+pub record Tells (received : Received) (told : ReceivedPacket) (reply reply' freed freed' : List ℕ) : Type 0 where
+  pub told-is : told ≡ record { status = status_of received; reply_bytes = length (reply_of received); freed = length (frees_of received); resumed = resumed_of received }
+  pub reply-is : reply' ≡ put_front (reply_of received) reply
+  pub freed-is : freed' ≡ put_front (frees_of received) freed
+
+-- nothing was done, and nothing written
+pub record IsRefused (status : ℕ) (told : ReceivedPacket) (reply reply' freed freed' : List ℕ) : Type 0 where
+  pub told-is : told ≡ refused status
+  pub reply-is : reply' ≡ reply
+  pub freed-is : freed' ≡ freed
+
+-- a packet that a host received. Each slot that another client holds is still held by it, with the same frame
+pub record ReceivesPacket (session : ℕ) (bytes : List ℕ) (pages : List (List ℕ)) (told : ReceivedPacket) (reply reply' freed freed' : List ℕ) (old new : HostView) : Type 0 where
+  pub received : Received
+  pub receives : Receives fold_hash session bytes pages received old new
+  pub others : SparesOthers (session_at old.sessions session) old.domain new.domain
+  pub tells : Tells received told reply reply' freed freed'
+
+-- a packet for which there are buffers
+abbrev pub ReceivesWith : ℕ → List ℕ → List (List ℕ) → ReceivedPacket → List ℕ → List ℕ → List ℕ → List ℕ → HostView → HostView → Type 0
+ReceivesWith session bytes pages told reply reply' freed freed' old new =
+    MatchBool (nat_lt (length reply) MAX_MESSAGE_BYTES || nat_lt (length freed) MAX_IN_MESSAGE)
+    (IsRefused 33 told reply reply' freed freed' × (new ≡ old))
+    (ReceivesPacket session bytes pages told reply reply' freed freed' old new)
+
+abbrev pub ReceivesAt : ℕ → List ℕ → List (List ℕ) → ReceivedPacket → List ℕ → List ℕ → List ℕ → List ℕ → Option Hosted → Option Hosted → Type 0
+ReceivesAt session bytes pages told reply reply' freed freed' old new =
+    AtHost (IsRefused 6 told reply reply' freed freed') (λ h n. ReceivesWith session bytes pages told reply reply' freed freed' h n) old new

@@ -1,0 +1,211 @@
+//! Connections that begin and end, and what is known of sessions.
+ghost use Rattle.std.specs.Prelude.{◌≡◌, Some};
+ghost use Rattle.pageshare_host_c.specs.Hosts.{made_status};
+ghost use Rattle.pageshare_host_c.specs.Calls.{ConnectsAt, DisconnectsAt, EndsAt, session_status, session_after, session_told, state_of, slots_of, fault_told, messages_of, link_fault, totals_after, totals_told};
+
+use crate::hosted::Hosted;
+use crate::receive::fault_status;
+use host_messages::Name;
+use host_sessions::{Link, Session};
+use share_domain::DomainReport;
+
+/// What is known of a session.
+#[repr(C)]
+#[derive(Clone, Copy)]
+pub struct SessionTold {
+    /// 1: silent, 2: talking, 3: gone, 4: broken, 5: ended.
+    pub state: u32,
+    pub slots: u32,
+    /// The status of the fault that broke it, or 0.
+    pub fault: u32,
+    pub reserved: u32,
+    pub messages: u64,
+}
+
+/// What a host counts.
+#[repr(C)]
+#[derive(Clone, Copy)]
+pub struct HostTotals {
+    pub machines: u32,
+    pub clients: u32,
+    pub slots: u32,
+    pub frames: u32,
+    pub shared: u32,
+    pub reclaimed: u32,
+}
+
+/// Notes a connection, writes its session's number, and returns the status.
+pub(crate) fn connect(hosted: &mut Hosted, name: Name, session: &mut u32) -> u32
+    ensures { ConnectsAt name result session.old session.new (Some hosted.old) (Some hosted.new) }
+{
+    match hosted {
+        Hosted::Waiting(_) => 6,
+        Hosted::Made(host) => match host.connect(name) {
+            None => 20,
+            Some(number) => {
+                *session = number;
+                0
+            }
+        },
+    }
+}
+
+/// Notes a connection's end, and returns the status.
+pub(crate) fn disconnect(hosted: &mut Hosted, session: u32) -> u32
+    ensures { DisconnectsAt session result (Some hosted.old) (Some hosted.new) }
+{
+    match hosted {
+        Hosted::Waiting(_) => 6,
+        Hosted::Made(host) => {
+            if host.disconnect(session) {
+                return 0;
+            }
+            32
+        }
+    }
+}
+
+/// Releases slots of a session whose process has ended, and returns the status.
+pub(crate) fn end(hosted: &mut Hosted, session: u32, freed: &mut [u32], count: &mut usize) -> u32
+    ensures { EndsAt session result freed.old freed.new count.old count.new (Some hosted.old) (Some hosted.new) }
+{
+    match hosted {
+        Hosted::Waiting(_) => 6,
+        Hosted::Made(host) => {
+            if freed.is_empty() {
+                return 33;
+            }
+            match host.end(session, freed) {
+                None => 32,
+                Some(released) => {
+                    *count = released;
+                    0
+                }
+            }
+        }
+    }
+}
+
+/// Writes what is known of a session, and returns the status.
+pub(crate) fn tell_session(hosted: &Hosted, session: u32, told: &mut SessionTold) -> u32
+    ensures status { result ≡ session_status session (Some hosted.now) }
+    ensures told { told.new ≡ session_after session told.old (Some hosted.now) }
+{
+    match hosted {
+        Hosted::Waiting(_) => 6,
+        Hosted::Made(host) => {
+            let found = host.session(session);
+            if found.is_free() {
+                return 32;
+            }
+            *told = session_told(&found);
+            0
+        }
+    }
+}
+
+/// Returns what C is told of a session.
+fn session_told(session: &Session) -> SessionTold
+    ensures { result ≡ session_told session.now }
+{
+    SessionTold {
+        state: state_of(session),
+        slots: slots_of(session),
+        fault: fault_of(session),
+        reserved: 0,
+        messages: messages_of(session),
+    }
+}
+
+/// Returns the number of a session's state.
+fn state_of(session: &Session) -> u32
+    ensures { result ≡ state_of session.now }
+{
+    match session {
+        Session::Free => 0,
+        Session::Silent(_) => 1,
+        Session::Refused(_) => 4,
+        Session::Begun(begun) => match begun.link {
+            Link::Talking => 2,
+            Link::Gone => 3,
+            Link::Broken(_) => 4,
+            Link::Ended => 5,
+        },
+    }
+}
+
+/// Returns how many slots a session has.
+fn slots_of(session: &Session) -> u32
+    ensures { result ≡ slots_of session.now }
+{
+    match session {
+        Session::Free => 0,
+        Session::Silent(_) => 0,
+        Session::Refused(_) => 0,
+        Session::Begun(begun) => begun.slots,
+    }
+}
+
+/// Returns how many messages a session sent.
+fn messages_of(session: &Session) -> u64
+    ensures { result ≡ messages_of session.now }
+{
+    match session {
+        Session::Free => 0,
+        Session::Silent(_) => 0,
+        Session::Refused(_) => 0,
+        Session::Begun(begun) => begun.messages,
+    }
+}
+
+/// Returns the status of the fault that broke a session, or 0.
+fn fault_of(session: &Session) -> u32
+    ensures { result ≡ fault_told session.now }
+{
+    match session {
+        Session::Free => 0,
+        Session::Silent(_) => 0,
+        Session::Refused(fault) => fault_status(fault),
+        Session::Begun(begun) => link_fault(&begun.link),
+    }
+}
+
+/// Returns the status of the fault that broke a link, or 0.
+fn link_fault(link: &Link) -> u32
+    ensures { result ≡ link_fault link.now }
+{
+    match link {
+        Link::Talking => 0,
+        Link::Gone => 0,
+        Link::Broken(fault) => fault_status(fault),
+        Link::Ended => 0,
+    }
+}
+
+/// Writes what the host counts, and returns the status.
+pub(crate) fn report(hosted: &Hosted, totals: &mut HostTotals) -> u32
+    ensures status { result ≡ made_status (λ h. 0) (Some hosted.now) }
+    ensures totals { totals.new ≡ totals_after totals.old (Some hosted.now) }
+{
+    match hosted {
+        Hosted::Waiting(_) => 6,
+        Hosted::Made(host) => {
+            *totals = totals_told(&host.report());
+            0
+        }
+    }
+}
+
+/// Returns what C reads of a report.
+fn totals_told(report: &DomainReport) -> HostTotals
+    ensures { result ≡ totals_told report.now }
+{
+    HostTotals {
+        machines: report.machines,
+        clients: report.clients,
+        slots: report.slots,
+        frames: report.frames,
+        shared: report.shared,
+        reclaimed: report.reclaimed,
+    }
+}

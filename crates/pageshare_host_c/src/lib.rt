@@ -1,0 +1,216 @@
+//! A host of VMM processes for C: each function that a program in C or C++ calls.
+//!
+//! C makes room for a [`HostHandle`], which holds no host while its bytes are 0, and passes its address to each call. No call has a
+//! condition on its arguments except that its references are valid. `include/pageshare_host.h` declares the same functions in C, and
+//! says what the caller owes.
+#![tactic(auto)]
+
+ghost use Rattle.std.specs.Prelude.{◌≡◌, None};
+ghost use Rattle.page_digest.specs.Hashes.{fold_hash};
+ghost use Rattle.pageshare_host_c.specs.Calls.{ConnectsAt, DisconnectsAt, EndsAt, session_status, session_after, totals_after};
+ghost use Rattle.pageshare_host_c.specs.Hosts.{free_status, made_status, AddsFrames, BeginsHost};
+ghost use Rattle.pageshare_host_c.specs.Packets.{ReceivesAt};
+
+mod begin;
+mod calls;
+mod given;
+mod handle;
+mod hosted;
+mod parcel;
+mod receive;
+mod shape;
+mod slot;
+mod waiting;
+
+use begin::{add_frames, begin};
+pub use calls::{HostTotals, SessionTold};
+use calls::{connect, disconnect, end, report, tell_session};
+pub use handle::HostHandle;
+pub use hosted::Hosted;
+pub use machine_frames::Region;
+use page_digest::{FoldHash, PageHash};
+pub use receive::ReceivedPacket;
+use receive::{receive, refused};
+pub use shape::HostShape;
+pub use slot::HostSlot;
+use std::alloc::Global;
+pub use waiting::Waiting;
+
+/// Begins a host, whose machines' frames come in regions.
+///
+/// The status is 0, 5 if the handle holds a host already, and else 16 (machines), 17 (slots), 1 (frames), 18 (sessions), 19
+/// (questions) or 4 (memory).
+#[unsafe(no_mangle)]
+pub extern "C" fn pageshare_host_begin(
+    alloc: Global,
+    host: &mut HostHandle,
+    shape: &HostShape,
+) -> u32
+    ensures { BeginsHost shape.now host.old.slot.host host.new.slot.host result }
+{
+    begin(alloc, host, shape)
+}
+
+/// Gives a host that was begun the frames of its next machine. With those of the last one the host is made.
+///
+/// The status is 0, 6 if no host was begun or it is made, 13 if the region has room for another number of frames, or 4 if memory was
+/// refused: then the handle holds nothing.
+#[unsafe(no_mangle)]
+pub extern "C" fn pageshare_host_add(alloc: Global, host: &mut HostHandle, region: Region) -> u32
+    ensures { AddsFrames region.pages host.old.slot.host host.new.slot.host result }
+{
+    add_frames(alloc, host, region)
+}
+
+/// Frees the host. The status is 6 if the handle holds none.
+#[unsafe(no_mangle)]
+pub extern "C" fn pageshare_host_free(alloc: Global, host: &mut HostHandle) -> u32
+    ensures none { host.new.slot.host ≡ None }
+    ensures status { result ≡ free_status host.old.slot.host }
+{
+    match host.take(alloc) {
+        None => 6,
+        Some(_hosted) => 0,
+    }
+}
+
+/// A peer has connected: `session` is then its session's number.
+///
+/// The status is 6 without a host, and 20 if there are as many sessions as there may be; then `session` stays as it is.
+#[unsafe(no_mangle)]
+pub extern "C" fn pageshare_host_connect(
+    alloc: Global,
+    host: &mut HostHandle,
+    name: &[u8; 16],
+    session: &mut u32,
+) -> u32
+    ensures { ConnectsAt name.now result session.old session.new host.old.slot.host host.new.slot.host }
+{
+    match host.take(alloc) {
+        None => 6,
+        Some(mut hosted) => {
+            let status = connect(&mut hosted, *name, session);
+            host.put(hosted);
+            status
+        }
+    }
+}
+
+/// Receives a packet of a session.
+///
+/// The status is 6 without a host, 33 if a buffer is too short, 32 if no session with this number takes messages, and above 63 if the
+/// packet is at fault.
+#[unsafe(no_mangle)]
+pub extern "C" fn pageshare_host_receive(
+    alloc: Global,
+    host: &mut HostHandle,
+    session: u32,
+    bytes: &[u8],
+    pages: &[[u8; 4096]],
+    reply: &mut [u8],
+    freed: &mut [u32],
+) -> ReceivedPacket
+    ensures { ReceivesAt session bytes.now pages.now result reply.old reply.new freed.old freed.new host.old.slot.host host.new.slot.host }
+{
+    match host.take(alloc) {
+        None => refused(6),
+        Some(mut hosted) => {
+            let told = receive(&mut hosted, session, bytes, pages, reply, freed);
+            host.put(hosted);
+            told
+        }
+    }
+}
+
+/// A session's connection has ended. The status is 6 without a host, and 32 if there is no such session.
+#[unsafe(no_mangle)]
+pub extern "C" fn pageshare_host_disconnect(
+    alloc: Global,
+    host: &mut HostHandle,
+    session: u32,
+) -> u32
+    ensures { DisconnectsAt session result host.old.slot.host host.new.slot.host }
+{
+    match host.take(alloc) {
+        None => 6,
+        Some(mut hosted) => {
+            let status = disconnect(&mut hosted, session);
+            host.put(hosted);
+            status
+        }
+    }
+}
+
+/// A session's process has ended: releases as many of its slots as `freed` has places. `count` is then how many.
+///
+/// The status is 6 without a host, 33 if `freed` has no place, and 32 if there is no such session; then nothing is written.
+#[unsafe(no_mangle)]
+pub extern "C" fn pageshare_host_end(
+    alloc: Global,
+    host: &mut HostHandle,
+    session: u32,
+    freed: &mut [u32],
+    count: &mut usize,
+) -> u32
+    ensures { EndsAt session result freed.old freed.new count.old count.new host.old.slot.host host.new.slot.host }
+{
+    match host.take(alloc) {
+        None => 6,
+        Some(mut hosted) => {
+            let status = end(&mut hosted, session, freed, count);
+            host.put(hosted);
+            status
+        }
+    }
+}
+
+/// Gets what is known of a session. The status is 6 without a host, and 32 if there is no such session; then `told` stays as it is.
+#[unsafe(no_mangle)]
+pub extern "C" fn pageshare_host_session(
+    alloc: Global,
+    host: &mut HostHandle,
+    session: u32,
+    told: &mut SessionTold,
+) -> u32
+    ensures same { host.new.slot.host ≡ host.old.slot.host }
+    ensures status { result ≡ session_status session host.old.slot.host }
+    ensures told { told.new ≡ session_after session told.old host.old.slot.host }
+{
+    match host.take(alloc) {
+        None => 6,
+        Some(hosted) => {
+            let status = tell_session(&hosted, session, told);
+            host.put(hosted);
+            status
+        }
+    }
+}
+
+/// Gets what the host counts. It looks at each slot. The status is 6 without a host, and then `totals` stays as it is.
+#[unsafe(no_mangle)]
+pub extern "C" fn pageshare_host_report(
+    alloc: Global,
+    host: &mut HostHandle,
+    totals: &mut HostTotals,
+) -> u32
+    ensures same { host.new.slot.host ≡ host.old.slot.host }
+    ensures status { result ≡ made_status (λ h. 0) host.old.slot.host }
+    ensures totals { totals.new ≡ totals_after totals.old host.old.slot.host }
+{
+    match host.take(alloc) {
+        None => 6,
+        Some(hosted) => {
+            let status = report(&hosted, totals);
+            host.put(hosted);
+            status
+        }
+    }
+}
+
+/// Returns a page's fingerprint under a salt, as a client computes it.
+#[unsafe(no_mangle)]
+pub extern "C" fn pageshare_host_fingerprint(salt: u32, page: &[u8; 4096]) -> u64
+    ensures { result ≡ fold_hash salt page.now }
+{
+    FoldHash.hash(salt, page)
+}

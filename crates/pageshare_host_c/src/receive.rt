@@ -1,0 +1,169 @@
+//! Packets of sessions, as C hands them in.
+ghost use Rattle.std.specs.Prelude.{◌≡◌, ◌≤◌, length, Some};
+ghost use Rattle.host_messages.specs.declared.limits.TheConstants.{MAX_IN_MESSAGE, MAX_MESSAGE_BYTES};
+ghost use Rattle.pageshare_host_c.specs.Packets.{ReceivesAt, Tells, status_of, fault_status, message_status, resumed_of, frees_of, put_front, refused};
+
+use crate::hosted::Hosted;
+use host_messages::{MAX_IN_MESSAGE, MAX_MESSAGE_BYTES, MessageFault, NO_FRAME};
+use host_sessions::{Received, SessionFault};
+use page_model::Page;
+
+/// What C is told of a packet.
+#[repr(C)]
+#[derive(Clone, Copy)]
+pub struct ReceivedPacket {
+    pub status: u32,
+    /// The bytes of the reply.
+    pub reply_bytes: u32,
+    /// How many frames stand in `freed`.
+    pub freed: u32,
+    /// The number of the session that was taken up, or [`NO_FRAME`].
+    pub resumed: u32,
+}
+
+/// Receives a packet, and writes the reply and the frames that are free since.
+pub(crate) fn receive(
+    hosted: &mut Hosted,
+    session: u32,
+    bytes: &[u8],
+    pages: &[Page],
+    reply: &mut [u8],
+    freed: &mut [u32],
+) -> ReceivedPacket
+    ensures { ReceivesAt session bytes.now pages.now result reply.old reply.new freed.old freed.new (Some hosted.old) (Some hosted.new) }
+{
+    match hosted {
+        Hosted::Waiting(_) => refused(6),
+        Hosted::Made(host) => {
+            if reply.len() < MAX_MESSAGE_BYTES {
+                return refused(33);
+            }
+            if freed.len() < MAX_IN_MESSAGE {
+                return refused(33);
+            }
+            tell(host.receive(session, bytes, pages), reply, freed)
+        }
+    }
+}
+
+/// Returns what C is told of a call that did nothing.
+pub(crate) fn refused(status: u32) -> ReceivedPacket
+    ensures { result ≡ refused status }
+{
+    ReceivedPacket {
+        status,
+        reply_bytes: 0,
+        freed: 0,
+        resumed: NO_FRAME,
+    }
+}
+
+/// Writes the reply and the frames that are free since.
+fn tell(received: Received, reply: &mut [u8], freed: &mut [u32]) -> ReceivedPacket
+    requires reply { MAX_MESSAGE_BYTES ≤ length reply.old }
+    requires freed { MAX_IN_MESSAGE ≤ length freed.old }
+    ensures { Tells received result reply.old reply.new freed.old freed.new }
+{
+    let status = status_of(&received);
+    let resumed = resumed_of(&received);
+    let count = put_freed(&received, freed);
+    let packet = received.into_reply();
+    put_bytes(packet.as_slice(), reply);
+    ReceivedPacket {
+        status,
+        reply_bytes: packet.len() as u32,
+        freed: count,
+        resumed,
+    }
+}
+
+/// Writes bytes to the front of a buffer.
+fn put_bytes(bytes: &[u8], room: &mut [u8])
+    requires { length bytes.now ≤ length room.old }
+    ensures { room.new ≡ put_front bytes.now room.old }
+{
+    room[..bytes.len()].copy_from_slice(bytes);
+}
+
+/// Writes frames to the front of a buffer.
+fn put_frames(frames: &[u32], room: &mut [u32])
+    requires { length frames.now ≤ length room.old }
+    ensures { room.new ≡ put_front frames.now room.old }
+{
+    room[..frames.len()].copy_from_slice(frames);
+}
+
+/// Writes the frames that are free since a release, and returns how many numbers that are.
+fn put_freed(received: &Received, room: &mut [u32]) -> u32
+    requires { MAX_IN_MESSAGE ≤ length room.old }
+    ensures count { result ≡ length (frees_of received.now) }
+    ensures room { room.new ≡ put_front (frees_of received.now) room.old }
+{
+    match received {
+        Received::NoSession => 0,
+        Received::Fault(_) => 0,
+        Received::Welcome(_, _) => 0,
+        Received::Seen(_) => 0,
+        Received::Loans(_) => 0,
+        Received::Released(frames) => {
+            put_frames(frames.as_slice(), room);
+            frames.len() as u32
+        }
+    }
+}
+
+/// Returns the status of what came of a packet.
+fn status_of(received: &Received) -> u32
+    ensures { result ≡ status_of received.now }
+{
+    match received {
+        Received::NoSession => 32,
+        Received::Fault(fault) => fault_status(fault),
+        Received::Welcome(_, _) => 0,
+        Received::Seen(_) => 0,
+        Received::Loans(_) => 0,
+        Received::Released(_) => 0,
+    }
+}
+
+/// Returns the status of a fault.
+pub(crate) fn fault_status(fault: &SessionFault) -> u32
+    ensures { result ≡ fault_status fault.now }
+{
+    match fault {
+        SessionFault::Message(fault) => message_status(fault),
+        SessionFault::Early => 69,
+        SessionFault::Again => 70,
+        SessionFault::Pages => 71,
+        SessionFault::Clients => 72,
+    }
+}
+
+/// Returns the status of bytes that are no message.
+fn message_status(fault: &MessageFault) -> u32
+    ensures { result ≡ message_status fault.now }
+{
+    match fault {
+        MessageFault::Head => 64,
+        MessageFault::Kind => 65,
+        MessageFault::Version => 66,
+        MessageFault::Count => 67,
+        MessageFault::Length => 68,
+        MessageFault::Answer => 73,
+    }
+}
+
+/// Returns the number of the session that was taken up, or [`NO_FRAME`].
+fn resumed_of(received: &Received) -> u32
+    ensures { result ≡ resumed_of received.now }
+{
+    match received {
+        Received::NoSession => NO_FRAME,
+        Received::Fault(_) => NO_FRAME,
+        Received::Welcome(_, None) => NO_FRAME,
+        Received::Welcome(_, Some(before)) => *before,
+        Received::Seen(_) => NO_FRAME,
+        Received::Loans(_) => NO_FRAME,
+        Received::Released(_) => NO_FRAME,
+    }
+}
