@@ -4,6 +4,7 @@
  * pages share a frame. One thread serves one domain. This file reads the options, makes the domains and waits for a signal.
  */
 #include "domain.h"
+#include "pageshare.h"
 #include "trouble.h"
 #include <fcntl.h>
 #include <grp.h>
@@ -13,10 +14,6 @@
 #include <sys/prctl.h>
 #include <sys/resource.h>
 #include <unistd.h>
-
-#ifndef PAGESHARE_HOST_RELEASE
-#define PAGESHARE_HOST_RELEASE "0.1.0"
-#endif
 
 /* Clients guard their pages by a userfaultfd, which also has to hold up the kernel's own writes. Making one takes this device. */
 static int open_faults_device(void) {
@@ -83,7 +80,7 @@ int main(int count, char **words) {
     if (!settings_read(&settings, count, words)) return 2;
     switch (settings.task) {
     case TASK_HELP: return fputs(settings_help, stdout) < 0;
-    case TASK_VERSION: return puts("pageshare-host " PAGESHARE_HOST_RELEASE) < 0;
+    case TASK_VERSION: return puts("pageshare-host " PAGESHARE_VERSION) < 0;
     case TASK_STATUS: return status_show(settings.status, settings.form, settings.watch);
     case TASK_SERVE: break;
     }
