@@ -5,7 +5,7 @@ An object is that of `estimate --json` or `fleet --json`.
 import fractions
 import math
 
-HOW_TO_SHARE = "docs/MONITOR.md and docs/EMBEDDING.md say how to share it.\n"
+HOW_TO_SHARE = "docs/HOST.md says how to share it.\n"
 PAGES_OF_A_MIB = 256
 
 

@@ -31,7 +31,7 @@ const OF_TOTAL: [&str; 8] = [
 const LONGEST: usize = 14;
 
 /// The last line: what shares the memory.
-const HOW_TO_SHARE: &str = "docs/MONITOR.md and docs/EMBEDDING.md say how to share it.\n";
+const HOW_TO_SHARE: &str = "docs/HOST.md says how to share it.\n";
 
 /// Writes the table: a line for each guest and one for the total, then the copies, a sentence that sums up the numbers, and
 /// last how to share the memory. Each line ends with a line feed.

@@ -23,7 +23,7 @@ const TABLE: [&str; 17] = [
     "65537 to 131072                    1           354.7",
     "",
     "425 of 512 MiB could be reclaimed (83.0 %): 355 zeros, 23 between guests, 47 within guests",
-    "docs/MONITOR.md and docs/EMBEDDING.md say how to share it.",
+    "docs/HOST.md says how to share it.",
 ];
 
 const TABLE_OF_PAGES: [&str; 17] = [
@@ -43,7 +43,7 @@ const TABLE_OF_PAGES: [&str; 17] = [
     "65537 to 131072                    1           90814",
     "",
     "425 of 512 MiB could be reclaimed (83.0 %): 355 zeros, 23 between guests, 47 within guests",
-    "docs/MONITOR.md and docs/EMBEDDING.md say how to share it.",
+    "docs/HOST.md says how to share it.",
 ];
 
 const OBJECT: &str =
