@@ -24,14 +24,6 @@ pub trait PageSource: Sync {
         ensures told { OnOk result (is_steady self.now → into.new ≡ take (length into.old) (drop first (pages self.now))) };
 }
 
-/// A guest: its salt, and where its pages come from. Pages have the same content only if their guests' salts are equal,
-/// too.
-#[derive(Drop)]
-pub struct Guest<S> {
-    pub salt: u32,
-    pub source: S,
-}
-
 /// Hears how much was read. Several threads may report to it.
 pub trait Progress: Sync {
     /// Reports that `pages` more pages were read.
