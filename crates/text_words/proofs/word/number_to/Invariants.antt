@@ -1,7 +1,7 @@
 use Rattle.std.proofs.Common.{◌≡◌, ◌≤◌, drop}
 use Rattle.std.specs.Str.{all_ascii_digits}
-use Rattle.journal_text.specs.Words.{value_on}
-use Rattle.journal_text.proofs.word.number_to.Given as goal
+use Rattle.text_words.specs.Words.{value_on}
+use Rattle.text_words.proofs.word.number_to.Given as goal
 
 abbrev pub invariant-loop-c : goal.invariant-loop-c
 invariant-loop-c l = record {

@@ -7,7 +7,7 @@ use Rattle.std.proofs.lemmas.List.{take_all}
 use Rattle.std.proofs.lemmas.Fmt.{digits_decimal, digits_value-decimal, decimal_nonempty, first_decimal, decimal_digit}
 use Rattle.std.proofs.lemmas.Str.Parse.{IsNumeralModel, FoldsDigits, numerals_by_fold, tells_all_ascii_digits}
 use Rattle.std.proofs.Math.Seq.{take-append_seam, drop-append-add}
-use Rattle.journal_text.specs.Words.{is_space, word_at, number_at, number_to, value_on, is_plain}
+use Rattle.text_words.specs.Words.{is_space, word_at, number_at, number_to, value_on, is_plain}
 
 -- each byte is above k
 abbrev pub above : ℕ → List ℕ → Bool

@@ -1,9 +1,9 @@
 -- Looks at a text that fail.
 use Rattle.std.proofs.Common.{Result, ap}
-use Rattle.journal_text.specs.declared.fault.TextFault.{TextFault}
-use Rattle.journal_text.specs.declared.fault.TextFault.TheVariants as faults
-use Rattle.journal_text.specs.Views.{Fails}
-use Rattle.journal_text.specs.Words.{◌>>=◌}
+use Rattle.text_words.specs.declared.fault.TextFault.{TextFault}
+use Rattle.text_words.specs.declared.fault.TextFault.TheVariants as faults
+use Rattle.text_words.specs.Views.{Fails}
+use Rattle.text_words.specs.Words.{◌>>=◌}
 
 -- where the first look fails, so does what goes on from it
 pub fails_on : {X Y : Type 0} (e : TextFault) (r : Result X TextFault) (f : X → Result Y TextFault) → Fails e r → Fails e (r >>= f)

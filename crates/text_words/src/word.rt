@@ -1,10 +1,10 @@
 //! The words of a line.
 ghost use Rattle.std.specs.Prelude.{◌≡◌, ◌+◌, ◌-◌, ◌*◌, ◌<◌, ◌≤◌, ◌^◌, ℕ, List, Option, Some, None, false};
 ghost use Rattle.std.specs.Prelude.{length, IfOk, IfSome, IsTrue, OnOk};
-ghost use Rattle.journal_text.specs.Words.{word_at, nothing_at, number_to, number, bytes_in};
-ghost use Rattle.journal_text.specs.Words.{number_at, is_bytes_word, is_lower_digit, is_space, behind_space};
+ghost use Rattle.text_words.specs.Words.{word_at, nothing_at, number_to, number, bytes_in};
+ghost use Rattle.text_words.specs.Words.{number_at, is_bytes_word, is_lower_digit, is_space, behind_space};
 ghost use Rattle.std.specs.List.{before_first};
-ghost use Rattle.journal_text.specs.Cursor.{left, left_length, seen, IsCut};
+ghost use Rattle.text_words.specs.Cursor.{left, left_length, seen, IsCut};
 
 use crate::fault::Cause;
 
@@ -61,7 +61,7 @@ fn long_first_word<'a>(bytes: &'a [u8]) -> (&'a [u8], Left<'a>)
 
 /// Returns the next word as [`word`] does, and is quicker where that is long.
 #[tactic(auto, unfolding(crate::specs::Words::word_at))]
-pub(crate) fn long_word<'a>(rest: Left<'a>) -> Result<(&'a [u8], Left<'a>), Cause>
+pub fn long_word<'a>(rest: Left<'a>) -> Result<(&'a [u8], Left<'a>), Cause>
     ensures value { seen (λ x. (x.0.now, left x.1)) result ≡ word_at (left rest.entry) }
     ensures length { IfOk result (λ x. length x.0.now + left_length (left x.1) + 1 ≡ left_length (left rest.entry)) }
 {

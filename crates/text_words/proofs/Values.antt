@@ -2,8 +2,8 @@
 use Rattle.std.proofs.Common.{◌≡◌, ℕ, ◌+◌, ◌-◌, ◌*◌, ◌<◌, ◌≤◌, suc, Bool, true, false, ◌&&◌, List, [], ◌∷◌, length, refl, ap, arith, get_or, drop, nat_le, Err}
 use Rattle.std.proofs.lemmas.Bool.{lt-leb}
 use Rattle.std.proofs.Math.Seq.{drop-cons}
-use Rattle.journal_text.specs.Words.{value_on, number_to}
-use Rattle.journal_text.specs.declared.fault.Cause.TheVariants.{Form}
+use Rattle.text_words.specs.Words.{value_on, number_to}
+use Rattle.text_words.specs.declared.fault.Cause.TheVariants.{Form}
 
 -- more digits make no smaller number
 pub value_on-le : (n : ℕ) (cs : List ℕ) → n ≤ value_on n cs

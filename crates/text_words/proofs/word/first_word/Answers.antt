@@ -2,9 +2,9 @@ use Rattle.std.proofs.Common.{◌≡◌, ◌+◌, ◌-◌, true, nat_lt, List, �
 use Rattle.std.specs.List.{position_or_len, after_first}
 use Rattle.std.proofs.lemmas.Bool.{lt-ltb, eq-eqb, ne_eqb}
 use Rattle.std.proofs.lemmas.List.{take_all, length-drop}
-use Rattle.journal_text.specs.Words.{is_space}
-use Rattle.journal_text.proofs.Cuts.{space_at, space_behind}
-use Rattle.journal_text.proofs.word.first_word.Goals as goal
+use Rattle.text_words.specs.Words.{is_space}
+use Rattle.text_words.proofs.Cuts.{space_at, space_behind}
+use Rattle.text_words.proofs.word.first_word.Goals as goal
 
 pub returns-then-bytes-at-eq32-clause-word : goal.returns-then-bytes-at-eq32-clause-word
 returns-then-bytes-at-eq32-clause-word c =

@@ -1,6 +1,6 @@
 use Rattle.std.proofs.Common.{◌+◌, ◌-◌, ◌*◌, ◌<◌, suc, length, drop, sym, ◌∙◌, arith, get_or}
-use Rattle.journal_text.proofs.Values.{too_large, value_at}
-use Rattle.journal_text.proofs.word.number_to.Goals as goal
+use Rattle.text_words.proofs.Values.{too_large, value_at}
+use Rattle.text_words.proofs.word.number_to.Goals as goal
 
 pub returns-then-is_past-clause-value : goal.returns-then-is_past-clause-value
 returns-then-is_past-clause-value c =

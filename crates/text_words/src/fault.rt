@@ -1,6 +1,6 @@
 //! What is wrong with a text, or with the work on it.
 ghost use Rattle.std.specs.Prelude.{◌≡◌};
-ghost use Rattle.journal_text.specs.declared.fault.TextFault.TheVariants.{OutOfMemory};
+ghost use Rattle.text_words.specs.declared.fault.TextFault.TheVariants.{OutOfMemory};
 
 use crate::expect::expectation;
 use std::alloc::{AllocError, AllocFailed};

@@ -1,14 +1,12 @@
 -- Bytes as words.
-use Rattle.std.proofs.Common.{◌≡◌, ℕ, ◌*◌, ◌%◌, ◌<◌, true, ◌&&◌, List, [], ◌∷◌, length, refl, sym, ap, ◌∙◌, arith, nat_lt, ◌==◌, Ok, Err}
+use Rattle.std.proofs.Common.{◌≡◌, ℕ, ◌*◌, ◌%◌, true, ◌&&◌, List, [], ◌∷◌, length, refl, sym, ap, ◌∙◌, arith, nat_lt, ◌==◌, Ok}
 use Rattle.std.specs.List.{list_all, AllPass}
 use Rattle.std.proofs.lemmas.Bool.{and_parts, and_from, eqb-true}
 use Rattle.std.proofs.lemmas.Bool.Decides.{nat_tests}
 use Rattle.std.proofs.lemmas.List.Sums.{AllPass-from_list_all}
 use Rattle.hex.specs.Hex.{decode_of, is_hex_digit}
 use Rattle.hex.proofs.HexLemmas.{decode_of-digits, decode_of-ok}
-use Rattle.journal_text.specs.Words.{is_lower_digit, is_bytes_word, spelled, or_none}
-use Rattle.journal_text.specs.Requests.{stored}
-use Rattle.journal_text.specs.declared.fault.Cause.TheVariants.{Length}
+use Rattle.text_words.specs.Words.{is_lower_digit, is_bytes_word, spelled, or_none}
 
 -- a lower case digit is a digit
 lower_is_hex : (c : ℕ) → is_lower_digit c ≡ true → is_hex_digit c ≡ true
@@ -32,7 +30,3 @@ spelled_is word h =
     let whole : decode_of word ≡ Ok (spelled word) = found.1 ∙ ap Ok (sym value) in
     let long : length word ≡ 2 * length (spelled word) = facts.2 ∙ ap (λ (bytes : List ℕ). 2 * length bytes) (sym value) in
     (whole, long)
-
--- more than 64 bytes are too many
-pub stored_long : (ppn at : ℕ) (bytes : List ℕ) → 64 < length bytes → stored ppn at bytes ≡ Err Length
-stored_long ppn at bytes h = grind (arith, nat_tests)

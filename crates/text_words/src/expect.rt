@@ -1,6 +1,6 @@
 //! What would have been right instead of a fault of a text or of the work on it, in words for a person.
 ghost use Rattle.std.specs.Prelude.{◌≡◌};
-ghost use Rattle.journal_text.specs.Expected.{line_form, expected_on, expectation};
+ghost use Rattle.text_words.specs.Expected.{line_form, expected_on, expectation};
 
 use crate::fault::{Cause, TextFault};
 

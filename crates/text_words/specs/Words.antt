@@ -5,8 +5,8 @@ use Rattle.std.specs.List.{list_all, before_first, after_first, position_or_len}
 use Rattle.std.specs.Str.{all_ascii_digits}
 use Rattle.hex.specs.Hex.{decode_of}
 use Rattle.hex.specs.declared.error.FromHexError.{FromHexError}
-use Rattle.journal_text.specs.declared.fault.Cause.{Cause}
-use Rattle.journal_text.specs.declared.fault.Cause.TheVariants.{Form}
+use Rattle.text_words.specs.declared.fault.Cause.{Cause}
+use Rattle.text_words.specs.declared.fault.Cause.TheVariants.{Form}
 
 -- an answer passed on to what is asked next: the first error is the answer of the whole
 infixl 10 ◌>>=◌
