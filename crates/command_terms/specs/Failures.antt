@@ -1,8 +1,8 @@
 -- What goes to standard error where a read or a write failed, or memory was refused.
 use Rattle.std.specs.Prelude.{ℕ, List, Bool, true, false, codes, if◌then◌else◌, Option, Some, None}
-use Rattle.journal_text.specs.declared.fault.TextFault.{TextFault}
-use Rattle.journal_text.specs.declared.fault.TextFault.TheVariants as faults
-use Rattle.journal_text.specs.Printed.{fault_line}
+use Rattle.text_words.specs.declared.fault.TextFault.{TextFault}
+use Rattle.text_words.specs.declared.fault.TextFault.TheVariants as faults
+use Rattle.text_words.specs.Printed.{fault_line}
 
 -- whether the output has the line of a fault: that of a fault of the text, which was read and is answered
 abbrev pub is_answered : TextFault → Bool

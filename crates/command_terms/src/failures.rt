@@ -2,10 +2,10 @@
 ghost use Rattle.std.specs.Prelude.{◌≡◌, option_map};
 ghost use Rattle.command_terms.specs.Failures.{error_line, first_failure};
 
-use journal_text::TextFault;
+use text_words::TextFault;
 
 /// Returns the line on standard error for a fault that the output can't report; `None` if the output does.
-#[tactic(auto, unfolding(journal_text::specs::Printed::fault_line))]
+#[tactic(auto, unfolding(text_words::specs::Printed::fault_line))]
 pub fn error_line(fault: &TextFault) -> Option<&'static str>
     ensures { option_map (λ line. line.now) result ≡ error_line fault.now }
 {

@@ -3,8 +3,8 @@
 ghost use Rattle.std.specs.Prelude.{◌≡◌, Some, option_map};
 ghost use Rattle.command_terms.specs.Scripts.{line_form, shown_text, line_fault_text, script_fault_text};
 
-use journal_text::{Cause, TextFault};
 use std::fmt::{self, Display, Formatter};
+use text_words::{Cause, TextFault};
 
 /// A fault of a script, with what was expected there.
 #[derive(Clone, Copy, Debug, PartialEq, Eq)]

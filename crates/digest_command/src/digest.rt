@@ -4,7 +4,7 @@ use command_terms::{CommandEnd, DigestSource, DigestWords};
 use digest_text::write_digests;
 use image_files::{Reading, check_unchanged, open_image, workers_of};
 use live_memory::open_process;
-use page_census::PageSource;
+use memory_pages::PageSource;
 use page_digests::{GuestDigests, Sampling, digest_pages};
 use progress_line::line_where;
 use std::alloc::Global;

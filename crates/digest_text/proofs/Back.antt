@@ -11,8 +11,8 @@ use Rattle.std.proofs.lemmas.List.Folds.{list_all-append}
 use Rattle.std.proofs.lemmas.Str.Parse.{tells_all_ascii_digits}
 use Rattle.hex.specs.Hex.{IsBytes, lower_digits, encode_with, encode_lower}
 use Rattle.hex.proofs.HexLemmas.{length-encode_with, decode_of-encode_lower}
-use Rattle.journal_text.specs.Words.{is_lower_digit, is_bytes_word, or_none, spelled}
-use Rattle.journal_text.proofs.Spelled.{above, after_at, before_at, digits_of_decimal, number_back, within_at}
+use Rattle.text_words.specs.Words.{is_lower_digit, is_bytes_word, or_none, spelled}
+use Rattle.text_words.proofs.Spelled.{above, after_at, before_at, digits_of_decimal, number_back, within_at}
 use Rattle.page_digests.specs.Samples.{IsSample}
 use Rattle.page_digests.specs.declared.line.DigestLine.{DigestLine}
 use Rattle.digest_text.specs.Fields.{copies_in, counted_in, digest_in, field_in, head_in, is_comma, number_in, row_in, sample_in}

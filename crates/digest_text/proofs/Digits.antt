@@ -7,7 +7,7 @@ use Rattle.std.proofs.lemmas.Bool.Decides.{nat_tests}
 use Rattle.std.proofs.lemmas.List.{drop_more, length-take-le, take-append-drop}
 use Rattle.std.proofs.lemmas.List.Sums.{passes_at_first}
 use Rattle.hex.specs.Hex.{hex_digit_value, pair_value}
-use Rattle.journal_text.specs.Words.{is_lower_digit, is_bytes_word, spelled}
+use Rattle.text_words.specs.Words.{is_lower_digit, is_bytes_word, spelled}
 use Rattle.digest_text.specs.Fields.{digest_in, field_in, is_comma}
 use Rattle.digest_text.specs.Repeats.{digest_first}
 use Rattle.digest_text.proofs.Fronts.{field_before}

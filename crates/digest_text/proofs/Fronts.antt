@@ -4,7 +4,7 @@ use Rattle.std.specs.List.{list_all, position_or_len, before_first, after_first}
 use Rattle.std.proofs.lemmas.Bool.{cases_Bool, cases_lt, eqb-true, le-ltb, lt-ltb}
 use Rattle.std.proofs.lemmas.List.Sums.{passes_at_first, split_at_first}
 use Rattle.std.proofs.Math.Seq.{take-append_seam}
-use Rattle.journal_text.proofs.Spelled.{after_at, before_at, within_at}
+use Rattle.text_words.proofs.Spelled.{after_at, before_at, within_at}
 use Rattle.digest_text.specs.Fields.{field_in, head_in, is_comma, number_in, sample_in, ◌>>=◌}
 use Rattle.digest_text.specs.Names.{name_in}
 use Rattle.digest_text.specs.Repeats.{Spells}

@@ -2,12 +2,12 @@
 ghost use Rattle.std.specs.Prelude.{◌≡◌, ◌≤◌, ◌<◌, IfSome, Some, length, IsTrue};
 ghost use Rattle.std.specs.Option.{option_map};
 ghost use Rattle.hex.specs.Hex.{hex_digit_value};
-ghost use Rattle.journal_text.specs.Words.{is_bytes_word, is_lower_digit, spelled};
+ghost use Rattle.text_words.specs.Words.{is_bytes_word, is_lower_digit, spelled};
 ghost use Rattle.page_digests.specs.Samples.{IsSample};
 ghost use Rattle.digest_text.specs.Fields.{copies_in, digest_in, field_in, number_in, sample_in};
 ghost use Rattle.digest_text.specs.Repeats.{digest_first};
 
-use journal_text::word::{cut, is_bytes, number_to};
+use text_words::word::{cut, is_bytes, number_to};
 
 /// Returns what comes before the first comma and what comes after it.
 #[tactic(auto, unfolding(crate::specs::Fields::field_in))]

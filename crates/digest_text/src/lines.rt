@@ -7,9 +7,9 @@ ghost use Rattle.digest_text.specs.Left.{IsFound, left, unread};
 
 use crate::buffered::{BUFFER_BYTES, Found, Lines};
 use crate::row::MAX_LINE_BYTES;
-use journal_text::word::cut;
 use std::alloc::{AllocError, Allocator};
 use std::io::{self, Read};
+use text_words::word::cut;
 
 fn new_buffer<A: Allocator>(alloc: A) -> Result<Vec<u8, A>, AllocError>
     ensures { IfOk result (λ buffer. vec_len buffer ≡ 65536) }

@@ -2,7 +2,8 @@
 use crate::faults::EstimateFault;
 use command_terms::{EstimateWords, ImageCause};
 use image_files::{FileCause, FileImage, FileMark, check_unchanged, open_image};
-use page_census::{Guest, PageSource};
+use memory_pages::PageSource;
+use page_census::Guest;
 use std::alloc::Global;
 use std::fs::{File, Files};
 

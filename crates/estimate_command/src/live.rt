@@ -8,7 +8,7 @@ use digest_text::{DigestReader, GuestName, write_digests};
 use fleet_census::{Pairs, merge};
 use image_files::{Reading, workers_of};
 use live_memory::{LiveImage, open_process};
-use page_census::PageSource;
+use memory_pages::PageSource;
 use page_digests::{DigestLine, Sample, Sampling, digest_pages};
 use progress_line::line_where;
 use std::alloc::{AllocError, Global};

@@ -11,7 +11,7 @@ use Rattle.digest_text.specs.Fields.{Row}
 use Rattle.page_census.specs.Contents.{Content, contents, contents_of, is_same}
 use Rattle.page_census.specs.Numbers.{copies, distinct, guest_numbers, is_zero, sum_alone}
 use Rattle.page_census.specs.declared.numbers.GuestNumbers.{GuestNumbers}
-use Rattle.page_census.specs.declared.source.Guest.{Guest}
+use Rattle.page_census.specs.declared.guest.Guest.{Guest}
 use Rattle.fleet_census.specs.Amounts.{all_digests, sum_below}
 use Rattle.fleet_census.specs.Fleets.{all_copies, all_holders, all_zero, copies_of, pages_of, zero_of}
 use Rattle.fleet_laws.specs.Merges.{AreRowsOf, AreToldApart, digest, zeros}

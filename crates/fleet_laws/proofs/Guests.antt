@@ -17,7 +17,7 @@ use Rattle.digest_text.specs.Written.{rows_of}
 use Rattle.digest_text.specs.declared.head.DigestHead.{DigestHead}
 use Rattle.page_census.specs.Contents.{Content, contents_of}
 use Rattle.page_census.specs.Numbers.{copies, is_zero}
-use Rattle.page_census.specs.declared.source.Guest.{Guest}
+use Rattle.page_census.specs.declared.guest.Guest.{Guest}
 use Rattle.fleet_census.specs.Fleets.{copies_of, lines_of, pages_of, zero_of}
 use Rattle.fleet_laws.specs.Merges.{AreRowsOf, AreToldApart, digest, whole}
 use Rattle.fleet_laws.proofs.Contents.{zero_told}

@@ -10,7 +10,7 @@ use Rattle.digest_text.specs.Fields.{Row}
 use Rattle.page_census.specs.Contents.{Content, contents, contents_of}
 use Rattle.page_census.specs.Numbers as census
 use Rattle.page_census.specs.Numbers.{copies}
-use Rattle.page_census.specs.declared.source.Guest.{Guest}
+use Rattle.page_census.specs.declared.guest.Guest.{Guest}
 use Rattle.fleet_census.specs.Fleets as merged
 use Rattle.fleet_census.specs.Numbers.{IsSampleOf}
 use Rattle.fleet_census.specs.Openings.{sample_of}

@@ -17,7 +17,7 @@ use Rattle.digest_text.specs.Reread.{IsHead, head_by}
 use Rattle.digest_text.specs.Rows.{digest_of}
 use Rattle.digest_text.specs.Written.{head_for, rows_of, rows_text}
 use Rattle.digest_text.specs.declared.head.DigestHead.{DigestHead}
-use Rattle.page_census.specs.declared.source.Guest.{Guest}
+use Rattle.page_census.specs.declared.guest.Guest.{Guest}
 use Rattle.page_census.specs.Contents.{AreSteady}
 use Rattle.fleet_census.specs.Numbers.{AreNumbers, IsMerged, fleet_of}
 use Rattle.fleet_census.specs.States.{Said}

@@ -8,7 +8,7 @@ use Rattle.std.proofs.lemmas.List.Sums.{length-filter}
 use Rattle.digest_text.specs.Fields.{Row}
 use Rattle.page_census.specs.Contents.{Content, contents, contents_of, is_same}
 use Rattle.page_census.specs.Numbers.{copies, distinct, guest_numbers, is_zero, sum_alone, total_numbers, zero_salts}
-use Rattle.page_census.specs.declared.source.Guest.{Guest}
+use Rattle.page_census.specs.declared.guest.Guest.{Guest}
 use Rattle.fleet_census.specs.Amounts.{all_digests, sum_below}
 use Rattle.fleet_census.specs.Fleets as merged
 use Rattle.fleet_census.specs.Fleets.{all_copies, all_holders, all_zero, copies_of, is_zeros, zero_of}

@@ -13,7 +13,7 @@ use Rattle.page_census.specs.Contents.{Content, contents}
 use Rattle.page_census.specs.Numbers as census
 use Rattle.page_census.specs.declared.numbers.GuestNumbers.{GuestNumbers}
 use Rattle.page_census.specs.declared.numbers.TotalNumbers.{TotalNumbers}
-use Rattle.page_census.specs.declared.source.Guest.{Guest}
+use Rattle.page_census.specs.declared.guest.Guest.{Guest}
 use Rattle.page_census.specs.declared.table.CopiesClass.{CopiesClass}
 use Rattle.fleet_census.specs.Amounts.{estimate}
 use Rattle.fleet_census.specs.Fleets as merged

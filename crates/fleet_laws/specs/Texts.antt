@@ -8,7 +8,7 @@ use Rattle.digest_text.specs.Names.{is_name}
 use Rattle.digest_text.specs.Rows.{digest_of}
 use Rattle.digest_text.specs.Written.{IsWritten, head_for, rows_of, text_of}
 use Rattle.page_census.specs.Contents.{AreSteady, contents}
-use Rattle.page_census.specs.declared.source.Guest.{Guest}
+use Rattle.page_census.specs.declared.guest.Guest.{Guest}
 use Rattle.fleet_census.specs.Numbers.{IsMerged}
 use Rattle.fleet_census.specs.declared.numbers.FleetNumbers.{FleetNumbers}
 use Rattle.fleet_census.specs.declared.pair.Pairs.{Pairs}

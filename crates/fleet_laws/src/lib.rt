@@ -6,7 +6,7 @@
 ghost use Rattle.fleet_laws.specs.Merges.{DigestLaw, MergeLaw};
 ghost use Rattle.fleet_laws.specs.Texts.{TextLaw};
 
-use page_census::PageSource;
+use memory_pages::PageSource;
 use std::alloc::Allocator;
 
 /// *Where different contents have different digests, the numbers of a merge over whole digests are the numbers of a census of the

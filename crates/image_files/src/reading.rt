@@ -1,5 +1,5 @@
 //! How much of the images was read.
-use page_census::Progress;
+use memory_pages::Progress;
 use progress_line::{DrawnLine, ReadSoFar, Told};
 use std::sync::atomic::{AtomicU64, Ordering};
 use std::time::Clock;

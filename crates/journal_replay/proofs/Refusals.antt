@@ -4,13 +4,13 @@ use Rattle.std.specs.Prelude.{IfSome, IfErr, OnOk, IsOk, IsErr, codes}
 use Rattle.std.specs.Io.KnownBytes.{Appends}
 use Rattle.std.proofs.KnownBytes.{Keeps-refl}
 use Rattle.std.proofs.lemmas.Bool.{lt-ltb}
-use Rattle.journal_text.specs.declared.fault.TextFault.{TextFault}
-use Rattle.journal_text.specs.declared.fault.TextFault.TheVariants as faults
+use Rattle.text_words.specs.declared.fault.TextFault.{TextFault}
+use Rattle.text_words.specs.declared.fault.TextFault.TheVariants as faults
 use Rattle.journal_text.specs.Texts.{Journal, journal_of}
-use Rattle.journal_text.specs.Views.{Fails}
-use Rattle.journal_text.specs.Words.{◌>>=◌}
+use Rattle.text_words.specs.Views.{Fails}
+use Rattle.text_words.specs.Words.{◌>>=◌}
 use Rattle.journal_replay.specs.Ends.{AppendsFront, NotRead}
-use Rattle.journal_text.specs.Printed.{fault_line}
+use Rattle.text_words.specs.Printed.{fault_line}
 use Rattle.journal_replay.specs.Replayed.{answer_of, printed, written_for, WritesFault, NotPrinted, Refuses, Refused, Writes}
 
 -- an input that is too long has that fault

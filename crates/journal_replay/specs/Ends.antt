@@ -3,8 +3,8 @@ use Rattle.std.specs.Prelude.{ℕ, ◌<◌, ◌≤◌, ◌^◌, ◌==◌, ◌&&�
 use Rattle.std.specs.Prelude.{Option, Result, Ok, Err, IfSome, IfErr, OnOk, OnErr}
 use Rattle.std.specs.Io.KnownBytes.{Appends, Consumes}
 use Rattle.journal_replay.specs.declared.ends.Noted.{Noted}
-use Rattle.journal_text.specs.declared.fault.TextFault.{TextFault}
-use Rattle.journal_text.specs.declared.fault.TextFault.TheVariants as faults
+use Rattle.text_words.specs.declared.fault.TextFault.{TextFault}
+use Rattle.text_words.specs.declared.fault.TextFault.TheVariants as faults
 
 -- the inner reader or writer
 abbrev pub inner_of : {T : Type 0} → Noted T → T

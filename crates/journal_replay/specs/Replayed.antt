@@ -9,11 +9,12 @@ use Rattle.page_model.specs.Steps.{step}
 use Rattle.page_model.specs.declared.request.Entry.{Entry}
 use Rattle.page_model.specs.declared.verdict.Verdict.{Verdict}
 use Rattle.journal_text.specs.Texts.{Journal, journal_of}
-use Rattle.journal_text.specs.Printed.{verdict_line, report_line, fault_line}
-use Rattle.journal_text.specs.Words.{◌>>=◌}
+use Rattle.text_words.specs.Printed.{fault_line}
+use Rattle.journal_text.specs.Printed.{verdict_line, report_line}
+use Rattle.text_words.specs.Words.{◌>>=◌}
 use Rattle.journal_replay.specs.Ends.{AppendsFront, tells_read, tells_write}
-use Rattle.journal_text.specs.declared.fault.TextFault.{TextFault}
-use Rattle.journal_text.specs.declared.fault.TextFault.TheVariants as faults
+use Rattle.text_words.specs.declared.fault.TextFault.{TextFault}
+use Rattle.text_words.specs.declared.fault.TextFault.TheVariants as faults
 
 -- a verdict line for each entry, in order, each with its line feed
 abbrev pub verdict_lines : List Entry → List Verdict → List ℕ

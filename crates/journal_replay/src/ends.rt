@@ -5,10 +5,10 @@ ghost use Rattle.std.specs.Io.{ReadsAtMost, WritesAtMost};
 ghost use Rattle.std.specs.Io.KnownBytes.{ReadConsumes, WriteAppends};
 ghost use Rattle.journal_replay.specs.Ends.{inner_of, failed_of, write_failed, tells_read, NotRead, ReadsUpTo, WritesAll};
 
-use journal_text::TextFault;
 use page_model::MAX_TEXT_BYTES;
 use std::alloc::Allocator;
 use std::io::{self, ErrorKind, Read, Write};
+use text_words::TextFault;
 
 /// A reader that remembers whether a read failed.
 pub trait Source {

@@ -4,7 +4,7 @@ ghost use Rattle.merge_core.specs.Shown.{state_of};
 ghost use Rattle.page_model.specs.Limits.{shapes};
 ghost use Rattle.page_model.specs.Replay.{empty_state, state_after};
 ghost use Rattle.page_model.specs.Steps.{step};
-ghost use Rattle.journal_text.specs.declared.fault.TextFault.TheVariants.{OutOfMemory};
+ghost use Rattle.text_words.specs.declared.fault.TextFault.TheVariants.{OutOfMemory};
 ghost use Rattle.journal_text.specs.Texts.{AreBelow};
 ghost use Rattle.journal_text.specs.Views.{journal_seen};
 ghost use Rattle.journal_replay.specs.Ends.{is_read_fault, is_write_fault, tells_read, tells_write, Buffers, WritesAll};
@@ -14,11 +14,12 @@ ghost use Rattle.page_model.specs.declared.limits.TheConstants.{MAX_ENTRIES};
 
 use crate::ends::{Sink, Source, read_all, write_all};
 use crate::output::{LINE_BYTES, buffer, make_room, put_report, put_verdict};
-use journal_text::{Journal, TextFault, fault_line, read_journal};
+use journal_text::{Journal, read_journal};
 use merge_core::Core;
 use page_digest::PageHash;
 use page_model::{Entry, MachineShape};
 use std::alloc::Allocator;
+use text_words::{TextFault, fault_line};
 
 /// Makes the machine of this shape, before its first request.
 pub fn core_of<H: PageHash + Drop, A: Allocator + Clone>(

@@ -5,10 +5,10 @@ ghost use Rattle.journal_replay.specs.Ends.{Buffers};
 ghost use Rattle.journal_text.specs.Printed.{verdict_line, report_line};
 
 use crate::ends::{Sink, write_all};
-use journal_text::TextFault;
 use journal_text::print::{push_totals, push_verdict};
 use page_model::{Report, Verdict};
 use std::alloc::{AllocError, Allocator};
+use text_words::TextFault;
 
 /// How many bytes of output are kept before they are written.
 const OUTPUT_BYTES: usize = 65_536;

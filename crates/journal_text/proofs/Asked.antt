@@ -13,10 +13,10 @@ use Rattle.page_model.specs.declared.request.Request.TheVariants.{Propose, Store
 use Rattle.page_model.specs.declared.request.Entry.{Entry}
 use Rattle.page_model.specs.Parts.{StoreParts, LoadParts}
 use Rattle.journal_text.specs.declared.request.Line.TheVariants.{Enters, Ends}
-use Rattle.journal_text.specs.Words.{bytes_in, is_lower_digit}
+use Rattle.text_words.specs.Words.{bytes_in, is_lower_digit}
 use Rattle.journal_text.specs.Requests.{stored, loaded, propose_at, store_at, load_at, release_at, bare_at, named, asked_at, end_at, entry_at, line_of}
 use Rattle.journal_text.specs.Written.{request_words, IsWritable}
-use Rattle.journal_text.proofs.Spelled.{above, decimal_above, digits_of_decimal, word_back, last_back, number_next, number_last, number_back}
+use Rattle.text_words.proofs.Spelled.{above, decimal_above, digits_of_decimal, word_back, last_back, number_next, number_last, number_back}
 
 -- a test of the first n of the sixteen digits
 abbrev all_first : (ℕ → Bool) → ℕ → Bool

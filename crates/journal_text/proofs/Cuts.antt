@@ -1,33 +1,15 @@
--- Words and lines as lists.
-use Rattle.std.proofs.Common.{◌≡◌, ℕ, ◌+◌, ◌<◌, ◌≤◌, true, false, List, [], ◌∷◌, ◌++◌, length, take, get_or, refl, sym, ap, ◌∙◌, arith, nat_lt, inl, inr, Some, None, Result, Ok, Err, append_assoc, append-nil}
+-- The numbers of a line, one after the other.
+use Rattle.std.proofs.Common.{◌≡◌, ℕ, true, false, List, [], ◌∷◌, ◌++◌, length, take, refl, sym, ap, ◌∙◌, arith, nat_lt, inl, inr, Some, None, Result, Ok, Err, append-nil}
 use Rattle.std.specs.List.{position_or_len, before_first}
 use Rattle.std.proofs.lemmas.Bool.{cases_lt, lt-ltb, le-ltb}
 use Rattle.std.proofs.lemmas.List.{take_all}
-use Rattle.std.proofs.lemmas.List.Sums.{fails_before_first, passes_at_first}
+use Rattle.std.proofs.lemmas.List.Sums.{fails_before_first}
 use Rattle.std.proofs.lemmas.List.Splits.{slice_split_first, slice_split_none}
-use Rattle.journal_text.specs.Words.{◌>>=◌, is_space, behind_space, number}
-use Rattle.journal_text.specs.Headers.{words_in, numbers, at_line}
-use Rattle.journal_text.specs.Words.{with_front}
-use Rattle.journal_text.specs.declared.fault.Cause.{Cause}
-use Rattle.journal_text.specs.declared.fault.TextFault.TheVariants as faults
-
--- the first space is at the first place that has one, and not before a place behind some that have none
-pub space_at : (bytes : List ℕ) (at : ℕ) → at ≤ position_or_len is_space bytes → is_space (get_or bytes at 0) ≡ true → position_or_len is_space bytes ≡ at
-space_at bytes at low test =
-    elim (cases_lt at (position_or_len is_space bytes)) [
-      | inl before ↦ cc (sym test ∙ fails_before_first is_space bytes at 0 before)
-      | inr reached ↦ omega arith
-    ]
-
-pub space_behind : (bytes : List ℕ) (at : ℕ) → at ≤ position_or_len is_space bytes → at < length bytes → is_space (get_or bytes at 0) ≡ false → at + 1 ≤ position_or_len is_space bytes
-space_behind bytes at low h test =
-    elim (cases_lt at (position_or_len is_space bytes)) [
-      | inl before ↦ omega arith
-      | inr reached ↦
-          let here : position_or_len is_space bytes ≡ at = omega arith in
-          let passes : is_space (get_or bytes at 0) ≡ true = rw here at (passes_at_first is_space bytes 0 (omega arith)) in
-          cc (sym test ∙ passes)
-    ]
+use Rattle.text_words.specs.Words.{◌>>=◌, is_space, behind_space, number, with_front}
+use Rattle.text_words.specs.Lines.{at_line}
+use Rattle.journal_text.specs.Headers.{words_in, numbers}
+use Rattle.text_words.specs.declared.fault.Cause.{Cause}
+use Rattle.text_words.specs.declared.fault.TextFault.TheVariants as faults
 
 -- the words of bytes are the first and the rest
 pub words_step : (bytes : List ℕ) → words_in (Some bytes) ≡ before_first is_space bytes ∷ words_in (behind_space bytes)
@@ -41,10 +23,6 @@ words_step bytes =
           let all : take (position_or_len is_space bytes) bytes ≡ bytes = take_all _ _ h in
           rw test (slice_split_none is_space bytes (λ k d l. fails_before_first is_space bytes k d (omega arith)) ∙ ap (λ (w : List ℕ). w ∷ []) (sym all))
     ]
-
-pub front_on : {T F : Type 0} (front : List T) (x : T) (r : Result (List T) F) → with_front front (r >>= λ xs. Ok (x ∷ xs)) ≡ with_front (front ++ x ∷ []) r
-front_on front x (Ok xs) = ap Ok (sym (append_assoc front (x ∷ []) xs))
-front_on front x (Err e) = refl
 
 at_line_on : (n x : ℕ) (r : Result (List ℕ) Cause) → at_line n (r >>= λ xs. Ok (x ∷ xs)) ≡ (at_line n r >>= λ xs. Ok (x ∷ xs))
 at_line_on n x (Ok xs) = refl

@@ -1,10 +1,10 @@
 -- What a reader of lines returns, with an entry in place of what was said.
 use Rattle.std.proofs.Common.{◌≡◌, ℕ, List, Option, Some, None, Result, Ok, Err, refl, ap, ◌∙◌}
-use Rattle.journal_text.specs.declared.fault.Cause.{Cause}
+use Rattle.text_words.specs.declared.fault.Cause.{Cause}
 use Rattle.journal_text.specs.declared.request.Line.{Line}
 use Rattle.journal_text.specs.declared.request.Line.TheVariants.{Ends}
 use Rattle.journal_text.specs.declared.said.SaidBy.{SaidBy}
-use Rattle.journal_text.specs.Words.{◌>>=◌, nothing_at, number_at}
+use Rattle.text_words.specs.Words.{◌>>=◌, nothing_at, number_at}
 use Rattle.journal_text.specs.Requests.{end_at}
 use Rattle.journal_text.specs.Asked.{all_entered}
 

@@ -9,15 +9,16 @@ use Rattle.std.proofs.lemmas.List.Sums.{AllPass-from_list_all, list_all-from_All
 use Rattle.page_model.specs.Limits.{ArePages}
 use Rattle.page_model.specs.Closing.{is_close}
 use Rattle.page_model.specs.declared.request.Entry.{Entry}
-use Rattle.journal_text.specs.declared.fault.TextFault.{TextFault}
+use Rattle.text_words.specs.declared.fault.TextFault.{TextFault}
 use Rattle.journal_text.specs.declared.request.Line.TheVariants.{Enters, Ends}
-use Rattle.journal_text.specs.Words.{◌>>=◌, is_space}
+use Rattle.text_words.specs.Words.{◌>>=◌, is_space}
 use Rattle.journal_text.specs.Requests.{line_of}
-use Rattle.journal_text.specs.Headers.{is_feed, line_at, frames_of, numbers, are_pages, pages_of, salts_of}
+use Rattle.text_words.specs.Lines.{is_feed, line_at}
+use Rattle.journal_text.specs.Headers.{frames_of, numbers, are_pages, pages_of, salts_of}
 use Rattle.journal_text.specs.Texts.{body_from, entries_in, closed_after}
 use Rattle.journal_text.specs.Written.{number_words, numbers_line, request_words, entry_line, entry_lines, IsWritable, NoneAfterClose}
-use Rattle.journal_text.proofs.Lines.{no_feed, lines_at, whole_at}
-use Rattle.journal_text.proofs.Spelled.{above, no_space, before_at, after_at, within_at, word_back, number_last, number_back, decimal_above}
+use Rattle.text_words.proofs.Lines.{no_feed, lines_at, whole_at}
+use Rattle.text_words.proofs.Spelled.{above, no_space, before_at, after_at, within_at, word_back, number_last, number_back, decimal_above}
 use Rattle.journal_text.proofs.Asked.{above_both, decimal_line, words_line, line_back, end_back}
 
 feedless : (xs : List ℕ) → above 31 xs ≡ true → no_feed xs ≡ true

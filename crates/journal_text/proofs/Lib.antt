@@ -1,10 +1,7 @@
-pub mod Values
-pub mod Bytes
+pub mod Stored
 pub mod Cuts
 pub mod Lines
-pub mod Fails
 pub mod Written
-pub mod Spelled
 pub mod Asked
 pub mod Heads
 pub mod Rereads

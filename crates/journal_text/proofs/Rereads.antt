@@ -5,7 +5,8 @@ use Rattle.std.specs.List.{list_all}
 use Rattle.std.proofs.lemmas.Bool.{and_parts, eqb-true, le-ltb}
 use Rattle.std.proofs.lemmas.List.{get_or-replicate, length-replicate}
 use Rattle.std.proofs.lemmas.Option.{slice_get-get_or}
-use Rattle.journal_text.specs.Headers.{line_at, salts_of}
+use Rattle.text_words.specs.Lines.{line_at}
+use Rattle.journal_text.specs.Headers.{salts_of}
 use Rattle.journal_text.specs.Texts.{Journal, header_of, salts_at, head_in, journal_in, journal_of, entries_in}
 use Rattle.journal_text.specs.declared.version.Version.{Version}
 use Rattle.journal_text.specs.declared.version.Version.TheVariants.{One, Two}

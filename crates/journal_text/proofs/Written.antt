@@ -2,7 +2,7 @@
 use Rattle.std.proofs.Common.{◌≡◌, ◌+◌, ◌<◌, ◌++◌, suc, ℕ, List, ◌∷◌, length, drop, get_or, ap, sym, ◌∙◌, add-one}
 use Rattle.std.proofs.Math.Seq.{drop-cons}
 use Rattle.page_model.specs.declared.request.Entry.{Entry}
-use Rattle.journal_text.specs.Printed.{counted}
+use Rattle.text_words.specs.Printed.{counted}
 use Rattle.journal_text.specs.Written.{entry_line, entry_lines, number_words}
 use Rattle.std.specs.Prelude.{codes}
 

@@ -3,13 +3,13 @@ use Rattle.std.specs.Prelude.{◌≡◌, ◌<◌, ℕ, true, Result, Ok}
 use Rattle.page_model.specs.declared.request.Entry.{Entry}
 use Rattle.page_model.specs.declared.request.Request.{Request}
 use Rattle.page_model.specs.declared.request.Request.TheVariants as requests
-use Rattle.journal_text.specs.declared.fault.Cause.{Cause}
+use Rattle.text_words.specs.declared.fault.Cause.{Cause}
 use Rattle.journal_text.specs.declared.request.Line.{Line}
 use Rattle.journal_text.specs.declared.request.Line.TheVariants.{Enters, Ends}
 use Rattle.journal_text.specs.declared.said.Said.{Said}
 use Rattle.journal_text.specs.declared.said.Said.TheVariants.{Propose, Store, Load, Release, Count, Close}
 use Rattle.journal_text.specs.declared.said.SaidBy.{SaidBy}
-use Rattle.journal_text.specs.Words.{◌>>=◌, spelled, is_bytes_word}
+use Rattle.text_words.specs.Words.{◌>>=◌, spelled, is_bytes_word}
 use Rattle.journal_text.specs.Requests.{stored, loaded}
 
 -- what is asked for, or what is wrong with its numbers

@@ -1,29 +1,10 @@
--- The lines at the head of a text, and how a text is cut into lines.
+-- The lines at the head of a text.
 use Rattle.std.specs.Prelude.{ℕ, ◌^◌, ◌==◌, ◌&&◌, ◌||◌, nat_le, nat_lt, Bool, if◌then◌else◌, List, [], ◌∷◌, length, sum, Option, Some, None, Result, Ok, Err, codes}
-use Rattle.std.specs.List.{list_all, position_or_len, before_first, after_first, slice_split}
-use Rattle.std.specs.Str.{bytes_eq}
-use Rattle.journal_text.specs.declared.fault.Cause.{Cause}
-use Rattle.journal_text.specs.declared.fault.Cause.TheVariants as causes
-use Rattle.journal_text.specs.declared.fault.TextFault.{TextFault}
-use Rattle.journal_text.specs.declared.fault.TextFault.TheVariants as faults
-use Rattle.journal_text.specs.Words.{◌>>=◌, is_space, word_at, nothing_at, number, number_at}
-
-abbrev pub is_feed : ℕ → Bool
-is_feed b = b == 10
-
--- Line n, and what comes after its line feed. A line that has none is cut off.
-unfoldable pub line_at : ℕ → List ℕ → Result (List ℕ × List ℕ) TextFault
-line_at n text = if nat_lt (position_or_len is_feed text) (length text) then Ok
-    (before_first is_feed text, after_first is_feed text) else Err (faults.Truncated n)
-
--- what line n says, or what is wrong with it
-abbrev pub at_line : {A : Type 0} → ℕ → Result A Cause → Result A TextFault
-at_line n (Ok x) = Ok x
-at_line n (Err cause) = Err (faults.Line n cause)
-
--- this word is the name that a line must have
-abbrev pub keyword : List ℕ → List ℕ → Result (Unit {0}) Cause
-keyword name word = if bytes_eq word name then Ok tt else Err causes.Form
+use Rattle.std.specs.List.{list_all, slice_split}
+use Rattle.text_words.specs.declared.fault.Cause.{Cause}
+use Rattle.text_words.specs.declared.fault.Cause.TheVariants as causes
+use Rattle.text_words.specs.declared.fault.TextFault.TheVariants as faults
+use Rattle.text_words.specs.Words.{◌>>=◌, is_space, word_at, nothing_at, number, number_at}
 
 -- 1 to 1,048,576 frames
 abbrev pub frames_in_limits : ℕ → Result ℕ Cause

@@ -1,5 +1,3 @@
-pub mod Words
-pub mod Cursor
 pub mod Headers
 pub mod Requests
 pub mod Asked
@@ -7,4 +5,3 @@ pub mod Texts
 pub mod Views
 pub mod Printed
 pub mod Written
-pub mod Expected

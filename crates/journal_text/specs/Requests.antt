@@ -5,11 +5,11 @@ use Rattle.page_model.specs.Closing.{is_close}
 use Rattle.page_model.specs.declared.request.Entry.{Entry}
 use Rattle.page_model.specs.declared.request.Request.{Request}
 use Rattle.page_model.specs.declared.request.Request.TheVariants.{Propose, Store, Load, Release, Count, Close}
-use Rattle.journal_text.specs.declared.fault.Cause.{Cause}
-use Rattle.journal_text.specs.declared.fault.Cause.TheVariants.{Form, NoGuest, AfterClose, Length, Crosses}
+use Rattle.text_words.specs.declared.fault.Cause.{Cause}
+use Rattle.text_words.specs.declared.fault.Cause.TheVariants.{Form, NoGuest, AfterClose, Length, Crosses}
 use Rattle.journal_text.specs.declared.request.Line.{Line}
 use Rattle.journal_text.specs.declared.request.Line.TheVariants.{Enters, Ends}
-use Rattle.journal_text.specs.Words.{◌>>=◌, word_at, nothing_at, number, number_at, bytes_in}
+use Rattle.text_words.specs.Words.{◌>>=◌, word_at, nothing_at, number, number_at, bytes_in}
 
 -- a store of these bytes, or what is wrong with its numbers
 abbrev pub stored : ℕ → ℕ → List ℕ → Result Request Cause

@@ -5,16 +5,17 @@ use Rattle.std.specs.List.{All}
 use Rattle.std.specs.Str.{bytes_eq}
 use Rattle.page_model.specs.Closing.{is_close}
 use Rattle.page_model.specs.declared.request.Entry.{Entry}
-use Rattle.journal_text.specs.declared.fault.Cause.{Cause}
-use Rattle.journal_text.specs.declared.fault.Cause.TheVariants as causes
-use Rattle.journal_text.specs.declared.fault.TextFault.{TextFault}
-use Rattle.journal_text.specs.declared.fault.TextFault.TheVariants as faults
+use Rattle.text_words.specs.declared.fault.Cause.{Cause}
+use Rattle.text_words.specs.declared.fault.Cause.TheVariants as causes
+use Rattle.text_words.specs.declared.fault.TextFault.{TextFault}
+use Rattle.text_words.specs.declared.fault.TextFault.TheVariants as faults
 use Rattle.journal_text.specs.declared.request.Line.{Line}
 use Rattle.journal_text.specs.declared.request.Line.TheVariants.{Enters, Ends}
 use Rattle.journal_text.specs.declared.version.Version.{Version}
 use Rattle.journal_text.specs.declared.version.Version.TheVariants.{One, Two}
-use Rattle.journal_text.specs.Words.{◌>>=◌}
-use Rattle.journal_text.specs.Headers.{is_feed, line_at, at_line, frames_of, pages_of, salts_of}
+use Rattle.text_words.specs.Words.{◌>>=◌}
+use Rattle.text_words.specs.Lines.{line_at, at_line}
+use Rattle.journal_text.specs.Headers.{frames_of, pages_of, salts_of}
 use Rattle.journal_text.specs.Requests.{line_of}
 
 -- what a journal says: the machine's total of frames, each guest's number of pages and salt, and who asked for what
@@ -62,22 +63,6 @@ head_in one two text = do
 abbrev pub line_behind_head : Version → ℕ
 line_behind_head One = 4
 line_behind_head Two = 5
-
--- puts one byte before the first of some lines, if there is one
-abbrev pub onto_line : ℕ → List (List ℕ) → List (List ℕ)
-onto_line b [] = []
-onto_line b (line ∷ lines) = (b ∷ line) ∷ lines
-
--- all lines that end with a line feed, without it
-abbrev pub lines_of : List ℕ → List (List ℕ)
-lines_of [] = []
-lines_of (b ∷ text) = if is_feed b then [] ∷ lines_of text else onto_line b (lines_of text)
-
--- no byte comes after the last line feed
-abbrev pub is_whole : List ℕ → Bool
-is_whole [] = true
-is_whole (b ∷ []) = is_feed b
-is_whole (b ∷ c ∷ text) = is_whole (c ∷ text)
 
 -- who has closed after an entry
 abbrev pub closed_after : List Bool → Entry → List Bool

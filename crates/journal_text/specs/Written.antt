@@ -6,7 +6,7 @@ use Rattle.page_model.specs.Closing.{is_close}
 use Rattle.page_model.specs.declared.request.Entry.{Entry}
 use Rattle.page_model.specs.declared.request.Request.{Request}
 use Rattle.page_model.specs.declared.request.Request.TheVariants.{Propose, Store, Load, Release, Count, Close}
-use Rattle.journal_text.specs.Printed.{counted}
+use Rattle.text_words.specs.Printed.{counted}
 use Rattle.page_model.specs.Limits.{AreFrames, AreGuests, ArePages}
 use Rattle.journal_text.specs.Texts.{Journal, AreBelow, journal_of}
 use Rattle.page_model.specs.declared.limits.TheConstants.{MAX_ACCESS_BYTES, MAX_ENTRIES, PAGE_BYTES}

@@ -1,14 +1,16 @@
 //! The reader of the lines at a text's head: the version, the frames, and the guests' pages and salts.
 ghost use Rattle.std.specs.Prelude.{◌≡◌, ◌≤◌, Option, Some, None, length, replicate, IfOk, IfErr};
-ghost use Rattle.journal_text.specs.declared.fault.TextFault.TheVariants.{OutOfMemory};
+ghost use Rattle.text_words.specs.declared.fault.TextFault.TheVariants.{OutOfMemory};
 ghost use Rattle.journal_text.specs.Texts.{header_of, salts_at, head_in, line_behind_head};
-ghost use Rattle.journal_text.specs.Views.{Gives, head_seen};
+ghost use Rattle.text_words.specs.Views.{Gives};
+ghost use Rattle.journal_text.specs.Views.{head_seen};
 
-use crate::fault::{Cause, TextFault};
 use crate::head::Head;
-use crate::header::{at_line, frames, next_line, pages, salts};
+use crate::header::{frames, pages, salts};
 use crate::version::Version;
 use std::alloc::Allocator;
+use text_words::line::{at_line, next_line};
+use text_words::{Cause, TextFault};
 
 /// Returns the version that the first line, which must be one of two, says.
 #[tactic(auto, unfolding(crate::specs::Texts::header_of))]

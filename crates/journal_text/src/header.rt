@@ -1,50 +1,18 @@
 //! The lines at the head of a text.
-ghost use Rattle.std.specs.Prelude.{◌≡◌, ◌+◌, ◌<◌, ◌≤◌, ◌^◌, Option, Some, None, Ok, Err, length, IfOk, IfErr, OnOk};
+ghost use Rattle.std.specs.Prelude.{◌≡◌, ◌+◌, ◌≤◌, ◌^◌, Option, Some, Ok, Err, length, IfOk, OnOk};
 ghost use Rattle.page_model.specs.Limits.{AreFrames, ArePages};
-ghost use Rattle.journal_text.specs.Headers.{line_at, keyword, frames_of, frames_in_limits, numbers, words_in};
-ghost use Rattle.journal_text.specs.Headers.{are_pages, pages_in_limits, pages_of, salts_in_limits, salts_of, at_line};
-ghost use Rattle.journal_text.specs.Views.{Gives};
-ghost use Rattle.journal_text.specs.Cursor.{left, seen};
+ghost use Rattle.text_words.specs.Lines.{at_line};
+ghost use Rattle.journal_text.specs.Headers.{frames_of, frames_in_limits, numbers, words_in};
+ghost use Rattle.journal_text.specs.Headers.{are_pages, pages_in_limits, pages_of, salts_in_limits, salts_of};
+ghost use Rattle.text_words.specs.Views.{Gives};
+ghost use Rattle.text_words.specs.Cursor.{left, seen};
 ghost use Rattle.page_model.specs.declared.limits.TheConstants.{MAX_GUESTS};
 
-use crate::fault::{Cause, TextFault};
-use crate::word::{Left, cut, first_word, next_number, nothing, number, word};
 use page_model::{MAX_FRAMES, MAX_GUESTS, MAX_PAGES};
 use std::alloc::Allocator;
-
-/// Returns line `n`, and the text after its line feed.
-#[tactic(auto, unfolding(crate::specs::Headers::line_at))]
-pub fn next_line<'a>(n: u32, text: &'a [u8]) -> Result<(&'a [u8], &'a [u8]), TextFault>
-    ensures value { seen (λ x. (x.0.now, x.1.now)) result ≡ line_at n text.now }
-    ensures shorter { IfOk result (λ x. length x.1.now < length text.now) }
-    ensures fault { IfErr result (λ e. e ≡ TextFault.Truncated n) }
-{
-    match cut(b'\n', text) {
-        Some(parts) => Ok(parts),
-        None => Err(TextFault::Truncated(n)),
-    }
-}
-
-/// Returns what a line says, with the line's number if it is at fault.
-pub fn at_line<T: Drop>(n: u32, said: Result<T, Cause>) -> Result<T, TextFault>
-    ensures { result ≡ at_line n said }
-{
-    match said {
-        Ok(value) => Ok(value),
-        Err(cause) => Err(TextFault::Line(n, cause)),
-    }
-}
-
-/// Checks that this word is the name that a line must have.
-pub fn keyword(name: &[u8], word: &[u8]) -> Result<(), Cause>
-    ensures { result ≡ keyword name.now word.now }
-{
-    if word == name {
-        Ok(())
-    } else {
-        Err(Cause::Form)
-    }
-}
+use text_words::line::{at_line, keyword};
+use text_words::word::{Left, first_word, next_number, nothing, number, word};
+use text_words::{Cause, TextFault};
 
 fn frames_in_limits(n: u32) -> Result<u32, Cause>
     ensures value { result ≡ frames_in_limits n }

@@ -1,10 +1,9 @@
-//! Journals as texts, read and written, and the lines of verdicts, reports and faults.
+//! Journals as texts, read and written, and the lines of verdicts and reports.
 //!
-//! The texts, the lines and the order of faults are in `docs/FORMATS.md`; `specs/` defines them independently of the code.
+//! The texts, the lines and the order of faults are in `docs/FORMATS.md`; `specs/` defines them independently of the code. The
+//! words, lines and faults of every text are in `text_words`.
 #![tactic(auto)]
 
-mod expect;
-mod fault;
 pub mod head;
 pub mod head_reader;
 pub mod header;
@@ -16,13 +15,10 @@ pub mod request;
 pub mod room;
 mod said;
 pub mod version;
-pub mod word;
 pub mod writer;
 
-pub use expect::expectation;
-pub use fault::{Cause, TextFault};
 pub use journal::Journal;
-pub use print::{fault_line, report_line, verdict_line};
+pub use print::{report_line, verdict_line};
 pub use reader::read_journal;
 pub use version::Version;
 pub use writer::write_journal;

@@ -1,44 +1,17 @@
-//! Verdicts, reports and faults as lines.
+//! Verdicts and reports as lines.
 //!
-//! Each `push_` function appends to a string, and all but `push_fault` say how many bytes they append at most. So room that was
-//! reserved for a longest line of a verdict or a report is always enough.
+//! Each `push_` function appends to a string, and says how many bytes it appends at most. So room that was reserved for a longest
+//! line is always enough.
 ghost use Rattle.std.specs.Prelude.{◌≡◌, ◌+◌, ◌*◌, ◌<◌, ◌≤◌, ◌++◌, ◌^◌, length};
 ghost use Rattle.std.specs.Prelude.{codes, decimal, string_bytes, string_len, string_capacity, IfOk, OnOk, OnErr};
 ghost use Rattle.hex.specs.Hex.{encode_lower};
 ghost use Rattle.journal_text.specs.Printed.{pages_words, saved_words, frames_words, report_words};
-ghost use Rattle.journal_text.specs.Printed.{report_line, verdict_words, verdict_line, cause_word, fault_line};
+ghost use Rattle.journal_text.specs.Printed.{report_line, verdict_words, verdict_line};
 ghost use Rattle.page_model.specs.declared.limits.TheConstants.{MAX_ACCESS_BYTES};
 
-use crate::fault::{Cause, TextFault};
-use itoa::Buffer;
 use page_model::{Report, Verdict};
 use std::alloc::{AllocError, Allocator};
-
-/// Appends a number: at most 10 bytes.
-pub(crate) fn push_number<A: Allocator>(out: &mut String<A>, n: u32) -> Result<(), AllocError>
-    ensures bytes { OnOk result (string_bytes out.new ≡ string_bytes out.old ++ decimal n) }
-    ensures len { OnOk result (string_len out.new ≤ string_len out.old + 10) }
-    ensures capacity { string_capacity out.old ≤ string_capacity out.new }
-    ensures full { OnErr result (string_capacity out.old < string_len out.old + 10) }
-{
-    let mut buffer = Buffer::new();
-    out.push_str(buffer.format(n))
-}
-
-/// Appends words and a number.
-pub(crate) fn push_counted<A: Allocator>(
-    out: &mut String<A>,
-    words: &str,
-    n: u32,
-) -> Result<(), AllocError>
-    ensures bytes { OnOk result (string_bytes out.new ≡ string_bytes out.old ++ (words.now ++ decimal n)) }
-    ensures len { OnOk result (string_len out.new ≤ string_len out.old + (length words.now + 10)) }
-    ensures capacity { string_capacity out.old ≤ string_capacity out.new }
-    ensures full { OnErr result (string_capacity out.old < string_len out.old + (length words.now + 10)) }
-{
-    out.push_str(words)?;
-    push_number(out, n)
-}
+use text_words::print::{push_counted, push_number};
 
 /// Appends what a report says of pages: at most 54 bytes.
 #[tactic(auto, unfolding(crate::specs::Printed::pages_words))]
@@ -198,46 +171,6 @@ pub fn push_verdict<A: Allocator>(
     push_words(out, verdict)
 }
 
-fn cause_word(cause: &Cause) -> &'static str
-    ensures { result.now ≡ cause_word cause.now }
-{
-    match cause {
-        Cause::Header => "header",
-        Cause::Form => "form",
-        Cause::Frames => "frames",
-        Cause::Guests => "guests",
-        Cause::Pages => "pages",
-        Cause::Ring => "ring",
-        Cause::Journal => "journal",
-        Cause::NoGuest => "no-guest",
-        Cause::Length => "length",
-        Cause::Crosses => "crosses",
-        Cause::AfterClose => "after-close",
-        Cause::TooMany => "too-many",
-        Cause::Salts => "salts",
-    }
-}
-
-/// Appends a fault's line, without its line feed.
-#[tactic(auto, unfolding(crate::specs::Printed::fault_line))]
-fn push_fault<A: Allocator>(out: &mut String<A>, fault: &TextFault) -> Result<(), AllocError>
-    ensures { OnOk result (string_bytes out.new ≡ string_bytes out.old ++ fault_line fault.now) }
-{
-    match fault {
-        TextFault::Line(n, cause) => {
-            push_counted(out, "fault line ", *n)?;
-            out.push_str(": ")?;
-            out.push_str(cause_word(cause))
-        }
-        TextFault::Truncated(n) => push_counted(out, "fault truncated line ", *n),
-        TextFault::Count => out.push_str("fault count"),
-        TextFault::OutOfMemory => out.push_str("fault memory"),
-        TextFault::Read => out.push_str("fault read"),
-        TextFault::Write => out.push_str("fault write"),
-        TextFault::Long => out.push_str("fault long"),
-    }
-}
-
 /// Returns a verdict's line: the guest's number and the verdict's words, without a line feed.
 pub fn verdict_line<A: Allocator>(
     alloc: A,
@@ -257,14 +190,5 @@ pub fn report_line<A: Allocator>(alloc: A, report: &Report) -> Result<String<A>,
 {
     let mut line = String::new(alloc);
     push_totals(&mut line, "report ", report)?;
-    Ok(line)
-}
-
-/// Returns a fault's line, without a line feed.
-pub fn fault_line<A: Allocator>(alloc: A, fault: &TextFault) -> Result<String<A>, AllocError>
-    ensures { IfOk result (λ s. string_bytes s ≡ fault_line fault.now) }
-{
-    let mut line = String::new(alloc);
-    push_fault(&mut line, fault)?;
     Ok(line)
 }

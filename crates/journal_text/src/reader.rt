@@ -1,23 +1,24 @@
 //! The reader of journals.
 ghost use Rattle.std.specs.Prelude.{◌≡◌, ◌+◌, ◌*◌, ◌<◌, ◌≤◌, ◌^◌, ◌++◌, ℕ, List, [], Option};
 ghost use Rattle.std.specs.Prelude.{Some, None, Ok, Err, false, length, replicate, IfOk, IfErr, OnOk, IsTrue};
-ghost use Rattle.journal_text.specs.declared.fault.TextFault.TheVariants.{OutOfMemory};
-ghost use Rattle.journal_text.specs.Words.{with_front};
+ghost use Rattle.text_words.specs.declared.fault.TextFault.TheVariants.{OutOfMemory};
+ghost use Rattle.text_words.specs.Words.{with_front};
 ghost use Rattle.journal_text.specs.Texts.{journal_in, journal_of, closed_after, ended};
 ghost use Rattle.journal_text.specs.Texts.{nothing_more, line_behind_head, entries_in, AreBelow};
-ghost use Rattle.journal_text.specs.Views.{Gives, journal_seen};
+ghost use Rattle.text_words.specs.Views.{Gives};
+ghost use Rattle.journal_text.specs.Views.{journal_seen};
 ghost use Rattle.page_model.specs.declared.limits.TheConstants.{MAX_GUESTS};
 
-use crate::fault::TextFault;
 use crate::head::Head;
 use crate::head_reader::{line_behind_head, read_head};
 use crate::journal::Journal;
 use crate::request::{Line, check_end, read_line};
 use crate::room::count_lines;
 use crate::version::Version;
-use crate::word::cut;
 use page_model::{Entry, MAX_GUESTS, MAX_TEXT_BYTES};
 use std::alloc::Allocator;
+use text_words::TextFault;
+use text_words::word::cut;
 
 /// Notes who has closed.
 fn note(closed: &mut [bool], entry: &Entry)

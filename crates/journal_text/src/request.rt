@@ -6,13 +6,13 @@ ghost use Rattle.journal_text.specs.Requests.{propose_at, store_at, load_at, rel
 ghost use Rattle.journal_text.specs.Requests.{asked_at, may_ask, end_at, entry_at, line_of, IsEnd, IsPlain};
 ghost use Rattle.journal_text.specs.Asked.{asked_of, all_entered, IsSpelled, IsNoClose, IsSaidBelow};
 ghost use Rattle.journal_text.specs.Texts.{ended};
-ghost use Rattle.journal_text.specs.Cursor.{left, left_length, seen};
+ghost use Rattle.text_words.specs.Cursor.{left, left_length, seen};
 ghost use Rattle.page_model.specs.declared.request.Request.TheVariants as requests;
 ghost use Rattle.page_model.specs.declared.limits.TheConstants.{MAX_GUESTS};
 
-use crate::fault::{Cause, TextFault};
 use crate::said::{Asked, Said, SaidBy};
-use crate::word::{Left, is_bytes, long_word, next_number, nothing, number, word};
+use text_words::word::{Left, is_bytes, long_word, next_number, nothing, number, word};
+use text_words::{Cause, TextFault};
 
 /// What a line after a text's head says.
 #[derive(Drop)]
@@ -33,7 +33,7 @@ fn propose(rest: Left<'_>) -> Result<Said<'_>, Cause>
     Ok(Said::Propose(ppn))
 }
 
-#[tactic(auto, unfolding(crate::specs::Requests::store_at, crate::specs::Words::bytes_in))]
+#[tactic(auto, unfolding(crate::specs::Requests::store_at, text_words::specs::Words::bytes_in))]
 fn store(rest: Left<'_>) -> Result<Said<'_>, Cause>
     ensures value { seen asked_of result ≡ store_at (left rest.entry) }
     ensures spelled { IfOk result (λ said. IsSpelled said × IsNoClose said) }

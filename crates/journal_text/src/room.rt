@@ -2,7 +2,7 @@
 ghost use Rattle.std.specs.Prelude.{◌+◌, ◌*◌, ◌≤◌, length};
 ghost use Rattle.journal_text.specs.declared.room.TheConstants.{LEAST_LINE_BYTES};
 
-use crate::word::cut;
+use text_words::word::cut;
 
 /// No line of a request is shorter, not counting its line feed.
 pub const LEAST_LINE_BYTES: usize = 7;

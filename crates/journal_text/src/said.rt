@@ -1,11 +1,11 @@
 //! What a guest's line says, before the request that it asks for is made.
 ghost use Rattle.std.specs.Prelude.{◌≡◌, ◌/◌, length, IfOk, IsTrue};
-ghost use Rattle.journal_text.specs.Words.{spelled, is_bytes_word};
+ghost use Rattle.text_words.specs.Words.{spelled, is_bytes_word};
 ghost use Rattle.journal_text.specs.Requests.{stored, loaded, IsPlain};
 ghost use Rattle.journal_text.specs.Asked.{asked_of, entry_of, IsSpelled, IsNoClose};
 
-use crate::fault::Cause;
 use page_model::{Entry, MAX_ACCESS_BYTES, Request, RequestFault};
+use text_words::Cause;
 
 /// What a line asks for by its words: its numbers are read, and the bytes of a store are still the word that spells them.
 ///

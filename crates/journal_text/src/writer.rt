@@ -5,10 +5,11 @@ ghost use Rattle.journal_text.specs.Written.{request_words, entry_line, entry_li
 ghost use Rattle.journal_text.specs.Written.{needs_salts, version_for, machine_lines, guests_lines, entries_lines, journal_text};
 
 use crate::journal::Journal;
-use crate::print::{push_counted, push_digits, push_number};
+use crate::print::push_digits;
 use crate::version::Version;
 use page_model::{Entry, LoadReq, Request, StoreReq};
 use std::alloc::{AllocError, Allocator};
+use text_words::print::{push_counted, push_number};
 
 /// Appends the words of a store.
 #[tactic(auto, unfolding(crate::specs::Written::request_words))]

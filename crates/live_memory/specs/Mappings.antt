@@ -2,7 +2,7 @@
 use Rattle.std.specs.Prelude.{ℕ, ◌-◌, ◌^◌, ◌==◌, ◌&&◌, ◌||◌, not, nat_lt, Bool, if◌then◌else◌, List, codes, length, slice_index, take, Option, Some}
 use Rattle.std.specs.Result.{result_ok}
 use Rattle.std.specs.Str.{bytes_eq}
-use Rattle.journal_text.specs.Words.{number_to}
+use Rattle.text_words.specs.Words.{number_to}
 use Rattle.memory_images.specs.declared.segment.Segment.{Segment}
 use Rattle.live_memory.specs.Fields.{◌>>=◌, behind_spaces, range_in, word_in}
 use Rattle.live_memory.specs.declared.mapping.Mapping.{Mapping}

@@ -3,7 +3,7 @@ ghost use Rattle.std.specs.Prelude.{◌≡◌, ◌<◌, IfSome};
 ghost use Rattle.std.specs.Option.{option_map};
 ghost use Rattle.live_memory.specs.Fields.{address_in, behind_spaces, digit_in, part_in, range_in, value_on, with_digit, word_in};
 
-use journal_text::word::cut;
+use text_words::word::cut;
 
 /// The bytes of a page.
 pub(crate) const PAGE: u64 = 4096;

@@ -3,8 +3,8 @@ ghost use Rattle.std.specs.Prelude.{◌≡◌, ◌+◌, ◌<◌, ◌≤◌, IfSo
 ghost use Rattle.live_memory.specs.Mappings.{is_fileless, is_kept, is_writable, mapping_in, segment_of};
 
 use crate::fields::{behind_spaces, range, word};
-use journal_text::word::number_to;
 use memory_images::Segment;
+use text_words::word::number_to;
 
 const VVAR: &[u8] = b"[vvar]";
 

@@ -5,9 +5,9 @@ ghost use Rattle.live_memory.specs.Maps.{IsPushed, IsRead, segments_of_maps};
 
 use crate::LiveFault;
 use crate::mapping::{is_kept, read_mapping, segment_of};
-use journal_text::word::cut;
 use memory_images::Segment;
 use std::alloc::Allocator;
+use text_words::word::cut;
 
 /// Appends the segment of a line's mapping, if its pages are to be read.
 fn push_kept<A: Allocator>(

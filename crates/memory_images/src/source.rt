@@ -5,7 +5,7 @@ ghost use Rattle.memory_images.specs.Views.{reader_of, segments_of};
 
 use crate::pages::{page_count, read_run};
 use crate::{Image, ReadAt, Segment};
-use page_census::PageSource;
+use memory_pages::PageSource;
 use page_model::Page;
 use std::alloc::Allocator;
 

@@ -6,7 +6,7 @@ use Rattle.std.proofs.lemmas.List.Sums.{sum_by-cons}
 use Rattle.page_census.specs.Contents.{Content, contents, contents_of, is_same}
 use Rattle.page_census.specs.Numbers.{distinct, guest_numbers, sum_alone}
 use Rattle.page_census.specs.declared.numbers.GuestNumbers.{GuestNumbers}
-use Rattle.page_census.specs.declared.source.Guest.{Guest}
+use Rattle.page_census.specs.declared.guest.Guest.{Guest}
 
 fewer : (t u : Bool) → cond (t || u) 0 1 ≤ cond t 0 1
 fewer true u = omega arith

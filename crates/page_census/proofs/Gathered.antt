@@ -6,7 +6,7 @@ use Rattle.page_census.specs.Contents.{Content, contents, contents_of}
 use Rattle.page_census.specs.Counted.{counted_guests, counted_numbers}
 use Rattle.page_census.specs.declared.numbers.GuestNumbers.{GuestNumbers}
 use Rattle.page_census.specs.Marks.{mark, mark_at, marks_of}
-use Rattle.page_census.specs.declared.source.Guest.{Guest}
+use Rattle.page_census.specs.declared.guest.Guest.{Guest}
 
 module _ {S : Type 0} (pages : S → List (List ℕ)) where
   pub one_more : (guests : List (Guest S)) (i : ℕ) (d : Guest S) → i < length guests → contents pages (take (i + 1) guests) ≡ contents pages (take i guests) ++ contents_of pages (get_or guests i d)

@@ -12,7 +12,7 @@ use Rattle.page_model.specs.Pages.{blank}
 use Rattle.page_census.specs.Classes.{TellApart, class_of}
 use Rattle.page_census.specs.Contents.{Content, content_at, contents, contents_of, is_same}
 use Rattle.page_census.specs.Counted.{counted_guests, counted_numbers}
-use Rattle.page_census.specs.declared.source.Guest.{Guest}
+use Rattle.page_census.specs.declared.guest.Guest.{Guest}
 use Rattle.page_census.specs.Marks.{mark_at}
 use Rattle.page_census.specs.Numbers.{copies, distinct, guest_numbers, is_zero, shared}
 use Rattle.page_census.proofs.Chained.{is_itself, is_one}

@@ -5,7 +5,7 @@ use Rattle.page_census.specs.Numbers.{class_numbers, distinct, fewest, has_conte
 use Rattle.page_census.specs.declared.numbers.GuestNumbers.{GuestNumbers}
 use Rattle.page_census.specs.declared.numbers.TotalNumbers.{TotalNumbers}
 use Rattle.page_census.specs.declared.table.CopiesClass.{CopiesClass}
-use Rattle.page_census.specs.declared.source.Guest.{Guest}
+use Rattle.page_census.specs.declared.guest.Guest.{Guest}
 
 -- the numbers of pages of these marks and classes, given how often each class occurs among all pages
 abbrev pub counted_numbers : List ℕ → List ℕ → List ℕ → GuestNumbers

@@ -1,6 +1,5 @@
 pub mod Faults
 pub mod Marks
-pub mod Parts
 pub mod Contents
 pub mod Classes
 pub mod Places

@@ -5,7 +5,7 @@ use Rattle.std.specs.List.{list_any, range_with_len}
 use Rattle.std.specs.Str.{bytes_eq}
 use Rattle.page_model.specs.Pages.{blank}
 use Rattle.page_census.specs.Contents.{Content, is_same, contents, contents_of}
-use Rattle.page_census.specs.declared.source.Guest.{Guest}
+use Rattle.page_census.specs.declared.guest.Guest.{Guest}
 use Rattle.page_census.specs.declared.numbers.GuestNumbers.{GuestNumbers}
 use Rattle.page_census.specs.declared.numbers.TotalNumbers.{TotalNumbers}
 use Rattle.page_census.specs.declared.table.CopiesClass.{CopiesClass}

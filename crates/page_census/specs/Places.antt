@@ -2,7 +2,7 @@
 use Rattle.std.specs.Prelude.{◌≡◌, ℕ, ◌<◌, true, List, [], ◌∷◌, length, slice_index_or}
 use Rattle.page_census.specs.Contents.{Content, contents, content_at}
 use Rattle.page_census.specs.declared.place.Place.{Place}
-use Rattle.page_census.specs.declared.source.Guest.{Guest}
+use Rattle.page_census.specs.declared.guest.Guest.{Guest}
 use Rattle.page_census.specs.declared.subject.Subject.{Subject}
 
 -- the page with this number among all is this page of this guest

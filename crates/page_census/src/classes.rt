@@ -5,12 +5,12 @@ ghost use Rattle.page_census.specs.Contents.{AreSteady, contents};
 ghost use Rattle.page_census.specs.Classes.{Classed, TellApart, class_at, classes_of, headed};
 ghost use Rattle.page_census.specs.Fingerprints.{Sure, seen};
 
+use crate::Guest;
 use crate::compare::Compare;
 use crate::fault::LookFault;
-use crate::part::new_pages;
 use crate::place::is_same;
 use crate::subject::Subject;
-use crate::{Guest, PageSource};
+use memory_pages::{PageSource, new_pages};
 use page_model::Page;
 use std::alloc::{AllocError, Allocator};
 

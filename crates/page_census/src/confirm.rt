@@ -4,14 +4,13 @@ ghost use Rattle.page_census.specs.Contents.{AreSteady, contents, content_at};
 ghost use Rattle.page_census.specs.Classes.{TellApart, classes_of};
 ghost use Rattle.page_census.specs.Fingerprints.{AreClassed, AreConfirmed};
 
+use crate::Guest;
 use crate::classes::classes_of;
 use crate::compare::Compare;
 use crate::fault::LookFault;
-use crate::part::{RUN, new_pages};
 use crate::place::is_same_content;
 use crate::subject::Subject;
-use crate::workers::Workers;
-use crate::{Guest, PageSource};
+use memory_pages::{PageSource, Workers, new_pages, split_among};
 use page_model::Page;
 use std::alloc::Allocator;
 use std::thread;
@@ -55,7 +54,8 @@ fn are_confirmed<R: Threads + Sync, S: PageSource, A: Allocator + Clone + Send +
         0 (length (contents S.pages guests.now))) }
 {
     let count = classes.len() as u32;
-    let size = count.div_ceil(workers.count).max(RUN);
+    let split = split_among(workers.count, count);
+    let size = split.size;
     let alloc = workers.alloc;
     let part = move |n: usize| -> Result<bool, LookFault<S::Fault>>
         requires { AreClassed (AreSteady S.is_steady guests.now) (contents S.pages guests.now) marks.now classes.now }
@@ -63,8 +63,7 @@ fn are_confirmed<R: Threads + Sync, S: PageSource, A: Allocator + Clone + Send +
             → AreConfirmed (AreSteady S.is_steady guests.entry.now) (contents S.pages guests.entry.now) classes.entry.now
             (size * n) (size * n + size)) }
     { is_part_confirmed(alloc, guests, marks, classes, size, n) };
-    let parts = count.div_ceil(size) as usize;
-    let answers = thread::map_indices(workers.rt, alloc.clone()?, parts, &part)?;
+    let answers = thread::map_indices(workers.rt, alloc.clone()?, split.parts, &part)?;
     for answer in answers {
         if !answer? {
             return Ok(false);

@@ -1,12 +1,14 @@
 //! The mark of a page: 0 for a page of zeros, and for any other a hash that isn't 0.
-ghost use Rattle.std.specs.Prelude.{◌≡◌, ◌+◌, ◌≤◌, ◌++◌, length, vec_len, vec_capacity};
+ghost use Rattle.std.specs.Prelude.{◌≡◌, ◌++◌, OnOk};
 ghost use Rattle.std.specs.Str.{bytes_eq};
 ghost use Rattle.page_model.specs.Pages.{blank};
 ghost use Rattle.page_census.specs.Marks.{mark, marks_of};
+ghost use Rattle.std.proofs.lemmas.List.{map-append};
 
+use memory_pages::PageWork;
 use page_digest::PageHash;
 use page_model::Page;
-use std::alloc::Allocator;
+use std::alloc::{AllocError, Allocator};
 
 /// Whether the page is all zeros. It checks every byte; processors check many at a time.
 fn is_blank(page: &Page) -> bool
@@ -30,18 +32,43 @@ fn mark_of<H: PageHash>(hash: &H, salt: u32, page: &Page) -> u64
 }
 
 /// Appends the mark of each page.
-pub(crate) fn push_marks<H: PageHash, A: Allocator>(
+fn push_marks<H: PageHash, A: Allocator>(
     hash: &H,
     salt: u32,
     pages: &[Page],
     marks: &mut Vec<u64, A>,
-)
-    requires { vec_len marks.old + length pages.now ≤ vec_capacity marks.old }
-    ensures items { marks.new.items ≡ marks.old.items ++ marks_of H.hash_of salt pages.now }
-    ensures len { vec_len marks.new ≡ vec_len marks.old + length pages.now }
-    ensures capacity { vec_capacity marks.new ≡ vec_capacity marks.old }
+) -> Result<(), AllocError>
+    ensures { OnOk result (marks.new.items ≡ marks.old.items ++ marks_of H.hash_of salt pages.now) }
 {
     for page in pages {
-        marks.push_reserved(mark_of(hash, salt, page));
+        marks.push(mark_of(hash, salt, page))?;
     }
+    Ok(())
+}
+
+/// Marks the pages of a guest with this salt.
+#[derive(Drop)]
+pub(crate) struct Marking<'a, H> {
+    pub(crate) hash: &'a H,
+    pub(crate) salt: u32,
+}
+
+impl<H: PageHash> PageWork for Marking<'_, H> {
+    type Item = u64;
+
+    ghost made = { λ marking pages. marks_of H.hash_of marking.salt pages };
+
+    fn room(&self, pages: u32) -> usize {
+        pages as usize
+    }
+
+    fn push<A: Allocator>(
+        &self,
+        pages: &[Page],
+        items: &mut Vec<u64, A>,
+    ) -> Result<(), AllocError> {
+        push_marks(self.hash, self.salt, pages, items)
+    }
+
+    ghost splits = { λ marking xs ys. map-append (mark H.hash_of marking.salt) xs ys };
 }

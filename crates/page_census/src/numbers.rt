@@ -4,8 +4,9 @@ ghost use Rattle.page_census.specs.Contents.{contents};
 ghost use Rattle.page_census.specs.Counted.{counted_guests, counted_numbers, counted_total};
 ghost use Rattle.page_census.specs.Numbers.{sum_alone};
 
+use crate::Guest;
 use crate::tally::{count_copies, count_shared, count_zero, count_zero_classes};
-use crate::{Guest, PageSource};
+use memory_pages::PageSource;
 use std::alloc::{AllocError, Allocator};
 
 /// What is counted of one guest's pages.

@@ -1,15 +1,15 @@
 //! Where to find a page that is numbered among the pages of all guests.
-ghost use Rattle.std.specs.Prelude.{◌≡◌, ◌<◌, ◌≤◌, ◌^◌, true, length, slice_index_or, slice_index, IfOk, OnOk};
+ghost use Rattle.std.specs.Prelude.{◌≡◌, ◌+◌, ◌<◌, ◌≤◌, ◌^◌, true, length, slice_index_or, slice_index, take, drop, IfOk, OnOk};
 ghost use Rattle.page_census.specs.Contents.{contents, are_same, AreSteady};
 ghost use Rattle.page_census.specs.Classes.{TellApart};
 ghost use Rattle.page_census.specs.Fingerprints.{Sure, fingerprints, seen};
 ghost use Rattle.page_census.specs.Places.{Holds, StandsAt};
 
+use crate::Guest;
 use crate::compare::Compare;
 use crate::fault::LookFault;
-use crate::part::read_run;
 use crate::subject::Subject;
-use crate::{Guest, PageSource};
+use memory_pages::PageSource;
 use page_model::Page;
 
 /// A page, by its guest's number and its own.
@@ -33,6 +33,22 @@ pub(crate) fn place_of<S: PageSource>(guests: &[Guest<S>], number: u32) -> Place
         left -= count;
     }
     unreachable!()
+}
+
+/// Reads pages of a guest into the list until it is full, from page `first` on.
+fn read_run<S: PageSource>(
+    number: usize,
+    guest: &Guest<S>,
+    first: u32,
+    into: &mut [Page],
+) -> Result<(), LookFault<S::Fault>>
+    requires { first + length into.old ≤ length (S.pages guest.now.source) }
+    ensures { OnOk result (S.is_steady guest.now.source → into.new ≡ take (length into.old) (drop first (S.pages guest.now.source))) }
+{
+    match guest.source.read(first, into) {
+        Ok(()) => Ok(()),
+        Err(fault) => Err(LookFault::Read(number, fault)),
+    }
 }
 
 /// Reads this page, which is at this place, unless it was already read.

@@ -9,9 +9,9 @@ use Rattle.std.proofs.lemmas.List.Sums.{sum_by-append}
 use Rattle.std.proofs.Math.Seq.{take-add, get_or-append_seam}
 use Rattle.std.specs.List.Sorted.{IsNonDecreasing, IsPermutation, IsStrictlyIncreasing}
 use Rattle.std.specs.Prelude.{All, ◌==◌}
+use Rattle.memory_pages.specs.Made.{AreMade}
 use Rattle.page_digests.specs.Counted.{AreCounted, AreDigests, count_of}
-use Rattle.page_digests.specs.Reads.{AreRead}
-use Rattle.page_digests.specs.Samples.{Sampled}
+use Rattle.page_digests.specs.Samples.{Sampled, kept_digests}
 use Rattle.page_digests.specs.declared.line.DigestLine.{DigestLine}
 
 -- a greater number after numbers that rise
@@ -50,7 +50,7 @@ line_more digests done n d lines after so_far below some next e =
 
 -- the lines count what was read, in whichever order
 pub digested : (steady : Type 0) (pages : List (List ℕ)) (by : Sampled) (digests sorted : List ℕ) (lines : List DigestLine)
-    → AreRead steady pages by digests → IsPermutation digests sorted → AreCounted sorted lines → AreDigests steady pages by lines
+    → AreMade steady pages (kept_digests by) [] digests → IsPermutation digests sorted → AreCounted sorted lines → AreDigests steady pages by lines
 digested steady pages by digests sorted lines read same counted = record {
   read = read.read;
   all = read.all;
@@ -58,8 +58,8 @@ digested steady pages by digests sorted lines read same counted = record {
   counted = record {
     rising = counted.rising;
     some = counted.some;
-    told = λ x. counted.told x ∙ sum_by-IsPermutation (λ (other : ℕ). cond (other == x) 1 0) digests sorted same ∙ ap (count_of x) read.kept;
-    total = counted.total ∙ length_permutation digests sorted same ∙ ap length read.kept;
+    told = λ x. counted.told x ∙ sum_by-IsPermutation (λ (other : ℕ). cond (other == x) 1 0) digests sorted same ∙ ap (count_of x) read.added;
+    total = counted.total ∙ length_permutation digests sorted same ∙ ap length read.added;
   };
 }
 

@@ -3,10 +3,8 @@ ghost use Rattle.std.specs.Prelude.{◌≡◌, ◌≤◌, IfOk, length};
 ghost use Rattle.page_digests.specs.Counted.{AreDigests};
 
 use crate::count::count_digests;
-use crate::parts::read_all;
-use crate::workers::Workers;
 use crate::{DigestFault, DigestLine, Sampling};
-use page_census::{PageSource, Progress};
+use memory_pages::{PageSource, Progress, Workers, push_all};
 use std::alloc::Allocator;
 use std::thread::Threads;
 
@@ -47,7 +45,8 @@ pub fn digest_pages<
         alloc: &alloc,
         count: workers,
     };
-    let mut digests = read_all(&workers, &sampling, source, progress)?;
+    let mut digests = Vec::new(alloc.clone()?);
+    push_all(&workers, source, &sampling, progress, &mut digests)?;
     digests.sort_unstable();
     let lines = count_digests(alloc.clone()?, &digests)?;
     Ok(GuestDigests {

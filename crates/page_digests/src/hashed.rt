@@ -1,8 +1,13 @@
 //! The digests of pages that were read.
 ghost use Rattle.std.specs.Prelude.{◌≡◌, ◌++◌, OnOk, filter, length};
-ghost use Rattle.page_digests.specs.Samples.{is_kept, kept_digests};
+ghost use Rattle.page_digest.specs.Hashes.{content_digest};
+ghost use Rattle.page_digests.specs.Samples.{digests_of, is_kept, kept_digests};
+ghost use Rattle.std.proofs.Common.{◌∙◌, ap};
+ghost use Rattle.std.proofs.lemmas.List.{map-append};
+ghost use Rattle.std.proofs.lemmas.List.Elements.{filter-append};
 
 use crate::Sampling;
+use memory_pages::PageWork;
 use page_digest::{digest_content, digest_four_contents};
 use page_model::Page;
 use std::alloc::{AllocError, Allocator};
@@ -11,7 +16,7 @@ use std::alloc::{AllocError, Allocator};
 const LANES: usize = 4;
 
 /// Appends the digests of the pages that are kept. The last pages, up to three of them, are hashed one by one.
-pub(crate) fn push_digests<A: Allocator>(
+fn push_digests<A: Allocator>(
     sampling: Sampling,
     pages: &[Page],
     digests: &mut Vec<u128, A>,
@@ -65,4 +70,25 @@ fn push_kept<A: Allocator>(
         }
     }
     Ok(())
+}
+
+impl PageWork for Sampling {
+    type Item = u128;
+
+    ghost made = { kept_digests };
+
+    // How many digests a sample keeps isn't known before the pages are hashed.
+    fn room(&self, _pages: u32) -> usize {
+        0
+    }
+
+    fn push<A: Allocator>(
+        &self,
+        pages: &[Page],
+        items: &mut Vec<u128, A>,
+    ) -> Result<(), AllocError> {
+        push_digests(*self, pages, items)
+    }
+
+    ghost splits = { λ by xs ys. ap (filter (is_kept by)) (map-append (content_digest by.salt) xs ys) ∙ filter-append (is_kept by) (digests_of by.salt xs) (digests_of by.salt ys) };
 }

@@ -5,17 +5,13 @@
 
 mod count;
 mod digests;
-mod fault;
 mod hashed;
 mod line;
-mod part;
-mod parts;
 mod sample;
 mod sampling;
-mod workers;
 
 pub use digests::{GuestDigests, digest_pages};
-pub use fault::DigestFault;
 pub use line::DigestLine;
+pub use memory_pages::ReadFault as DigestFault;
 pub use sample::Sample;
 pub use sampling::Sampling;

@@ -1,13 +1,14 @@
 -- What the lines of a script ask for, by the first of them.
 use Rattle.std.proofs.Common.{◌≡◌, ℕ, ◌+◌, ◌<◌, ◌==◌, List, ◌∷◌, length, Ok, Err, refl}
 use Rattle.std.specs.List.{position_or_len, before_first, after_first}
-use Rattle.journal_text.specs.declared.fault.Cause.{Cause}
-use Rattle.journal_text.specs.declared.fault.TextFault.TheVariants as faults
+use Rattle.text_words.specs.declared.fault.Cause.{Cause}
+use Rattle.text_words.specs.declared.fault.TextFault.TheVariants as faults
 use Rattle.journal_text.specs.declared.request.Line.TheVariants.{Enters, Ends}
-use Rattle.journal_text.specs.Headers.{is_feed}
+use Rattle.text_words.specs.Lines.{is_feed}
 use Rattle.journal_text.specs.Texts.{body_from, ended, nothing_more}
-use Rattle.journal_text.specs.Words.{◌>>=◌}
-use Rattle.journal_text.proofs.Lines.{lines_step, lines_end, whole_step, nothing_follows}
+use Rattle.text_words.specs.Words.{◌>>=◌}
+use Rattle.text_words.proofs.Lines.{lines_step, lines_end, whole_step}
+use Rattle.journal_text.proofs.Lines.{nothing_follows}
 use Rattle.script_text.specs.declared.work.Item.{Item}
 use Rattle.script_text.specs.Lines.{script_line_of, total_after}
 use Rattle.script_text.specs.Texts.{items_in}

@@ -7,9 +7,9 @@ use Rattle.std.proofs.lemmas.List.Elements.{All-set}
 use Rattle.std.proofs.lemmas.List.Sums.{sum_by-set, sum_by-cons}
 use Rattle.page_model.specs.Closing.{has_close}
 use Rattle.page_model.specs.declared.request.Request.{Request}
-use Rattle.journal_text.specs.declared.fault.Cause.TheVariants as causes
-use Rattle.journal_text.specs.declared.fault.TextFault.{TextFault}
-use Rattle.journal_text.specs.declared.fault.TextFault.TheVariants as faults
+use Rattle.text_words.specs.declared.fault.Cause.TheVariants as causes
+use Rattle.text_words.specs.declared.fault.TextFault.{TextFault}
+use Rattle.text_words.specs.declared.fault.TextFault.TheVariants as faults
 use Rattle.journal_text.specs.Texts.{ended, nothing_more}
 use Rattle.script_text.specs.declared.work.Item.{Item}
 use Rattle.script_text.specs.Lines.{IsPlain}

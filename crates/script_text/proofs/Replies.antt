@@ -1,8 +1,8 @@
 -- What serving a text answers.
 use Rattle.std.proofs.Common.{◌≡◌, ◌^◌, ℕ, List, length, Result, Ok, Err, true, refl, ap, nat_lt}
 use Rattle.std.proofs.lemmas.Bool.{lt-ltb}
-use Rattle.journal_text.specs.declared.fault.TextFault.{TextFault}
-use Rattle.journal_text.specs.Words.{◌>>=◌}
+use Rattle.text_words.specs.declared.fault.TextFault.{TextFault}
+use Rattle.text_words.specs.Words.{◌>>=◌}
 use Rattle.journal_replay.proofs.Refusals.{KnowsLong}
 use Rattle.script_text.specs.Texts.{Script, script_of}
 use Rattle.script_text.specs.Served.{serial_printed, serial_answer}

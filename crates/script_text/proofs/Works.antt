@@ -2,13 +2,13 @@
 use Rattle.std.proofs.Common.{◌≡◌, ℕ, zero, suc, ◌+◌, ◌<◌, ◌==◌, true, false, List, [], ◌∷◌, ◌++◌, length, Result, Ok, Err, refl, sym, ap, ◌∙◌, arith, get_or, replicate, append-nil, append_assoc, length-append, add-one}
 use Rattle.std.specs.Prelude.{slice_set}
 use Rattle.std.proofs.lemmas.List.Folds.{list_any-append}
-use Rattle.journal_text.specs.Words.{◌>>=◌}
+use Rattle.text_words.specs.Words.{◌>>=◌}
 use Rattle.script_text.specs.Lines.{IsPlain}
 use Rattle.std.proofs.lemmas.Bool.{eq-eqb, ne_eqb}
 use Rattle.page_model.specs.Closing.{is_close, has_close}
 use Rattle.page_model.specs.declared.request.Request.{Request}
 use Rattle.page_model.specs.declared.request.Request.TheVariants.{Propose}
-use Rattle.journal_text.specs.declared.fault.TextFault.{TextFault}
+use Rattle.text_words.specs.declared.fault.TextFault.{TextFault}
 use Rattle.script_text.specs.Works.{proposals, requests_of, size_of, asked_by, scripts_from, written_out}
 use Rattle.script_text.specs.declared.work.Work.{Work}
 use Rattle.script_text.specs.declared.work.Work.TheVariants.{Asks, ScansInOrder, ScansAtRandom}

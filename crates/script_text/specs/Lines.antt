@@ -3,11 +3,11 @@ use Rattle.std.specs.Prelude.{◌≡◌, ℕ, ◌+◌, ◌-◌, ◌^◌, ◌<◌
 use Rattle.std.specs.Str.{bytes_eq}
 use Rattle.page_model.specs.declared.request.Request.{Request}
 use Rattle.page_model.specs.Closing.{is_close}
-use Rattle.journal_text.specs.declared.fault.Cause.{Cause}
-use Rattle.journal_text.specs.declared.fault.Cause.TheVariants.{Form, NoGuest, Length, TooMany}
+use Rattle.text_words.specs.declared.fault.Cause.{Cause}
+use Rattle.text_words.specs.declared.fault.Cause.TheVariants.{Form, NoGuest, Length, TooMany}
 use Rattle.journal_text.specs.declared.request.Line.{Line}
 use Rattle.journal_text.specs.declared.request.Line.TheVariants.{Enters, Ends}
-use Rattle.journal_text.specs.Words.{◌>>=◌, word_at, nothing_at, number_to, number_at}
+use Rattle.text_words.specs.Words.{◌>>=◌, word_at, nothing_at, number_to, number_at}
 use Rattle.journal_text.specs.Requests.{named, behind_head, asking}
 use Rattle.script_text.specs.declared.work.Work.{Work}
 use Rattle.script_text.specs.declared.work.Work.TheVariants.{Asks, ScansInOrder, ScansAtRandom}

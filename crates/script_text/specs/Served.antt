@@ -3,8 +3,8 @@ use Rattle.std.specs.Prelude.{ℕ, List, Option, Result, Ok}
 use Rattle.page_model.specs.Limits.{shapes}
 use Rattle.page_model.specs.Replay.{empty_state}
 use Rattle.journal_replay.specs.Replayed.{printed_from, Writes}
-use Rattle.journal_text.specs.Words.{◌>>=◌}
-use Rattle.journal_text.specs.declared.fault.TextFault.{TextFault}
+use Rattle.text_words.specs.Words.{◌>>=◌}
+use Rattle.text_words.specs.declared.fault.TextFault.{TextFault}
 use Rattle.script_text.specs.Order.{serial_order}
 use Rattle.script_text.specs.Texts.{Script, script_of}
 

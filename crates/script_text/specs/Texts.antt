@@ -1,12 +1,12 @@
 -- A script's text, version 1 or 2: what it says, or its first fault. Its lines are read in the same order as any text's.
 use Rattle.std.specs.Prelude.{ℕ, ◌+◌, ◌^◌, ◌==◌, ◌||◌, nat_lt, if◌then◌else◌, List, length, Some, Result, Ok, Err, codes}
 use Rattle.page_model.specs.declared.request.Request.{Request}
-use Rattle.journal_text.specs.declared.fault.Cause.{Cause}
-use Rattle.journal_text.specs.declared.fault.Cause.TheVariants as causes
-use Rattle.journal_text.specs.declared.fault.TextFault.{TextFault}
-use Rattle.journal_text.specs.declared.fault.TextFault.TheVariants as faults
-use Rattle.journal_text.specs.Words.{◌>>=◌, word_at, nothing_at, number_at}
-use Rattle.journal_text.specs.Headers.{line_at, at_line, keyword}
+use Rattle.text_words.specs.declared.fault.Cause.{Cause}
+use Rattle.text_words.specs.declared.fault.Cause.TheVariants as causes
+use Rattle.text_words.specs.declared.fault.TextFault.{TextFault}
+use Rattle.text_words.specs.declared.fault.TextFault.TheVariants as faults
+use Rattle.text_words.specs.Words.{◌>>=◌, word_at, nothing_at, number_at}
+use Rattle.text_words.specs.Lines.{line_at, at_line, keyword}
 use Rattle.journal_text.specs.Texts.{head_in, line_behind_head, body_in}
 use Rattle.script_text.specs.declared.work.Item.{Item}
 use Rattle.script_text.specs.Lines.{script_line_of, total_after}

@@ -2,8 +2,8 @@
 use Rattle.std.specs.Prelude.{◌≡◌, ℕ, List, ◌++◌, map, slice_index_or, slice_set, Result, Ok, Err}
 use Rattle.std.specs.declared.vec.Vec.{Vec}
 use Rattle.page_model.specs.declared.request.Request.{Request}
-use Rattle.journal_text.specs.Views.{Fails}
-use Rattle.journal_text.specs.declared.fault.TextFault.{TextFault}
+use Rattle.text_words.specs.Views.{Fails}
+use Rattle.text_words.specs.declared.fault.TextFault.{TextFault}
 use Rattle.script_text.specs.Texts as said
 use Rattle.script_text.specs.Works.{requests_of}
 use Rattle.script_text.specs.declared.script.Script.{Script}

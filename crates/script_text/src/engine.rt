@@ -17,11 +17,11 @@ use journal_replay::ends::read_all;
 use journal_replay::engine::{core_of, print_report, serve_entries, tell_fault};
 use journal_replay::output::{LINE_BYTES, buffer};
 use journal_replay::{Sink, Source};
-use journal_text::TextFault;
 use merge_core::Core;
 use page_digest::PageHash;
 use page_model::{Entry, MAX_GUESTS, Request};
 use std::alloc::Allocator;
+use text_words::TextFault;
 
 /// At least this many entries are served together: each of them sees those after it, whose pages may be hashed with its own.
 const WINDOW: usize = 256;

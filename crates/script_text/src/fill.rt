@@ -1,14 +1,14 @@
 //! What lines ask for, as the requests of their guests.
 ghost use Rattle.std.specs.Prelude.{◌≡◌, ◌≤◌, ◌++◌, IfErr, OnOk};
 ghost use Rattle.share_rings.specs.Numbers.{number_of};
-ghost use Rattle.journal_text.specs.declared.fault.TextFault.TheVariants.{OutOfMemory};
+ghost use Rattle.text_words.specs.declared.fault.TextFault.TheVariants.{OutOfMemory};
 ghost use Rattle.script_text.specs.Works.{proposals, requests_of};
 
 use crate::work::Work;
-use journal_text::TextFault;
 use page_model::Request;
 use share_rings::Scan;
 use std::alloc::Allocator;
+use text_words::TextFault;
 
 /// Appends proposals of the next `n` numbers of a scan.
 fn add_scan<A: Allocator>(script: &mut Vec<Request, A>, scan: Scan, n: u32) -> Result<(), TextFault>

@@ -2,16 +2,16 @@
 ghost use Rattle.std.specs.Prelude.{◌≡◌, ◌+◌, ◌<◌, ◌≤◌, false, IfOk, OnOk};
 ghost use Rattle.page_model.specs.Closing.{is_close};
 ghost use Rattle.script_text.specs.Works.{size_of};
-ghost use Rattle.journal_text.specs.Cursor.{left, seen};
+ghost use Rattle.text_words.specs.Cursor.{left, seen};
 ghost use Rattle.script_text.specs.Lines.{seed_at, scanned, in_order_at, at_random_at, scan_named, scan_at, as_work};
 ghost use Rattle.script_text.specs.Lines.{work_named, work_at, is_guest, with_room, item_at, script_line_of, IsPlain, Fits};
 ghost use Rattle.page_model.specs.declared.limits.TheConstants.{MAX_GUESTS};
 
 use crate::work::{Item, Work};
-use journal_text::Cause;
 use journal_text::request::{Line, end, named};
-use journal_text::word::{Left, next_number, nothing, number, number_to, word};
 use page_model::Request;
+use text_words::Cause;
+use text_words::word::{Left, next_number, nothing, number, number_to, word};
 
 /// What a line asks for, or what is wrong with its numbers.
 type Asked = Result<Work, Cause>;

@@ -1,11 +1,11 @@
 //! The reader of scripts.
 ghost use Rattle.std.specs.Prelude.{◌≡◌, ◌+◌, ◌≤◌, ◌<◌, ◌^◌, All, [], false, length, replicate, IfOk, IfErr, OnOk};
 ghost use Rattle.page_model.specs.Closing.{has_close};
-ghost use Rattle.journal_text.specs.Views.{Gives};
+ghost use Rattle.text_words.specs.Views.{Gives};
 ghost use Rattle.merge_machine.specs.Scripts.{entries_needed};
 ghost use Rattle.script_text.specs.Texts.{scripts_in, script_in, script_of};
 ghost use Rattle.script_text.specs.Views.{lists_of, script_seen, Fills, Adds};
-ghost use Rattle.journal_text.specs.declared.fault.TextFault.TheVariants.{OutOfMemory};
+ghost use Rattle.text_words.specs.declared.fault.TextFault.TheVariants.{OutOfMemory};
 ghost use Rattle.page_model.specs.declared.limits.TheConstants.{MAX_GUESTS};
 
 use crate::fill::add;
@@ -14,14 +14,14 @@ use crate::room::empty_scripts;
 use crate::rooms::read_rooms;
 use crate::script::Script;
 use crate::work::Item;
-use journal_text::TextFault;
 use journal_text::head::Head;
 use journal_text::head_reader::{line_behind_head, read_head};
 use journal_text::request::{Line, check_end};
-use journal_text::word::cut;
 use merge_machine::Config;
 use page_model::{MAX_TEXT_BYTES, Request};
 use std::alloc::Allocator;
+use text_words::TextFault;
+use text_words::word::cut;
 
 /// Appends what a line asks for to its guest's list.
 fn add_item<A: Allocator>(

@@ -1,15 +1,15 @@
 //! Room for a script's requests, taken before its lines are read.
 ghost use Rattle.std.specs.Prelude.{◌≡◌, ◌+◌, ◌*◌, ◌≤◌, [], length, replicate, sum, IfErr, IfOk};
-ghost use Rattle.journal_text.specs.declared.fault.TextFault.TheVariants.{OutOfMemory};
+ghost use Rattle.text_words.specs.declared.fault.TextFault.TheVariants.{OutOfMemory};
 ghost use Rattle.journal_text.specs.declared.room.TheConstants.{LEAST_LINE_BYTES};
 ghost use Rattle.script_text.specs.Views.{lists_of};
 ghost use Rattle.page_model.specs.declared.limits.TheConstants.{MAX_GUESTS};
 
-use journal_text::TextFault;
 use journal_text::room::LEAST_LINE_BYTES;
-use journal_text::word::{cut, first_word, number};
 use page_model::{MAX_GUESTS, Request};
 use std::alloc::Allocator;
+use text_words::TextFault;
+use text_words::word::{cut, first_word, number};
 
 /// Returns, for each guest, how many lines of the text may be requests of it. A scan counts as one of them. However many
 /// line feeds a text has, there are no more such lines than the shortest ones would be.

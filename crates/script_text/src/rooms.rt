@@ -2,13 +2,13 @@
 ghost use Rattle.std.specs.Prelude.{◌≡◌, ◌≤◌, ◌<◌, ◌^◌, length, IfOk, OnOk};
 ghost use Rattle.share_rings.specs.Faults.{IsCapacity};
 ghost use Rattle.merge_machine.specs.Limits.{IsJournal};
-ghost use Rattle.journal_text.specs.Views.{Gives};
+ghost use Rattle.text_words.specs.Views.{Gives};
 ghost use Rattle.script_text.specs.Texts.{named_number, ring_in_limits, journal_in_limits, ring_of, journal_limit_of, rooms_in};
 
-use journal_text::header::{at_line, keyword, next_line};
-use journal_text::word::{next_number, nothing, word};
-use journal_text::{Cause, TextFault};
 use page_model::{MAX_ENTRIES, MAX_RING_CAPACITY};
+use text_words::line::{at_line, keyword, next_line};
+use text_words::word::{next_number, nothing, word};
+use text_words::{Cause, TextFault};
 
 /// Reads the number on a line of a word and a number.
 #[tactic(auto, unfolding(crate::specs::Texts::named_number))]

@@ -18,7 +18,7 @@ use Rattle.merge_run.specs.View.{opening, settled_journal, settled_ports, settle
 use Rattle.merge_run.specs.declared.finished.Finished.{Finished}
 use Rattle.journal_replay.specs.Ends.{WritesAll}
 use Rattle.journal_replay.specs.Replayed.{report_text, Prints}
-use Rattle.journal_text.specs.declared.fault.TextFault.{TextFault}
+use Rattle.text_words.specs.declared.fault.TextFault.{TextFault}
 use Rattle.journal_text.specs.Texts.{AreBelow}
 use Rattle.script_text.specs.Views.{lists_of, script_seen}
 use Rattle.script_text.specs.declared.script.Script.{Script}

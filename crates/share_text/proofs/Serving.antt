@@ -13,10 +13,10 @@ use Rattle.merge_run.specs.declared.run_fault.RunFault.{RunFault}
 use Rattle.merge_run.specs.declared.run_fault.RunFault.TheVariants as runs
 use Rattle.journal_replay.specs.Ends.{NotRead, is_write_fault}
 use Rattle.journal_replay.specs.Replayed.{NotPrinted, Refused, Writes}
-use Rattle.journal_text.specs.Views.{Fails}
-use Rattle.journal_text.specs.Words.{◌>>=◌}
-use Rattle.journal_text.specs.declared.fault.TextFault.{TextFault}
-use Rattle.journal_text.specs.declared.fault.TextFault.TheVariants as faults
+use Rattle.text_words.specs.Views.{Fails}
+use Rattle.text_words.specs.Words.{◌>>=◌}
+use Rattle.text_words.specs.declared.fault.TextFault.{TextFault}
+use Rattle.text_words.specs.declared.fault.TextFault.TheVariants as faults
 use Rattle.journal_replay.proofs.Refusals.{KnowsLong, on_input, unread, prints, refused}
 use Rattle.merge_machine.specs.Scripts.{entries_needed}
 use Rattle.script_text.specs.Texts.{Script, script_of}

@@ -1,7 +1,7 @@
 -- The faults of the engine with threads: what would have been right, and their lines.
 use Rattle.std.specs.Prelude.{ℕ, List, codes}
-use Rattle.journal_text.specs.Expected.{expectation}
-use Rattle.journal_text.specs.Printed.{fault_line}
+use Rattle.text_words.specs.Expected.{expectation}
+use Rattle.text_words.specs.Printed.{fault_line}
 use Rattle.share_text.specs.declared.fault.ThreadedFault.{ThreadedFault}
 use Rattle.share_text.specs.declared.fault.ThreadedFault.TheVariants.{Text, NoThread}
 

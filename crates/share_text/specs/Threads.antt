@@ -11,9 +11,9 @@ use Rattle.merge_run.specs.declared.run_fault.RunFault.{RunFault}
 use Rattle.merge_run.specs.declared.run_fault.RunFault.TheVariants as runs
 use Rattle.journal_replay.specs.Ends.{tells_read, tells_write}
 use Rattle.journal_replay.specs.Replayed.{report_text, NotPrinted, Writes}
-use Rattle.journal_text.specs.Words.{◌>>=◌}
+use Rattle.text_words.specs.Words.{◌>>=◌}
 use Rattle.journal_text.specs.Written.{journal_text}
-use Rattle.journal_text.specs.declared.fault.TextFault.{TextFault}
+use Rattle.text_words.specs.declared.fault.TextFault.{TextFault}
 use Rattle.script_text.specs.Texts.{Script, script_of}
 use Rattle.share_text.specs.Faults.{threaded_fault_line}
 use Rattle.share_text.specs.Runs.{IsRunOf, lists_lines, run_text}

@@ -12,7 +12,6 @@ use crate::printing::print_run;
 use journal_replay::ends::{read_all, write_all};
 use journal_replay::engine::tell_fault;
 use journal_replay::{Sink, Source};
-use journal_text::TextFault;
 use merge_machine::Config;
 use merge_run::{Finished, Gate, RunFault, run};
 use page_digest::PageHash;
@@ -21,6 +20,7 @@ use script_text::{Script, read_script};
 use std::alloc::Allocator;
 use std::sync::Wait;
 use std::thread::Threads;
+use text_words::TextFault;
 use watched_machine::Viewer;
 
 /// Returns the answer of work in which no run was refused.

@@ -2,8 +2,8 @@
 ghost use Rattle.std.specs.Prelude.{◌≡◌, string_bytes, IfOk};
 ghost use Rattle.share_text.specs.Faults.{threaded_expectation, threaded_fault_line};
 
-use journal_text::{TextFault, expectation, fault_line};
 use std::alloc::{AllocError, Allocator};
+use text_words::{TextFault, expectation, fault_line};
 use thiserror::Error;
 
 /// Why an engine with threads refused a text, or the work on it.

@@ -1,6 +1,7 @@
 //! Texts of page requests, and the engines that serve them.
 //!
-//! This crate has the whole surface of journals (`journal_text`, `journal_replay`) and scripts (`script_text`), so that users
+//! This crate has the whole surface of journals (`journal_text`, `journal_replay`), of scripts (`script_text`) and of their faults
+//! (`text_words`), so that users
 //! need to name no other crate, and the engine that runs a script with a thread for each guest. The texts, the output and the
 //! order of faults are in `docs/FORMATS.md`.
 #![tactic(auto)]
@@ -14,9 +15,7 @@ pub use engine::{threaded, threaded_viewed};
 pub use fault::{ThreadedFault, threaded_expectation, threaded_fault_line};
 pub use form::Output;
 pub use journal_replay::{Noted, Sink, Source, replay};
-pub use journal_text::{
-    Cause, Journal, TextFault, expectation, fault_line, laws, read_journal, report_line,
-    verdict_line, write_journal,
-};
+pub use journal_text::{Journal, laws, read_journal, report_line, verdict_line, write_journal};
 pub use script_text::{Script, read_script, serial};
+pub use text_words::{Cause, TextFault, expectation, fault_line};
 pub use watched_machine::Viewer;

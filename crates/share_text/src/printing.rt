@@ -14,7 +14,6 @@ use journal_replay::Sink;
 use journal_replay::ends::write_all;
 use journal_replay::engine::print_report;
 use journal_replay::output::{LINE_BYTES, buffer, make_room, put_verdict};
-use journal_text::TextFault;
 use journal_text::writer::write_entries;
 use merge_core::Core;
 use merge_machine::Config;
@@ -22,6 +21,7 @@ use merge_run::Finished;
 use page_digest::PageHash;
 use page_model::Verdict;
 use std::alloc::Allocator;
+use text_words::TextFault;
 
 /// Appends a verdict's line to the buffer.
 fn print_verdict<W: Sink, A: Allocator>(

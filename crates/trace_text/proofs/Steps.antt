@@ -2,13 +2,12 @@
 use Rattle.std.proofs.Common.{◌≡◌, ℕ, ◌+◌, ◌<◌, ◌==◌, Bool, true, false, cond, List, [], ◌∷◌, ◌++◌, length, refl, sym, ap, ◌∙◌, arith, Ok, Err, append-nil}
 use Rattle.std.specs.List.{position_or_len, before_first, after_first}
 use Rattle.std.proofs.lemmas.Bool.{eqb-true, ne_eqb, false≢true}
-use Rattle.journal_text.specs.Headers.{is_feed}
-use Rattle.journal_text.specs.Words.{with_front}
-use Rattle.journal_text.specs.Texts.{lines_of, is_whole, onto_line}
-use Rattle.journal_text.specs.declared.fault.Cause.{Cause}
-use Rattle.journal_text.specs.declared.fault.TextFault.TheVariants as faults
-use Rattle.journal_text.proofs.Cuts.{front_on}
-use Rattle.journal_text.proofs.Lines.{lines_step, lines_end, whole_step}
+use Rattle.text_words.specs.Lines.{is_feed, lines_of, is_whole, onto_line}
+use Rattle.text_words.specs.Words.{with_front}
+use Rattle.text_words.specs.declared.fault.Cause.{Cause}
+use Rattle.text_words.specs.declared.fault.TextFault.TheVariants as faults
+use Rattle.text_words.proofs.Cuts.{front_on}
+use Rattle.text_words.proofs.Lines.{lines_step, lines_end, whole_step}
 use Rattle.trace_text.specs.declared.step.Step.{Step}
 use Rattle.trace_text.specs.Lines.{step_of}
 use Rattle.trace_text.specs.Texts.{steps_from, steps_in}

@@ -1,10 +1,10 @@
 -- The lines of a trace.
 use Rattle.std.specs.Prelude.{ℕ, ◌-◌, ◌^◌, ◌==◌, ◌||◌, nat_lt, if◌then◌else◌, List, Option, Some, None, Result, Ok, Err, codes}
 use Rattle.std.specs.Str.{bytes_eq}
-use Rattle.journal_text.specs.declared.fault.Cause.{Cause}
-use Rattle.journal_text.specs.declared.fault.Cause.TheVariants as causes
-use Rattle.journal_text.specs.Words.{◌>>=◌, word_at, nothing_at, number_to, number_at}
-use Rattle.journal_text.specs.Headers.{keyword}
+use Rattle.text_words.specs.declared.fault.Cause.{Cause}
+use Rattle.text_words.specs.declared.fault.Cause.TheVariants as causes
+use Rattle.text_words.specs.Words.{◌>>=◌, word_at, nothing_at, number_to, number_at}
+use Rattle.text_words.specs.Lines.{keyword}
 use Rattle.page_model.specs.declared.limits.TheConstants.{MAX_PAGES}
 use Rattle.window_events.specs.declared.event.Event.{Event}
 use Rattle.window_events.specs.declared.event.Event.TheVariants.{Write, Guard, Unguard, Copy, Lend, Map, Release, Trim, Discard}

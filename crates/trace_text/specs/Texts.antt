@@ -1,10 +1,9 @@
 -- A trace's text: what it says, or its first fault.
 use Rattle.std.specs.Prelude.{ℕ, ◌+◌, ◌^◌, nat_lt, Bool, if◌then◌else◌, List, [], ◌∷◌, Result, Ok, Err, length}
-use Rattle.journal_text.specs.declared.fault.TextFault.{TextFault}
-use Rattle.journal_text.specs.declared.fault.TextFault.TheVariants as faults
-use Rattle.journal_text.specs.Words.{◌>>=◌}
-use Rattle.journal_text.specs.Headers.{line_at, at_line}
-use Rattle.journal_text.specs.Texts.{lines_of, is_whole}
+use Rattle.text_words.specs.declared.fault.TextFault.{TextFault}
+use Rattle.text_words.specs.declared.fault.TextFault.TheVariants as faults
+use Rattle.text_words.specs.Words.{◌>>=◌}
+use Rattle.text_words.specs.Lines.{line_at, at_line, lines_of, is_whole}
 use Rattle.trace_text.specs.declared.step.Step.{Step}
 use Rattle.trace_text.specs.declared.trace.Trace.{Trace}
 use Rattle.trace_text.specs.Lines.{header_of, sizes_of, step_of}

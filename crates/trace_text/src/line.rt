@@ -1,14 +1,14 @@
 //! The lines of a trace.
 ghost use Rattle.std.specs.Prelude.{◌≡◌, Some, None};
-ghost use Rattle.journal_text.specs.Cursor.{left};
+ghost use Rattle.text_words.specs.Cursor.{left};
 ghost use Rattle.trace_text.specs.Lines.{header_of, in_limits, sizes_of, last_number, content_at, page_event, alone};
 ghost use Rattle.trace_text.specs.Lines.{write_at, lend_at, trim_at, shows_at, third_at, rest_at, step_of};
 
 use crate::{MAX_TRACE_FRAMES, Step};
-use journal_text::Cause;
-use journal_text::header::keyword;
-use journal_text::word::{Left, next_number, nothing, number_to, word};
 use page_model::MAX_PAGES;
+use text_words::Cause;
+use text_words::line::keyword;
+use text_words::word::{Left, next_number, nothing, number_to, word};
 use window_events::Event;
 
 /// Checks the first line.

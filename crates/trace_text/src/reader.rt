@@ -1,15 +1,15 @@
 //! The reader of traces.
 ghost use Rattle.std.specs.Prelude.{◌≡◌, ◌≤◌, ◌^◌, length};
-ghost use Rattle.journal_text.specs.Views.{Gives};
+ghost use Rattle.text_words.specs.Views.{Gives};
 ghost use Rattle.trace_text.specs.Texts.{steps_in, trace_in, trace_of, said_by};
 
 use crate::line::{check_header, read_sizes, read_step};
 use crate::{Step, Trace};
-use journal_text::TextFault;
-use journal_text::header::{at_line, next_line};
-use journal_text::word::cut;
 use page_model::MAX_TEXT_BYTES;
 use std::alloc::Allocator;
+use text_words::TextFault;
+use text_words::line::{at_line, next_line};
+use text_words::word::cut;
 
 /// The number of the first line that is a step.
 pub(crate) const FIRST_STEP: u32 = 3;

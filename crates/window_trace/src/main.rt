@@ -4,12 +4,12 @@
 //! the trace can't be read.
 #![tactic(auto)]
 
-use journal_text::{TextFault, fault_line};
 use page_model::MAX_TEXT_BYTES;
 use std::alloc::Global;
 use std::io::{self, ErrorKind, Read};
 use std::process::ExitCode;
 use std::{env, fs};
+use text_words::{TextFault, fault_line};
 use trace_text::{Outcome, outcome_line, play, read_trace};
 
 /// Reads a whole text, or one byte more than a text has at most.

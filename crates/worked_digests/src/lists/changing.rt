@@ -1,6 +1,6 @@
 //! Pages that are others at each read.
 use crate::lists::pages::{Unreadable, digests_of, sampling_of};
-use page_census::PageSource;
+use memory_pages::PageSource;
 use page_model::Page;
 use std::alloc::Global;
 use std::process::Abort;

@@ -1,7 +1,7 @@
 //! Pages in memory, and how often they are read.
 ghost use Rattle.std.specs.Prelude.{◌<◌, ◌^◌, vec_len};
 
-use page_census::{PageSource, Progress};
+use memory_pages::{PageSource, Progress};
 use page_digests::{DigestFault, GuestDigests, Sample, Sampling, digest_pages};
 use page_model::Page;
 use std::alloc::{AllocError, Allocator, Global};

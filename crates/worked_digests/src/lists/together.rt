@@ -1,6 +1,6 @@
 //! Reads each of which waits for another, so that two workers are needed.
 use crate::lists::pages::{Memory, Unreadable, digests_of, memory_of, sampling_of};
-use page_census::PageSource;
+use memory_pages::PageSource;
 use page_model::Page;
 use std::alloc::{AllocError, Global};
 use std::process::Abort;

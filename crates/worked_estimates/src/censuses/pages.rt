@@ -1,7 +1,8 @@
 //! Guests whose pages are in memory, and hashes and progress for tests.
 ghost use Rattle.std.specs.Prelude.{◌<◌, ◌^◌, vec_len};
 
-use page_census::{CensusFault, CensusNumbers, Guest, PageSource, Progress, census};
+use memory_pages::{PageSource, Progress};
+use page_census::{CensusFault, CensusNumbers, Guest, census};
 use page_digest::PageHash;
 use page_model::{HashFunction, Page};
 use std::alloc::{AllocError, Allocator, Global};

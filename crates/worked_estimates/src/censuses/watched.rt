@@ -1,6 +1,6 @@
 //! Pages in memory whose reads are watched.
 use crate::censuses::pages::{Memory, Unreadable};
-use page_census::PageSource;
+use memory_pages::PageSource;
 use page_model::Page;
 
 /// Hears of each read before it is made.

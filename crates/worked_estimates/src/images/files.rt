@@ -1,7 +1,7 @@
 //! Files in memory, and the pages that images of them have.
 
 use memory_images::{FormFault, Image, ImageFault, ReadAt};
-use page_census::PageSource;
+use memory_pages::PageSource;
 use page_model::{PAGE_BYTES, Page};
 use std::alloc::{AllocError, Allocator, Global};
 use std::test::Fail;

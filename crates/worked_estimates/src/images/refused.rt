@@ -2,7 +2,7 @@
 
 use crate::images::files::{can_read, core_file, has_pages, is_unreadable, load, open};
 use memory_images::ImageFault;
-use page_census::PageSource;
+use memory_pages::PageSource;
 use page_model::PAGE_BYTES;
 use refusing::Refusing;
 use std::alloc::Global;

@@ -2,7 +2,7 @@
 
 use crate::images::files::{is_page, plain_file};
 use memory_images::{FileBytes, Image};
-use page_census::PageSource;
+use memory_pages::PageSource;
 use page_model::PAGE_BYTES;
 use std::fs;
 use std::test::Fail;

@@ -1,7 +1,7 @@
 use Rattle.std.proofs.Common.{◌≡◌, length, Some, sym, ap, ◌∙◌, arith}
 use Rattle.std.specs.Int.{w128, from_be_bytes}
 use Rattle.std.proofs.lemmas.List.{take_all}
-use Rattle.journal_text.specs.Words.{spelled}
+use Rattle.text_words.specs.Words.{spelled}
 use Rattle.digest_text.proofs.Digits.{digest_is}
 use Rattle.digest_text.proofs.fields.digest.Goals as goal
 

@@ -5,7 +5,7 @@ use Rattle.std.proofs.lemmas.List.{length-set}
 use Rattle.hex.specs.Hex.{decode_of}
 use Rattle.hex.proofs.HexLemmas.{decode_of-even}
 use Rattle.hex.proofs.Pairs.{decode_done, decode_step}
-use Rattle.journal_text.specs.Words.{is_lower_digit, or_none}
+use Rattle.text_words.specs.Words.{is_lower_digit, or_none}
 use Rattle.digest_text.proofs.Digits.{pair_is}
 use Rattle.digest_text.proofs.fields.unpack.Goals as goal
 

@@ -1,9 +1,9 @@
 use Rattle.std.proofs.Common.{◌≡◌, ℕ, ◌++◌, [], ◌∷◌, List, Option, Some, None, Ok, Err, ap, sym, ◌∙◌}
-use Rattle.journal_text.specs.Words.{number, is_space, behind_space}
+use Rattle.text_words.specs.Words.{number, is_space, behind_space, with_front}
 use Rattle.std.specs.List.{before_first}
-use Rattle.journal_text.specs.Headers.{at_line, numbers, words_in}
-use Rattle.journal_text.specs.Words.{with_front}
-use Rattle.journal_text.specs.Cursor.{left}
+use Rattle.text_words.specs.Lines.{at_line}
+use Rattle.journal_text.specs.Headers.{numbers, words_in}
+use Rattle.text_words.specs.Cursor.{left}
 use Rattle.journal_text.proofs.Cuts.{numbers_end, numbers_step, numbers_fault}
 use Rattle.journal_text.proofs.header.numbers.Goals as goal
 

@@ -1,7 +1,8 @@
 use Rattle.std.proofs.Common.{◌≡◌}
-use Rattle.journal_text.specs.Headers.{at_line, numbers, words_in}
-use Rattle.journal_text.specs.Words.{with_front}
-use Rattle.journal_text.specs.Cursor.{left, left_length}
+use Rattle.text_words.specs.Lines.{at_line}
+use Rattle.journal_text.specs.Headers.{numbers, words_in}
+use Rattle.text_words.specs.Words.{with_front}
+use Rattle.text_words.specs.Cursor.{left, left_length}
 use Rattle.journal_text.proofs.header.numbers.Given as goal
 
 abbrev pub invariant-loop-rest : goal.invariant-loop-rest

@@ -1,14 +1,14 @@
 use Rattle.std.proofs.Common.{◌≡◌, ℕ, ◌+◌, ◌<◌, ◌≤◌, ◌++◌, [], ◌∷◌, List, Result, Ok, Err, length, ap, sym, ◌∙◌, arith, ◌==◌, length-append}
 use Rattle.std.specs.List.{before_first, after_first}
 use Rattle.journal_text.specs.declared.request.Line.{Line}
-use Rattle.journal_text.specs.declared.fault.Cause.{Cause}
+use Rattle.text_words.specs.declared.fault.Cause.{Cause}
 use Rattle.journal_text.specs.declared.said.SaidBy.{SaidBy}
-use Rattle.journal_text.specs.Words.{◌>>=◌}
+use Rattle.text_words.specs.Words.{◌>>=◌}
 use Rattle.journal_text.specs.Requests.{line_of}
 use Rattle.journal_text.specs.Asked.{entered, IsSaidBelow}
 use Rattle.journal_text.specs.declared.request.Line.TheVariants.{Enters, Ends}
 use Rattle.page_model.specs.declared.request.Entry.{Entry}
-use Rattle.journal_text.specs.Headers.{is_feed}
+use Rattle.text_words.specs.Lines.{is_feed}
 use Rattle.journal_text.specs.Texts.{closed_after}
 use Rattle.journal_text.proofs.Lines.{body_end, body_fault, body_ended, body_step, below_push}
 use Rattle.journal_text.proofs.reader.entries.Goals as goal

@@ -1,5 +1,5 @@
 use Rattle.std.proofs.Common.{◌≡◌, ◌+◌, ◌*◌, ◌≤◌, length}
-use Rattle.journal_text.specs.Words.{with_front}
+use Rattle.text_words.specs.Words.{with_front}
 use Rattle.journal_text.specs.Texts.{entries_in, AreBelow}
 use Rattle.journal_text.proofs.reader.entries.Given as goal
 

@@ -1,6 +1,6 @@
 use Rattle.std.proofs.Common.{refl}
 use Rattle.journal_text.specs.Texts.{journal_in}
-use Rattle.journal_text.proofs.Fails.{fails_on}
+use Rattle.text_words.proofs.Fails.{fails_on}
 use Rattle.journal_text.proofs.reader.journal_in.Goals as goal
 
 pub returns-in-Err : goal.returns-in-Err

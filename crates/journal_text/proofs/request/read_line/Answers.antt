@@ -1,6 +1,6 @@
 use Rattle.std.proofs.Common.{ℕ, Result, Ok, Err}
 use Rattle.std.specs.Prelude.{IfOk}
-use Rattle.journal_text.specs.declared.fault.Cause.{Cause}
+use Rattle.text_words.specs.declared.fault.Cause.{Cause}
 use Rattle.journal_text.specs.declared.request.Line.{Line}
 use Rattle.journal_text.specs.declared.request.Line.TheVariants.{Enters, Ends}
 use Rattle.journal_text.specs.declared.said.SaidBy.{SaidBy}

@@ -1,6 +1,7 @@
 use Rattle.std.proofs.Common.{sym, arith}
-use Rattle.journal_text.specs.Words.{spelled}
-use Rattle.journal_text.proofs.Bytes.{spelled_is, stored_long}
+use Rattle.text_words.specs.Words.{spelled}
+use Rattle.text_words.proofs.Bytes.{spelled_is}
+use Rattle.journal_text.proofs.Stored.{stored_long}
 use Rattle.journal_text.proofs.said.stored.Goals as goal
 
 pub returns-then-word-clause-value : goal.returns-then-word-clause-value

@@ -1,8 +1,8 @@
 use Rattle.std.proofs.Common.{◌≡◌, ◌*◌, length, ◌∙◌, arith, Ok}
 use Rattle.hex.specs.Hex.{decode_sized}
 use Rattle.hex.proofs.HexLemmas.{decode_sized-twice}
-use Rattle.journal_text.specs.Words.{spelled}
-use Rattle.journal_text.proofs.Bytes.{spelled_is}
+use Rattle.text_words.specs.Words.{spelled}
+use Rattle.text_words.proofs.Bytes.{spelled_is}
 use Rattle.journal_text.proofs.said.unpack.Goals as goal
 
 pub returns : goal.returns

@@ -1,16 +1,8 @@
 use Rattle.std.proofs.Common.{◌++◌, ◌∙◌, length, ap, sym, subst, arith}
 use Rattle.page_census.specs.Marks.{marks_of}
-use Rattle.page_census.specs.declared.source.Guest.{Guest}
-use Rattle.page_census.proofs.Gathered.{length_more, length_within, marks_more}
+use Rattle.page_census.specs.declared.guest.Guest.{Guest}
+use Rattle.page_census.proofs.Gathered.{length_more, marks_more}
 use Rattle.page_census.proofs.marks.marks_of_all.Goals as goal
-
-pub push_guest-requires-clause-room : goal.push_guest-requires-clause-room
-push_guest-requires-clause-room g c κs within =
-    let pages = g.S.PageSource.pages in
-    let guest = c.index-guests-number.result in
-    let is = ap (λ guest. length (pages guest.source)) c.index-guests-number.is in
-    let most = length_within pages c.args.guests.now c.loop-number.number guest c.loop-number-test.true in
-    omega (arith, is, most, c.loop-number.invariant.len, c.loop-number.invariant.room, c.requires.count)
 
 pub loop-number-preserved : goal.loop-number-preserved
 loop-number-preserved g c =
@@ -28,5 +20,4 @@ loop-number-preserved g c =
       len = omega (arith, is, more, so_far.len, done.len);
       told = λ steady. marks_more pages hash guests number guest _ _ lt (so_far.told steady)
           (done.told (subst (λ (at : Guest g.row.S.Denot). g.S.PageSource.is_steady at.source) (sym c.index-guests-number.is) (steady number guest lt)) ∙ ap (λ (at : Guest g.row.S.Denot). c.loop-number.marks.items ++ marks_of hash at.salt (pages at.source)) c.index-guests-number.is);
-      room = omega (arith, so_far.room, c.push_guest.ensures.capacity);
     }

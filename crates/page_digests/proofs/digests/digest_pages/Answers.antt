@@ -8,4 +8,4 @@ count_digests-requires g c = rw c.deref.ensures.value (IsNonDecreasingBy-from_so
 pub returns-clause-lines : goal.returns-clause-lines
 returns-clause-lines g c =
     digested (g.S.PageSource.is_steady c.args.source.now) (g.S.PageSource.pages c.args.source.now) c.args.sampling _ _ c.in_ok-lines.lines.items
-    c.in_ok-digests.ensures c.sort_unstable.ensures.permutation (rw c.deref.ensures.value at c.in_ok-lines.ensures)
+    (rw c.new-digests.ensures.items at c.in_ok-push_all.ensures.made) c.sort_unstable.ensures.permutation (rw c.deref.ensures.value at c.in_ok-lines.ensures)

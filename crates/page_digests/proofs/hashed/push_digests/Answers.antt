@@ -1,6 +1,6 @@
 use Rattle.std.proofs.Common.{◌≡◌, ◌+◌, ◌-◌, ◌*◌, ◌/◌, length, take, arith}
 use Rattle.std.proofs.lemmas.List.{take_all}
-use Rattle.page_digests.proofs.Joined.{kept_on}
+use Rattle.page_digests.proofs.Kept.{kept_on}
 use Rattle.page_digests.proofs.hashed.push_digests.Goals as goal
 
 pub loop-n-preserved : goal.loop-n-preserved

@@ -3,7 +3,7 @@ use Rattle.page_model.specs.Limits.{shapes}
 use Rattle.page_model.specs.Pages.{State}
 use Rattle.page_model.specs.Replay.{empty_state}
 use Rattle.merge_core.specs.Shown.{state_of}
-use Rattle.journal_text.specs.declared.fault.TextFault.{TextFault}
+use Rattle.text_words.specs.declared.fault.TextFault.{TextFault}
 use Rattle.journal_replay.specs.Ends.{WritesAll}
 use Rattle.journal_replay.specs.Replayed.{Prints, printed_from}
 use Rattle.script_text.specs.Order.{serial_order}

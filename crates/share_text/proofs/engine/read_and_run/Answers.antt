@@ -1,5 +1,5 @@
 use Rattle.std.proofs.Common.{◌≡◌, Ok, ap, sym, ◌∙◌}
-use Rattle.journal_text.specs.Views.{Fails}
+use Rattle.text_words.specs.Views.{Fails}
 use Rattle.script_text.specs.Texts.{script_of}
 use Rattle.script_text.specs.Views.{script_seen}
 use Rattle.share_text.proofs.Serving.{no_write, threads_unread, threads_refused, threads_served}

@@ -1,5 +1,5 @@
 use Rattle.std.proofs.Common.{◌≡◌, ◌+◌, ◌≤◌, length}
-use Rattle.journal_text.specs.Words.{with_front}
+use Rattle.text_words.specs.Words.{with_front}
 use Rattle.trace_text.specs.Texts.{steps_in}
 use Rattle.trace_text.proofs.reader.read_steps.Given as goal
 

@@ -1,7 +1,0 @@
-use Rattle.std.proofs.Common.{◌≤◌}
-use Rattle.std.specs.List.{position_or_len}
-use Rattle.journal_text.specs.Words.{is_space}
-use Rattle.journal_text.proofs.word.first_word.Given as goal
-
-abbrev pub invariant-loop-at : goal.invariant-loop-at
-invariant-loop-at l = l.at ≤ position_or_len is_space l.bytes

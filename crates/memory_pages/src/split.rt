@@ -1,0 +1,24 @@
+//! How pages are split among workers.
+ghost use Rattle.std.specs.Prelude.{ℕ, ◌*◌, ◌<◌, ◌≤◌};
+
+/// How many pages are read at once.
+pub const RUN: u32 = 64;
+
+/// Parts of pages. Each has `size` pages; the last may have fewer.
+#[derive(Clone, Copy)]
+pub struct Split {
+    pub size: u32,
+    pub parts: usize,
+}
+
+/// Splits `count` pages into parts of equal size, at most one for each worker; fewer of them if there are few pages.
+pub fn split_among(workers: u32, count: u32) -> Split
+    requires { 1 ≤ workers }
+    ensures size { 1 ≤ result.size }
+    ensures all { count ≤ result.size * result.parts }
+    ensures begins { (n : ℕ) → n < result.parts → result.size * n < count }
+{
+    let size = count.div_ceil(workers).max(RUN);
+    let parts = count.div_ceil(size) as usize;
+    Split { size, parts }
+}
