@@ -5,7 +5,7 @@ use Rattle.std.specs.Prelude.{ℕ, ◌+◌, ◌*◌, ◌/◌, ◌==◌, nat_lt, 
 abbrev pub nearest : ℕ → ℕ → ℕ
 nearest scale pages = (scale * pages + 128) / 256
 
--- how many units a MiB has where so many pages are told: 10 below 10 MiB, and else 1
+-- how many units a MiB has where so many pages are shown: 10 below 10 MiB, and else 1
 abbrev pub scale_for : ℕ → ℕ
 scale_for pages = if nat_lt pages 2560 then 10 else 1
 

@@ -1,8 +1,8 @@
 -- What could be reclaimed, in three parts that add up to it.
 use Rattle.std.specs.Prelude.{ℕ, ◌-◌, min, List, sum_by}
 use Rattle.page_census.specs.declared.numbers.TotalNumbers.{TotalNumbers}
-use Rattle.census_text.specs.declared.estimate.GuestLine.{GuestLine}
-use Rattle.census_text.specs.declared.reclaimed.Reclaimed.{Reclaimed}
+use Rattle.report_text.specs.declared.estimate.GuestLine.{GuestLine}
+use Rattle.report_text.specs.declared.reclaimed.Reclaimed.{Reclaimed}
 
 -- The parts of a whole, by its zeros, and what of the rest is reclaimed within guests: what is left is reclaimed between them.
 abbrev pub parts_by : ℕ → ℕ → ℕ → Reclaimed

@@ -1,11 +1,11 @@
 -- Amounts of memory in parts, rounded so that the parts add up. A MiB has 256 pages, and `scale` units: 1, or 10 for tenths.
 use Rattle.std.specs.Prelude.{ℕ, ◌+◌, ◌-◌, ◌*◌, ◌/◌, ◌%◌, ◌^◌, ◌<◌, min, nat_lt, if◌then◌else◌}
-use Rattle.census_text.specs.Amounts.{nearest}
-use Rattle.census_text.specs.declared.amounts.Unit.{Unit}
-use Rattle.census_text.specs.declared.amounts.Unit.TheVariants.{Mebibytes, Pages}
-use Rattle.census_text.specs.declared.reclaimed.Reclaimed.{Reclaimed}
-use Rattle.census_text.specs.declared.shares.More.{More}
-use Rattle.census_text.specs.declared.shares.Shares.{Shares}
+use Rattle.report_text.specs.Amounts.{nearest}
+use Rattle.report_text.specs.declared.amounts.Unit.{Unit}
+use Rattle.report_text.specs.declared.amounts.Unit.TheVariants.{Mebibytes, Pages}
+use Rattle.report_text.specs.declared.reclaimed.Reclaimed.{Reclaimed}
+use Rattle.report_text.specs.declared.shares.More.{More}
+use Rattle.report_text.specs.declared.shares.Shares.{Shares}
 
 -- the whole units that these pages fill
 abbrev pub filled : ℕ → ℕ → ℕ

@@ -1,13 +1,14 @@
 //! Amounts of memory for people.
 ghost use Rattle.std.specs.Prelude.{◌≡◌, ◌<◌, ◌≤◌, ◌*◌, ◌^◌};
-ghost use Rattle.census_text.specs.Amounts.{nearest, per_mille, scale_for};
+ghost use Rattle.report_text.specs.Amounts.{nearest, per_mille, scale_for};
 
+use std::alloc::{AllocError, Allocator};
 use std::fmt::{self, Display, Formatter};
 
 /// How many pages a MiB has.
 pub(crate) const PAGES_OF_A_MEBIBYTE: u128 = 256;
 
-/// The pages from which on memory is told in whole MiB, and no longer in tenths: 10 MiB.
+/// The pages from which on memory is shown in whole MiB, and no longer in tenths: 10 MiB.
 const WHOLE_FROM: u64 = 2560;
 
 /// In what a table's numbers are.
@@ -31,9 +32,9 @@ impl Unit {
 
 /// A number of pages, shown with a unit: KiB below one MiB, and else tenths of a MiB.
 #[derive(Clone, Copy)]
-pub(crate) struct Amount(pub(crate) u32);
+pub(crate) struct WithUnit(pub(crate) u32);
 
-impl Display for Amount {
+impl Display for WithUnit {
     fn fmt<W: fmt::Write>(&self, f: &mut Formatter<W>) -> fmt::Result {
         if self.0 < 256 {
             let kibibytes = 4 * self.0;
@@ -43,6 +44,15 @@ impl Display for Amount {
         let (whole, tenth) = (tenths / 10, tenths % 10);
         write!(f, "{whole}.{tenth} MiB")
     }
+}
+
+/// Appends a number given in tenths, with one decimal.
+pub(crate) fn push_tenths<A: Allocator>(
+    text: &mut String<A>,
+    tenths: u64,
+) -> Result<(), AllocError> {
+    let (whole, tenth) = (tenths / 10, tenths % 10);
+    write!(text, "{whole}.{tenth}")
 }
 
 /// Returns these pages in units of which a MiB has `scale`, to the nearest; a half is rounded up.
@@ -63,7 +73,7 @@ pub fn in_units(scale: u32, pages: u64) -> u64
     in_units_of(scale, u128::from(pages))
 }
 
-/// Returns how many units a MiB has where so many pages are told: 10 below 10 MiB, and else 1.
+/// Returns how many units a MiB has where so many pages are shown: 10 below 10 MiB, and else 1.
 pub fn scale_for(pages: u64) -> u32
     ensures value { result ≡ scale_for pages }
     ensures within { result ≤ 10 }

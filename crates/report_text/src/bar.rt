@@ -1,6 +1,6 @@
 //! The parts of a guest's bar.
 ghost use Rattle.std.specs.Prelude.{◌≡◌, ◌+◌, ◌<◌, ◌^◌, nat_lt};
-ghost use Rattle.census_text.specs.Parts.{parts_of, salt_zeros, zero_under};
+ghost use Rattle.report_text.specs.Parts.{parts_of, salt_zeros, zero_under};
 
 use crate::GuestLine;
 use page_census::GuestNumbers;

@@ -1,15 +1,14 @@
 //! The cells of the table.
-use crate::Fleet;
-use crate::told::Told;
-use census_text::{Unit, in_units};
-use fleet_census::{Amount, FleetClass};
+use crate::report::{Report, Source};
+use crate::rows::{ClassRow, TotalRow};
+use crate::{Unit, in_units};
 use std::alloc::{AllocError, Allocator};
 
 /// In what the numbers of the cells are, and how wide a cell is. If the numbers are estimates, the cell of the standard error comes
 /// behind each cell of one.
 #[derive(Clone, Copy)]
 pub(crate) struct Cells {
-    sample: u32,
+    is_sampled: bool,
     pub(crate) unit: Unit,
     width: usize,
     /// How wide the copies of a class are, and how many contents it has.
@@ -17,8 +16,20 @@ pub(crate) struct Cells {
     contents: usize,
 }
 
+/// A column, with its heading.
+#[derive(Clone, Copy)]
+pub(crate) enum Column {
+    /// Numbers that are known.
+    Known(&'static str),
+    /// Numbers that are estimates, unless all contents were kept.
+    Estimated(&'static str),
+}
+
 /// The length of the longest heading.
 const LONGEST: usize = 14;
+
+/// How wide the copies of a class are at least. That is enough for the copies of an estimate, which has fewer than 2^32 pages.
+const COPIES: usize = 24;
 
 /// Returns how many decimal digits a number has.
 pub(crate) fn digits(number: u64) -> usize {
@@ -29,42 +40,50 @@ pub(crate) fn digits(number: u64) -> usize {
 }
 
 /// Returns the greatest of all numbers in pages: those of a guest and of a class are parts of those in total.
-fn greatest(fleet: &Fleet<'_>) -> u64 {
-    let total = fleet.total;
+fn greatest(total: &TotalRow) -> u64 {
+    let errors = total.errors.unwrap_or_default();
     let mut most = total.pages;
-    for amount in [total.shared, total.frames, total.reclaimed, total.between] {
-        let Told { value, error } = Told::of(amount, fleet.sample);
-        most = most.max(value).max(error);
+    for (pages, error) in [
+        (total.shared, errors.shared),
+        (total.frames, errors.frames),
+        (total.reclaimed, errors.reclaimed),
+        (total.between, errors.between),
+    ] {
+        most = most.max(pages).max(error);
     }
     most
 }
 
 /// Returns a width that fits the copies of each class: none has more than the last.
-fn copies_width(copies: &[FleetClass]) -> usize {
-    let most = copies.last().map_or(0, |class| class.to);
-    digits(most).saturating_mul(2).saturating_add(5).max(24)
+fn copies_width(source: Source, copies: &[ClassRow]) -> usize {
+    match source {
+        Source::Images => COPIES,
+        Source::Digests => {
+            let most = copies.last().map_or(0, |class| class.to);
+            digits(most).saturating_mul(2).saturating_add(5).max(COPIES)
+        }
+    }
 }
 
 impl Cells {
     /// Returns cells that fit all numbers.
-    pub(crate) fn new(fleet: &Fleet<'_>, unit: Unit) -> Cells {
-        let most = greatest(fleet);
+    pub(crate) fn new<A: Allocator>(report: &Report<'_, A>, unit: Unit) -> Cells {
+        let most = greatest(&report.total);
         let width = match unit {
             Unit::Mebibytes => digits(in_units(1, most)).saturating_add(2),
             Unit::Pages => digits(most),
         };
         Cells {
-            sample: fleet.sample,
+            is_sampled: report.sampling.is_some(),
             unit,
             width: width.max(LONGEST),
-            copies: copies_width(fleet.copies),
+            copies: copies_width(report.source, &report.copies),
             contents: digits(most).saturating_add(2).max(12),
         }
     }
 }
 
-/// Appends the heading of a cell that is known.
-pub(crate) fn push_heading<A: Allocator>(
+fn push_heading<A: Allocator>(
     text: &mut String<A>,
     cells: Cells,
     heading: &str,
@@ -73,15 +92,32 @@ pub(crate) fn push_heading<A: Allocator>(
     write!(text, "  {heading:>wide$}")
 }
 
-/// Appends the heading of a number, and that of its standard error if it is an estimate.
-pub(crate) fn push_told_heading<A: Allocator>(
+/// Appends the heading of a column, and behind that of estimates the one of their standard errors.
+fn push_column<A: Allocator>(
     text: &mut String<A>,
     cells: Cells,
-    heading: &str,
+    column: Column,
 ) -> Result<(), AllocError> {
-    push_heading(text, cells, heading)?;
-    if cells.sample > 1 {
-        push_heading(text, cells, "+-")?;
+    match column {
+        Column::Known(heading) => push_heading(text, cells, heading),
+        Column::Estimated(heading) => {
+            push_heading(text, cells, heading)?;
+            if cells.is_sampled {
+                push_heading(text, cells, "+-")?;
+            }
+            Ok(())
+        }
+    }
+}
+
+/// Appends the headings of columns.
+pub(crate) fn push_headings<A: Allocator>(
+    text: &mut String<A>,
+    cells: Cells,
+    columns: &[Column],
+) -> Result<(), AllocError> {
+    for column in columns {
+        push_column(text, cells, *column)?;
     }
     Ok(())
 }
@@ -127,21 +163,21 @@ pub(crate) fn push_error<A: Allocator>(
     cells: Cells,
     pages: u64,
 ) -> Result<(), AllocError> {
-    if cells.sample > 1 {
+    if cells.is_sampled {
         push_pages(text, cells, pages)?;
     }
     Ok(())
 }
 
-/// Appends a sum over contents in pages, and its standard error if it is an estimate.
-pub(crate) fn push_told<A: Allocator>(
+/// Appends a number of pages, and its standard error if it is an estimate.
+pub(crate) fn push_estimate<A: Allocator>(
     text: &mut String<A>,
     cells: Cells,
-    amount: Amount,
+    pages: u64,
+    error: u64,
 ) -> Result<(), AllocError> {
-    let told = Told::of(amount, cells.sample);
-    push_pages(text, cells, told.value)?;
-    push_error(text, cells, told.error)
+    push_pages(text, cells, pages)?;
+    push_error(text, cells, error)
 }
 
 /// Appends the headings of a class's columns.
@@ -152,10 +188,10 @@ pub(crate) fn push_class_headings<A: Allocator>(
     let (heading, contents, error) = ("copies", "contents", "+-");
     let (left, wide) = (cells.copies, cells.contents);
     write!(text, "\n{heading:<left$}{contents:>wide$}")?;
-    if cells.sample > 1 {
+    if cells.is_sampled {
         write!(text, "{error:>wide$}")?;
     }
-    push_told_heading(text, cells, "memory")?;
+    push_column(text, cells, Column::Estimated("memory"))?;
     text.push_str("\n")
 }
 
@@ -163,12 +199,12 @@ pub(crate) fn push_class_headings<A: Allocator>(
 pub(crate) fn push_contents<A: Allocator>(
     text: &mut String<A>,
     cells: Cells,
-    amount: Amount,
+    contents: u64,
+    error: u64,
 ) -> Result<(), AllocError> {
-    let Told { value, error } = Told::of(amount, cells.sample);
     let wide = cells.contents;
-    write!(text, "{value:>wide$}")?;
-    if cells.sample > 1 {
+    write!(text, "{contents:>wide$}")?;
+    if cells.is_sampled {
         write!(text, "{error:>wide$}")?;
     }
     Ok(())

@@ -1,6 +1,7 @@
 //! What was counted, with what the digests say of their guests.
 ghost use Rattle.std.specs.Prelude.{◌≡◌, IfOk, length, map, min, take, vec_len};
 
+use crate::report::Sampling;
 use digest_text::DigestHead;
 use fleet_census::{FleetClass, FleetGuest, FleetTotal};
 use std::alloc::{AllocError, Allocator};
@@ -47,27 +48,28 @@ pub fn fleet_lines<'a, A: Allocator>(
 }
 
 impl Fleet<'_> {
-    /// Whether the numbers are estimates: not all contents were kept.
-    pub(crate) fn is_sampled(&self) -> bool {
-        self.sample > 1
-    }
-
-    /// Returns how many contents were kept.
-    pub(crate) fn kept(&self) -> u64 {
+    /// Returns the sample, unless all contents were kept.
+    pub(crate) fn sampling(&self) -> Option<Sampling> {
+        if self.sample <= 1 {
+            return None;
+        }
         let frames = self.total.frames;
-        frames.zeros.saturating_add(frames.others)
+        Some(Sampling {
+            sample: self.sample,
+            kept: frames.zeros.saturating_add(frames.others),
+        })
     }
 }
 
 impl<'a> FleetLine<'a> {
-    /// Returns the guest's name, where it is told.
+    /// Returns the guest's name, if its digest has a line.
     pub(crate) fn name(&self) -> Option<&'a str> {
         let head = self.head?;
         // A name has only characters of ASCII.
         str::from_utf8(head.guest.as_bytes()).ok()
     }
 
-    /// Returns the guest's salt, where it is told.
+    /// Returns the guest's salt, if its digest has a line.
     pub(crate) fn salt(&self) -> Option<u32> {
         Some(self.head?.salt)
     }

@@ -1,59 +1,55 @@
-//! The numbers as a JSON object, for programs.
-use crate::members::{
-    ClassErrors, ClassObject, FleetObject, GuestErrors, GuestObject, PartsObject, TotalErrors,
-    TotalObject,
-};
-use crate::parts::{errors_of, parts_of};
-use crate::told::Told;
+//! The rows of a fleet: with a sample of 1 its numbers are known, and else most of them are estimates.
+use crate::estimated_sum::EstimatedSum;
+use crate::fleet_parts::{parts_of, within_of};
+use crate::report::{Report, Source};
+use crate::rows::{ClassErrors, ClassRow, GuestErrors, GuestRow, TotalErrors, TotalRow};
 use crate::{Fleet, FleetLine};
-use census_text::Reclaimed;
 use fleet_census::{FleetClass, FleetTotal};
-use page_model::PAGE_BYTES;
-use std::alloc::{AllocError, Global};
+use std::alloc::{AllocError, Allocator};
 
-/// Returns the object, in one line without a line feed. Its members are in the order of `docs/FORMATS.md`.
-pub fn json_text(alloc: Global, fleet: &Fleet<'_>) -> Result<String, AllocError> {
-    let object = FleetObject {
-        page_bytes: PAGE_BYTES,
-        sample: if_sampled(fleet.sample, fleet.sample),
-        kept: if_sampled(fleet.sample, fleet.kept()),
-        guests: guest_objects(alloc, fleet.sample, fleet.guests)?,
-        total: total_object(fleet.sample, fleet.total),
-        copies: class_objects(alloc, fleet.sample, fleet.copies)?,
-    };
-    // Any numbers and text can be written, so only memory can have been refused.
-    serde_json::to_string(alloc, &object).map_err(|_refused| AllocError)
+impl<'a> Fleet<'a> {
+    /// Makes the report of a fleet.
+    pub fn report<A: Allocator + Clone>(&self, alloc: A) -> Result<Report<'a, A>, AllocError> {
+        let sample = self.sample;
+        Ok(Report {
+            source: Source::Digests,
+            sampling: self.sampling(),
+            guests: guest_rows(alloc.clone()?, sample, self.guests)?,
+            total: total_row(sample, &self.total),
+            copies: class_rows(alloc, sample, self.copies)?,
+        })
+    }
 }
 
-/// Returns a member that only samples of one in several contents have.
-fn if_sampled<T: Drop>(sample: u32, member: T) -> Option<T> {
-    if sample > 1 { Some(member) } else { None }
+/// Returns the standard errors of numbers that are estimates.
+fn if_sampled<T: Drop>(sample: u32, errors: T) -> Option<T> {
+    if sample > 1 { Some(errors) } else { None }
 }
 
-fn guest_objects<'a>(
-    alloc: Global,
+fn guest_rows<'a, A: Allocator>(
+    alloc: A,
     sample: u32,
     guests: &[FleetLine<'a>],
-) -> Result<Vec<GuestObject<'a>>, AllocError> {
-    let mut objects = Vec::new(alloc);
-    for guest in guests {
-        objects.push(guest_object(sample, guest))?;
-    }
-    Ok(objects)
+) -> Result<Vec<GuestRow<'a>, A>, AllocError> {
+    guests
+        .iter()
+        .map(|guest| guest_row(sample, guest))
+        .collect(alloc)
 }
 
-fn guest_object<'a>(sample: u32, guest: &FleetLine<'a>) -> GuestObject<'a> {
+fn guest_row<'a>(sample: u32, guest: &FleetLine<'a>) -> GuestRow<'a> {
     let numbers = guest.numbers;
-    let distinct = Told::of(numbers.distinct, sample);
-    let shared = Told::of(numbers.shared, sample);
-    let alone = Told::of(numbers.alone, sample);
+    let distinct = EstimatedSum::of(numbers.distinct, sample);
+    let shared = EstimatedSum::of(numbers.shared, sample);
+    let alone = EstimatedSum::of(numbers.alone, sample);
     let errors = GuestErrors {
         distinct: distinct.error,
         shared: shared.error,
         alone: alone.error,
     };
-    GuestObject {
-        guest: guest.name(),
+    GuestRow {
+        image: None,
+        guest: Some(guest.name()),
         salt: guest.salt(),
         pages: numbers.pages,
         zero: numbers.zero,
@@ -64,19 +60,19 @@ fn guest_object<'a>(sample: u32, guest: &FleetLine<'a>) -> GuestObject<'a> {
     }
 }
 
-fn total_object(sample: u32, total: FleetTotal) -> TotalObject {
-    let shared = Told::of(total.shared, sample);
-    let frames = Told::of(total.frames, sample);
-    let reclaimed = Told::of(total.reclaimed, sample);
-    let between = Told::of(total.between, sample);
+fn total_row(sample: u32, total: &FleetTotal) -> TotalRow {
+    let shared = EstimatedSum::of(total.shared, sample);
+    let frames = EstimatedSum::of(total.frames, sample);
+    let reclaimed = EstimatedSum::of(total.reclaimed, sample);
+    let between = EstimatedSum::of(total.between, sample);
     let errors = TotalErrors {
         shared: shared.error,
         frames: frames.error,
         reclaimed: reclaimed.error,
         between: between.error,
-        within: errors_of(&total, sample).within,
+        within: EstimatedSum::of(within_of(total), sample).error,
     };
-    TotalObject {
+    TotalRow {
         pages: total.pages,
         zero: total.zero,
         shared: shared.value,
@@ -84,39 +80,30 @@ fn total_object(sample: u32, total: FleetTotal) -> TotalObject {
         reclaimed: reclaimed.value,
         zero_reclaimed: total.zero_reclaimed,
         between: between.value,
-        parts: parts_object(&parts_of(&total, sample)),
+        parts: parts_of(total, sample),
         errors: if_sampled(sample, errors),
     }
 }
 
-fn parts_object(parts: &Reclaimed) -> PartsObject {
-    PartsObject {
-        zeros: parts.zeros,
-        between: parts.between,
-        within: parts.within,
-    }
-}
-
-fn class_objects(
-    alloc: Global,
+fn class_rows<A: Allocator>(
+    alloc: A,
     sample: u32,
     copies: &[FleetClass],
-) -> Result<Vec<ClassObject>, AllocError> {
-    let mut objects = Vec::new(alloc);
-    for class in copies {
-        objects.push(class_object(sample, class))?;
-    }
-    Ok(objects)
+) -> Result<Vec<ClassRow, A>, AllocError> {
+    copies
+        .iter()
+        .map(|class| class_row(sample, class))
+        .collect(alloc)
 }
 
-fn class_object(sample: u32, class: &FleetClass) -> ClassObject {
-    let contents = Told::of(class.contents, sample);
-    let pages = Told::of(class.pages, sample);
+fn class_row(sample: u32, class: &FleetClass) -> ClassRow {
+    let contents = EstimatedSum::of(class.contents, sample);
+    let pages = EstimatedSum::of(class.pages, sample);
     let errors = ClassErrors {
         contents: contents.error,
         pages: pages.error,
     };
-    ClassObject {
+    ClassRow {
         from: class.from,
         to: class.to,
         contents: contents.value,

@@ -1,5 +1,5 @@
 //! The picture's bars, one for each guest.
-use crate::amounts::Amount;
+use crate::amounts::WithUnit;
 use crate::picture::{BETWEEN, UNSHARED, WITHIN, ZERO};
 use crate::scale::Scale;
 use crate::{GuestLine, Parts, ShortName, XmlName, parts_of};
@@ -52,6 +52,6 @@ fn push_guest<A: Allocator>(
         from = from.saturating_add(u64::from(pages));
     }
     scale.push_behind(text, row, from)?;
-    let amount = Amount(guest.numbers.pages);
+    let amount = WithUnit(guest.numbers.pages);
     writeln!(text, "{amount}</text></g>")
 }

@@ -1,5 +1,5 @@
 //! The picture's legend.
-use crate::amounts::Amount;
+use crate::amounts::WithUnit;
 use crate::picture::{BETWEEN, UNSHARED, WITHIN, ZERO};
 use crate::{GuestLine, parts_of};
 use std::alloc::{AllocError, Allocator};
@@ -67,7 +67,7 @@ fn push_entry<A: Allocator>(
     pages: u32,
 ) -> Result<(), AllocError> {
     let base = top.saturating_add(11);
-    let amount = Amount(pages);
+    let amount = WithUnit(pages);
     write!(
         text,
         "<rect x=\"16\" y=\"{top}\" width=\"24\" height=\"14\" fill=\"{fill}\" stroke=\"#222\" stroke-width=\"0.6\"/>"

@@ -2,7 +2,7 @@
 ghost use Rattle.std.specs.Prelude.{◌≡◌, option_and_then, slice_get};
 
 use crate::Fleet;
-use crate::told::Told;
+use crate::estimated_sum::EstimatedSum;
 use fleet_census::{Amount, FleetPair};
 use itoa::Buffer;
 use std::alloc::{AllocError, Allocator, Global};
@@ -30,14 +30,14 @@ pub fn write_pairs<A: Allocator, W: Write>(
 }
 
 fn header_of(fleet: &Fleet<'_>) -> &'static str {
-    if fleet.is_sampled() {
+    if fleet.sample > 1 {
         "guest,guest,contents,contents_error,pages,pages_error\n"
     } else {
         "guest,guest,contents,pages\n"
     }
 }
 
-/// Returns the guests' names: empty where a digest has no line, which tells none.
+/// Returns the guests' names: empty where a digest has no line.
 fn names_of<'a>(alloc: Global, fleet: &Fleet<'a>) -> Result<Vec<&'a str>, AllocError> {
     let mut names = Vec::with_capacity(alloc, fleet.guests.len())?;
     for guest in fleet.guests {
@@ -81,21 +81,21 @@ fn push_pair<A: Allocator>(
     sample: u32,
     pair: FleetPair,
 ) -> Result<(), AllocError> {
-    push_told(lines, sample, pair.contents)?;
-    push_told(lines, sample, pair.pages)?;
+    push_sum(lines, sample, pair.contents)?;
+    push_sum(lines, sample, pair.pages)?;
     lines.push_str("\n")
 }
 
-/// Appends a number, and its standard error if it is an estimate.
-fn push_told<A: Allocator>(
+/// Appends a sum over contents, and its standard error if it is an estimate.
+fn push_sum<A: Allocator>(
     lines: &mut String<A>,
     sample: u32,
     amount: Amount,
 ) -> Result<(), AllocError> {
-    let told = Told::of(amount, sample);
-    push_number(lines, told.value)?;
+    let sum = EstimatedSum::of(amount, sample);
+    push_number(lines, sum.value)?;
     if sample > 1 {
-        push_number(lines, told.error)?;
+        push_number(lines, sum.error)?;
     }
     Ok(())
 }

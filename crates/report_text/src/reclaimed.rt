@@ -1,12 +1,13 @@
 //! What could be reclaimed, in parts that add up to it.
 ghost use Rattle.std.specs.Prelude.{◌≡◌, ◌+◌, ◌-◌, ◌<◌, ◌^◌, min, sum_by};
-ghost use Rattle.census_text.specs.Reclaimed.{parts_by, reclaimed_of, within_guest};
+ghost use Rattle.report_text.specs.Reclaimed.{parts_by, reclaimed_of, within_guest};
 
 use crate::GuestLine;
 use page_census::TotalNumbers;
+use serde::Serialize;
 
 /// The pages that could be reclaimed, in three parts, which add up to them.
-#[derive(Clone, Copy, Debug, PartialEq, Eq)]
+#[derive(Clone, Copy, Debug, PartialEq, Eq, Serialize)]
 pub struct Reclaimed {
     /// Pages of zeros.
     pub zeros: u64,

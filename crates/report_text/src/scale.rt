@@ -1,4 +1,5 @@
 //! A panel of the picture: rows, one below the other, and an axis of memory below them.
+use crate::amounts::push_tenths;
 use std::alloc::{AllocError, Allocator};
 
 /// The pixels from the top to the first row, from one row to the next, and the height of a bar.
@@ -22,15 +23,6 @@ pub(crate) struct Scale {
 /// Returns the pixels above the row with this number.
 pub(crate) fn top_of(row: usize) -> u64 {
     (row as u64).saturating_mul(ROW).saturating_add(FIRST_ROW)
-}
-
-/// Appends a number given in tenths, with one decimal.
-pub(crate) fn push_tenths<A: Allocator>(
-    text: &mut String<A>,
-    tenths: u64,
-) -> Result<(), AllocError> {
-    let (whole, tenth) = (tenths / 10, tenths % 10);
-    write!(text, "{whole}.{tenth}")
 }
 
 impl Scale {

@@ -1,7 +1,7 @@
 //! Parts of memory in units, rounded so that they add up.
 ghost use Rattle.std.specs.Prelude.{◌≡◌, ◌+◌, ◌*◌, ◌<◌, ◌≤◌, ◌%◌, ◌^◌};
-ghost use Rattle.census_text.specs.Amounts.{nearest};
-ghost use Rattle.census_text.specs.Shares.{IsNear, below, filled, lacking, more_by, remainder, shares_in, shares_of, whole_of};
+ghost use Rattle.report_text.specs.Amounts.{nearest};
+ghost use Rattle.report_text.specs.Shares.{IsNear, below, filled, lacking, more_by, remainder, shares_in, shares_of, whole_of};
 
 use crate::amounts::{PAGES_OF_A_MEBIBYTE, in_units_of};
 use crate::{Reclaimed, Unit};

@@ -1,6 +1,6 @@
 use Rattle.std.proofs.Common.{◌≡◌, ◌≤◌, length, map, min, take, vec_len}
 use Rattle.std.specs.Prelude.{vec_capacity}
-use Rattle.fleet_text.proofs.fleet.fleet_lines.Given as goal
+use Rattle.report_text.proofs.fleet.fleet_lines.Given as goal
 
 abbrev pub invariant-loop-n : goal.invariant-loop-n
 invariant-loop-n g l = record {

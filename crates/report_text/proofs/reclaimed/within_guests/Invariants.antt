@@ -1,7 +1,7 @@
 use Rattle.std.proofs.Common.{◌≡◌, ◌-◌, ◌^◌, min, take}
 use Rattle.std.specs.Prelude.{sum_by}
-use Rattle.census_text.specs.Reclaimed.{within_guest}
-use Rattle.census_text.proofs.reclaimed.within_guests.Given as goal
+use Rattle.report_text.specs.Reclaimed.{within_guest}
+use Rattle.report_text.proofs.reclaimed.within_guests.Given as goal
 
 abbrev pub invariant-loop-guest : goal.invariant-loop-guest
 invariant-loop-guest l = record {
