@@ -1,10 +1,10 @@
 //! Why there is no digest.
-use census_text::PlainName;
 use command_terms::{DigestSource, ImageCause};
 use digest_text::WriteFault;
 use image_files::FileCause;
 use live_memory::LiveFault;
 use page_digests::DigestFault;
+use report_text::PlainName;
 use std::fmt::{self, Display, Formatter};
 use std::io;
 

@@ -3,12 +3,12 @@ use crate::counted::Counted;
 use crate::faults::EstimateFault;
 use crate::images::{Images, check_images, open_images};
 use crate::live::count_live;
-use census_text::{Estimate, Unit, guest_lines, json_text, picture_text, table_text};
 use command_terms::{CommandEnd, EstimateWords, ImageCause};
 use image_files::{FileCause, Reading, workers_of};
 use page_census::{CensusFault, census};
 use page_digest::FoldHash;
 use progress_line::line_where;
+use report_text::{Estimate, Unit, guest_lines, json_text, picture_text, table_text};
 use std::alloc::{AllocError, Global};
 use std::fs::{self, File, Files};
 use std::io::{self, Eprint, Write};
@@ -164,12 +164,13 @@ fn output_text(
     words: &EstimateWords<'_>,
     estimate: &Estimate<'_>,
 ) -> Result<String, AllocError> {
+    let report = estimate.report(alloc)?;
     if words.json {
-        let mut text = json_text(alloc, estimate)?;
+        let mut text = json_text(alloc, &report)?;
         text.push_str("\n")?;
         Ok(text)
     } else {
-        table_text(alloc, estimate, unit_of(words.in_pages))
+        table_text(alloc, &report, unit_of(words.in_pages))
     }
 }
 

@@ -1,9 +1,9 @@
 //! Why there is no estimate.
-use census_text::PlainName;
 use command_terms::{EstimateWords, ImageCause};
 use image_files::FileCause;
 use live_memory::LiveFault;
 use page_digests::DigestFault;
+use report_text::PlainName;
 use std::alloc::{AllocError, AllocFailed};
 use std::fmt::{self, Display, Formatter};
 use std::io;

@@ -2,13 +2,12 @@
 use crate::faults::{Cause, Fault};
 use crate::opened::{Digest, OpenedFiles, fault_of_rest, open_files, read_headers};
 use crate::reading::Reading;
-use census_text::Unit;
 use command_terms::{CommandEnd, FleetWords};
 use digest_text::{DigestHead, DigestReader};
 use fleet_census::{FleetFault, FleetNumbers, Pairs, merge};
-use fleet_text::{Fleet, fleet_lines, json_text, table_text, write_pairs};
 use image_files::FileCause;
 use progress_line::line_where;
+use report_text::{Fleet, Unit, fleet_lines, json_text, table_text, write_pairs};
 use std::alloc::{AllocError, Global};
 use std::fs::{self, File, Files};
 use std::io::{self, Eprint, Write};
@@ -129,12 +128,13 @@ fn tell<'a, R: Files<File = File>, T: Eprint + Clock, W: Write + Drop>(
 }
 
 fn text_of(alloc: Global, words: &FleetWords<'_>, fleet: &Fleet<'_>) -> Result<String, AllocError> {
+    let report = fleet.report(alloc)?;
     if words.json {
-        let mut text = json_text(alloc, fleet)?;
+        let mut text = json_text(alloc, &report)?;
         text.push_str("\n")?;
         Ok(text)
     } else {
-        table_text(alloc, fleet, unit_of(words.in_pages))
+        table_text(alloc, &report, unit_of(words.in_pages))
     }
 }
 

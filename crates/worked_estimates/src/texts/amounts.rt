@@ -1,5 +1,5 @@
 //! Amounts of memory, checked against a calculator.
-use census_text::{in_units, per_mille, scale_for};
+use report_text::{in_units, per_mille, scale_for};
 
 #[test]
 fn pages_in_mebibytes(rt: HostRuntime) {

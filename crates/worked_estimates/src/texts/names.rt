@@ -1,5 +1,5 @@
 //! Names of images as they are shown.
-use census_text::{PlainName, ShortName, XmlName};
+use report_text::{PlainName, ShortName, XmlName};
 use std::alloc::{AllocError, Global};
 use std::fmt::Display;
 use std::test::Fail;

@@ -1,6 +1,6 @@
 //! The parts of bars, found by hand.
-use census_text::{GuestLine, Parts, parts_of};
 use page_census::GuestNumbers;
+use report_text::{GuestLine, Parts, parts_of};
 use std::process::Abort;
 
 fn line(salt: u32, numbers: [u32; 6]) -> GuestLine<'static> {

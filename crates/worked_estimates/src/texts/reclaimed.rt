@@ -1,6 +1,6 @@
 //! What could be reclaimed, in parts found by hand.
-use census_text::{GuestLine, Reclaimed};
 use page_census::{GuestNumbers, TotalNumbers};
+use report_text::{GuestLine, Reclaimed};
 
 fn line(salt: u32, pages: u32, zero: u32, distinct: u32) -> GuestLine<'static> {
     GuestLine {

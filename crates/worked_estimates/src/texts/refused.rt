@@ -1,14 +1,14 @@
 //! Memory that is refused.
 use crate::texts::numbers::{COPIES, GUESTS, TOTAL};
-use census_text::{Estimate, Unit, guest_lines, picture_text, table_text};
 use refusing::Refusing;
+use report_text::{Estimate, Unit, guest_lines, picture_text, table_text};
 use std::alloc::{AllocError, Allocator};
 use std::test::Fail;
 
 // More requests than the texts make.
 const MOST_REQUESTS: u64 = 200;
 
-/// Makes the lines of two guests and both texts, and returns how many bytes the texts have.
+/// Makes the lines of two guests, their report and both texts, and returns how many bytes the texts have.
 fn texts<A: Allocator + Clone>(alloc: &A) -> Result<usize, AllocError> {
     let guests = guest_lines(alloc, &["a", "b"], &[0, 7], &GUESTS)?;
     let estimate = Estimate {
@@ -16,7 +16,8 @@ fn texts<A: Allocator + Clone>(alloc: &A) -> Result<usize, AllocError> {
         total: TOTAL,
         copies: &COPIES,
     };
-    let table = table_text(alloc, &estimate, Unit::Mebibytes)?;
+    let report = estimate.report(alloc)?;
+    let table = table_text(alloc, &report, Unit::Mebibytes)?;
     let picture = picture_text(alloc, &estimate)?;
     Ok(table.len().saturating_add(picture.len()))
 }

@@ -1,5 +1,5 @@
 //! Shares in tenths of a MiB or whole MiB, computed by fractions and sorting in Python.
-use census_text::{Reclaimed, Shares, Unit, shares_in, shares_of};
+use report_text::{Reclaimed, Shares, Unit, shares_in, shares_of};
 
 #[test]
 fn tenths_add_up(rt: HostRuntime) {

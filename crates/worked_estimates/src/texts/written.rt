@@ -1,7 +1,7 @@
 //! The table, the object and the picture. The expected values come from a few lines of Python.
 use crate::texts::numbers::{COPIES, GUESTS, NOTHING, TOTAL};
-use census_text::{Estimate, GuestLine, Unit, guest_lines, json_text, picture_text, table_text};
 use page_census::GuestNumbers;
+use report_text::{Estimate, GuestLine, Unit, guest_lines, json_text, picture_text, table_text};
 use std::alloc::{AllocError, Global};
 use std::process::Abort;
 use std::test::Fail;
@@ -66,14 +66,15 @@ fn table_of_two_guests(rt: HostRuntime) -> Result<(), Fail> {
         total: TOTAL,
         copies: &COPIES,
     };
+    let report = estimate.report(alloc)?;
     has_lines(
         &rt,
-        table_text(alloc, &estimate, Unit::Mebibytes)?.as_str(),
+        table_text(alloc, &report, Unit::Mebibytes)?.as_str(),
         &TABLE,
     );
     has_lines(
         &rt,
-        table_text(alloc, &estimate, Unit::Pages)?.as_str(),
+        table_text(alloc, &report, Unit::Pages)?.as_str(),
         &TABLE_OF_PAGES,
     );
     Ok(())
@@ -97,7 +98,8 @@ fn object_of_two_guests(rt: HostRuntime) -> Result<(), Fail> {
         total: TOTAL,
         copies: &COPIES,
     };
-    assert_eq!(rt; json_text(alloc, &estimate)?.as_str(), OBJECT);
+    let report = estimate.report(alloc)?;
+    assert_eq!(rt; json_text(alloc, &report)?.as_str(), OBJECT);
     Ok(())
 }
 
@@ -130,8 +132,9 @@ fn no_page(rt: HostRuntime) -> Result<(), Fail> {
         total: NOTHING,
         copies: &[],
     };
-    assert_eq!(rt; json_text(alloc, &estimate)?.as_str(), EMPTY);
-    let table = table_text(alloc, &estimate, Unit::Mebibytes)?;
+    let report = estimate.report(alloc)?;
+    assert_eq!(rt; json_text(alloc, &report)?.as_str(), EMPTY);
+    let table = table_text(alloc, &report, Unit::Mebibytes)?;
     let sentence =
         "\n0.0 of 0.0 MiB could be reclaimed (0.0 %): 0.0 zeros, 0.0 between guests, 0.0 within guests\n";
     assert!(rt; table.as_str().contains(sentence));

@@ -1,4 +1,0 @@
-pub mod Amounts
-pub mod Parts
-pub mod Reclaimed
-pub mod Shares

@@ -1,0 +1,12 @@
+use Rattle.std.proofs.Common.{◌≡◌, ◌≤◌, length, map, min, take, vec_len}
+use Rattle.std.specs.Prelude.{vec_capacity}
+use Rattle.report_text.proofs.fleet.fleet_lines.Given as goal
+
+abbrev pub invariant-loop-n : goal.invariant-loop-n
+invariant-loop-n g l = record {
+  fits : l.count ≤ vec_capacity l.lines;
+  few : l.count ≡ min (length l.heads) (length l.numbers);
+  len : vec_len l.lines ≡ l.n;
+  heads : map (λ line. line.head) l.lines.items ≡ take l.n l.heads;
+  numbers : map (λ line. line.numbers) l.lines.items ≡ take l.n l.numbers;
+}
