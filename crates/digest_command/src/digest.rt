@@ -1,12 +1,11 @@
 //! The command `digest`.
 use crate::faults::{Cause, Fault};
-use command_terms::{CommandEnd, DigestSource, DigestWords};
+use command_terms::{CommandEnd, DigestSource, DigestWords, line_where};
 use digest_text::write_digests;
 use image_files::{Reading, check_unchanged, open_image, workers_of};
 use live_memory::open_process;
 use page_census::PageSource;
 use page_digests::{GuestDigests, Sampling, digest_pages};
-use progress_line::line_where;
 use std::alloc::Global;
 use std::fs::{File, Files};
 use std::io::{self, Eprint, Write};

@@ -1,6 +1,6 @@
 //! How much of the digests was read.
+use command_terms::{DrawnLine, LineContent, ReadSoFar};
 use page_model::PAGE_BYTES;
-use progress_line::{DrawnLine, ReadSoFar, Told};
 use std::fs::File;
 use std::io::{self, Eprint, Read};
 use std::sync::atomic::{AtomicU64, Ordering};
@@ -40,15 +40,15 @@ impl<'a, R: Eprint + Clock> Reading<'a, R> {
     }
 }
 
-impl<R> Told for Reading<'_, R> {
+impl<R> LineContent for Reading<'_, R> {
     ghost use Rattle.std.specs.Prelude.{◌≡◌};
 
     type Shown = ReadSoFar;
 
-    ghost tells = { λ _ elapsed shown. shown.elapsed ≡ elapsed };
+    ghost shows = { λ _ elapsed shown. shown.elapsed ≡ elapsed };
 
     /// Tells the bytes in pages of 4,096, rounded up.
-    fn told(&self, elapsed: u64) -> ReadSoFar {
+    fn shown_after(&self, elapsed: u64) -> ReadSoFar {
         let done = self.done.load(Ordering::SeqCst);
         ReadSoFar {
             done: done.div_ceil(PAGE_BYTES as u64),

@@ -1,6 +1,6 @@
 //! How much of the images was read.
+use command_terms::{DrawnLine, LineContent, ReadSoFar};
 use page_census::Progress;
-use progress_line::{DrawnLine, ReadSoFar, Told};
 use std::sync::atomic::{AtomicU64, Ordering};
 use std::time::Clock;
 
@@ -30,14 +30,14 @@ impl<'a, R: Eprint + Clock> Reading<'a, R> {
     }
 }
 
-impl<R> Told for Reading<'_, R> {
+impl<R> LineContent for Reading<'_, R> {
     ghost use Rattle.std.specs.Prelude.{◌≡◌};
 
     type Shown = ReadSoFar;
 
-    ghost tells = { λ reading elapsed shown. (shown.total ≡ reading.total) × (shown.elapsed ≡ elapsed) };
+    ghost shows = { λ reading elapsed shown. (shown.total ≡ reading.total) × (shown.elapsed ≡ elapsed) };
 
-    fn told(&self, elapsed: u64) -> ReadSoFar {
+    fn shown_after(&self, elapsed: u64) -> ReadSoFar {
         ReadSoFar {
             done: self.done.load(Ordering::SeqCst),
             total: self.total,

@@ -1,7 +1,7 @@
 //! How far a run is.
+use command_terms::{DrawnLine, LineContent, RunSoFar};
 use merge_run::Gate;
 use page_model::Report;
-use progress_line::{DrawnLine, RunSoFar, Told};
 use share_text::Viewer;
 use std::sync::atomic::{AtomicBool, AtomicU32, AtomicU64, Ordering};
 use std::time::Clock;
@@ -54,14 +54,14 @@ impl<'a, R: Eprint + Clock> Running<'a, R> {
     }
 }
 
-impl<R> Told for Running<'_, R> {
+impl<R> LineContent for Running<'_, R> {
     ghost use Rattle.std.specs.Prelude.{◌≤◌};
 
     type Shown = RunSoFar;
 
-    ghost tells = { λ _ elapsed shown. shown.elapsed ≤ elapsed };
+    ghost shows = { λ _ elapsed shown. shown.elapsed ≤ elapsed };
 
-    fn told(&self, elapsed: u64) -> RunSoFar {
+    fn shown_after(&self, elapsed: u64) -> RunSoFar {
         RunSoFar {
             requests: self.requests.load(Ordering::SeqCst),
             entries: self.entries.load(Ordering::SeqCst),

@@ -3,10 +3,9 @@ ghost use Rattle.std.specs.Prelude.{◌≡◌, false};
 
 use crate::faults::{Ending, tell};
 use crate::running::Running;
-use command_terms::{CommandEnd, Task, Work, first_failure};
+use command_terms::{CommandEnd, DrawnLine, Task, Work, first_failure, line_where};
 use merge_run::OpenGate;
 use page_digest::PageHash;
-use progress_line::{DrawnLine, line_where};
 use share_text::{
     Noted, Output, Sink, Source, TextFault, ThreadedFault, replay, serial, threaded,
     threaded_viewed,

@@ -1,5 +1,5 @@
 //! The lines that show how far the work is.
-use progress_line::{ReadSoFar, RunSoFar};
+use command_terms::{ReadSoFar, RunSoFar};
 use std::test::Fail;
 
 #[test]
