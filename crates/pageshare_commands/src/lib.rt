@@ -6,8 +6,10 @@
 #![tactic(auto)]
 
 mod build;
-mod faults;
-mod running;
+mod digest;
+mod estimate;
+mod fleet;
+mod images;
 mod texts;
 
 pub use build::Build;
@@ -15,9 +17,9 @@ use clap::Error;
 use clap::error::ErrorKind;
 use command_terms::{Asked, CommandEnd};
 use command_words::asked_of;
-use digest_command::do_digest;
-use estimate_command::do_estimate;
-use fleet_command::do_fleet;
+use digest::do_digest;
+use estimate::do_estimate;
+use fleet::do_fleet;
 use page_digest::PageHash;
 use std::alloc::Global;
 use std::fs::{File, Files};

@@ -1,8 +1,11 @@
 //! The commands on a journal or a script.
+mod faults;
+mod running;
+
 ghost use Rattle.std.specs.Prelude.{◌≡◌, false};
 
-use crate::faults::{Ending, tell};
-use crate::running::Running;
+use crate::texts::faults::{Ending, tell};
+use crate::texts::running::Running;
 use command_terms::{CommandEnd, DrawnLine, Task, Work, first_failure, line_where};
 use merge_run::OpenGate;
 use page_digest::PageHash;

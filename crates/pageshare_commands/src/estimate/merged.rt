@@ -1,5 +1,5 @@
 //! The numbers of guests whose digests were merged, as those of a census.
-use crate::counted::Counted;
+use crate::estimate::counted::Counted;
 use fleet_census::{Amount, FleetClass, FleetGuest, FleetNumbers, FleetTotal};
 use page_census::{CopiesClass, GuestNumbers, TotalNumbers};
 use std::alloc::{AllocError, Global};

@@ -1,7 +1,7 @@
 //! Why there is no estimate.
+use crate::images::FileCause;
 use census_text::PlainName;
 use command_terms::{EstimateWords, ImageCause};
-use image_files::FileCause;
 use live_memory::LiveFault;
 use page_digests::DigestFault;
 use std::alloc::{AllocError, AllocFailed};

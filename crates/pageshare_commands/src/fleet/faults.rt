@@ -1,9 +1,9 @@
 //! Why digests can't be merged.
+use crate::images::FileCause;
 use census_text::PlainName;
 use command_terms::{FleetWords, ImageCause};
 use digest_text::{LineFault, ReadFault};
 use fleet_census::FleetFault;
-use image_files::FileCause;
 use std::alloc::{AllocError, AllocFailed};
 use std::fmt::{self, Display, Formatter};
 use std::io;

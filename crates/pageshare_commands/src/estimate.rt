@@ -1,11 +1,18 @@
-//! The command `estimate`.
-use crate::counted::Counted;
-use crate::faults::EstimateFault;
-use crate::images::{Images, check_images, open_images};
-use crate::live::count_live;
+//! The command `estimate`: it shows what sharing equal pages of guests would reclaim, from images of their memory or while they
+//! run.
+mod counted;
+mod faults;
+mod images;
+mod live;
+mod merged;
+
+use crate::estimate::counted::Counted;
+use crate::estimate::faults::EstimateFault;
+use crate::estimate::images::{Images, check_images, open_images};
+use crate::estimate::live::count_live;
+use crate::images::{FileCause, Reading, workers_of};
 use census_text::{Estimate, Unit, guest_lines, json_text, picture_text, table_text};
 use command_terms::{CommandEnd, EstimateWords, ImageCause, line_where};
-use image_files::{FileCause, Reading, workers_of};
 use page_census::{CensusFault, census};
 use page_digest::FoldHash;
 use std::alloc::{AllocError, Global};

@@ -1,5 +1,5 @@
 //! Files that are opened as images.
-use crate::FileCause;
+use crate::images::FileCause;
 use command_terms::ImageCause;
 use memory_images::{FileBytes, Image};
 use std::alloc::Global;

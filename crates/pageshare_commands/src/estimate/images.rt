@@ -1,7 +1,7 @@
 //! The images of an estimate.
-use crate::faults::EstimateFault;
+use crate::estimate::faults::EstimateFault;
+use crate::images::{FileCause, FileImage, FileMark, check_unchanged, open_image};
 use command_terms::{EstimateWords, ImageCause};
-use image_files::{FileCause, FileImage, FileMark, check_unchanged, open_image};
 use page_census::{Guest, PageSource};
 use std::alloc::Global;
 use std::fs::{File, Files};

@@ -1,13 +1,17 @@
-//! The command `fleet`.
-use crate::faults::{Cause, Fault};
-use crate::opened::{Digest, OpenedFiles, fault_of_rest, open_files, read_headers};
-use crate::reading::Reading;
+//! The command `fleet`: it merges digests of guests' memory, and shows what sharing would reclaim of all of them.
+mod faults;
+mod opened;
+mod reading;
+
+use crate::fleet::faults::{Cause, Fault};
+use crate::fleet::opened::{Digest, OpenedFiles, fault_of_rest, open_files, read_headers};
+use crate::fleet::reading::Reading;
+use crate::images::FileCause;
 use census_text::Unit;
 use command_terms::{CommandEnd, FleetWords, line_where};
 use digest_text::{DigestHead, DigestReader};
 use fleet_census::{FleetFault, FleetNumbers, Pairs, merge};
 use fleet_text::{Fleet, fleet_lines, json_text, table_text, write_pairs};
-use image_files::FileCause;
 use std::alloc::{AllocError, Global};
 use std::fs::{self, File, Files};
 use std::io::{self, Eprint, Write};

@@ -1,6 +1,6 @@
 //! The digests that are merged.
-use crate::faults::{Cause, Fault};
-use crate::reading::{CountedFile, Reading};
+use crate::fleet::faults::{Cause, Fault};
+use crate::fleet::reading::{CountedFile, Reading};
 use command_terms::FleetWords;
 use digest_text::{DigestReader, ReadFault};
 use fleet_census::{FleetFault, MAX_DIGESTS};

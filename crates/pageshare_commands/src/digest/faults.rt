@@ -1,8 +1,8 @@
 //! Why there is no digest.
+use crate::images::FileCause;
 use census_text::PlainName;
 use command_terms::{DigestSource, ImageCause};
 use digest_text::WriteFault;
-use image_files::FileCause;
 use live_memory::LiveFault;
 use page_digests::DigestFault;
 use std::fmt::{self, Display, Formatter};

@@ -1,12 +1,12 @@
 //! An estimate of guests of which some run: each page is read once, and digested.
-use crate::counted::Counted;
-use crate::faults::{Cause, EstimateFault};
-use crate::images::{Images, check_images, open_images};
-use crate::merged::counted;
+use crate::estimate::counted::Counted;
+use crate::estimate::faults::{Cause, EstimateFault};
+use crate::estimate::images::{Images, check_images, open_images};
+use crate::estimate::merged::counted;
+use crate::images::{Reading, workers_of};
 use command_terms::{EstimateWords, ImageCause, line_where};
 use digest_text::{DigestReader, GuestName, write_digests};
 use fleet_census::{Pairs, merge};
-use image_files::{Reading, workers_of};
 use live_memory::{LiveImage, open_process};
 use page_census::PageSource;
 use page_digests::{DigestLine, Sample, Sampling, digest_pages};

@@ -1,8 +1,10 @@
-//! The command `digest`.
-use crate::faults::{Cause, Fault};
+//! The command `digest`: it writes the digest of a guest's memory, from an image or a process.
+mod faults;
+
+use crate::digest::faults::{Cause, Fault};
+use crate::images::{Reading, check_unchanged, open_image, workers_of};
 use command_terms::{CommandEnd, DigestSource, DigestWords, line_where};
 use digest_text::write_digests;
-use image_files::{Reading, check_unchanged, open_image, workers_of};
 use live_memory::open_process;
 use page_census::PageSource;
 use page_digests::{GuestDigests, Sampling, digest_pages};

@@ -1,6 +1,4 @@
-//! The files of memory images: how a command opens them, notices that one was changed, and tells how much of them was read.
-#![tactic(auto)]
-
+//! The files of memory images: how a command opens them, notices that one was changed, and shows how much of them was read.
 mod cause;
 mod files;
 mod reading;
