@@ -1,8 +1,8 @@
 //! The command `digest`: it writes the digest of a guest's memory, from an image or a process.
-mod faults;
-
-use crate::digest::faults::{Cause, Fault};
-use crate::images::{Reading, check_unchanged, open_image, workers_of};
+use crate::command_fault::{Cause, CommandFault, Subject, report_fault};
+use crate::images::{check_unchanged, open_image};
+use crate::reading::Reading;
+use crate::workers::workers_of;
 use command_terms::{CommandEnd, DigestSource, DigestWords, line_where};
 use digest_text::write_digests;
 use live_memory::open_process;
@@ -23,12 +23,7 @@ pub fn do_digest<R: Threads + Sync + Files<File = File> + Eprint + Clock, W: Wri
     output: W,
     is_terminal: bool,
 ) -> io::Result<CommandEnd> {
-    let done = digest(rt, alloc, words, output, is_terminal);
-    let end = CommandEnd::of(&done);
-    if let Err(fault) = done {
-        eprintln!(rt; "{fault}")?;
-    }
-    Ok(end)
+    report_fault(rt, digest(rt, alloc, words, output, is_terminal))
 }
 
 fn digest<'a, R: Threads + Sync + Files<File = File> + Eprint + Clock, W: Write + Drop>(
@@ -37,13 +32,25 @@ fn digest<'a, R: Threads + Sync + Files<File = File> + Eprint + Clock, W: Write 
     words: &DigestWords<'a>,
     mut output: W,
     is_terminal: bool,
-) -> Result<(), Fault<'a>> {
+) -> Result<(), CommandFault<'a>> {
     let digests = match words.source {
         DigestSource::Image(path) => of_image(rt, alloc, words, path, is_terminal),
         DigestSource::Process(pid) => of_process(rt, alloc, words, pid, is_terminal),
     }
-    .map_err(|cause| Fault::Source(words.source, cause))?;
-    write_digests(alloc, &words.guest, &digests, &mut output)?;
+    .map_err(|cause| CommandFault::of(Subject::from(words.source), cause))?;
+    write_digest(alloc, words, &digests, &mut output).map_err(|cause| CommandFault::of(
+        Subject::Output,
+        cause,
+    ))
+}
+
+fn write_digest(
+    alloc: Global,
+    words: &DigestWords<'_>,
+    digests: &GuestDigests<Global>,
+    output: &mut impl Write,
+) -> Result<(), Cause> {
+    write_digests(alloc, &words.guest, digests, output)?;
     output.flush()?;
     Ok(())
 }
@@ -81,10 +88,10 @@ fn digests_of<R: Threads + Sync + Eprint + Clock, S: PageSource<Fault = io::Erro
     is_terminal: bool,
 ) -> Result<GuestDigests<Global>, Cause> {
     let line = line_where(rt, words.progress, is_terminal);
-    let reading = Reading::new(line, u64::from(source.count()));
+    let reading = Reading::of_pages(line, u64::from(source.count()));
     let workers = workers_of(rt, words.workers);
     let sampling = Sampling::new(words.salt, words.sample);
-    let told = digest_pages(rt, alloc, workers, sampling, source, &reading);
+    let digests = digest_pages(rt, alloc, workers, sampling, source, &reading);
     reading.end();
-    Ok(told?)
+    Ok(digests?)
 }

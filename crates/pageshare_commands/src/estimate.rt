@@ -1,17 +1,18 @@
 //! The command `estimate`: it shows what sharing equal pages of guests would reclaim, from images of their memory or while they
 //! run.
 mod counted;
-mod faults;
 mod images;
 mod live;
 mod merged;
 
+use crate::command_fault::{Cause, CommandFault, Subject, report_fault};
 use crate::estimate::counted::Counted;
-use crate::estimate::faults::EstimateFault;
 use crate::estimate::images::{Images, check_images, open_images};
 use crate::estimate::live::count_live;
-use crate::images::{FileCause, Reading, workers_of};
-use census_text::{Estimate, Unit, guest_lines, json_text, picture_text, table_text};
+use crate::output::{output_text, write_all};
+use crate::reading::Reading;
+use crate::workers::workers_of;
+use census_text::{Estimate, guest_lines, picture_text};
 use command_terms::{CommandEnd, EstimateWords, ImageCause, line_where};
 use page_census::{CensusFault, census};
 use page_digest::FoldHash;
@@ -31,12 +32,7 @@ pub fn do_estimate<R: Threads + Sync + Files<File = File> + Eprint + Clock, W: W
     output: W,
     is_terminal: bool,
 ) -> io::Result<CommandEnd> {
-    let done = estimate(rt, alloc, words, output, is_terminal);
-    let end = CommandEnd::of(&done);
-    if let Err(fault) = done {
-        eprintln!(rt; "{fault}")?;
-    }
-    Ok(end)
+    report_fault(rt, estimate(rt, alloc, words, output, is_terminal))
 }
 
 fn estimate<'a, R: Threads + Sync + Files<File = File> + Eprint + Clock, W: Write + Drop>(
@@ -45,23 +41,20 @@ fn estimate<'a, R: Threads + Sync + Files<File = File> + Eprint + Clock, W: Writ
     words: &EstimateWords<'a>,
     mut output: W,
     is_terminal: bool,
-) -> Result<(), EstimateFault<'a>> {
+) -> Result<(), CommandFault<'a>> {
     let counted = if words.processes.is_empty() {
         count_images(rt, alloc, words, is_terminal)?
     } else {
         count_live(rt, alloc, words, is_terminal)?
     };
-    let texts = texts_of(alloc, words, &counted).map_err(|_refused| EstimateFault::of_all(
+    let texts = texts_of(alloc, words, &counted).map_err(|refused| CommandFault::of_estimate(
         words,
-        ImageCause::OutOfMemory,
+        Cause::from(refused),
     ))?;
     if let (Some(path), Some(picture)) = (words.svg, &texts.picture) {
-        write_file(rt, path, picture).map_err(|cause| EstimateFault::of(path, cause))?;
+        write_file(rt, path, picture).map_err(|cause| CommandFault::of_file(path, cause))?;
     }
-    write_all(&mut output, &texts.output).map_err(|cause| EstimateFault::of(
-        "standard output",
-        cause,
-    ))
+    write_all(&mut output, &texts.output).map_err(|cause| CommandFault::of(Subject::Output, cause))
 }
 
 /// Counts the pages of the images, whose bytes are compared.
@@ -70,7 +63,7 @@ fn count_images<'a, R: Threads + Sync + Files<File = File> + Eprint + Clock>(
     alloc: Global,
     words: &EstimateWords<'a>,
     is_terminal: bool,
-) -> Result<Counted, EstimateFault<'a>> {
+) -> Result<Counted, CommandFault<'a>> {
     let images = open_images(rt, alloc, words)?;
     let counted = count(rt, alloc, words, &images, is_terminal)?;
     check_images(rt, words, &images)?;
@@ -84,22 +77,22 @@ fn count<'a, R: Threads + Sync + Eprint + Clock>(
     words: &EstimateWords<'a>,
     images: &Images,
     is_terminal: bool,
-) -> Result<Counted, EstimateFault<'a>> {
+) -> Result<Counted, CommandFault<'a>> {
     let line = line_where(rt, words.progress, is_terminal);
-    let reading = Reading::new(line, images.pages);
+    let reading = Reading::of_pages(line, images.pages);
     let workers = workers_of(rt, words.workers);
-    let told = census(rt, alloc, workers, &FoldHash, &images.guests, &reading);
+    let counted = census(rt, alloc, workers, &FoldHash, &images.guests, &reading);
     reading.end();
-    match told {
+    match counted {
         Ok(numbers) => Ok(Counted::from(numbers)),
         Err(CensusFault::OutOfMemory) => {
-            Err(EstimateFault::of_all(words, ImageCause::OutOfMemory))
+            Err(CommandFault::of_estimate(words, Cause::from(AllocError)))
         }
         Err(CensusFault::TooManyPages) => {
-            Err(EstimateFault::of_all(words, ImageCause::TooManyPages))
+            Err(CommandFault::of_estimate(words, Cause::Image(ImageCause::TooManyPages)))
         }
         Err(CensusFault::Read(guest, error)) => {
-            Err(EstimateFault::of(words.image_of(guest), FileCause::from(error)))
+            Err(CommandFault::of_guest(words, guest, Cause::from(error)))
         }
     }
 }
@@ -130,7 +123,7 @@ fn texts_of(
         None => None,
     };
     Ok(Texts {
-        output: output_text(alloc, words, &estimate)?,
+        output: output_text(alloc, words.json, words.in_pages, &estimate)?,
         picture,
     })
 }
@@ -165,36 +158,7 @@ fn guest_names<'a>(
     Ok(names)
 }
 
-fn output_text(
-    alloc: Global,
-    words: &EstimateWords<'_>,
-    estimate: &Estimate<'_>,
-) -> Result<String, AllocError> {
-    if words.json {
-        let mut text = json_text(alloc, estimate)?;
-        text.push_str("\n")?;
-        Ok(text)
-    } else {
-        table_text(alloc, estimate, unit_of(words.in_pages))
-    }
-}
-
-/// Returns what the table's numbers are.
-fn unit_of(in_pages: bool) -> Unit {
-    if in_pages {
-        Unit::Pages
-    } else {
-        Unit::Mebibytes
-    }
-}
-
-fn write_file<R: Files>(rt: &R, path: &str, text: &str) -> Result<(), FileCause> {
+fn write_file<R: Files>(rt: &R, path: &str, text: &str) -> Result<(), Cause> {
     let mut file = fs::create(rt, path)?;
     write_all(&mut file, text)
-}
-
-fn write_all(output: &mut impl Write, text: &str) -> Result<(), FileCause> {
-    output.write_all(text.as_bytes())?;
-    output.flush()?;
-    Ok(())
 }

@@ -1,17 +1,15 @@
 //! The command `fleet`: it merges digests of guests' memory, and shows what sharing would reclaim of all of them.
-mod faults;
+mod counted_file;
 mod opened;
-mod reading;
 
-use crate::fleet::faults::{Cause, Fault};
+use crate::command_fault::{Cause, CommandFault, Subject, report_fault};
 use crate::fleet::opened::{Digest, OpenedFiles, fault_of_rest, open_files, read_headers};
-use crate::fleet::reading::Reading;
-use crate::images::FileCause;
-use census_text::Unit;
+use crate::output::{output_text, write_all};
+use crate::reading::Reading;
 use command_terms::{CommandEnd, FleetWords, line_where};
 use digest_text::{DigestHead, DigestReader};
 use fleet_census::{FleetFault, FleetNumbers, Pairs, merge};
-use fleet_text::{Fleet, fleet_lines, json_text, table_text, write_pairs};
+use fleet_text::{Fleet, fleet_lines, write_pairs};
 use std::alloc::{AllocError, Global};
 use std::fs::{self, File, Files};
 use std::io::{self, Eprint, Write};
@@ -26,12 +24,7 @@ pub fn do_fleet<R: Files<File = File> + Eprint + Clock, W: Write + Drop>(
     output: W,
     is_terminal: bool,
 ) -> io::Result<CommandEnd> {
-    let done = fleet(rt, alloc, words, output, is_terminal);
-    let end = CommandEnd::of(&done);
-    if let Err(fault) = done {
-        eprintln!(rt; "{fault}")?;
-    }
-    Ok(end)
+    report_fault(rt, fleet(rt, alloc, words, output, is_terminal))
 }
 
 fn fleet<'a, R: Files<File = File> + Eprint + Clock, W: Write + Drop>(
@@ -40,43 +33,43 @@ fn fleet<'a, R: Files<File = File> + Eprint + Clock, W: Write + Drop>(
     words: &FleetWords<'a>,
     output: W,
     is_terminal: bool,
-) -> Result<(), Fault<'a>> {
+) -> Result<(), CommandFault<'a>> {
     let opened = open_files(rt, alloc, words)?;
     let line = line_where(rt, words.progress, is_terminal);
-    let reading = Reading::new(line, opened.bytes);
+    let reading = Reading::of_bytes(line, opened.bytes);
     let read = read_all(alloc, words, opened, &reading);
     reading.end();
     let (digests, numbers) = read?;
-    tell(rt, alloc, words, &digests, &numbers, output)
+    write_numbers(rt, alloc, words, &digests, &numbers, output)
 }
 
-/// Reads the digests, and counts what they tell together.
+/// Reads the digests, and counts what is in them together.
 fn read_all<'a, 'r, R: Eprint + Clock>(
     alloc: Global,
     words: &FleetWords<'a>,
     opened: OpenedFiles,
     reading: &'r Reading<'r, R>,
-) -> Result<(Vec<Digest<'r, R>>, FleetNumbers<Global>), Fault<'a>> {
+) -> Result<(Vec<Digest<'r, R>>, FleetNumbers<Global>), CommandFault<'a>> {
     let mut digests = read_headers(alloc, words, opened, reading)?;
     let numbers = numbers_of(alloc, words, &mut digests)?;
     Ok((digests, numbers))
 }
 
-/// Counts what the digests tell together.
+/// Counts what is in the digests together.
 fn numbers_of<'a, R: Eprint + Clock>(
     alloc: Global,
     words: &FleetWords<'a>,
     digests: &mut [Digest<'_, R>],
-) -> Result<FleetNumbers<Global>, Fault<'a>> {
+) -> Result<FleetNumbers<Global>, CommandFault<'a>> {
     if digests.is_empty() {
-        return Err(Fault::of_all(words, Cause::NoDigest));
+        return Err(CommandFault::of_fleet(words, Cause::NoDigest));
     }
     match merge(alloc, digests, pairs_for(words)) {
         Ok(numbers) => Ok(numbers),
         Err(FleetFault::TooManyPages) => Err(too_many(words, digests)),
         Err(fault) => match fault.file() {
-            Some(file) => Err(Fault::of(words.digest_of(file), Cause::from(fault))),
-            None => Err(Fault::of_all(words, Cause::from(fault))),
+            Some(file) => Err(CommandFault::of_file(words.digest_of(file), Cause::from(fault))),
+            None => Err(CommandFault::of_fleet(words, Cause::from(fault))),
         },
     }
 }
@@ -89,30 +82,30 @@ fn pairs_for(words: &FleetWords<'_>) -> Pairs {
     }
 }
 
-/// Returns the fault of a digest whose lines tell of more copies than its guest has pages, if there is one: its end is read only now.
+/// Returns the fault of a digest whose lines list more copies than its guest has pages, if there is one: its end is read only now.
 /// Otherwise the pages are too many.
 fn too_many<'a, R: Eprint + Clock>(
     words: &FleetWords<'a>,
     digests: &mut [Digest<'_, R>],
-) -> Fault<'a> {
+) -> CommandFault<'a> {
     for (n, digest) in digests.iter_mut().enumerate() {
         if let Some(fault) = fault_of_rest(digest) {
-            return Fault::of(words.digest_of(n), Cause::from(fault));
+            return CommandFault::of_file(words.digest_of(n), Cause::from(fault));
         }
     }
-    Fault::of_all(words, Cause::Fleet(FleetFault::TooManyPages))
+    CommandFault::of_fleet(words, Cause::Fleet(FleetFault::TooManyPages))
 }
 
 /// Writes the pairs of guests, and then the table or the JSON object, of which all is made before.
-fn tell<'a, R: Files<File = File>, T: Eprint + Clock, W: Write + Drop>(
+fn write_numbers<'a, R: Files<File = File>, T: Eprint + Clock, W: Write + Drop>(
     rt: &R,
     alloc: Global,
     words: &FleetWords<'a>,
     digests: &[Digest<'_, T>],
     numbers: &FleetNumbers<Global>,
     mut output: W,
-) -> Result<(), Fault<'a>> {
-    let out_of_memory = |refused| Fault::of_all(words, Cause::from(refused));
+) -> Result<(), CommandFault<'a>> {
+    let out_of_memory = |refused| CommandFault::of_fleet(words, Cause::from(refused));
     let heads = heads_of(alloc, digests).map_err(out_of_memory)?;
     let guests = fleet_lines(alloc, &heads, &numbers.guests).map_err(out_of_memory)?;
     let fleet = Fleet {
@@ -121,33 +114,13 @@ fn tell<'a, R: Files<File = File>, T: Eprint + Clock, W: Write + Drop>(
         total: numbers.total,
         copies: &numbers.copies,
     };
-    let text = text_of(alloc, words, &fleet).map_err(out_of_memory)?;
+    let text = output_text(alloc, words.json, words.in_pages, &fleet).map_err(out_of_memory)?;
     if let Some(path) = words.pairs {
-        write_file(rt, alloc, path, &fleet, numbers).map_err(|cause| Fault::of(
-            path,
-            Cause::File(cause),
+        write_file(rt, alloc, path, &fleet, numbers).map_err(|cause| CommandFault::of_file(
+            path, cause,
         ))?;
     }
-    write_all(&mut output, &text).map_err(|cause| Fault::of("standard output", Cause::File(cause)))
-}
-
-fn text_of(alloc: Global, words: &FleetWords<'_>, fleet: &Fleet<'_>) -> Result<String, AllocError> {
-    if words.json {
-        let mut text = json_text(alloc, fleet)?;
-        text.push_str("\n")?;
-        Ok(text)
-    } else {
-        table_text(alloc, fleet, unit_of(words.in_pages))
-    }
-}
-
-/// Returns what the table's numbers are.
-fn unit_of(in_pages: bool) -> Unit {
-    if in_pages {
-        Unit::Pages
-    } else {
-        Unit::Mebibytes
-    }
+    write_all(&mut output, &text).map_err(|cause| CommandFault::of(Subject::Output, cause))
 }
 
 /// Returns what each digest says of its guest.
@@ -165,15 +138,9 @@ fn write_file<R: Files<File = File>>(
     path: &str,
     fleet: &Fleet<'_>,
     numbers: &FleetNumbers<Global>,
-) -> Result<(), FileCause> {
+) -> Result<(), Cause> {
     let mut file = fs::create(rt, path)?;
     write_pairs(alloc, fleet, &numbers.pairs, &mut file)?;
     file.flush()?;
-    Ok(())
-}
-
-fn write_all(output: &mut impl Write, text: &str) -> Result<(), FileCause> {
-    output.write_all(text.as_bytes())?;
-    output.flush()?;
     Ok(())
 }

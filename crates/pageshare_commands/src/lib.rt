@@ -6,11 +6,15 @@
 #![tactic(auto)]
 
 mod build;
+mod command_fault;
 mod digest;
 mod estimate;
 mod fleet;
 mod images;
+mod output;
+mod reading;
 mod texts;
+mod workers;
 
 pub use build::Build;
 use clap::Error;
@@ -28,7 +32,7 @@ use std::process::ExitCode;
 use std::sync::Wait;
 use std::thread::Threads;
 use std::time::Clock;
-use texts::{do_text, tell_memory};
+use texts::{do_text, report_memory};
 
 /// Does what the words of a command line ask for, and returns the program's status. The first word is the program's
 /// name.
@@ -54,7 +58,7 @@ pub fn do_command<
         Ok(Asked::Estimate(words)) => do_estimate(rt, alloc, &words, output, is_terminal)?,
         Ok(Asked::Digest(words)) => do_digest(rt, alloc, &words, output, is_terminal)?,
         Ok(Asked::Fleet(words)) => do_fleet(rt, alloc, &words, output, is_terminal)?,
-        Err(error) if error.kind() == ErrorKind::OutOfMemory => tell_memory(rt, is_terminal)?,
+        Err(error) if error.kind() == ErrorKind::OutOfMemory => report_memory(rt, is_terminal)?,
         Err(error) => explain(rt, &error)?,
     };
     Ok(end.exit_code())

@@ -1,10 +1,10 @@
 //! The commands on a journal or a script.
-mod faults;
+mod ending;
 mod running;
 
 ghost use Rattle.std.specs.Prelude.{◌≡◌, false};
 
-use crate::texts::faults::{Ending, tell};
+use crate::texts::ending::{Ending, report_ending};
 use crate::texts::running::Running;
 use command_terms::{CommandEnd, DrawnLine, Task, Work, first_failure, line_where};
 use merge_run::OpenGate;
@@ -47,17 +47,17 @@ pub fn do_text<
             },
         },
     };
-    tell(rt, is_terminal, &ending)
+    report_ending(rt, is_terminal, &ending)
 }
 
-/// Tells that memory was refused before any work.
-pub fn tell_memory(rt: &impl Eprint, is_terminal: bool) -> io::Result<CommandEnd> {
+/// Reports that memory was refused before any work.
+pub fn report_memory(rt: &impl Eprint, is_terminal: bool) -> io::Result<CommandEnd> {
     let ending = Ending {
         is_of_script: false,
         done: Err(ThreadedFault::Text(TextFault::OutOfMemory)),
         failure: None,
     };
-    tell(rt, is_terminal, &ending)
+    report_ending(rt, is_terminal, &ending)
 }
 
 /// Does the work on a reader's text; the task's input names the reader if it fails.

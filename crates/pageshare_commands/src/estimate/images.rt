@@ -1,6 +1,6 @@
 //! The images of an estimate.
-use crate::estimate::faults::EstimateFault;
-use crate::images::{FileCause, FileImage, FileMark, check_unchanged, open_image};
+use crate::command_fault::{Cause, CommandFault};
+use crate::images::{FileImage, FileMark, check_unchanged, open_image};
 use command_terms::{EstimateWords, ImageCause};
 use page_census::{Guest, PageSource};
 use std::alloc::Global;
@@ -20,7 +20,7 @@ pub fn open_images<'a, R: Files<File = File>>(
     rt: &R,
     alloc: Global,
     words: &EstimateWords<'a>,
-) -> Result<Images, EstimateFault<'a>> {
+) -> Result<Images, CommandFault<'a>> {
     let mut images = Images {
         guests: Vec::new(alloc),
         marks: Vec::new(alloc),
@@ -28,7 +28,7 @@ pub fn open_images<'a, R: Files<File = File>>(
     };
     for (n, path) in words.images.iter().enumerate() {
         open_next(rt, alloc, path, words.salt_of(n), words.raw, &mut images).map_err(
-            |cause| EstimateFault::of(path, cause),
+            |cause| CommandFault::of_file(path, cause),
         )?;
     }
     Ok(images)
@@ -42,11 +42,11 @@ fn open_next<R: Files<File = File>>(
     salt: u32,
     is_raw: bool,
     images: &mut Images,
-) -> Result<(), FileCause> {
+) -> Result<(), Cause> {
     let (source, mark) = open_image(rt, alloc, path, is_raw)?;
     images.pages = images.pages.saturating_add(u64::from(source.count()));
     if images.pages > u64::from(u32::MAX) {
-        return Err(FileCause::Image(ImageCause::TooManyPages));
+        return Err(Cause::Image(ImageCause::TooManyPages));
     }
     images.guests.push(Guest { salt, source })?;
     images.marks.push(mark)?;
@@ -58,9 +58,9 @@ pub fn check_images<'a, R: Files>(
     rt: &R,
     words: &EstimateWords<'a>,
     images: &Images,
-) -> Result<(), EstimateFault<'a>> {
+) -> Result<(), CommandFault<'a>> {
     for (path, mark) in words.images.iter().zip(&images.marks) {
-        check_unchanged(rt, path, mark).map_err(|cause| EstimateFault::of(path, cause))?;
+        check_unchanged(rt, path, mark).map_err(|cause| CommandFault::of_file(path, cause))?;
     }
     Ok(())
 }

@@ -1,9 +1,10 @@
 //! An estimate of guests of which some run: each page is read once, and digested.
+use crate::command_fault::{Cause, CommandFault};
 use crate::estimate::counted::Counted;
-use crate::estimate::faults::{Cause, EstimateFault};
 use crate::estimate::images::{Images, check_images, open_images};
 use crate::estimate::merged::counted;
-use crate::images::{Reading, workers_of};
+use crate::reading::Reading;
+use crate::workers::workers_of;
 use command_terms::{EstimateWords, ImageCause, line_where};
 use digest_text::{DigestReader, GuestName, write_digests};
 use fleet_census::{Pairs, merge};
@@ -34,18 +35,18 @@ pub fn count_live<'a, R: Threads + Sync + Files<File = File> + Eprint + Clock>(
     alloc: Global,
     words: &EstimateWords<'a>,
     is_terminal: bool,
-) -> Result<Counted, EstimateFault<'a>> {
+) -> Result<Counted, CommandFault<'a>> {
     let images = open_images(rt, alloc, words)?;
     let memories = open_processes(rt, alloc, words, &images)?;
     let line = line_where(rt, words.progress, is_terminal);
-    let reading = Reading::new(line, pages_of(&images, &memories));
+    let reading = Reading::of_pages(line, pages_of(&images, &memories));
     let digests = digest_all(rt, alloc, words, &images, &memories, &reading);
     reading.end();
     let digests = digests?;
     check_images(rt, words, &images)?;
-    merge_all(alloc, &digests).map_err(|_refused| EstimateFault::of_all(
+    merge_all(alloc, &digests).map_err(|refused| CommandFault::of_estimate(
         words,
-        ImageCause::OutOfMemory,
+        Cause::from(refused),
     ))
 }
 
@@ -64,15 +65,15 @@ fn open_processes<'a, R: Files<File = File>>(
     alloc: Global,
     words: &EstimateWords<'a>,
     images: &Images,
-) -> Result<Vec<LiveImage>, EstimateFault<'a>> {
+) -> Result<Vec<LiveImage>, CommandFault<'a>> {
     let mut memories = Vec::new(alloc);
     for (n, pid) in words.processes.iter().enumerate() {
         let guest = images.guests.len().saturating_add(n);
-        open_next(rt, alloc, *pid, &mut memories).map_err(|cause| EstimateFault::of_guest(
+        open_next(rt, alloc, *pid, &mut memories).map_err(|cause| CommandFault::of_guest(
             words, guest, cause,
         ))?;
         if pages_of(images, &memories) > u64::from(u32::MAX) {
-            return Err(EstimateFault::of_all(words, ImageCause::TooManyPages));
+            return Err(CommandFault::of_estimate(words, Cause::Image(ImageCause::TooManyPages)));
         }
     }
     Ok(memories)
@@ -98,7 +99,7 @@ fn digest_all<'a, R: Threads + Sync + Eprint + Clock>(
     images: &Images,
     memories: &[LiveImage],
     reading: &Reading<'_, R>,
-) -> Result<Digests, EstimateFault<'a>> {
+) -> Result<Digests, CommandFault<'a>> {
     let mut digests = Digests {
         texts: Vec::new(alloc),
         within: Vec::new(alloc),
@@ -118,7 +119,7 @@ fn digest_processes<'a, R: Threads + Sync + Eprint + Clock>(
     memories: &[LiveImage],
     reading: &Reading<'_, R>,
     digests: &mut Digests,
-) -> Result<(), EstimateFault<'a>> {
+) -> Result<(), CommandFault<'a>> {
     for (n, memory) in memories.iter().enumerate() {
         let guest = words.images.len().saturating_add(n);
         digest_next(rt, alloc, words, guest, memory, reading, digests)?;
@@ -135,9 +136,9 @@ fn digest_next<'a, R: Threads + Sync + Eprint + Clock, S: PageSource<Fault = io:
     source: &S,
     reading: &Reading<'_, R>,
     digests: &mut Digests,
-) -> Result<(), EstimateFault<'a>> {
+) -> Result<(), CommandFault<'a>> {
     push_digest(rt, alloc, words, guest, source, reading, digests).map_err(
-        |cause| EstimateFault::of_guest(words, guest, cause),
+        |cause| CommandFault::of_guest(words, guest, cause),
     )
 }
 
@@ -156,13 +157,13 @@ fn push_digest<R: Threads + Sync + Eprint + Clock, S: PageSource<Fault = io::Err
     };
     let sampling = Sampling::new(words.salt_of(guest), every);
     let workers = workers_of(rt, words.workers);
-    let told = digest_pages(rt, alloc, workers, sampling, source, reading)?;
+    let listed = digest_pages(rt, alloc, workers, sampling, source, reading)?;
     let mut text = Vec::new(alloc);
-    if write_digests(alloc, &name, &told, &mut text).is_err() {
+    if write_digests(alloc, &name, &listed, &mut text).is_err() {
         return Err(Cause::from(AllocError));
     }
     digests.texts.push(text)?;
-    digests.within.push(within_of(&told.lines))?;
+    digests.within.push(within_of(&listed.lines))?;
     Ok(())
 }
 
@@ -177,7 +178,7 @@ fn within_of(lines: &[DigestLine]) -> u64 {
     pages
 }
 
-/// Counts what the digests tell together. They are in memory, and in the form that they are read in, so only memory can be refused.
+/// Merges the digests, and counts. They are in memory, and in the form that they are read in, so only memory can be refused.
 fn merge_all(alloc: Global, digests: &Digests) -> Result<Counted, AllocError> {
     let mut readers = Vec::new(alloc);
     for text in &digests.texts {

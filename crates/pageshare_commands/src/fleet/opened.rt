@@ -1,6 +1,7 @@
 //! The digests that are merged.
-use crate::fleet::faults::{Cause, Fault};
-use crate::fleet::reading::{CountedFile, Reading};
+use crate::command_fault::{Cause, CommandFault};
+use crate::fleet::counted_file::CountedFile;
+use crate::reading::Reading;
 use command_terms::FleetWords;
 use digest_text::{DigestReader, ReadFault};
 use fleet_census::{FleetFault, MAX_DIGESTS};
@@ -25,17 +26,17 @@ pub fn open_files<'a, R: Files<File = File>>(
     rt: &R,
     alloc: Global,
     words: &FleetWords<'a>,
-) -> Result<OpenedFiles, Fault<'a>> {
+) -> Result<OpenedFiles, CommandFault<'a>> {
     if words.digests.len() > MAX_DIGESTS {
         let cause = Cause::Fleet(FleetFault::TooManyDigests);
-        return Err(Fault::of_all(words, cause));
+        return Err(CommandFault::of_fleet(words, cause));
     }
     let mut opened = OpenedFiles {
         files: Vec::new(alloc),
         bytes: 0,
     };
     for path in &words.digests {
-        open_next(rt, path, &mut opened).map_err(|cause| Fault::of(path, cause))?;
+        open_next(rt, path, &mut opened).map_err(|cause| CommandFault::of_file(path, cause))?;
     }
     Ok(opened)
 }
@@ -58,10 +59,10 @@ pub fn read_headers<'a, 'r, R: Eprint + Clock>(
     words: &FleetWords<'a>,
     opened: OpenedFiles,
     reading: &'r Reading<'r, R>,
-) -> Result<Vec<Digest<'r, R>>, Fault<'a>> {
+) -> Result<Vec<Digest<'r, R>>, CommandFault<'a>> {
     let mut digests = Vec::new(alloc);
     for (n, file) in opened.files.into_iter().enumerate() {
-        read_header(alloc, file, reading, &mut digests).map_err(|cause| Fault::of(
+        read_header(alloc, file, reading, &mut digests).map_err(|cause| CommandFault::of_file(
             words.digest_of(n),
             cause,
         ))?;

@@ -1,4 +1,4 @@
-//! What is told of a fault on standard error.
+//! What is printed of a fault of a journal or a script on standard error.
 use command_terms::{CommandEnd, ScriptFault, error_line, script_fault};
 use share_text::ThreadedFault;
 use std::io;
@@ -12,9 +12,13 @@ pub struct Ending<'a> {
     pub failure: Option<(&'a str, io::Error)>,
 }
 
-/// Tells of a fault, and returns how the command ended. A fault that the output can't report goes to standard error, and
+/// Reports a fault, and returns how the command ended. A fault that the output can't report goes to standard error, and
 /// if standard error is a terminal, one more line explains any fault to the person who is there.
-pub fn tell(rt: &impl Eprint, is_terminal: bool, ending: &Ending<'_>) -> io::Result<CommandEnd> {
+pub fn report_ending(
+    rt: &impl Eprint,
+    is_terminal: bool,
+    ending: &Ending<'_>,
+) -> io::Result<CommandEnd> {
     if let Err(fault) = &ending.done {
         if let Some(line) = line_of(fault) {
             eprintln!(rt; "{line}")?;
