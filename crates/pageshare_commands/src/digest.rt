@@ -1,9 +1,9 @@
 //! The command `digest`: it writes the digest of a guest's memory, from an image or a process.
-use crate::command_fault::{Cause, CommandFault, Subject, report_fault};
+use crate::command_fault::{Cause, CommandFault, Subject};
 use crate::images::{check_unchanged, open_image};
 use crate::reading::Reading;
 use crate::workers::workers_of;
-use command_terms::{CommandEnd, DigestSource, DigestWords, line_where};
+use command_terms::{DigestSource, DigestWords, line_where};
 use digest_text::write_digests;
 use live_memory::open_process;
 use page_census::PageSource;
@@ -14,19 +14,9 @@ use std::io::{self, Eprint, Write};
 use std::thread::Threads;
 use std::time::Clock;
 
-/// Digests the image or the process, and writes the digest. Returns how that ended: a fault is reported in a line on standard
-/// error, and then nothing was written to the output unless that is what failed.
-pub fn do_digest<R: Threads + Sync + Files<File = File> + Eprint + Clock, W: Write + Drop>(
-    rt: &R,
-    alloc: Global,
-    words: &DigestWords<'_>,
-    output: W,
-    is_terminal: bool,
-) -> io::Result<CommandEnd> {
-    report_fault(rt, digest(rt, alloc, words, output, is_terminal))
-}
-
-fn digest<'a, R: Threads + Sync + Files<File = File> + Eprint + Clock, W: Write + Drop>(
+/// Digests the image or the process, and writes the digest. At a fault nothing was written to the output unless that is what
+/// failed.
+pub fn do_digest<'a, R: Threads + Sync + Files<File = File> + Eprint + Clock, W: Write + Drop>(
     rt: &R,
     alloc: Global,
     words: &DigestWords<'a>,

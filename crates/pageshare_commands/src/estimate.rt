@@ -5,7 +5,7 @@ mod images;
 mod live;
 mod merged;
 
-use crate::command_fault::{Cause, CommandFault, Subject, report_fault};
+use crate::command_fault::{Cause, CommandFault, Subject};
 use crate::estimate::counted::Counted;
 use crate::estimate::images::{Images, check_images, open_images};
 use crate::estimate::live::count_live;
@@ -13,29 +13,18 @@ use crate::output::{output_text, write_all};
 use crate::reading::Reading;
 use crate::workers::workers_of;
 use census_text::{Estimate, guest_lines, picture_text};
-use command_terms::{CommandEnd, EstimateWords, ImageCause, line_where};
+use command_terms::{EstimateWords, ImageCause, line_where};
 use page_census::{CensusFault, census};
 use page_digest::FoldHash;
 use std::alloc::{AllocError, Global};
 use std::fs::{self, File, Files};
-use std::io::{self, Eprint, Write};
+use std::io::{Eprint, Write};
 use std::thread::Threads;
 use std::time::Clock;
 
-/// Counts the pages of the images and the processes, writes the picture, and then the table or the JSON object. Returns how that ended: a
-/// fault is reported in a line on standard error, and then nothing was written to the output unless that is what
-/// failed.
-pub fn do_estimate<R: Threads + Sync + Files<File = File> + Eprint + Clock, W: Write + Drop>(
-    rt: &R,
-    alloc: Global,
-    words: &EstimateWords<'_>,
-    output: W,
-    is_terminal: bool,
-) -> io::Result<CommandEnd> {
-    report_fault(rt, estimate(rt, alloc, words, output, is_terminal))
-}
-
-fn estimate<'a, R: Threads + Sync + Files<File = File> + Eprint + Clock, W: Write + Drop>(
+/// Counts the pages of the images and the processes, writes the picture, and then the table or the JSON object. At a fault
+/// nothing was written to the output unless that is what failed.
+pub fn do_estimate<'a, R: Threads + Sync + Files<File = File> + Eprint + Clock, W: Write + Drop>(
     rt: &R,
     alloc: Global,
     words: &EstimateWords<'a>,

@@ -2,32 +2,22 @@
 mod counted_file;
 mod opened;
 
-use crate::command_fault::{Cause, CommandFault, Subject, report_fault};
+use crate::command_fault::{Cause, CommandFault, Subject};
 use crate::fleet::opened::{Digest, OpenedFiles, fault_of_rest, open_files, read_headers};
 use crate::output::{output_text, write_all};
 use crate::reading::Reading;
-use command_terms::{CommandEnd, FleetWords, line_where};
+use command_terms::{FleetWords, line_where};
 use digest_text::{DigestHead, DigestReader};
 use fleet_census::{FleetFault, FleetNumbers, Pairs, merge};
 use fleet_text::{Fleet, fleet_lines, write_pairs};
 use std::alloc::{AllocError, Global};
 use std::fs::{self, File, Files};
-use std::io::{self, Eprint, Write};
+use std::io::{Eprint, Write};
 use std::time::Clock;
 
-/// Merges the digests, writes the pairs of guests, and then the table or the JSON object. Returns how that ended: a fault is reported
-/// in a line on standard error, and then nothing was written to the output unless that is what failed.
-pub fn do_fleet<R: Files<File = File> + Eprint + Clock, W: Write + Drop>(
-    rt: &R,
-    alloc: Global,
-    words: &FleetWords<'_>,
-    output: W,
-    is_terminal: bool,
-) -> io::Result<CommandEnd> {
-    report_fault(rt, fleet(rt, alloc, words, output, is_terminal))
-}
-
-fn fleet<'a, R: Files<File = File> + Eprint + Clock, W: Write + Drop>(
+/// Merges the digests, writes the pairs of guests, and then the table or the JSON object. At a fault nothing was written to
+/// the output unless that is what failed.
+pub fn do_fleet<'a, R: Files<File = File> + Eprint + Clock, W: Write + Drop>(
     rt: &R,
     alloc: Global,
     words: &FleetWords<'a>,

@@ -19,6 +19,7 @@ mod workers;
 pub use build::Build;
 use clap::Error;
 use clap::error::ErrorKind;
+use command_fault::report_fault;
 use command_terms::{Asked, CommandEnd};
 use command_words::asked_of;
 use digest::do_digest;
@@ -55,9 +56,15 @@ pub fn do_command<
 ) -> io::Result<ExitCode> {
     let end = match asked_of(alloc, words, build.version) {
         Ok(Asked::Text(task)) => do_text(rt, alloc, &task, input, output, is_terminal, build.hash)?,
-        Ok(Asked::Estimate(words)) => do_estimate(rt, alloc, &words, output, is_terminal)?,
-        Ok(Asked::Digest(words)) => do_digest(rt, alloc, &words, output, is_terminal)?,
-        Ok(Asked::Fleet(words)) => do_fleet(rt, alloc, &words, output, is_terminal)?,
+        Ok(Asked::Estimate(words)) => {
+            report_fault(rt, do_estimate(rt, alloc, &words, output, is_terminal))?
+        }
+        Ok(Asked::Digest(words)) => {
+            report_fault(rt, do_digest(rt, alloc, &words, output, is_terminal))?
+        }
+        Ok(Asked::Fleet(words)) => {
+            report_fault(rt, do_fleet(rt, alloc, &words, output, is_terminal))?
+        }
         Err(error) if error.kind() == ErrorKind::OutOfMemory => report_memory(rt, is_terminal)?,
         Err(error) => explain(rt, &error)?,
     };
