@@ -1,4 +1,4 @@
--- What an estimate is made by, and what it tells of a fault.
+-- What an estimate is made by, and what it prints of a fault.
 use Rattle.std.specs.Prelude.{ℕ, ◌-◌, List, Option, None, nat_lt, if◌then◌else◌, slice_get, codes, option_map, unwrap_or}
 use Rattle.std.specs.Borrow.{Bor}
 use Rattle.command_terms.specs.declared.image_causes.ImageCause.{ImageCause}

@@ -1,4 +1,4 @@
--- What a merge of digests tells of a fault.
+-- What a merge of digests prints of a fault.
 use Rattle.std.specs.Prelude.{ℕ, List, slice_get, codes, option_map, unwrap_or}
 use Rattle.std.specs.Borrow.{Bor}
 

@@ -1,3 +1,4 @@
+pub mod Amounts
 pub mod Asked
 pub mod Digests
 pub mod Ends
@@ -5,3 +6,5 @@ pub mod Estimates
 pub mod Failures
 pub mod Fleets
 pub mod Scripts
+pub mod Shown
+pub mod When

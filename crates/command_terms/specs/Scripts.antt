@@ -1,4 +1,4 @@
--- What a person is told of a fault of a script.
+-- What is printed of a fault of a script, for a person.
 use Rattle.std.specs.Prelude.{ℕ, ◌==◌, if◌then◌else◌, List, ◌++◌, codes, decimal, Option, Some, None}
 use Rattle.text_words.specs.declared.fault.Cause.{Cause}
 use Rattle.text_words.specs.declared.fault.Cause.TheVariants as causes
@@ -33,7 +33,7 @@ shown_text (shown.Line n form) = line_text n form.now
 shown_text (shown.CutOff n form) = cut_off_text n form.now
 shown_text (shown.Count form) = count_text form.now
 
--- what is told of line n, if it is at fault for this cause; `None` if it is what is told of a journal
+-- what is printed of line n, if it is at fault for this cause; `None` if it is what is printed of a journal
 abbrev pub line_fault_text : ℕ → Cause → Option (List ℕ)
 line_fault_text n causes.Header = Some (line_text n (line_form n))
 line_fault_text n causes.Form = Some (line_text n (line_form n))
@@ -49,7 +49,7 @@ line_fault_text n causes.AfterClose = None
 line_fault_text n causes.TooMany = None
 line_fault_text n causes.Salts = None
 
--- what is told of a fault
+-- what is printed of a fault
 abbrev pub script_fault_text : TextFault → Option (List ℕ)
 script_fault_text (faults.Line n cause) = line_fault_text n cause
 script_fault_text (faults.Truncated n) = Some (cut_off_text n (line_form n))

@@ -5,7 +5,7 @@ ghost use Rattle.command_terms.specs.Asked.{is_of_script, input_name};
 use crate::digests::DigestWords;
 use crate::estimates::EstimateWords;
 use crate::fleets::FleetWords;
-use progress_line::Drawn;
+use crate::progress::Drawn;
 
 /// What is to be done with a text.
 #[derive(Clone, Copy, Debug, PartialEq, Eq)]
@@ -14,7 +14,7 @@ pub enum Work {
     Replay,
     /// Serve the script on one thread.
     Serial,
-    /// Run the script, and write its journal or its verdicts and report; the line that tells how far it is may be drawn.
+    /// Run the script, and write its journal or its verdicts and report; the line that shows how far it is may be drawn.
     Run { is_journal: bool, progress: Drawn },
 }
 
@@ -55,10 +55,10 @@ impl<'a> Task<'a> {
 pub enum Asked<'a> {
     /// To do something with a text.
     Text(Task<'a>),
-    /// To tell what sharing would reclaim.
+    /// To show what sharing would reclaim.
     Estimate(EstimateWords<'a>),
     /// To write a guest's digest.
     Digest(DigestWords<'a>),
-    /// To tell what digests tell together.
+    /// To merge digests, and show what sharing would reclaim of their guests.
     Fleet(FleetWords<'a>),
 }

@@ -2,9 +2,9 @@
 ghost use Rattle.std.specs.Prelude.{◌≡◌};
 ghost use Rattle.command_terms.specs.Digests.{IsFileName};
 
+use crate::progress::Drawn;
 use digest_text::GuestName;
 use page_digests::Sample;
-use progress_line::Drawn;
 
 /// What is digested.
 #[derive(Clone, Copy, Debug, PartialEq, Eq)]
@@ -22,7 +22,7 @@ pub struct DigestWords<'a> {
     pub guest: GuestName,
     pub salt: u32,
     pub sample: Sample,
-    /// How many threads read, where that is told.
+    /// How many threads read, if the words say so.
     pub workers: Option<u32>,
     /// Whether the image is raw, whatever it begins with.
     pub raw: bool,

@@ -2,7 +2,7 @@
 ghost use Rattle.std.specs.Prelude.{◌≡◌, ◌+◌, ◌-◌, ◌^◌, min, max, unwrap_or, slice_get, vec_len};
 ghost use Rattle.command_terms.specs.Estimates.{image_named, process_numbered};
 
-use progress_line::Drawn;
+use crate::progress::Drawn;
 
 /// The most threads that read.
 pub const MOST_WORKERS: u32 = 64;
@@ -16,7 +16,7 @@ pub struct EstimateWords<'a> {
     pub processes: Vec<u32>,
     /// A salt for each guest; none where all are 0.
     pub salts: Vec<u32>,
-    /// How many threads read, where that is told.
+    /// How many threads read, if the words say so.
     pub workers: Option<u32>,
     /// Whether each image is raw, whatever it begins with.
     pub raw: bool,

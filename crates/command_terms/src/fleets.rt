@@ -2,7 +2,7 @@
 ghost use Rattle.std.specs.Prelude.{◌≡◌, ◌-◌, vec_len};
 ghost use Rattle.command_terms.specs.Fleets.{digest_named};
 
-use progress_line::Drawn;
+use crate::progress::Drawn;
 
 /// Which digests are merged, and how their numbers are shown.
 #[derive(Debug, Drop, PartialEq, Eq)]

@@ -1,5 +1,5 @@
-//! What was expected where a script is at fault, in words for a person. The faults that aren't told here are the same in a
-//! journal, and `TextFault` shows what was expected.
+//! What was expected where a script is at fault, in words for a person. The other faults are the same in a journal, and
+//! `TextFault` shows what was expected.
 ghost use Rattle.std.specs.Prelude.{◌≡◌, Some, option_map};
 ghost use Rattle.command_terms.specs.Scripts.{line_form, shown_text, line_fault_text, script_fault_text};
 
@@ -57,7 +57,7 @@ fn line_form(n: u32) -> &'static str
     }
 }
 
-/// Returns what is told of line `n`, if it is at fault for this cause.
+/// Returns what is printed of line `n`, if it is at fault for this cause; `None` if it is what is printed of a journal.
 fn line_fault(n: u32, cause: Cause) -> Option<ScriptFault>
     ensures { option_map shown_text result ≡ line_fault_text n cause }
 {
@@ -78,7 +78,7 @@ fn line_fault(n: u32, cause: Cause) -> Option<ScriptFault>
     }
 }
 
-/// Returns what is told of a fault of a script; `None` if it is what is told of a journal.
+/// Returns what is printed of a fault of a script; `None` if it is what is printed of a journal.
 pub fn script_fault(fault: &TextFault) -> Option<ScriptFault>
     ensures { option_map shown_text result ≡ script_fault_text fault.now }
 {

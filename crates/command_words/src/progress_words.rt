@@ -2,7 +2,7 @@
 use crate::help::PROGRESS;
 use crate::parts::{choice, option};
 use clap::{Arg, ArgMatches};
-use progress_line::Drawn;
+use command_terms::Drawn;
 use std::alloc::Global;
 
 /// When the progress is drawn: the words that `Drawn::of_word` knows.

@@ -6,18 +6,25 @@
 #![tactic(auto)]
 
 mod build;
-mod faults;
-mod running;
+mod command_fault;
+mod digest;
+mod estimate;
+mod fleet;
+mod images;
+mod output;
+mod reading;
 mod texts;
+mod workers;
 
 pub use build::Build;
 use clap::Error;
 use clap::error::ErrorKind;
+use command_fault::report_fault;
 use command_terms::{Asked, CommandEnd};
 use command_words::asked_of;
-use digest_command::do_digest;
-use estimate_command::do_estimate;
-use fleet_command::do_fleet;
+use digest::do_digest;
+use estimate::do_estimate;
+use fleet::do_fleet;
 use page_digest::PageHash;
 use std::alloc::Global;
 use std::fs::{File, Files};
@@ -26,7 +33,7 @@ use std::process::ExitCode;
 use std::sync::Wait;
 use std::thread::Threads;
 use std::time::Clock;
-use texts::{do_text, tell_memory};
+use texts::{do_text, report_memory};
 
 /// Does what the words of a command line ask for, and returns the program's status. The first word is the program's
 /// name.
@@ -49,10 +56,16 @@ pub fn do_command<
 ) -> io::Result<ExitCode> {
     let end = match asked_of(alloc, words, build.version) {
         Ok(Asked::Text(task)) => do_text(rt, alloc, &task, input, output, is_terminal, build.hash)?,
-        Ok(Asked::Estimate(words)) => do_estimate(rt, alloc, &words, output, is_terminal)?,
-        Ok(Asked::Digest(words)) => do_digest(rt, alloc, &words, output, is_terminal)?,
-        Ok(Asked::Fleet(words)) => do_fleet(rt, alloc, &words, output, is_terminal)?,
-        Err(error) if error.kind() == ErrorKind::OutOfMemory => tell_memory(rt, is_terminal)?,
+        Ok(Asked::Estimate(words)) => {
+            report_fault(rt, do_estimate(rt, alloc, &words, output, is_terminal))?
+        }
+        Ok(Asked::Digest(words)) => {
+            report_fault(rt, do_digest(rt, alloc, &words, output, is_terminal))?
+        }
+        Ok(Asked::Fleet(words)) => {
+            report_fault(rt, do_fleet(rt, alloc, &words, output, is_terminal))?
+        }
+        Err(error) if error.kind() == ErrorKind::OutOfMemory => report_memory(rt, is_terminal)?,
         Err(error) => explain(rt, &error)?,
     };
     Ok(end.exit_code())

@@ -1,12 +1,14 @@
 //! The commands on a journal or a script.
+mod ending;
+mod running;
+
 ghost use Rattle.std.specs.Prelude.{◌≡◌, false};
 
-use crate::faults::{Ending, tell};
-use crate::running::Running;
-use command_terms::{CommandEnd, Task, Work, first_failure};
+use crate::texts::ending::{Ending, report_ending};
+use crate::texts::running::Running;
+use command_terms::{CommandEnd, DrawnLine, Task, Work, first_failure, line_where};
 use merge_run::OpenGate;
 use page_digest::PageHash;
-use progress_line::{DrawnLine, line_where};
 use share_text::{
     Noted, Output, Sink, Source, TextFault, ThreadedFault, replay, serial, threaded,
     threaded_viewed,
@@ -45,17 +47,17 @@ pub fn do_text<
             },
         },
     };
-    tell(rt, is_terminal, &ending)
+    report_ending(rt, is_terminal, &ending)
 }
 
-/// Tells that memory was refused before any work.
-pub fn tell_memory(rt: &impl Eprint, is_terminal: bool) -> io::Result<CommandEnd> {
+/// Reports that memory was refused before any work.
+pub fn report_memory(rt: &impl Eprint, is_terminal: bool) -> io::Result<CommandEnd> {
     let ending = Ending {
         is_of_script: false,
         done: Err(ThreadedFault::Text(TextFault::OutOfMemory)),
         failure: None,
     };
-    tell(rt, is_terminal, &ending)
+    report_ending(rt, is_terminal, &ending)
 }
 
 /// Does the work on a reader's text; the task's input names the reader if it fails.

@@ -1,11 +1,10 @@
 //! What the words of a digest's command line ask for.
 use crate::words::VERSION;
 use clap::error::ErrorKind;
-use command_terms::{Asked, DigestSource, DigestWords};
+use command_terms::{Asked, DigestSource, DigestWords, Drawn};
 use command_words::asked_of;
 use digest_text::GuestName;
 use page_digests::Sample;
-use progress_line::Drawn;
 use std::alloc::{AllocError, Global};
 use std::test::Fail;
 

@@ -1,9 +1,8 @@
 //! What the words of a merge's command line ask for.
 use crate::words::VERSION;
 use clap::error::ErrorKind;
-use command_terms::{Asked, FleetWords};
+use command_terms::{Asked, Drawn, FleetWords};
 use command_words::asked_of;
-use progress_line::Drawn;
 use std::alloc::{AllocError, Global};
 use std::test::Fail;
 

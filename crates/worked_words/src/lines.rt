@@ -1,5 +1,5 @@
 //! The lines that show how far the work is.
-use progress_line::{ReadSoFar, RunSoFar};
+use command_terms::{ReadSoFar, RunSoFar};
 use std::test::Fail;
 
 #[test]
@@ -37,7 +37,7 @@ fn how_much_was_read(rt: HostRuntime) -> Result<(), Fail> {
 }
 
 #[test]
-fn tells_how_far_a_run_is(rt: HostRuntime) -> Result<(), Fail> {
+fn how_far_a_run_is(rt: HostRuntime) -> Result<(), Fail> {
     let so_far = RunSoFar {
         requests: 3_000,
         entries: 1_000,

@@ -1,8 +1,7 @@
 //! What the words of a command line ask for.
 use clap::error::ErrorKind;
-use command_terms::{Asked, EstimateWords, Task, Work};
+use command_terms::{Asked, Drawn, EstimateWords, Task, Work};
 use command_words::asked_of;
-use progress_line::Drawn;
 use std::alloc::{AllocError, Global};
 use std::test::Fail;
 

@@ -1,3 +1,0 @@
-pub mod Amounts
-pub mod Shown
-pub mod When
