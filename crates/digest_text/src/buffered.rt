@@ -25,5 +25,5 @@ pub(crate) struct Lines<R, A: Allocator> {
     /// Where the bytes that aren't taken begin in the buffer, and where they end.
     pub(crate) from: usize,
     pub(crate) end: usize,
-    ghost within: { (from ≤ end) × (end ≤ vec_len buffer) × (vec_len buffer ≡ 65536) },
+    ghost within: { (from ≤ end) × (end ≤ vec_len buffer) × (vec_len buffer ≡ BUFFER_BYTES) },
 }

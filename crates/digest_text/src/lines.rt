@@ -3,6 +3,7 @@ ghost use Rattle.std.specs.Prelude.{◌≡◌, ◌+◌, ◌≤◌, ◌<◌, IfOk
 ghost use Rattle.std.specs.Io.KnownBytes.{Keeps};
 ghost use Rattle.std.specs.List.{position_or_len};
 ghost use Rattle.digest_text.specs.Rows.{is_feed};
+ghost use Rattle.digest_text.specs.declared.buffered.TheConstants.{BUFFER_BYTES};
 ghost use Rattle.digest_text.specs.Left.{IsFound, left, unread};
 
 use crate::buffered::{BUFFER_BYTES, Found, Lines};
@@ -12,7 +13,7 @@ use std::io::{self, Read};
 use text_words::word::cut;
 
 fn new_buffer<A: Allocator>(alloc: A) -> Result<Vec<u8, A>, AllocError>
-    ensures { IfOk result (λ buffer. vec_len buffer ≡ 65536) }
+    ensures { IfOk result (λ buffer. vec_len buffer ≡ BUFFER_BYTES) }
 {
     vec![in alloc; 0; BUFFER_BYTES]
 }
@@ -60,7 +61,7 @@ impl<R: Read + Drop, A: Allocator> Lines<R, A> {
 
     /// Reads once more into the buffer.
     fn fill(&mut self) -> io::Result<usize>
-        requires { self.old.end < 65536 }
+        requires { self.old.end < BUFFER_BYTES }
         ensures keeps { Keeps (left R.remaining self.old) (left R.remaining self.new) }
         ensures len { IfOk result (λ n. length (unread self.new) ≡ length (unread self.old) + n) }
         ensures none { IfOk result (λ n. n ≡ 0 → unread self.new ≡ unread self.old) }

@@ -2,6 +2,7 @@
 ghost use Rattle.std.specs.Prelude.{◌≡◌, ◌<◌, ◌≤◌, ℕ, List, length, map, vec_capacity, vec_len, IfErr};
 ghost use Rattle.digest_text.specs.Fields.{Row};
 ghost use Rattle.digest_text.specs.Told.{told, failure_of};
+ghost use Rattle.fleet_census.specs.declared.merging.TheConstants.{MAX_DIGESTS};
 ghost use Rattle.fleet_census.specs.Gathers.{AreZeros};
 ghost use Rattle.fleet_census.specs.Merged.{IsCounted};
 ghost use Rattle.fleet_census.specs.Pairs.{row_lengths, rows_of};
@@ -30,7 +31,7 @@ pub(crate) fn count_all<R: Read + Drop, A: Allocator>(
     tally: &mut Tally<A>,
     every: u32,
 ) -> Result<(), FleetFault>
-    requires few { length readers.old ≤ 65536 }
+    requires few { length readers.old ≤ MAX_DIGESTS }
     requires files { tournament.old.files ≡ length readers.old }
     requires zeros { length zeros.now ≡ length readers.old }
     requires own { AreOwn (leaves tournament.old.files tournament.old.entries.items) }

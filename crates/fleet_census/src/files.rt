@@ -1,6 +1,7 @@
 //! Files that are read on, one line at a time.
 ghost use Rattle.std.specs.Prelude.{◌≡◌, ◌<◌, ◌≤◌, ℕ, IfOk, length, map, IfErr};
 ghost use Rattle.digest_text.specs.Told.{told, failure_of};
+ghost use Rattle.fleet_census.specs.declared.merging.TheConstants.{MAX_DIGESTS};
 ghost use Rattle.fleet_census.specs.States.{IsOwn, IsReadOn};
 ghost use Rattle.fleet_census.specs.Faults.{fault_of, HasFailed};
 
@@ -27,7 +28,7 @@ pub(crate) fn read_entry<R: Read + Drop, A: Allocator>(
     file: usize,
 ) -> Result<Entry, FleetFault>
     requires within { file < length readers.old }
-    requires few { length readers.old ≤ 65536 }
+    requires few { length readers.old ≤ MAX_DIGESTS }
     ensures own { IfOk result (λ entry. IsOwn file entry) }
     ensures failed { IfErr result (HasFailed (map failure_of readers.new)) }
     ensures read { IsReadOn file (map (told R.remaining) readers.old) (map (told R.remaining) readers.new) result }

@@ -1,6 +1,7 @@
 //! The first line of a file.
 ghost use Rattle.std.specs.Prelude.{◌≡◌, ◌<◌, ℕ, IfOk, IfSome, IfErr};
 ghost use Rattle.digest_text.specs.Told.{told, failure_of};
+ghost use Rattle.fleet_census.specs.declared.merging.TheConstants.{MAX_DIGESTS};
 ghost use Rattle.fleet_census.specs.Openings.{IsFirstRead};
 ghost use Rattle.fleet_census.specs.States.{IsOwn};
 ghost use Rattle.fleet_census.specs.Faults.{IsFailureOf};
@@ -49,7 +50,7 @@ pub(crate) fn read_first<R: Read + Drop, A: Allocator>(
     reader: &mut DigestReader<R, A>,
     file: usize,
 ) -> Result<First, FleetFault>
-    requires { file < 65536 }
+    requires { file < MAX_DIGESTS }
     ensures own { IfOk result (λ first. IsOwn file first.entry) }
     ensures failed { IfErr result (IsFailureOf file (failure_of reader.new)) }
     ensures read { IfSome (told R.remaining reader.old) (λ said. IsFirstRead file said (told R.remaining reader.new) result) }

@@ -2,6 +2,7 @@
 ghost use Rattle.std.specs.Prelude.{◌≡◌, ◌+◌, ◌<◌, ◌≤◌, ◌^◌, ℕ, List, All, IfOk, MatchOption, length, map, vec_capacity, IfErr};
 ghost use Rattle.digest_text.specs.Fields.{Row};
 ghost use Rattle.digest_text.specs.Told.{told, failure_of};
+ghost use Rattle.fleet_census.specs.declared.merging.TheConstants.{MAX_DIGESTS};
 ghost use Rattle.fleet_census.specs.States.{AreBehind, AreChained, AreOwn, IsToldOn, Said};
 ghost use Rattle.fleet_census.specs.Gathers.{AreZeros, IsGathered};
 ghost use Rattle.fleet_census.specs.Tournaments.{leaves};
@@ -20,7 +21,7 @@ impl Content {
     fn with(&self, holder: &Holder) -> Option<Content>
         requires zero { self.now.zero ≤ self.now.copies }
         requires part { holder.now.zero ≤ holder.now.copies }
-        requires few { self.now.holders < 65536 }
+        requires few { self.now.holders < MAX_DIGESTS }
         ensures { MatchOption result (2 ^ 64 ≤ self.now.copies + holder.now.copies) (λ more. more ≡ record {
           copies = self.now.copies + holder.now.copies;
           zero = self.now.zero + holder.now.zero;
@@ -44,7 +45,7 @@ pub(crate) fn gather<R: Read + Drop, A: Allocator>(
     digest: u128,
     holders: &mut Vec<Holder, A>,
 ) -> Result<Content, FleetFault>
-    requires few { length readers.old ≤ 65536 }
+    requires few { length readers.old ≤ MAX_DIGESTS }
     requires files { tournament.old.files ≡ length readers.old }
     requires zeros { length zeros.now ≡ length readers.old }
     requires own { AreOwn (leaves tournament.old.files tournament.old.entries.items) }

@@ -75,7 +75,7 @@ fn count_files<R: Read + Drop, A: Allocator>(
     mut holders: Vec<Holder, A>,
     tally: &mut Tally<A>,
 ) -> Result<u32, FleetFault>
-    requires few { length readers.old ≤ 65536 }
+    requires few { length readers.old ≤ MAX_DIGESTS }
     requires files { tournament.files ≡ length readers.old }
     requires ended { leaves tournament.files tournament.entries.items ≡ replicate (length readers.old) AT_END }
     requires empty { zeros.items ≡ [] }

@@ -3,6 +3,7 @@ ghost use Rattle.std.specs.Prelude.{◌≡◌, ◌+◌, ◌<◌, ◌≤◌, ℕ,
 ghost use Rattle.digest_text.specs.Fields.{Row};
 ghost use Rattle.digest_text.specs.Told.{told, failure_of};
 ghost use Rattle.page_digests.specs.Samples.{zeros_digest};
+ghost use Rattle.fleet_census.specs.declared.merging.TheConstants.{MAX_DIGESTS};
 ghost use Rattle.fleet_census.specs.Fleets.{lines_of};
 ghost use Rattle.fleet_census.specs.Openings.{AreWhole, IsJoined, IsOpen, IsOpenTo};
 ghost use Rattle.fleet_census.specs.States.{AreChained, AreOwn, From, IsToldOn, Said};
@@ -71,7 +72,7 @@ fn open_next<R: Read + Drop, A: Allocator>(
     file: usize,
 ) -> Result<Opening, FleetFault>
     requires within { file < length readers.old }
-    requires few { length readers.old ≤ 65536 }
+    requires few { length readers.old ≤ MAX_DIGESTS }
     requires files { tournament.old.files ≡ length readers.old }
     requires own { AreOwn (leaves tournament.old.files tournament.old.entries.items) }
     requires lens { (vec_len zeros.old ≡ file) × (vec_len guests.old ≡ file) }
@@ -115,7 +116,7 @@ pub(crate) fn open<R: Read + Drop, A: Allocator>(
     zeros: &mut Vec<u128, A>,
     guests: &mut Vec<FleetGuest, A>,
 ) -> Result<Opening, FleetFault>
-    requires few { length readers.old ≤ 65536 }
+    requires few { length readers.old ≤ MAX_DIGESTS }
     requires files { tournament.old.files ≡ length readers.old }
     requires own { AreOwn (leaves tournament.old.files tournament.old.entries.items) }
     requires empty { (zeros.old.items ≡ []) × (guests.old.items ≡ []) }

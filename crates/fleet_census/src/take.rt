@@ -2,6 +2,7 @@
 ghost use Rattle.std.specs.Prelude.{◌≡◌, ◌<◌, ◌≤◌, ◌==◌, ℕ, List, IfOk, IfSome, if◌then◌else◌, length, map, slice_index, IfErr};
 ghost use Rattle.digest_text.specs.Fields.{Row};
 ghost use Rattle.digest_text.specs.Told.{told, failure_of};
+ghost use Rattle.fleet_census.specs.declared.merging.TheConstants.{MAX_DIGESTS};
 ghost use Rattle.fleet_census.specs.States.{AreBehind, AreChained, AreOwn, IsTaken, IsToldOn, Said, passed};
 ghost use Rattle.fleet_census.specs.Tournaments.{leaves};
 ghost use Rattle.fleet_census.specs.Faults.{HasFailed};
@@ -45,7 +46,7 @@ pub(crate) fn take_holder<R: Read + Drop, A: Allocator>(
     zeros: &[u128],
     digest: u128,
 ) -> Result<Option<Holder>, FleetFault>
-    requires few { length readers.old ≤ 65536 }
+    requires few { length readers.old ≤ MAX_DIGESTS }
     requires files { tournament.old.files ≡ length readers.old }
     requires zeros { length zeros.now ≡ length readers.old }
     requires own { AreOwn (leaves tournament.old.files tournament.old.entries.items) }

@@ -1,5 +1,6 @@
 //! Which of many files has the least digest next.
 ghost use Rattle.std.specs.Prelude.{◌≡◌, ◌*◌, ◌<◌, ◌≤◌, ◌≢◌, ℕ, IfOk, length, replicate, slice_set, vec_len};
+ghost use Rattle.fleet_census.specs.declared.merging.TheConstants.{MAX_DIGESTS};
 ghost use Rattle.fleet_census.specs.Tournaments.{AreWon, AreWonBut, IsFirst, leaves};
 ghost use Rattle.fleet_census.specs.declared.entry.TheConstants.{AT_END};
 
@@ -35,7 +36,7 @@ fn replay<A: Allocator>(entries: &mut Vec<Entry, A>, files: usize, mut at: usize
 impl<A: Allocator> Tournament<A> {
     /// Makes a tournament of files that are all at their end.
     pub(crate) fn new(alloc: A, files: usize) -> Result<Tournament<A>, AllocError>
-        requires { (1 ≤ files) × (files ≤ 65536) }
+        requires { (1 ≤ files) × (files ≤ MAX_DIGESTS) }
         ensures { IfOk result (λ tournament. (tournament.files ≡ files) × (leaves files tournament.entries.items ≡ replicate files AT_END)) }
     {
         let entries = vec![in alloc; AT_END; 2 * files]?;
