@@ -4,7 +4,7 @@ ghost use Rattle.command_terms.specs.Digests.{IsFileName};
 
 use crate::progress::Drawn;
 use digest_text::GuestName;
-use page_digests::Sample;
+use guest_digests::Sample;
 
 /// What is digested.
 #[derive(Clone, Copy, Debug, PartialEq, Eq)]

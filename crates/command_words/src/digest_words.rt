@@ -7,7 +7,7 @@ use clap::error::ErrorKind;
 use clap::{Arg, ArgMatches, Command, Error, value_parser};
 use command_terms::{DigestSource, DigestWords, file_name};
 use digest_text::GuestName;
-use page_digests::Sample;
+use guest_digests::Sample;
 use std::alloc::{AllocError, Global};
 
 /// The command, as part of the program's.

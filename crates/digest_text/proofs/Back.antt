@@ -13,8 +13,8 @@ use Rattle.hex.specs.Hex.{IsBytes, lower_digits, encode_with, encode_lower}
 use Rattle.hex.proofs.HexLemmas.{length-encode_with, decode_of-encode_lower}
 use Rattle.text_words.specs.Words.{is_lower_digit, is_bytes_word, or_none, spelled}
 use Rattle.text_words.proofs.Spelled.{above, after_at, before_at, digits_of_decimal, number_back, within_at}
-use Rattle.page_digests.specs.Samples.{IsSample}
-use Rattle.page_digests.specs.declared.line.DigestLine.{DigestLine}
+use Rattle.guest_digests.specs.Samples.{IsSample}
+use Rattle.guest_digests.specs.declared.line.DigestLine.{DigestLine}
 use Rattle.digest_text.specs.Fields.{copies_in, counted_in, digest_in, field_in, head_in, is_comma, number_in, row_in, sample_in}
 use Rattle.digest_text.specs.Names.{is_name, is_name_byte, name_in}
 use Rattle.digest_text.specs.Reread.{IsHead}

@@ -5,9 +5,9 @@ use Rattle.std.proofs.lemmas.Bool.{cases_Bool, eq-eqb, eqb-true}
 use Rattle.std.proofs.lemmas.List.{length-map}
 use Rattle.std.proofs.lemmas.List.Sums.{count_by-le-length, get_or-le-sum_by, length-filter, sum_by-cons}
 use Rattle.page_digest.specs.Hashes.{content_digest}
-use Rattle.page_digests.specs.Counted.{AreCounted, count_of}
-use Rattle.page_digests.specs.Samples.{Sampled, digests_of, is_kept, kept_digests}
-use Rattle.page_digests.specs.declared.line.DigestLine.{DigestLine}
+use Rattle.guest_digests.specs.Counted.{AreCounted, count_of}
+use Rattle.guest_digests.specs.Samples.{Sampled, digests_of, is_kept, kept_digests}
+use Rattle.guest_digests.specs.declared.line.DigestLine.{DigestLine}
 use Rattle.digest_text.specs.Reread.{AreLines, head_by}
 
 -- what is found among the elements that pass, passes

@@ -7,9 +7,9 @@ use Rattle.std.specs.Str.{bytes_eq}
 use Rattle.std.proofs.lemmas.Bool.{cases_Bool, eq-eqb, eqb-true, le-ltb, lt-ltb, ltb-true}
 use Rattle.std.proofs.lemmas.List.Sums.{get_or-le-sum_by, sum_by-cons}
 use Rattle.text_words.proofs.Spelled.{after_at, before_at, within_at}
-use Rattle.page_digests.specs.Counted.{all_copies}
-use Rattle.page_digests.specs.Samples.{is_kept}
-use Rattle.page_digests.specs.declared.line.DigestLine.{DigestLine}
+use Rattle.guest_digests.specs.Counted.{all_copies}
+use Rattle.guest_digests.specs.Samples.{is_kept}
+use Rattle.guest_digests.specs.declared.line.DigestLine.{DigestLine}
 use Rattle.digest_text.specs.Fields.{Row}
 use Rattle.digest_text.specs.Reread.{AreLines, IsHead}
 use Rattle.digest_text.specs.declared.fault.Cause.TheVariants as causes

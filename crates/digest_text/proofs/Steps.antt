@@ -7,7 +7,7 @@ use Rattle.std.specs.Io.KnownBytes.{Keeps}
 use Rattle.std.proofs.lemmas.Bool.{cases_Bool, cases_lt, le-ltb, lt-ltb}
 use Rattle.std.proofs.lemmas.List.{drop-append-le, length-take-le, take-append-le}
 use Rattle.std.proofs.lemmas.List.Splits.{length-slice_split, slice_split_first}
-use Rattle.page_digests.specs.declared.line.DigestLine.{DigestLine}
+use Rattle.guest_digests.specs.declared.line.DigestLine.{DigestLine}
 use Rattle.digest_text.specs.Fields.{Row, counted_in, row_in}
 use Rattle.digest_text.specs.Left.{IsBroken, IsFound}
 use Rattle.digest_text.specs.Noted.{IsNoted, IsRow, IsTaken}

@@ -4,7 +4,7 @@ use Rattle.std.specs.Int.{w128, from_be_bytes, is_power_of_two}
 use Rattle.std.specs.List.{before_first, after_first, position_or_len}
 use Rattle.std.specs.Result.{result_ok}
 use Rattle.text_words.specs.Words.{is_bytes_word, number_to, spelled}
-use Rattle.page_digests.specs.declared.line.DigestLine.{DigestLine}
+use Rattle.guest_digests.specs.declared.line.DigestLine.{DigestLine}
 use Rattle.digest_text.specs.declared.head.DigestHead.{DigestHead}
 use Rattle.digest_text.specs.Names.{name_in}
 use Rattle.digest_text.specs.declared.row.TheConstants.{MAX_LINE_BYTES}

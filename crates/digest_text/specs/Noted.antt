@@ -1,6 +1,6 @@
 -- How one more line is noted.
 use Rattle.std.specs.Prelude.{◌≡◌, ℕ, List, [], Option, Some, None, Result, Ok, Err}
-use Rattle.page_digests.specs.declared.line.DigestLine.{DigestLine}
+use Rattle.guest_digests.specs.declared.line.DigestLine.{DigestLine}
 use Rattle.digest_text.specs.Fields.{Row, row_in}
 use Rattle.digest_text.specs.Rows.{after_row, ended, with_row}
 use Rattle.digest_text.specs.declared.fault.Cause.{Cause}

@@ -1,7 +1,7 @@
 -- Lines that begin as a line before them.
 use Rattle.std.specs.Prelude.{◌≡◌, ℕ, List, ◌++◌, Option, Some, None}
 use Rattle.digest_text.specs.Fields.{digest_in, field_in, head_in, ◌>>=◌}
-use Rattle.page_digests.specs.declared.line.DigestLine.{DigestLine}
+use Rattle.guest_digests.specs.declared.line.DigestLine.{DigestLine}
 use Rattle.digest_text.specs.Noted.{IsRow}
 use Rattle.digest_text.specs.declared.head.DigestHead.{DigestHead}
 use Rattle.digest_text.specs.declared.so_far.SoFar.{SoFar}

@@ -1,9 +1,9 @@
 -- A text that was written is read as what was written.
 use Rattle.std.specs.Prelude.{◌≡◌, ℕ, ◌^◌, ◌<◌, ◌≤◌, true, All, List, length, map, Ok}
 use Rattle.std.specs.List.Sorted.{IsStrictlyIncreasing}
-use Rattle.page_digests.specs.Counted.{AreCounted, all_copies}
-use Rattle.page_digests.specs.Samples.{IsSample, Sampled, is_kept, kept_digests}
-use Rattle.page_digests.specs.declared.line.DigestLine.{DigestLine}
+use Rattle.guest_digests.specs.Counted.{AreCounted, all_copies}
+use Rattle.guest_digests.specs.Samples.{IsSample, Sampled, is_kept, kept_digests}
+use Rattle.guest_digests.specs.declared.line.DigestLine.{DigestLine}
 use Rattle.digest_text.specs.Names.{is_name}
 use Rattle.digest_text.specs.Rows.{digest_of, sampled_by}
 use Rattle.digest_text.specs.Written.{rows_of, rows_text}

@@ -2,7 +2,7 @@
 use Rattle.std.specs.Prelude.{ℕ, ◌+◌, ◌-◌, ◌^◌, ◌==◌, ◌&&◌, not, nat_lt, min, Bool, true, false, if◌then◌else◌, is_none, List, [], ◌∷◌, codes, count_by, length, ◌||◌, Option, Some, None, Result, Ok, Err}
 use Rattle.std.specs.List.{slice_split, position_or_len, before_first, after_first}
 use Rattle.std.specs.Str.{bytes_eq}
-use Rattle.page_digests.specs.Samples.{Sampled, is_kept}
+use Rattle.guest_digests.specs.Samples.{Sampled, is_kept}
 use Rattle.digest_text.specs.Fields.{Row, is_comma, row_in}
 use Rattle.digest_text.specs.declared.fault.Cause.{Cause}
 use Rattle.digest_text.specs.declared.fault.Cause.TheVariants as causes

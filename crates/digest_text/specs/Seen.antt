@@ -1,6 +1,6 @@
 -- What a line says as it stands there, as values.
 use Rattle.std.specs.Prelude.{◌≡◌, true}
-use Rattle.page_digests.specs.Samples.{IsSample}
+use Rattle.guest_digests.specs.Samples.{IsSample}
 use Rattle.digest_text.specs.Fields.{Row}
 use Rattle.digest_text.specs.Names.{is_name}
 use Rattle.digest_text.specs.declared.head.DigestHead.{DigestHead}

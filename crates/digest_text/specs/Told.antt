@@ -2,7 +2,7 @@
 use Rattle.std.specs.Prelude.{◌≡◌, ℕ, List, [], ◌∷◌, Option, Some, None, Result, Ok, Err}
 use Rattle.std.specs.Option.{option_map}
 use Rattle.std.specs.declared.io.Error.{Error}
-use Rattle.page_digests.specs.declared.line.DigestLine.{DigestLine}
+use Rattle.guest_digests.specs.declared.line.DigestLine.{DigestLine}
 use Rattle.digest_text.specs.Fields.{Row}
 use Rattle.digest_text.specs.Left.{left}
 use Rattle.digest_text.specs.Rows.{◌>>=◌, digest_of, rows_after}

@@ -3,8 +3,8 @@ use Rattle.std.specs.Prelude.{◌≡◌, ℕ, List, ◌++◌, codes, decimal, fl
 use Rattle.std.specs.Int.{w128, to_be_bytes}
 use Rattle.std.specs.Io.KnownBytes.{Appends}
 use Rattle.hex.specs.Hex.{encode_lower}
-use Rattle.page_digests.specs.declared.digests.GuestDigests.{GuestDigests}
-use Rattle.page_digests.specs.declared.line.DigestLine.{DigestLine}
+use Rattle.guest_digests.specs.declared.digests.GuestDigests.{GuestDigests}
+use Rattle.guest_digests.specs.declared.line.DigestLine.{DigestLine}
 use Rattle.digest_text.specs.Fields.{Row}
 use Rattle.digest_text.specs.Rows.{header}
 use Rattle.digest_text.specs.declared.head.DigestHead.{DigestHead}

@@ -3,7 +3,7 @@ ghost use Rattle.std.specs.Prelude.{◌≡◌, ◌≤◌, ◌<◌, IfSome, Some,
 ghost use Rattle.std.specs.Option.{option_map};
 ghost use Rattle.hex.specs.Hex.{hex_digit_value};
 ghost use Rattle.text_words.specs.Words.{is_bytes_word, is_lower_digit, spelled};
-ghost use Rattle.page_digests.specs.Samples.{IsSample};
+ghost use Rattle.guest_digests.specs.Samples.{IsSample};
 ghost use Rattle.digest_text.specs.Fields.{copies_in, digest_in, field_in, number_in, sample_in};
 ghost use Rattle.digest_text.specs.Repeats.{digest_first};
 

@@ -1,5 +1,5 @@
 use crate::GuestName;
-use page_digests::Sample;
+use guest_digests::Sample;
 
 /// What each line of a digest begins with.
 #[derive(Clone, Debug, PartialEq, Eq, Drop)]

@@ -6,8 +6,8 @@ ghost use Rattle.hex.specs.Hex.{encode_lower};
 ghost use Rattle.digest_text.specs.Written.{counted_text, digest_word, head_for, head_text, lines_text};
 
 use crate::GuestName;
+use guest_digests::{DigestLine, GuestDigests};
 use itoa::Buffer;
-use page_digests::{DigestLine, GuestDigests};
 use std::alloc::{AllocError, Allocator};
 
 /// The most bytes of a line's first four fields with their commas: a name of 64 bytes, and three numbers of up to 20 digits.

@@ -10,7 +10,7 @@ use crate::row::{Front, MAX_LINE_BYTES};
 use crate::so_far::SoFar;
 use crate::taken::take_line;
 use crate::{Cause, DigestHead, DigestReader, LineFault, ReadFault};
-use page_digests::DigestLine;
+use guest_digests::DigestLine;
 use std::alloc::Allocator;
 use std::io::{self, Read};
 

@@ -8,7 +8,7 @@ ghost use Rattle.digest_text.specs.Seen.{IsOfForm, head_seen, row_seen};
 use crate::fields::{copies, digest_field, field, number, sample};
 use crate::name::is_name;
 use arrayvec::ArrayVec;
-use page_digests::DigestLine;
+use guest_digests::DigestLine;
 
 /// The most bytes of a line, without its line feed. A line of the form has at most 156.
 pub(crate) const MAX_LINE_BYTES: usize = 256;

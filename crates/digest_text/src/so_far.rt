@@ -1,13 +1,13 @@
 //! What the lines so far say.
 ghost use Rattle.std.specs.Prelude.{◌≡◌, Some, None, IfOk, is_none, nat_lt, ◌&&◌};
-ghost use Rattle.page_digests.specs.Samples.{IsSample};
+ghost use Rattle.guest_digests.specs.Samples.{IsSample};
 ghost use Rattle.digest_text.specs.Rows.{after_row, is_same_head, less};
 ghost use Rattle.digest_text.specs.Seen.{IsOfForm, head_seen, row_seen};
 ghost use Rattle.digest_text.specs.Noted.{IsNoted};
 
 use crate::row::{LineHead, LineRow};
 use crate::{Cause, DigestHead, GuestName};
-use page_digests::{DigestLine, Sample, Sampling};
+use guest_digests::{DigestLine, Sample, Sampling};
 
 /// What the lines so far say.
 #[derive(Drop)]

@@ -6,7 +6,7 @@ ghost use Rattle.digest_text.specs.Repeats.{IsFront, IsRepeated, Spells};
 use crate::Cause;
 use crate::row::{Front, MAX_LINE_BYTES, counted, read_row};
 use crate::so_far::{SoFar, follow, note};
-use page_digests::DigestLine;
+use guest_digests::DigestLine;
 
 /// Notes a line that begins with the bytes of the line before it, and returns its digest and copies. `None`: it begins with others
 /// or is at fault, and nothing is noted.

@@ -5,7 +5,7 @@ ghost use Rattle.digest_text.specs.Written.{IsSent, IsWritten, lines_text, text_
 
 use crate::print::{LINE_ROOM, MAX_HEAD_BYTES, head_text, push_lines};
 use crate::{GuestName, WriteFault};
-use page_digests::{DigestLine, GuestDigests};
+use guest_digests::{DigestLine, GuestDigests};
 use std::alloc::{AllocError, Allocator};
 use std::io::{self, ErrorKind, Write};
 

@@ -3,7 +3,7 @@ use Rattle.std.proofs.Common.{◌≡◌, ℕ, zero, suc, ◌+◌, ◌*◌, ◌-�
 use Rattle.std.proofs.lemmas.Bool.{cases_Bool, cases_lt, ltb-false}
 use Rattle.std.proofs.lemmas.List.Sums.{sum_by-cons}
 use Rattle.std.specs.Prelude.{◌&&◌, nat_lt, sum_by}
-use Rattle.page_digests.specs.Samples.{zeros_digest}
+use Rattle.guest_digests.specs.Samples.{zeros_digest}
 use Rattle.digest_text.specs.Fields.{Row}
 use Rattle.fleet_census.specs.Amounts.{amount_below, sum_below, with_content}
 use Rattle.fleet_census.specs.Classes.{class_after, fewest, is_in_class, most}

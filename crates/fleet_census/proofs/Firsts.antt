@@ -2,7 +2,7 @@
 use Rattle.std.proofs.Common.{◌≡◌, ℕ, [], refl, sym, ◌∙◌}
 use Rattle.std.specs.Prelude.{Option, Some, None, Ok, Err, IfSome}
 use Rattle.std.specs.Option.{option_map}
-use Rattle.page_digests.specs.declared.line.DigestLine.{DigestLine}
+use Rattle.guest_digests.specs.declared.line.DigestLine.{DigestLine}
 use Rattle.digest_text.specs.Told.{IsNext}
 use Rattle.digest_text.specs.declared.head.DigestHead.{DigestHead}
 use Rattle.digest_text.specs.declared.read_fault.ReadFault.{ReadFault}

@@ -5,7 +5,7 @@ use Rattle.std.proofs.lemmas.List.{get_or_append_left, length_push, take_all, ta
 use Rattle.std.proofs.lemmas.List.Sums.{sum_by-append, sum_by-cons}
 use Rattle.std.proofs.Math.Seq.{get_or-append_seam}
 use Rattle.std.specs.Prelude.{Option, Some, None, Err, nat_lt, sum_by}
-use Rattle.page_digests.specs.Samples.{zeros_digest}
+use Rattle.guest_digests.specs.Samples.{zeros_digest}
 use Rattle.digest_text.specs.Fields.{Row}
 use Rattle.fleet_census.specs.Fleets.{all_copies, copies_of, holder_of, salt_of, zero_of}
 use Rattle.fleet_census.specs.Gathers.{AreGathered, AreZeros, IsGathered, IsSoFar}

@@ -2,7 +2,7 @@
 use Rattle.std.proofs.Common.{◌≡◌, ℕ, ◌+◌, ◌≤◌, Bool, true, false, cond, List, [], ◌∷◌, refl, sym, arith}
 use Rattle.std.proofs.lemmas.Bool.{ltb-true}
 use Rattle.std.specs.Prelude.{Option, Some, None, Result, Ok, Err, not, nat_lt, is_none, ◌&&◌, ◌==◌}
-use Rattle.page_digests.specs.Samples.{is_kept}
+use Rattle.guest_digests.specs.Samples.{is_kept}
 use Rattle.digest_text.specs.Fields.{Row, row_in}
 use Rattle.digest_text.specs.Rows.{◌>>=◌, after_row, at_line, ended, is_all, is_of_guest, left_before, less, line_after, rises, rows_in, sampling_of, with_row}
 use Rattle.digest_text.specs.declared.fault.Cause.{Cause}

@@ -12,7 +12,7 @@ use Rattle.digest_text.specs.Left.{left}
 use Rattle.digest_text.specs.Told.{told}
 use Rattle.digest_text.specs.declared.digest_reader.DigestReader.{DigestReader}
 use Rattle.digest_text.specs.declared.so_far.SoFar.{SoFar}
-use Rattle.page_digests.specs.declared.line.DigestLine.{DigestLine}
+use Rattle.guest_digests.specs.declared.line.DigestLine.{DigestLine}
 use Rattle.fleet_census.specs.Amounts.{all_digests, sum_below}
 use Rattle.fleet_census.specs.Classes.{has_contents, no_class, no_contents}
 use Rattle.fleet_census.specs.Fleets.{class_below, class_numbers, copies_table, guest_numbers, lines_of, pages_of, pair_below, pair_table, pairs_told}

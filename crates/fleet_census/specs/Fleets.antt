@@ -1,9 +1,9 @@
 -- What is counted of a fleet: of the rows of each guest's file. Each number is a sum over all digests.
 use Rattle.std.specs.Prelude.{ℕ, ◌+◌, ◌-◌, ◌*◌, ◌==◌, ◌&&◌, min, nat_lt, Bool, if◌then◌else◌, List, [], ◌∷◌, count_by, filter, length, map, slice_index_or, sum_by, take, Option, Some, None}
 use Rattle.std.specs.List.{range_with_len}
-use Rattle.page_digests.specs.Counted.{told_copies}
-use Rattle.page_digests.specs.Samples.{zeros_digest}
-use Rattle.page_digests.specs.declared.line.DigestLine.{DigestLine}
+use Rattle.guest_digests.specs.Counted.{told_copies}
+use Rattle.guest_digests.specs.Samples.{zeros_digest}
+use Rattle.guest_digests.specs.declared.line.DigestLine.{DigestLine}
 use Rattle.digest_text.specs.Fields.{Row}
 use Rattle.fleet_census.specs.Amounts.{all_digests, amount_below, sum_below}
 use Rattle.fleet_census.specs.Classes.{fewest, has_contents, is_in_class, most}

@@ -1,6 +1,6 @@
 -- All that the files tell of one digest.
 use Rattle.std.specs.Prelude.{◌≡◌, ℕ, ◌+◌, ◌^◌, ◌<◌, ◌≤◌, nat_lt, List, count_by, length, slice_index, slice_index_or, sum_by, take, [], Option, Result, Ok, Err}
-use Rattle.page_digests.specs.Samples.{zeros_digest}
+use Rattle.guest_digests.specs.Samples.{zeros_digest}
 use Rattle.digest_text.specs.Fields.{Row}
 use Rattle.fleet_census.specs.Fleets.{all_copies, content_of, copies_of, holder_of, salt_of, zero_of}
 use Rattle.fleet_census.specs.Holders.{AreRising, found, no_holder}

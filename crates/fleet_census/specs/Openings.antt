@@ -1,6 +1,6 @@
 -- What the first lines of files say.
 use Rattle.std.specs.Prelude.{◌≡◌, ◌≢◌, ℕ, ◌+◌, ◌^◌, ◌⊎◌, ◌<◌, ◌≤◌, ◌==◌, if◌then◌else◌, List, [], ◌∷◌, length, slice_index, slice_index_or, sum_by, take, Option, Some, None, Result, Ok, Err}
-use Rattle.page_digests.specs.Samples.{zeros_digest}
+use Rattle.guest_digests.specs.Samples.{zeros_digest}
 use Rattle.digest_text.specs.Fields.{Row}
 use Rattle.fleet_census.specs.Fleets.{lines_of, pages_of, salt_of}
 use Rattle.fleet_census.specs.States.{From, IsBehind, IsRead, Said}

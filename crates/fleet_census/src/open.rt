@@ -2,7 +2,7 @@
 ghost use Rattle.std.specs.Prelude.{◌≡◌, ◌+◌, ◌<◌, ◌≤◌, ℕ, List, [], IfOk, length, map, max, slice_index_or, vec_capacity, vec_len, IfErr};
 ghost use Rattle.digest_text.specs.Fields.{Row};
 ghost use Rattle.digest_text.specs.Told.{told, failure_of};
-ghost use Rattle.page_digests.specs.Samples.{zeros_digest};
+ghost use Rattle.guest_digests.specs.Samples.{zeros_digest};
 ghost use Rattle.fleet_census.specs.declared.merging.TheConstants.{MAX_DIGESTS};
 ghost use Rattle.fleet_census.specs.Fleets.{lines_of};
 ghost use Rattle.fleet_census.specs.Openings.{AreWhole, IsJoined, IsOpen, IsOpenTo};

@@ -6,7 +6,7 @@ use Rattle.std.specs.Str.{bytes_eq}
 use Rattle.std.proofs.lemmas.Bool.{both_ways, eq-eqb, ne_eqb}
 use Rattle.std.proofs.lemmas.Slice.Eq.{bytes_eq-Decides}
 use Rattle.page_model.specs.Pages.{blank}
-use Rattle.page_digests.specs.Samples.{zeros_digest}
+use Rattle.guest_digests.specs.Samples.{zeros_digest}
 use Rattle.page_census.specs.Contents.{Content, is_same}
 use Rattle.page_census.specs.Numbers.{copies, distinct, is_zero, shared}
 use Rattle.page_census.proofs.Chained.{is_itself, is_one}

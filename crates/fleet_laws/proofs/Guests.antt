@@ -8,9 +8,9 @@ use Rattle.std.proofs.lemmas.List.Elements.{All-cons, All-head, All-nil, All-tai
 use Rattle.std.proofs.lemmas.List.Sums.{sum_by-cons}
 use Rattle.page_model.specs.Pages.{blank}
 use Rattle.page_digest.specs.Hashes.{content_digest}
-use Rattle.page_digests.specs.Counted.{AreCounted, count_of, told_copies}
-use Rattle.page_digests.specs.Samples.{digests_of, is_kept, kept_digests, zeros_digest}
-use Rattle.page_digests.specs.declared.line.DigestLine.{DigestLine}
+use Rattle.guest_digests.specs.Counted.{AreCounted, count_of, told_copies}
+use Rattle.guest_digests.specs.Samples.{digests_of, is_kept, kept_digests, zeros_digest}
+use Rattle.guest_digests.specs.declared.line.DigestLine.{DigestLine}
 use Rattle.digest_text.specs.Fields.{Row}
 use Rattle.digest_text.specs.Reread.{head_by}
 use Rattle.digest_text.specs.Written.{rows_of}

@@ -7,9 +7,9 @@ use Rattle.std.proofs.lemmas.Bool.{cases_Bool, eq-eqb, eqb-true}
 use Rattle.std.proofs.lemmas.List.Elements.{All-head, All-map, All-tail}
 use Rattle.std.proofs.lemmas.List.Sums.{get_or-le-sum_by, sum_by-cons}
 use Rattle.page_digest.specs.Hashes.{content_digest}
-use Rattle.page_digests.specs.Counted.{AreCounted, count_of}
-use Rattle.page_digests.specs.Samples.{IsSample, digests_of, kept_digests}
-use Rattle.page_digests.specs.declared.line.DigestLine.{DigestLine}
+use Rattle.guest_digests.specs.Counted.{AreCounted, count_of}
+use Rattle.guest_digests.specs.Samples.{IsSample, digests_of, kept_digests}
+use Rattle.guest_digests.specs.declared.line.DigestLine.{DigestLine}
 use Rattle.digest_text.proofs.Counts.{digests_are_lines}
 use Rattle.digest_text.proofs.Reread.{rereads}
 use Rattle.digest_text.specs.Fields.{Row}

@@ -3,9 +3,9 @@ use Rattle.std.specs.Prelude.{◌≡◌, ℕ, ◌-◌, ◌^◌, ◌<◌, min, Li
 use Rattle.std.specs.List.{AllZip, Contains}
 use Rattle.page_model.specs.Pages.{blank}
 use Rattle.page_digest.specs.Hashes.{content_digest}
-use Rattle.page_digests.specs.Counted.{AreCounted}
-use Rattle.page_digests.specs.Samples.{Sampled, kept_digests}
-use Rattle.page_digests.specs.declared.line.DigestLine.{DigestLine}
+use Rattle.guest_digests.specs.Counted.{AreCounted}
+use Rattle.guest_digests.specs.Samples.{Sampled, kept_digests}
+use Rattle.guest_digests.specs.declared.line.DigestLine.{DigestLine}
 use Rattle.digest_text.specs.Fields.{Row}
 use Rattle.digest_text.specs.Reread.{head_by}
 use Rattle.digest_text.specs.Written.{rows_of}

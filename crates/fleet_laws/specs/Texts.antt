@@ -1,8 +1,8 @@
 -- From pages over digests' texts to the numbers of a census.
 use Rattle.std.specs.Prelude.{◌≡◌, ℕ, ◌^◌, ◌<◌, true, List, [], ◌∷◌, ◌++◌, length, map, Some, Ok}
 use Rattle.std.specs.List.{AllZip}
-use Rattle.page_digests.specs.Counted.{AreDigests}
-use Rattle.page_digests.specs.declared.digests.GuestDigests.{GuestDigests}
+use Rattle.guest_digests.specs.Counted.{AreDigests}
+use Rattle.guest_digests.specs.declared.digests.GuestDigests.{GuestDigests}
 use Rattle.digest_text.specs.Fields.{Row}
 use Rattle.digest_text.specs.Names.{is_name}
 use Rattle.digest_text.specs.Rows.{digest_of}

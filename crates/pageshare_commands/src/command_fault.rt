@@ -2,9 +2,9 @@
 use command_terms::{CommandEnd, DigestSource, EstimateWords, FleetWords, ImageCause};
 use digest_text::{LineFault, ReadFault, WriteFault};
 use fleet_census::FleetFault;
+use guest_digests::DigestFault;
 use live_memory::LiveFault;
 use memory_images::{FormFault, ImageFault};
-use page_digests::DigestFault;
 use report_text::PlainName;
 use std::alloc::{AllocError, AllocFailed};
 use std::fmt::{self, Display, Formatter};

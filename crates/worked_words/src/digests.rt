@@ -4,7 +4,7 @@ use clap::error::ErrorKind;
 use command_terms::{Asked, DigestSource, DigestWords, Drawn};
 use command_words::asked_of;
 use digest_text::GuestName;
-use page_digests::Sample;
+use guest_digests::Sample;
 use std::alloc::{AllocError, Global};
 use std::test::Fail;
 

@@ -1,6 +1,6 @@
 //! The digests of a few pages. sha256sum computed them.
 use crate::lists::pages::{Memory, digests_of, memory_of, sampling_of};
-use page_digests::{DigestFault, DigestLine};
+use guest_digests::{DigestFault, DigestLine};
 use refusing::Refusing;
 use std::alloc::{AllocError, Global};
 use std::process::Abort;

@@ -1,8 +1,8 @@
 //! Pages in memory, and how often they are read.
 ghost use Rattle.std.specs.Prelude.{◌<◌, ◌^◌, vec_len};
 
+use guest_digests::{DigestFault, GuestDigests, Sample, Sampling, digest_pages};
 use memory_pages::{PageSource, Progress};
-use page_digests::{DigestFault, GuestDigests, Sample, Sampling, digest_pages};
 use page_model::Page;
 use std::alloc::{AllocError, Allocator, Global};
 use std::process::Abort;

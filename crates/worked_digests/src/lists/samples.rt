@@ -1,5 +1,5 @@
 //! Which numbers are samples.
-use page_digests::Sample;
+use guest_digests::Sample;
 use std::test::Fail;
 
 #[test]

@@ -1,7 +1,7 @@
 //! Long texts, names and lines.
 use crate::texts::sources::read_text;
 use digest_text::{Cause, DigestReader, GuestName, write_digests};
-use page_digests::{DigestLine, GuestDigests, Sample, Sampling};
+use guest_digests::{DigestLine, GuestDigests, Sample, Sampling};
 use std::alloc::{AllocError, Global};
 use std::io::{self, ErrorKind, Write};
 use std::process::Abort;

@@ -1,6 +1,6 @@
 //! Texts that are read in pieces, and reads that fail.
 use digest_text::{Cause, DigestReader, ReadFault};
-use page_digests::Sample;
+use guest_digests::Sample;
 use refusing::Refusing;
 use std::alloc::{AllocError, Allocator, Global};
 use std::io::{self, ErrorKind, Read};

@@ -1,6 +1,6 @@
 //! Texts of digests that are written, and writes that fail. sha256sum computed the digests.
 use digest_text::{GuestName, WriteFault, write_digests};
-use page_digests::{DigestLine, GuestDigests, Sample, Sampling};
+use guest_digests::{DigestLine, GuestDigests, Sample, Sampling};
 use refusing::Refusing;
 use std::alloc::{AllocError, Allocator, Global};
 use std::io::{self, ErrorKind, Write};

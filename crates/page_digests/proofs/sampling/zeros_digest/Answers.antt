@@ -1,6 +1,0 @@
-use Rattle.page_model.specs.Pages.{blank}
-use Rattle.page_digests.proofs.sampling.zeros_digest.Goals as goal
-
-pub returns : goal.returns
-unfolding blank
-returns c = c.digest_content.ensures
