@@ -8,8 +8,6 @@ pub mod laws;
 mod mappings;
 mod page;
 mod parts;
-#[cfg(test)]
-mod tests;
 
 pub use event::Event;
 pub use mappings::Mappings;

@@ -1,7 +1,7 @@
-//! Traces by the public calls.
-use crate::{Event, Mappings, Page, View};
+//! Traces by the public calls of `window_events`.
 use std::alloc::{AllocError, Allocator};
 use std::test::Fail;
+use window_events::{Event, Mappings, Page, View};
 
 // The place of the first event that isn't possible, and what each of two pages shows then.
 fn traced<A: Allocator + Clone>(

@@ -1,0 +1,5 @@
+//! Worked traces of windows, played by the public calls of `window_events`. This crate has only tests.
+#![tactic(auto)]
+
+#[cfg(test)]
+mod traces;
