@@ -49,7 +49,7 @@ def of_estimates(subject, folder):
     estimate.pictures(subject, folder)
     estimate.bad_paths(subject, folder)
     estimate.too_much(subject, folder)
-    estimate.words(subject, folder)
+    estimate.command_line(subject, folder)
     estimate.progress(subject, folder)
     processes.estimates(subject, folder)
 
@@ -59,7 +59,7 @@ def of_digests(subject, folder):
     digest.digests(subject, folder)
     digest.cores(subject, folder)
     digest.bad_inputs(subject, folder)
-    digest.words(subject, folder)
+    digest.command_line(subject, folder)
     processes.digests(subject)
 
 
@@ -70,7 +70,7 @@ def of_fleets(subject, folder):
     fleet.pairs(subject, folder)
     fleet.bad_inputs(subject, folder)
     fleet.too_many(subject, folder)
-    fleet.words(subject)
+    fleet.command_line(subject)
     fleet.progress(subject)
     fleet.progress_of_slow_reads(subject, folder)
 

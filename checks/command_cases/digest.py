@@ -48,7 +48,7 @@ def bad_inputs(subject, folder):
     subject.fails("digest, little memory", ["digest", "--workers", "2", large], f"{large}: out of memory\n", limits=LEAST)
 
 
-def words(subject, folder):
+def command_line(subject, folder):
     """Words that aren't taken, help, and the line of progress."""
     raw = str(folder / "large.raw")
     subject.refuses("digest", [

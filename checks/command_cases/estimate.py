@@ -85,7 +85,7 @@ def too_much(subject, folder):
     subject.fails("estimate, little memory", ["estimate", large[0], raw], f"{large[0]} and 1 more: out of memory\n", limits=LITTLE)
 
 
-def words(subject, folder):
+def command_line(subject, folder):
     """Words that aren't taken, and help."""
     raw = str(folder / "a.raw")
     subject.refuses("estimate", [[raw if word == "a.raw" else word for word in many] for many in WRONG_WORDS])

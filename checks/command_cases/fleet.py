@@ -104,7 +104,7 @@ def too_many(subject, folder):
     subject.fails("fleet, too many pages", words, f"{paths[0]} and 1 more: more than 18,446,744,073,709,551,615 pages\n")
 
 
-def words(subject):
+def command_line(subject):
     """Words that aren't taken, and help."""
     good = str(ROWS / "first.digest")
     subject.refuses("fleet", [
