@@ -73,8 +73,8 @@ def case(seed, nth):
 def replayed(program, text):
     """A verdict for each request, without the guest's number; without the numbers of `totals`, which count both tenants' pages."""
     done = run([program, "replay"], text)
-    if done.returncode != 0:
-        return [f"status {done.returncode}"]
+    if done.returncode != 0 or not done.stdout.endswith(b"\n"):
+        return [f"status {done.returncode}, {done.stdout[-80:]!r}"]
     verdicts = [line.split(" ", 1)[1] for line in done.stdout.decode().splitlines()[:-1]]
     return ["totals" if verdict.startswith("totals ") else verdict for verdict in verdicts]
 

@@ -23,6 +23,8 @@ def say(program, words, text):
     done = run([program, *words], text, seconds=SECONDS)
     if done.returncode != 0:
         raise Differs(f"{' '.join(words)}: status {done.returncode}: {done.stdout[:200]!r}{done.stderr[:200]!r}")
+    if not done.stdout.endswith(b"\n"):
+        raise Differs(f"{' '.join(words)}: a last line without a line feed")
     return done.stdout.decode().splitlines()
 
 
