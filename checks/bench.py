@@ -9,8 +9,8 @@ timed with these as well, beside opponents that are built for it. The opponents 
 Cargo package benches/, which is copied to out/bench and built there. --crates names a folder with the sources of its
 crates, as Debian's packages librust-hex-dev, librust-rayon-dev, librust-sha2-dev and librust-slab-dev leave it at
 /usr/share/cargo/registry; without it cargo looks for them as it is set up to. The opponents hash in software, as the proved
-programs must, unless --instructions is given: the kit has no way to a processor's SHA instructions. Where cargo or a crate isn't at hand the table says so, and shows our
-side alone. Standard library only; nothing else may run on the machine meanwhile.
+programs must, unless --instructions is given: the kit has no way to a processor's SHA instructions. Where cargo or a crate isn't at
+hand the table says so, and shows our side alone. Standard library only; nothing else may run on the machine meanwhile.
 
 Each measure is made in turns, ours and theirs, --turns times; the table has the least and the middle of each, and the
 ratio of the least ones. The last lines name each ratio above its goal, and the status is then 1. --table writes the
@@ -26,31 +26,11 @@ import subprocess
 import sys
 import time
 
-TOP = os.path.dirname(os.path.dirname(os.path.abspath(__file__)))
-OUT = os.path.join(TOP, "out", "bench")
+from common.benches import ROOM, different, journal, output, scanned, seconds
+from harness import OUT, TOP
+
 GROWTH = [10_000, 30_000, 100_000, 300_000, 1_000_000]
 GUESTS = [1, 2, 4, 8, 64]
-
-
-def journal(name, frames, pages, requests):
-    """Writes a journal of guest 0's requests, and answers where it is."""
-    path = os.path.join(OUT, name + ".journal")
-    with open(path, "w", encoding="ascii") as out:
-        out.write(f"pageshare journal 1\nframes {frames}\npages {pages}\n")
-        count = 0
-        for request in requests:
-            out.write(f"0 {request}\n")
-            count += 1
-        out.write(f"end {count}\n")
-    return path
-
-
-def scanned(pages, content):
-    """Each page is stored to, and then each is proposed, as a scan finds pages at rest."""
-    for ppn in range(pages):
-        yield f"store {ppn} 0 {content(ppn)}"
-    for ppn in range(pages):
-        yield f"propose {ppn}"
 
 
 def in_turn(pages, content):
@@ -58,10 +38,6 @@ def in_turn(pages, content):
     for ppn in range(pages):
         yield f"store {ppn} 0 {content(ppn)}"
         yield f"propose {ppn}"
-
-
-def different(ppn):
-    return f"{ppn:08x}"
 
 
 def equal(_):
@@ -93,7 +69,7 @@ class Level:
         self.theirs = None
 
     def ours(self, program):
-        return os.path.join(TOP, "out", program + self.suffix)
+        return os.path.join(OUT, program + self.suffix)
 
 
 V2_LEVEL = Level("x86-64-v2", "", "", "")
@@ -111,10 +87,10 @@ def build_opponents(crates, instructions, cpu):
     """Builds benches/ in out/bench for a processor level, and answers its folder of programs, or why there is none."""
     if not shutil.which("cargo"):
         return None, "there is no cargo"
-    source = os.path.join(OUT, "opponents")
+    source = os.path.join(ROOM, "opponents")
     shutil.rmtree(source, ignore_errors=True)
     shutil.copytree(os.path.join(TOP, "benches"), source)
-    target = os.path.join(OUT, f"target-{cpu}")
+    target = os.path.join(ROOM, f"target-{cpu}")
     command = ["cargo", "build", "--release", "--quiet", "--target-dir", target]
     if not instructions:
         command += ["--features", "soft"]
@@ -126,19 +102,6 @@ def build_opponents(crates, instructions, cpu):
     if done.returncode != 0:
         return None, "cargo: " + (done.stderr.strip().splitlines() or ["failed"])[-1]
     return os.path.join(target, "release"), None
-
-
-def seconds(program, words, path):
-    """How long a program takes with a file as its input."""
-    with open(path, "rb") as text:
-        start = time.perf_counter()
-        subprocess.run([program, *words], stdin=text, stdout=subprocess.DEVNULL, check=True)
-        return time.perf_counter() - start
-
-
-def output(program, words, path):
-    with open(path, "rb") as text:
-        return subprocess.run([program, *words], stdin=text, capture_output=True, check=True).stdout
 
 
 def told(program, words):
@@ -197,8 +160,9 @@ class Table:
 def replays(table, level, quick):
     pageshare, is_v3 = level.ours("pageshare"), level is V3_LEVEL
     part = 10 if quick else 1
+    scans = journal("different", 30_000, 30_000, scanned(30_000 // part, different))
     journals = [
-        ("replay: 30,000 different contents", 0.32 if is_v3 else 0.45, journal("different", 30_000, 30_000, scanned(30_000 // part, different))),
+        ("replay: 30,000 different contents", 0.32 if is_v3 else 0.45, scans),
         ("replay: 70,000 equal pages", 0.3 if is_v3 else 0.5, journal("equal", 70_000, 70_000, scanned(70_000 // part, equal))),
         ("replay: 30,000 different, in turn", 1.0, journal("different-in-turn", 30_000, 30_000, in_turn(30_000 // part, different))),
         ("replay: 70,000 equal, in turn", 1.0, journal("equal-in-turn", 70_000, 70_000, in_turn(70_000 // part, equal))),
@@ -235,7 +199,7 @@ def by_hand(table, level, path):
 def image(name, seed, pages):
     """Writes a raw image of so many pages, and answers where it is: 7 in 10 are zeros, and half of the rest stand in each
     image alike."""
-    path = os.path.join(OUT, name + ".raw")
+    path = os.path.join(ROOM, name + ".raw")
     own, common = random.Random(seed), random.Random(0)
     with open(path, "wb") as out:
         for n in range(pages):
@@ -313,7 +277,7 @@ def main():
     parser.add_argument("--table", help="a file for the figures")
     parser.add_argument("--instructions", action="store_true", help="let the opponents use the processor's SHA instructions")
     asked = parser.parse_args()
-    os.makedirs(OUT, exist_ok=True)
+    ROOM.mkdir(parents=True, exist_ok=True)
     levels = [V2_LEVEL, V3_LEVEL] if has_v3() else [V2_LEVEL]
     for level in levels:
         level.theirs, why = build_opponents(asked.crates, asked.instructions, level.cpu)

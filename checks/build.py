@@ -14,12 +14,11 @@ import pathlib
 import shutil
 import subprocess
 import sys
-import tempfile
 
-from edits import load_kit
-from gate import lanes
+from common.kit import load_kit
+from common.lanes import lanes
+from harness import TOP, new_folder
 
-TOP = pathlib.Path(__file__).resolve().parent.parent
 DEFAULT = "x86-64-v2"
 
 
@@ -61,7 +60,8 @@ def built(kit, crate, cpu, is_given):
     flags = ["--jobs", str(lanes()), "--cpu", cpu]
     words = [*crate.words(flags, keeps=False), "--toolchain", f"{kit.KIT}/toolchain", "--backend", "llvm"]
     to = made if crate.is_static else f"{made}.o"
-    if subprocess.run([*kit.rtlib.guarded(), kit.rtlib.RATTLE, "build", *words, "-o", to], cwd=crate.folder, stdout=sys.stderr, check=False).returncode:
+    words = [*kit.rtlib.guarded(), kit.rtlib.RATTLE, "build", *words, "-o", to]
+    if subprocess.run(words, cwd=crate.folder, stdout=sys.stderr, check=False).returncode:
         sys.exit(f"{crate.name} was not built")
     if not crate.is_static and crate.link(to, f"out/{crate.name}"):
         sys.exit(f"{crate.name} was not linked")
@@ -78,7 +78,7 @@ def main():
         return 1
     kit = load_kit()
     kit.Crate.allowed = kit.handles_of(str(TOP))
-    with tempfile.TemporaryDirectory(prefix="build-") as room:
+    with new_folder() as room:
         crate, is_given = copied(kit, given.crate, f"{room}/repo")
         made = built(kit, crate, given.cpu, is_given)
         given.file.parent.mkdir(parents=True, exist_ok=True)

@@ -7,16 +7,13 @@ A script that looks for wrong bodies can be wrong itself: it might tell of a ref
 that must be told as refused, as not refused, and as bad ones. Prints what went wrong, and 'N passed, M failed'.
 """
 import os
-import pathlib
 import re
 import secrets
 import subprocess
 import sys
-import tempfile
 
-from edits import load_kit
-
-TOP = pathlib.Path(__file__).resolve().parent.parent
+from common.kit import load_kit
+from harness import TOP, close, new_folder
 
 CRATE = """\
 //! Small sums.
@@ -110,8 +107,8 @@ def write_crate(room, text, edits):
 def looked_at(text, edits, old, *words, checks=None):
     """Runs the script over the crate with this text and these edits, and returns what is wrong. So many edits are to be known, and
     so many checks are to be made, if that is given."""
-    with tempfile.TemporaryDirectory(prefix="edits-test-") as room:
-        write_crate(pathlib.Path(room), text, edits)
+    with new_folder() as room:
+        write_crate(room, text, edits)
         ran = subprocess.run(
             [sys.executable, TOP / "checks/edits.py", *words], cwd=room, stdin=subprocess.DEVNULL, capture_output=True, text=True,
             errors="replace", check=False,
@@ -144,8 +141,7 @@ def main():
     # (functions that call an edited one, or pass its impl, aren't refused by themselves: one check is enough)
     together = [it for it in REFUSED if it[0] in ("twice_of_one", "width_two_more")]
     wrong += looked_at(CRATE, together, 0, "--anew", checks=1)
-    print(f"{len(EDITS) + len(REFUSED) + len(together) + 6 - len(wrong)} passed, {len(wrong)} failed")
-    return 1 if wrong else 0
+    return close(len(EDITS) + len(REFUSED) + len(together) + 6 - len(wrong), len(wrong))
 
 
 if __name__ == "__main__":

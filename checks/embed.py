@@ -9,22 +9,21 @@ replay`. What is taken back must be what was stored last.
 
 COUNT journals of each kind, by default 1,000; the journals follow from SEED, by default 1. It takes out/pageshare (`make build`) and what
 `make embed` leaves in out/embed. Journals with salts (version 2) go through C and Rust alone where the program does not read
-them, and the output says so. Prints how many journals and lines were compared and how often each verdict came (status 0),
-or the first journal that differs, which it leaves at out/embed/differs.journal (status 1).
+them, and the output says so. Prints how many journals and lines were compared and how often each verdict came, or the first journal
+that differs, which it leaves at out/embed/differs.journal. The last line is `N passed, M failed`, of journals (status 0 where all
+passed, else 1).
 """
 import collections
-import pathlib
 import random
-import subprocess
 import sys
 
-from random_texts import header, journal, request, shape, text_of
+from common.random_texts import header, journal, request, shape, text_of
+from harness import OUT, PROGRAM, Tally, leave, run
 
-TOP = pathlib.Path(__file__).resolve().parent.parent
 PROGRAMS = {
-    "pageshare replay": [TOP / "out/pageshare", "replay"],
-    "C": [TOP / "out/embed/journal"],
-    "Rust": [TOP / "out/embed/cargo/release/examples/journal"],
+    "pageshare replay": [PROGRAM, "replay"],
+    "C": [OUT / "embed/journal"],
+    "Rust": [OUT / "embed/cargo/release/examples/journal"],
 }
 
 # the same, with frames in a region
@@ -37,8 +36,10 @@ SALTED = "pageshare journal 2\nframes 1\npages 1\nsalts 1\nend 0\n"
 
 
 def replay(words, text):
-    done = subprocess.run(words, input=text, capture_output=True, text=True, timeout=60, check=False)
-    return done.stdout if done.returncode == 0 else f"status {done.returncode}: {done.stdout}{done.stderr}"
+    """What a program writes of a text, or how it ended."""
+    done = run(words, text)
+    output = done.stdout.decode("utf-8", "replace")
+    return output if done.returncode == 0 else f"status {done.returncode}: {output}{done.stderr.decode('utf-8', 'replace')}"
 
 
 def whole_request(rng, pages, kinds=(10, 45, 25, 20)):
@@ -141,40 +142,51 @@ def whole_pages_differ(rng, verdicts):
     return ("", text) if meant == report else (f"the reports differ: {report} and {meant}", text)
 
 
-def main(count=1000, seed=1):
-    rng = random.Random(seed)
+def journal_faults(text, written):
+    """What is wrong with what each way wrote of a journal, if anything."""
+    if len(set(written.values())) != 1 or "report" not in written["C"]:
+        yield f"it differs; it is at {leave('embed/differs.journal', text)}"
+        yield from (f"by {name}:\n{lines}" for name, lines in written.items())
+
+
+def small_requests(tally, rng, count, seed):
+    """Random journals by each way, up to the first that differs."""
+    knows_salts, unknown = replay(PROGRAMS["pageshare replay"], SALTED).startswith("report"), 0
     verdicts = collections.Counter()
-    knows_salts = replay(PROGRAMS["pageshare replay"], SALTED).startswith("report")
-    unknown = 0
     for nth in range(count):
         text = journal(rng)
-        written = {name: replay(words, text) for name, words in PROGRAMS.items()}
-        if not knows_salts and text.startswith("pageshare journal 2"):
-            del written["pageshare replay"]
-            unknown += 1
-        if len(set(written.values())) != 1 or not written["C"].count("report"):
-            differs = TOP / "out/embed/differs.journal"
-            differs.write_text(text)
-            print(f"journal {nth} of seed {seed} differs: {differs}")
-            for name, lines in written.items():
-                print(f"--- {name}\n{lines}", end="")
-            return 1
+        is_unknown = not knows_salts and text.startswith("pageshare journal 2")
+        unknown += is_unknown
+        ways = {name: words for name, words in PROGRAMS.items() if not (is_unknown and name == "pageshare replay")}
+        written = {name: replay(words, text) for name, words in ways.items()}
+        if not tally.case(f"journal {nth} of seed {seed}", journal_faults(text, written)):
+            return
         verdicts.update(line.split()[1] for line in written["C"].splitlines()[:-1])
     print(f"{count} journals, {sum(verdicts.values()) + count} lines: all equal")
     if unknown:
         print(f"{unknown} of them with salts, which `pageshare replay` does not read here: C beside Rust alone")
     print(", ".join(f"{verdict} {times}" for verdict, times in sorted(verdicts.items())))
-    verdicts.clear()
+
+
+def whole_pages(tally, rng, count, seed):
+    """Random journals of whole pages by each way, up to the first that differs."""
+    verdicts = collections.Counter()
     for nth in range(count):
         wrong, text = whole_pages_differ(rng, verdicts)
-        if wrong:
-            (TOP / "out/embed/differs.journal").write_text(text)
-            print(f"journal {nth} of whole pages, of seed {seed}: {wrong}")
-            return 1
+        faults = [f"{wrong}; it is at {leave('embed/differs.journal', text)}"] if wrong else []
+        if not tally.case(f"journal {nth} of whole pages, of seed {seed}", faults):
+            return
     print(f"{count} journals of whole pages, {sum(verdicts.values())} lines: all equal, and all taken back as stored")
     print(", ".join(f"{verdict} {times}" for verdict, times in sorted(verdicts.items())))
-    return 0
+
+
+def main(count="1000", seed="1"):
+    tally, rng = Tally(), random.Random(int(seed))
+    small_requests(tally, rng, int(count), seed)
+    if not tally.failed:
+        whole_pages(tally, rng, int(count), seed)
+    return tally.close()
 
 
 if __name__ == "__main__":
-    sys.exit(main(*map(int, sys.argv[1:3])))
+    sys.exit(main(*sys.argv[1:3]))

@@ -1,5 +1,5 @@
 #!/usr/bin/env python3
-"""Compares the numbers of fleets, told in three ways, with a plain count (checks/plain_fleet.py).
+"""Compares the numbers of fleets, told in three ways, with a plain count (common/plain_fleet.py).
 
     checks/fleet.py [SEED [PROGRAM]]
 
@@ -17,20 +17,20 @@ all passed, else 1).
 import collections
 import contextlib
 import json
-import pathlib
 import random
+import re
 import subprocess
 import sys
-import tempfile
 import time
 
-import estimate
-import plain_fleet
-import plain_table
+from common import plain_fleet, plain_table
+from common.plain_images import pages_of_bytes, pages_of_image
+from common.random_images import random_image
+from harness import PROGRAM, TOP, LeftOut, Tally, new_folder, run, wrong_end
 
-TOP = pathlib.Path(__file__).resolve().parent.parent
 sys.path.insert(0, str(TOP / "examples"))
-import make_fleet
+import make_fleet  # noqa: E402
+
 FLEET = TOP / "fleet"
 SECONDS = 300
 MOST_MEMORY = 64 << 20
@@ -71,30 +71,16 @@ class Ways:
             self.words["pageshare fleet"] = [program, "fleet", "--json"]
 
     def has(self, command):
+        """Whether the program has this command."""
         try:
-            done = subprocess.run([self.program, command, "--help"], capture_output=True, timeout=60, check=False)
+            return run([self.program, command, "--help"]).returncode == 0
         except OSError:
             return False
-        return done.returncode == 0
 
 
-class Tally:
-    """The cases so far."""
-
-    def __init__(self):
-        self.passed = self.failed = 0
-
-    def case(self, name, wrong):
-        """One case, with what is wrong in it: nothing where it passed."""
-        wrong = list(wrong)
-        self.failed += bool(wrong)
-        self.passed += not wrong
-        for what in wrong:
-            print(f"{name}: {what}", flush=True)
-
-
-def ran(words):
-    return subprocess.run(list(map(str, words)), capture_output=True, timeout=SECONDS, check=False)
+def ran(words, **how):
+    """How a way ends."""
+    return run(words, seconds=SECONDS, **how)
 
 
 def written(folder, texts):
@@ -123,19 +109,15 @@ def differences(given, due, name=""):
 def merge_faults(words, paths, due):
     """What is wrong with the numbers that are told of some digests."""
     done = ran([*words, *paths])
-    if done.returncode != 0 or done.stderr:
-        yield f"status {done.returncode}, {done.stderr[-500:]!r}"
-        return
-    yield from list(differences(json.loads(done.stdout), due))[:5]
+    wrong = list(wrong_end(done, 0, None, ""))
+    yield from wrong or list(differences(json.loads(done.stdout), due))[:5]
 
 
 def table_faults(program, paths, due):
     """What is wrong with the tables of some digests."""
     for unit in ("mib", "pages"):
         done = ran([program, "fleet", "--unit", unit, *paths])
-        text = plain_table.table_text(due, unit)
-        if done.returncode != 0 or done.stderr or done.stdout.decode() != text:
-            yield f"the table in {unit} is {done.stdout.decode()!r}, and {text!r} was due"
+        yield from (f"in {unit}: {what}" for what in wrong_end(done, 0, plain_table.table_text(due, unit), ""))
 
 
 def pairs_faults(program, folder, paths, texts, due):
@@ -170,27 +152,27 @@ def random_texts(draw, count, sample, most):
 
 
 def random_fleets(tally, draw, ways):
+    """The numbers, the pairs and the tables of random fleets, by each way that has them."""
     for number in range(20):
         sample = draw.choice([1, 1, 2, 16, 65536])
         texts = random_texts(draw, draw.randrange(1, 9), sample, draw.choice([3, 40, 400]))
-        due = plain_fleet.counted(texts)
-        with tempfile.TemporaryDirectory() as folder:
-            paths = written(pathlib.Path(folder), texts)
+        due, name = plain_fleet.counted(texts), f"random fleet {number} with sample {sample}"
+        with new_folder() as folder:
+            paths = written(folder, texts)
             for way, words in ways.words.items():
-                tally.case(f"random fleet {number} with sample {sample}, {way}", merge_faults(words, paths, due))
+                tally.case(f"{name}, {way}", merge_faults(words, paths, due))
             if "fleet" in ways.commands:
-                wrong = pairs_faults(ways.program, pathlib.Path(folder), paths, texts, due)
-                tally.case(f"random fleet {number} with sample {sample}, pairs", wrong)
-                tally.case(f"random fleet {number} with sample {sample}, tables", table_faults(ways.program, paths, due))
+                tally.case(f"{name}, pairs", pairs_faults(ways.program, folder, paths, texts, due))
+                tally.case(f"{name}, tables", table_faults(ways.program, paths, due))
 
 
 def python_with_dask():
-    """A Python that has Dask's packages; None where there is none."""
+    """A Python that has Dask's packages."""
     for python in (sys.executable, "/usr/bin/python3"):
         with contextlib.suppress(OSError):
             if ran([python, "-c", "import dask.dataframe, distributed, pandas"]).returncode == 0:
                 return python
-    return None
+    raise LeftOut("Dask's cases, since python3-dask, python3-distributed and python3-pandas aren't at hand")
 
 
 @contextlib.contextmanager
@@ -214,37 +196,43 @@ def scheduler(python, folder):
             process.wait(30)
 
 
-def at_once(tally, draw, ways, python):
-    """200 digests at once, whole and sampled, by each way."""
-    with tempfile.TemporaryDirectory() as name, contextlib.ExitStack() as stack:
-        folder = pathlib.Path(name)
-        words = dict(ways.words)
-        if python:
-            address = stack.enter_context(scheduler(python, folder))
-            words["Dask"] = [python, FLEET / "fleet_dask.py", "--scheduler", address]
-        for sample in (1, 16):
-            texts = random_texts(draw, 200, sample, 1000)
-            due, paths = plain_fleet.counted(texts), written(folder, texts)
-            for way, own in words.items():
+def at_once(tally, draw, ways):
+    """200 digests at once, whole and sampled, by each way but Dask. Returns the texts and what is due of them."""
+    fleets = []
+    for sample in (1, 16):
+        texts = random_texts(draw, 200, sample, 1000)
+        due = plain_fleet.counted(texts)
+        fleets.append((sample, texts, due))
+        with new_folder() as folder:
+            paths = written(folder, texts)
+            for way, own in ways.words.items():
                 tally.case(f"200 digests with sample {sample}, {way}", merge_faults(own, paths, due))
             if "fleet" in ways.commands:
                 tally.case(f"200 digests with sample {sample}, pairs", pairs_faults(ways.program, folder, paths, texts, due))
-        if python:
-            what, line, cause, text = broken_texts()[0]
-            paths = written(folder, [text])
-            tally.case(f"{what}, Dask", fault_faults(ran([*words["Dask"], *paths]), paths[0], line, cause))
-            read_by_workers(tally, python, folder)
+    return fleets
+
+
+def by_dask(tally, fleets):
+    """The same 200 digests by Dask, and broken digests."""
+    python = python_with_dask()
+    with new_folder() as folder, scheduler(python, folder) as address:
+        words = [python, FLEET / "fleet_dask.py", "--scheduler", address]
+        for sample, texts, due in fleets:
+            tally.case(f"200 digests with sample {sample}, Dask", merge_faults(words, written(folder, texts), due))
+        what, line, cause, text = broken_texts()[0]
+        paths = written(folder, [text])
+        tally.case(f"{what}, Dask", fault_faults(ran([*words, *paths]), paths[0], line, cause))
+        read_by_workers(tally, python, folder)
 
 
 def read_by_workers(tally, python, folder):
     """Broken digests as a worker reads them, in one process without an engine."""
     texts = broken_texts()
     paths = written(folder, [text for _what, _line, _cause, text in texts])
-    done = subprocess.run([python, "-c", READ, *paths], capture_output=True, text=True, timeout=SECONDS, check=False, cwd=FLEET)
-    told = done.stdout.splitlines() + [""] * len(texts)
+    done = ran([python, "-c", READ, *paths], cwd=FLEET)
+    told = done.stdout.decode().splitlines() + [""] * len(texts)
     for (what, line, cause, _text), path, one in zip(texts, paths, told):
-        due = f"{path}: fault line {line}: {cause}"
-        tally.case(f"{what}, a worker", [] if one == due else [f"{one or done.stderr!r} was told, and {due!r} was due"])
+        tally.equal(f"{what}, a worker", one or done.stderr, f"{path}: fault line {line}: {cause}")
 
 
 def broken_texts():
@@ -300,8 +288,8 @@ def fault_faults(done, path, line, cause):
 
 
 def broken(tally, ways):
-    with tempfile.TemporaryDirectory() as name:
-        folder = pathlib.Path(name)
+    """Broken digests by each way, and digests of two samples."""
+    with new_folder() as folder:
         for what, line, cause, text in broken_texts():
             sample = 4096 if ",4096," in text else 1
             paths = written(folder, [plain_fleet.text_of_copies("other", 0, sample, {"1" * 28 + "0000": 1}), text])
@@ -309,10 +297,8 @@ def broken(tally, ways):
                 tally.case(f"{what}, {way}", fault_faults(ran([*words, *paths]), paths[1], line, cause))
         paths = written(folder, [plain_fleet.text_of_copies("one", 0, sample, {"0" * 32: 1}) for sample in (4, 4, 8)])
         for way, words in ways.words.items():
-            done = ran([*words, *paths])
-            told = done.stderr.decode("utf-8", "replace")
-            is_right = done.returncode == 1 and not done.stdout and told.count("\n") == 1 and str(paths[2]) in told
-            tally.case(f"two samples, {way}", [] if is_right else [f"status {done.returncode}, {told!r}"])
+            one_line = re.compile(rf"[^\n]*{re.escape(str(paths[2]))}[^\n]*\n")
+            tally.ends(f"two samples, {way}", ran([*words, *paths]), 1, "", one_line)
 
 
 def numbers_in(found):
@@ -337,29 +323,33 @@ def ordinary_copies(draw):
         yield copies
 
 
+def count_within(within, every, due, whole):
+    """Counts the true numbers of one fleet, and those of them that lie within two standard errors of what is told."""
+    told = {(name, place): (value, error) for name, place, value, error in numbers_in(due)}
+    for name, place, true, _error in numbers_in(whole):
+        value, error = told.get((name, place), (0, 0))
+        # A class of few contents has few in the sample or none, from which no error can be told.
+        if not name.startswith("a class") or place <= 8:
+            every[name] += 1
+            within[name] += abs(true - value) <= 2 * error
+
+
 def standard_errors(tally, draw, ways):
     """Of the true numbers at least 90 of 100 lie within two standard errors of what a sample of 16 tells."""
-    within, all_told = collections.Counter(), collections.Counter()
+    within, every = collections.Counter(), collections.Counter()
     for number in range(200):
         guests = list(ordinary_copies(draw))
         whole, sampled = ([plain_fleet.text_of_copies(f"g{n}", 0, k, own) for n, own in enumerate(guests)] for k in (1, 16))
         due = plain_fleet.counted(sampled)
         if "pageshare fleet" in ways.words:
-            with tempfile.TemporaryDirectory() as folder:
-                paths = written(pathlib.Path(folder), sampled)
-                tally.case(f"sampled fleet {number}, pageshare fleet", merge_faults(ways.words["pageshare fleet"], paths, due))
-        told = {(name, place): (value, error) for name, place, value, error in numbers_in(due)}
-        for name, place, true, _error in numbers_in(plain_fleet.counted(whole)):
-            value, error = told.get((name, place), (0, 0))
-            # A class of few contents has few in the sample or none, from which no error can be told.
-            if name.startswith("a class") and place > 8:
-                continue
-            all_told[name] += 1
-            within[name] += abs(true - value) <= 2 * error
-    for name, count in sorted(all_told.items()):
+            with new_folder() as folder:
+                wrong = merge_faults(ways.words["pageshare fleet"], written(folder, sampled), due)
+                tally.case(f"sampled fleet {number}, pageshare fleet", wrong)
+        count_within(within, every, due, plain_fleet.counted(whole))
+    for name, count in sorted(every.items()):
         share = 100 * within[name] / count
         print(f"{name}: {share:.1f} % of {count} true numbers lie within two standard errors")
-        tally.case(f"standard errors of {name}", [] if share >= 90 else ["that is less than 90 %"])
+        tally.holds(f"standard errors of {name}", share >= 90, share, "at least 90 %")
 
 
 def image_faults(draw, ways, folder, number, images):
@@ -372,9 +362,10 @@ def image_faults(draw, ways, folder, number, images):
         image.write_bytes(data)
         words = ["digest", "--name", name, "--salt", salt, "--sample", sample, *(["--raw"] if is_raw else [])]
         done = ran([ways.program, *words, "--workers", draw.randrange(1, 9), image])
-        texts.append(plain_fleet.text_of_pages(name, salt, sample, estimate.pages_of_image(data, is_raw)))
-        if done.returncode != 0 or done.stderr or done.stdout.decode() != texts[-1]:
-            yield f"digest: status {done.returncode}, {done.stdout[:300]!r}, {done.stderr!r}, and {texts[-1][:300]!r} was due"
+        texts.append(plain_fleet.text_of_pages(name, salt, sample, pages_of_image(data, is_raw)))
+        wrong = list(wrong_end(done, 0, texts[-1], ""))
+        if wrong:
+            yield from (f"digest: {what}" for what in wrong)
             return
         paths.append(image)
         files.append(image.with_suffix(".csv"))
@@ -399,26 +390,29 @@ def beside_estimate(ways, paths, files, salts, is_raw):
 
 
 def random_images(tally, draw, ways):
+    """Random images through `digest` and `fleet`, beside `estimate`."""
+    if "digest" not in ways.commands:
+        raise LeftOut(f"the cases of `pageshare digest`, since {ways.program} has no such command")
     pool = [draw.randbytes(plain_fleet.PAGE) for _ in range(6)]
-    with tempfile.TemporaryDirectory() as folder:
+    with new_folder() as folder:
         for number in range(100):
-            images = [estimate.random_image(draw, pool) for _ in range(draw.randrange(1, 6))]
-            tally.case(f"images {number}", image_faults(draw, ways, pathlib.Path(folder), number, images))
+            images = [random_image(draw, pool) for _ in range(draw.randrange(1, 6))]
+            tally.case(f"images {number}", image_faults(draw, ways, folder, number, images))
 
 
 def example(tally, ways):
     """The digests that examples/make_fleet.py writes are those of the images that it writes, here of one host."""
     for guest, sample in [(1, 1), (2, 64)]:
-        with tempfile.TemporaryDirectory() as name:
-            folder, told = pathlib.Path(name), make_fleet.name_of(7, guest)
+        with new_folder() as folder:
+            told = make_fleet.name_of(7, guest)
             make_fleet.write_digest(folder, 7, guest, sample)
             make_fleet.write_image(folder, 7, guest)
             image, given = folder / f"{told}.raw", (folder / f"{told}.csv").read_text()
-            due = {"the count": plain_fleet.text_of_pages(told, 0, sample, estimate.pages_of_bytes(image.read_bytes()))}
+            due = {"the count": plain_fleet.text_of_pages(told, 0, sample, pages_of_bytes(image.read_bytes()))}
             if "digest" in ways.commands:
                 due["digest"] = ran([ways.program, "digest", "--name", told, "--sample", sample, image]).stdout.decode()
             for way, text in due.items():
-                tally.case(f"the example's {told}, {way}", [] if given == text else ["its digest isn't that of its image"])
+                tally.equal(f"the example's {told}, {way}", given, text)
 
 
 def big_file(folder):
@@ -433,35 +427,30 @@ def big_file(folder):
 
 def memory(tally, ways):
     """A merge's memory doesn't grow with the lines."""
-    with tempfile.TemporaryDirectory() as name:
-        path = big_file(pathlib.Path(name))
+    if "fleet" not in ways.commands:
+        raise LeftOut(f"the cases of `pageshare fleet`, since {ways.program} has no such command")
+    with new_folder() as folder:
+        path = big_file(folder)
         begun = time.monotonic()
         done = ran([sys.executable, "-c", MEASURE, ways.program, "fleet", "--json", path])
         *told, status, kibibytes = done.stderr.decode("utf-8", "replace").split()
         taken = int(kibibytes) << 10
         print(f"fleet: {BIG_LINES:,} lines in {time.monotonic() - begun:.2f} s, {taken / (1 << 20):.1f} MiB of memory")
         is_right = (status, told) == ("0", []) and taken <= MOST_MEMORY and json.loads(done.stdout)["total"]["frames"] == BIG_LINES
-        tally.case("5 million lines", [] if is_right else [f"status {status}, {taken} bytes of memory, {told}"])
+        tally.holds("5 million lines", is_right, f"status {status}, {taken} bytes of memory, {told}")
 
 
-def main(seed="1", program=str(TOP / "out/pageshare")):
+def main(seed="1", program=PROGRAM):
     draw, tally, ways = random.Random(int(seed)), Tally(), Ways(program)
-    python = python_with_dask()
-    if not python:
-        print("left out: Dask's cases, since python3-dask, python3-distributed and python3-pandas aren't at hand")
     random_fleets(tally, draw, ways)
-    at_once(tally, draw, ways, python)
+    fleets = at_once(tally, draw, ways)
+    tally.part(by_dask, fleets)
     broken(tally, ways)
     standard_errors(tally, draw, ways)
     example(tally, ways)
-    if "digest" in ways.commands:
-        random_images(tally, draw, ways)
-    if "fleet" in ways.commands:
-        memory(tally, ways)
-    for command in sorted({"digest", "fleet"} - ways.commands):
-        print(f"left out: the cases of `pageshare {command}`, since {program} has no such command")
-    print(f"{tally.passed} passed, {tally.failed} failed")
-    return 1 if tally.failed else 0
+    tally.part(random_images, draw, ways)
+    tally.part(memory, ways)
+    return tally.close()
 
 
 if __name__ == "__main__":

@@ -15,15 +15,13 @@ output is one fault line. It must come within SECONDS and BYTE_SECONDS for each 
 import collections
 import concurrent.futures
 import os
-import pathlib
 import random
 import re
-import subprocess
 import sys
 
-from random_texts import journal, script
+from common.random_texts import journal, script
+from harness import LATE, PROGRAM, Tally, leave, run
 
-TOP = pathlib.Path(__file__).resolve().parent.parent
 SECONDS, BYTE_SECONDS = 5.0, 1e-4
 
 COMMANDS = {"journal": [["replay"]], "script": [["serial"], ["run"], ["run", "--journal"]]}
@@ -90,8 +88,8 @@ def case(seed, nth, commands):
 
 
 def ask(program, words, text):
-    limit = SECONDS + BYTE_SECONDS * len(text)
-    return subprocess.run([program, *words], input=text, capture_output=True, timeout=limit, check=False)
+    """How a command ends that reads this text."""
+    return run([program, *words], text, seconds=SECONDS + BYTE_SECONDS * len(text))
 
 
 def verdict_lines_are_right(output):
@@ -102,10 +100,9 @@ def verdict_lines_are_right(output):
 
 def answer_of(program, words, text):
     """The answer's name, and whether it is right."""
-    try:
-        done = ask(program, words, text)
-    except subprocess.TimeoutExpired:
-        return "too late", False
+    done = ask(program, words, text)
+    if done.returncode == LATE:
+        return LATE, False
     output = done.stdout.decode("latin-1")
     if done.returncode == 1:
         fault = FAULT.fullmatch(output)
@@ -117,33 +114,31 @@ def answer_of(program, words, text):
     return f"{' '.join(words)}: verdicts", verdict_lines_are_right(output)
 
 
-def main(count=10000, seed=1, program=str(TOP / "out/pageshare")):
-    count, seed = int(count), int(seed)
-    known = subprocess.run([program, "--help"], capture_output=True, text=True, check=True).stdout
+def known_commands(program):
+    """The commands for each kind of text that the program has."""
+    known = run([program, "--help"]).stdout.decode()
     commands = {kind: [words for words in many if words[0] in known] for kind, many in COMMANDS.items()}
-    commands = {kind: many for kind, many in commands.items() if many}
-    answers = collections.Counter()
+    return {kind: many for kind, many in commands.items() if many}
+
+
+def main(count="10000", seed="1", program=PROGRAM):
+    seed, commands, tally, answers = int(seed), known_commands(program), Tally(), collections.Counter()
 
     def tried(nth):
         text, words = case(seed, nth, commands)
         return nth, text, words, answer_of(program, words, text)
 
     with concurrent.futures.ThreadPoolExecutor(os.cpu_count()) as pool:
-        for nth, text, words, (answer, is_right) in pool.map(tried, range(count)):
-            if not is_right:
-                left = TOP / "out/fuzz.text"
-                left.parent.mkdir(exist_ok=True)
-                left.write_bytes(text)
-                print(f"text {nth} of seed {seed}, by {' '.join(words)}: {answer}; it is at {left}")
-                print(f"{nth} passed, 1 failed")
+        for nth, text, words, (answer, is_right) in pool.map(tried, range(int(count))):
+            wrong = [] if is_right else [f"{answer}; it is at {leave('fuzz.text', text)}"]
+            if not tally.case(f"text {nth} of seed {seed}, by {' '.join(words)}", wrong):
                 pool.shutdown(cancel_futures=True)
-                return 1
+                break
             answers[answer] += 1
-    print(f"{count} texts of seed {seed}: each got its output or one fault line")
+    print(f"{tally.passed} texts of seed {seed}: each got its output or one fault line")
     for answer, times in sorted(answers.items()):
         print(f"{times:8} {answer}")
-    print(f"{count} passed, 0 failed")
-    return 0
+    return tally.close()
 
 
 if __name__ == "__main__":

@@ -30,12 +30,12 @@ import sys
 import threading
 import time
 
-TOP = pathlib.Path(__file__).resolve().parent.parent
+from common.lanes import lanes
+from harness import TOP, close, counts_of
+
 TABLE = TOP / "out/gate.tsv"
 HEAD = ["command", "kind", "name", "start", "wall", "processor", "passed", "failed"]
 PROGRAM = "crates/pageshare/out/pageshare"
-# The most memory that a check takes, in KiB, with some room.
-CHECK = 5_000_000
 # Of each command: its steps, each with the words that run it, and whether these take --anew.
 COMMANDS = {
     "test": [
@@ -49,7 +49,6 @@ COMMANDS = {
 # What each command takes from nothing, in processor minutes (measured on processors of 2.5 GHz).
 MINUTES = {"test": 131, "edits": 121}
 TICKS = os.sysconf("SC_CLK_TCK")
-CLOSING = re.compile(r"^(\d+) passed, (\d+) failed$")
 # What the steps say of a crate that is done, of one that failed, and of each name that failed at the end.
 DONE = re.compile(r"^rt: (\w+) (?:proved$|is kept)")
 TESTED = re.compile(r"^rt: (\w+): its tests are proved$")
@@ -162,12 +161,6 @@ class Progress:
         return told or [f"-- {it}" for it in self.last] + [f"FAILED: {self.name}: repeat it by `{' '.join(words)}`"]
 
 
-def lanes():
-    """How many checks `rt ci` is to run side by side, each with one job, since each further job of a check reads all libraries anew."""
-    free = int(re.search(r"MemAvailable:\s+(\d+)", pathlib.Path("/proc/meminfo").read_text())[1])
-    return max(1, min(len(os.sched_getaffinity(0)), free // CHECK))
-
-
 def used_so_far():
     used = resource.getrusage(resource.RUSAGE_CHILDREN)
     return used.ru_utime + used.ru_stime
@@ -176,11 +169,10 @@ def used_so_far():
 def run_step(name, words, log):
     """Runs a step. Returns how many passed and how many failed by its last line, and what to print of what failed."""
     counts, progress = None, Progress(name, log)
-    how = {"cwd": TOP, "stdin": subprocess.DEVNULL, "stdout": subprocess.PIPE, "stderr": subprocess.STDOUT, "text": True, "errors": "replace"}
-    with subprocess.Popen(words, env={**os.environ, "RT_JOBS": str(lanes())}, **how) as ran:
+    how = {"stdin": subprocess.DEVNULL, "stdout": subprocess.PIPE, "stderr": subprocess.STDOUT, "text": True, "errors": "replace"}
+    with subprocess.Popen(words, cwd=TOP, env={**os.environ, "RT_JOBS": str(lanes())}, **how) as ran:
         for line in ran.stdout:
-            found = CLOSING.match(line.rstrip("\n"))
-            counts = (int(found[1]), int(found[2])) if found else counts
+            counts = counts_of(line) or counts
             progress.hear(line.rstrip("\n"))
     progress.end()
     passed, failed = counts or (0, 1)
@@ -208,7 +200,8 @@ def write_table(command, begun, rows, steps):
 
 def run_command(command, is_anew):
     begun, watch, rows, sums, failures = time.time(), Watch(), [], [0, 0], []
-    print(f"make {command}: from nothing this takes some {MINUTES[command]} processor minutes, {MINUTES[command] / lanes():.0f} minutes here")
+    minutes = MINUTES[command]
+    print(f"make {command}: from nothing this takes some {minutes} processor minutes, {minutes / lanes():.0f} minutes here")
     if command == "test":
         remove_libraries()
     TABLE.parent.mkdir(exist_ok=True)
@@ -227,8 +220,7 @@ def run_command(command, is_anew):
     watch.join()
     print(f"make {command} took {time.time() - begun:.0f} s, and {used_so_far() / 60:.0f} processor minutes")
     print("".join(f"{it}\n" for it in failures), end="")
-    print(f"{sums[0]} passed, {sums[1]} failed")
-    return 1 if sums[1] else 0
+    return close(*sums)
 
 
 def show():
@@ -254,8 +246,7 @@ def show_sum():
     lacking = wanted - {(row[0], row[2]) for row in steps}
     for command, name in sorted(lacking):
         print(f"FAILED: {name} of `make {command}` didn't run")
-    print(f"{passed} passed, {failed + len(lacking)} failed")
-    return 1 if failed or lacking else 0
+    return close(passed, failed + len(lacking))
 
 
 def main(words):

@@ -16,75 +16,56 @@ With KSM=1 in the environment (as root) the same guests run under the kernel's K
 without sharing, and a table of all is printed. KSM's settings are put back when this program ends, however it ends. CC names another
 compiler than cc, and CFLAGS more words for it.
 
-The status is 1 where a guest saw a wrong word or did not run, or something else failed.
+A guest that saw a wrong word or did not run prints that. The last line is `N passed, M failed`, of the programs that ran (status 0 where
+all passed, else 1).
 """
 import json
 import os
 import pathlib
-import shutil
 import struct
-import subprocess
 import sys
 
-TOP = pathlib.Path(__file__).resolve().parent.parent
-SOURCES, OUT = TOP / "monitor", TOP / "out/monitor"
-CC = os.environ.get("CC", "cc")
-FLAGS = "-std=c11 -O2 -g -Wall -Wextra -Wconversion -Werror -pthread".split() + os.environ.get("CFLAGS", "").split()
+from common.c_programs import FLAGS, LENDER, WINDOW, can_open, compile_c, needs_windows, passes, play, run
+from harness import OUT as BUILT
+from harness import TOP, LeftOut, Tally, leave
+
+SOURCES, OUT = TOP / "monitor", BUILT / "monitor"
 GUEST_FLAGS = (
     "-std=c11 -O2 -Wall -Wextra -Wconversion -Werror -ffreestanding -nostdlib -static -fno-pic -fno-stack-protector "
     "-fcf-protection=none -mgeneral-regs-only -mno-red-zone -Wl,-Ttext-segment=0x200000,--build-id=none,-e,begin"
 ).split()
-WINDOW = sorted((TOP / "window").glob("*.c"))
-LENDER = ["lender", "bus", "journal"]
-PROGRAMS = {"tiny": [*LENDER, "vm"], "fleet": [*LENDER, "looker", "vm", "linux", "voices", "count", "figures"]}
+PROGRAMS = {"tiny": ["vm"], "fleet": ["looker", "vm", "linux", "voices", "count", "figures"]}
 # (a journal ends where a page more might be too much, up to 65 requests before this number)
 REQUESTS = 100_100
 KSM = pathlib.Path("/sys/kernel/mm/ksm")
 
 
-def run(words, **more):
-    print("$ " + " ".join(str(word).replace(f"{TOP}/", "") for word in words), flush=True)
-    return subprocess.run(words, **more)
-
-
-def must(words, **more):
-    if run(words, **more).returncode != 0:
-        sys.exit("failed")
-
-
 def build(name, library, more=(), suffix=""):
-    """Builds a program; answers its path."""
-    path = OUT / (name + suffix)
+    """Builds a program, and returns its path."""
     sources = [SOURCES / f"{part}.c" for part in [name, *PROGRAMS[name]]]
-    words = [CC, *FLAGS, *more, f"-I{TOP / 'include'}", "-o", path, *sources, *WINDOW, library]
-    if subprocess.run(words).returncode != 0:
-        sys.exit(f"{name} does not compile")
-    return path
+    return compile_c([*FLAGS, *more, f"-I{TOP / 'include'}", *sources, *LENDER, *WINDOW, library], OUT / (name + suffix))
 
 
 def build_guest():
-    path = OUT / "guest"
-    if subprocess.run([CC, *GUEST_FLAGS, "-o", path, SOURCES / "guest.c"]).returncode != 0:
-        sys.exit("the guest does not compile")
-    return path
+    """A guest's own program, without a system below it."""
+    return compile_c([*GUEST_FLAGS, SOURCES / "guest.c"], OUT / "guest")
+
+
+def padded(data):
+    """Filled up to four bytes."""
+    return data + bytes(-len(data) % 4)
+
+
+def entry(number, name, mode, data):
+    """An entry of an archive: thirteen numbers, of which here count inode, mode, links, size, and the name's length."""
+    numbers = [number, mode, 0, 0, 1, 0, len(data), 0, 0, 0, 0, len(name) + 1, 0]
+    head = b"070701" + b"".join(b"%08X" % of for of in numbers) + name + b"\0"
+    return padded(head) + padded(data)
 
 
 def build_initramfs():
     """An archive (cpio, newc) with one file, the first process of a Linux guest."""
-    init = OUT / "init"
-    words = [CC, *FLAGS, "-static", "-DGUEST_OF_LINUX", "-o", init, SOURCES / "init.c", SOURCES / "guest.c"]
-    if subprocess.run(words).returncode != 0:
-        sys.exit("init does not compile")
-
-    def entry(number, name, mode, data):
-        """Thirteen numbers, of which here count: inode, mode, links, size, and the name's length."""
-        numbers = [number, mode, 0, 0, 1, 0, len(data), 0, 0, 0, 0, len(name) + 1, 0]
-        head = b"070701" + b"".join(b"%08X" % of for of in numbers) + name + b"\0"
-        return padded(head) + padded(data)
-
-    def padded(data):
-        return data + bytes(-len(data) % 4)
-
+    init = compile_c([*FLAGS, "-static", "-DGUEST_OF_LINUX", SOURCES / "init.c", SOURCES / "guest.c"], OUT / "init")
     path = OUT / "initramfs"
     path.write_bytes(entry(1, b"init", 0o100755, init.read_bytes()) + entry(0, b"TRAILER!!!", 0, b""))
     return path
@@ -95,8 +76,7 @@ def build_standin():
     at, room, path = 0x1000000, 0x100000, OUT / "standin"
     places = f"-Wl,--section-start=.begin={at + 0x200:#x},-Ttext={at + 0x1000:#x},--build-id=none,--oformat=binary,-e,begin"
     flags = [flag for flag in GUEST_FLAGS if not flag.startswith("-Wl")]
-    if subprocess.run([CC, *flags, "-fno-asynchronous-unwind-tables", places, "-o", path, SOURCES / "standin.c"]).returncode != 0:
-        sys.exit("the stand-in for a kernel does not compile")
+    compile_c([*flags, "-fno-asynchronous-unwind-tables", places, SOURCES / "standin.c"], path)
     head = bytearray(1024)
     for place, form, value in [
         (0x1F1, "<B", 1),  # sectors behind the first
@@ -112,15 +92,7 @@ def build_standin():
     return path
 
 
-def can_open(path):
-    try:
-        os.close(os.open(path, os.O_RDWR | os.O_CLOEXEC))
-        return True
-    except OSError:
-        return False
-
-
-def wrong_program(fleet, guest):
+def wrong_program(tally, fleet, guest):
     """A guest's program whose segment would wrap round the end of addresses is refused."""
     image = bytearray(guest.read_bytes())
     at, size, count = struct.unpack_from("<Q", image, 32)[0], *struct.unpack_from("<HH", image, 54)
@@ -130,34 +102,8 @@ def wrong_program(fleet, guest):
             struct.pack_into("<Q", image, at + i * size + 40, 0x300000 + 0x1000)
     path = OUT / "wrong_guest"
     path.write_bytes(image)
-    if run([fleet, "--guests", "1", "--mib", "6", "--seconds", "1", path], capture_output=True).returncode != 1:
-        sys.exit("a program that wraps round the end of addresses was not refused")
-
-
-def trace(library, guest):
-    """A record of a fleet's events through the proved program that plays them."""
-    text, program = OUT / "fleet.trace", TOP / "out/window_trace"
-    fleet = build("fleet", library, ["-DWINDOW_TRACE"], "_trace")
-    must([fleet, "--seconds", "10", "--guests", "2", "--mib", "6", "--round", "50", "--renew", "3", "--trace", text, guest])
-    if not program.exists():
-        print("left out: that record through the proved program, since there is no out/window_trace (make out/window_trace)")
-        return
-    must([program, text])
-
-
-def journal(fleet, guest):
-    """A fleet's journal through the proved replay."""
-    text, program = OUT / "fleet.journal", TOP / "out/pageshare"
-    must([fleet, "--seconds", "60", "--guests", "2", "--mib", "6", "--round", "50", "--requests", str(REQUESTS), "--journal", text, guest])
-    if not program.exists():
-        print("left out: the replay of that journal, since there is no out/pageshare (make build)")
-        return
-    replayed = run([program, "replay", text], capture_output=True).stdout
-    if replayed != (OUT / "fleet.journal.replay").read_bytes():
-        (OUT / "fleet.journal.differs").write_bytes(replayed)
-        sys.exit("the replay differs: out/monitor/fleet.journal.differs, and out/monitor/fleet.journal.replay is wanted")
-    lines = replayed.decode("ascii").splitlines()
-    print(f"replayed: {len(lines) - 1:,} verdicts as the monitor got them, and {lines[-1]}")
+    done = run([fleet, "--guests", "1", "--mib", "6", "--seconds", "1", path], capture_output=True)
+    tally.equal("a program that wraps round the end of addresses, its status", done.returncode, 1)
 
 
 class Settings:
@@ -179,20 +125,24 @@ class Settings:
         os.close(ours)
 
     def set(self, sleep, pages):
+        """KSM at this speed, with nothing merged."""
         (KSM / "run").write_text("2")
         (KSM / "sleep_millisecs").write_text(str(sleep))
         (KSM / "pages_to_scan").write_text(str(pages))
         (KSM / "run").write_text("1")
 
     def off(self):
+        """No KSM, with nothing merged."""
         (KSM / "run").write_text("2")
 
     def put_back(self):
+        """Lets the settings be put back."""
         os.close(self.pipe)
         os.waitpid(self.keeper, 0)
 
 
 def ksmd():
+    """The number of KSM's thread."""
     for path in pathlib.Path("/proc").glob("[0-9]*/comm"):
         if path.read_text().strip() == "ksmd":
             return path.parent.name
@@ -200,6 +150,7 @@ def ksmd():
 
 
 def row(name, of):
+    """A line of the table."""
     share = 100 * of["saved"] / of["bound"]
     return (
         f"| {name} | {of['mib_before']:.0f}, {of['mib_settled']:.1f}, {of['mib_end']:.1f} "
@@ -208,18 +159,24 @@ def row(name, of):
     )
 
 
-def compare(fleet, guest, seconds):
+def compare(tally, fleet, guest, seconds):
     """The same guests under the library, KSM and nothing: one table."""
+    if not os.access(KSM / "run", os.W_OK) or os.geteuid() != 0:
+        raise LeftOut("KSM, which takes root and a kernel that has it")
     ways = [("plain", "plain", None), ("lend", "lend", None)]
     ways += [(f"KSM {sleep} ms x {pages}", "ksm", (sleep, pages)) for sleep, pages in [(20, 100), (20, 1000)]]
     rows = []
     settings = Settings()
     try:
         for name, way, speed in ways:
-            settings.set(*speed) if speed else settings.off()
+            if speed:
+                settings.set(*speed)
+            else:
+                settings.off()
             path = OUT / f"way{len(rows)}.json"
-            must([fleet, "--seconds", str(seconds), "--way", way, "--json", path, guest], env={**os.environ, "KSMD": ksmd()})
-            rows.append(row(name, json.loads(path.read_text())))
+            words = [fleet, "--seconds", seconds, "--way", way, "--json", path, guest]
+            if passes(tally, words, env={**os.environ, "KSMD": ksmd()}):
+                rows.append(row(name, json.loads(path.read_text())))
     finally:
         settings.put_back()
     heads = ["", "MiB before, settled, end", "saved of the bound", "settled, s", "processor s (rounds)", "ksmd s", "ms a round"]
@@ -243,46 +200,74 @@ def goals(lend):
         print(f"| {what} | {goal} | {here:.1f} |")
 
 
-def with_guests(library, seconds):
-    fleet, guest = build("fleet", library), build_guest()
-    must([build("tiny", library)])
-    wrong_program(fleet, guest)
-    figures = OUT / "fleet.json"
-    must([fleet, "--seconds", str(seconds), "--json", figures, "--svg", OUT / "fleet.svg", guest])
-    goals(json.loads(figures.read_text()))
-    stress = ["--processors", "2", "--round", "20", "--rest", "2", "--mib", "64", "--renew", "3"]
-    must([fleet, "--seconds", str(seconds), *stress, guest])
-    trace(library, guest)
-    journal(fleet, guest)
-    must([fleet, "--seconds", "3", "--mib", "32", "--kernel", build_standin(), "--initrd", build_initramfs()])
+def trace(tally, library, guest):
+    """A record of a fleet's events through the proved program that plays them."""
+    text = OUT / "fleet.trace"
+    fleet = build("fleet", library, ["-DWINDOW_TRACE"], "_trace")
+    words = ["--seconds", "10", "--guests", "2", "--mib", "6", "--round", "50", "--renew", "3", "--trace", text]
+    if passes(tally, [fleet, *words, guest]):
+        tally.part(play, text)
+
+
+def replay(tally, text):
+    """A fleet's journal through the proved replay."""
+    program = BUILT / "pageshare"
+    if not program.exists():
+        raise LeftOut("the replay of that journal, since there is no out/pageshare (make build)")
+    replayed, due = run([program, "replay", text], capture_output=True).stdout, text.with_suffix(".journal.replay").read_bytes()
+    is_so = tally.equal("the replay of a fleet's journal", replayed, due)
+    if not is_so:
+        print(f"it is at {leave('monitor/fleet.journal.differs', replayed)}, and out/monitor/fleet.journal.replay was due")
+        return
+    lines = replayed.decode("ascii").splitlines()
+    print(f"replayed: {len(lines) - 1:,} verdicts as the monitor got them, and {lines[-1]}")
+
+
+def journal(tally, fleet, guest):
+    """A fleet's journal, and its replay."""
+    text = OUT / "fleet.journal"
+    words = ["--seconds", "60", "--guests", "2", "--mib", "6", "--round", "50", "--requests", str(REQUESTS), "--journal", text]
+    if passes(tally, [fleet, *words, guest]):
+        tally.part(replay, text)
+
+
+def kernels(tally, fleet, seconds):
+    """A stand-in for a kernel, booted as Linux is; and Linux, if KERNEL names one."""
+    initramfs = build_initramfs()
+    passes(tally, [fleet, "--seconds", "3", "--mib", "32", "--kernel", build_standin(), "--initrd", initramfs])
     if os.environ.get("KERNEL"):
-        words = ["--kernel", os.environ["KERNEL"], "--initrd", OUT / "initramfs"]
-        must([fleet, "--seconds", str(max(seconds, 60)), "--mib", "256", *words])
-    if os.environ.get("KSM") == "1":
-        if os.access(KSM / "run", os.W_OK) and os.geteuid() == 0:
-            compare(fleet, guest, seconds)
-        else:
-            print("left out: KSM, which takes root and a kernel that has it")
+        words = ["--kernel", os.environ["KERNEL"], "--initrd", initramfs]
+        passes(tally, [fleet, "--seconds", str(max(int(seconds), 60)), "--mib", "256", *words])
 
 
-def main():
-    library = pathlib.Path(sys.argv[1] if len(sys.argv) > 1 else TOP / "out/libpageshare.a")
-    seconds = int(sys.argv[2]) if len(sys.argv) > 2 else 30
-    if not library.exists():
-        sys.exit(f"there is no library {library}")
-    if shutil.which(CC) is None:
-        print("left out: all, since there is no C compiler")
-        return
+def with_guests(tally, library, seconds):
+    """Each run of guests in turn."""
+    needs_windows()
+    if not can_open("/dev/kvm"):
+        raise LeftOut("guests, since there is no /dev/kvm")
     OUT.mkdir(parents=True, exist_ok=True)
-    if not can_open("/dev/userfaultfd"):
-        print("left out: all, since there is no /dev/userfaultfd for this user")
-        return
-    if can_open("/dev/kvm"):
-        with_guests(library, seconds)
-    else:
-        print("left out: guests, since there is no /dev/kvm")
-    print("ok")
+    fleet, guest = build("fleet", library), build_guest()
+    passes(tally, [build("tiny", library)])
+    wrong_program(tally, fleet, guest)
+    figures = OUT / "fleet.json"
+    if passes(tally, [fleet, "--seconds", seconds, "--json", figures, "--svg", OUT / "fleet.svg", guest]):
+        goals(json.loads(figures.read_text()))
+    stress = ["--processors", "2", "--round", "20", "--rest", "2", "--mib", "64", "--renew", "3"]
+    passes(tally, [fleet, "--seconds", seconds, *stress, guest])
+    trace(tally, library, guest)
+    journal(tally, fleet, guest)
+    kernels(tally, fleet, seconds)
+    if os.environ.get("KSM") == "1":
+        tally.part(compare, fleet, guest, seconds)
+
+
+def main(library=BUILT / "libpageshare.a", seconds="30"):
+    if not pathlib.Path(library).exists():
+        sys.exit(f"there is no library {library}")
+    tally = Tally()
+    tally.part(with_guests, library, seconds)
+    return tally.close()
 
 
 if __name__ == "__main__":
-    main()
+    sys.exit(main(*sys.argv[1:3]))

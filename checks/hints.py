@@ -11,17 +11,17 @@ is searched from its front takes about --times squared. Prints both times (statu
 may run on the machine meanwhile.
 """
 import argparse
-import os
 import sys
 
-from bench import OUT, TOP, different, journal, output, seconds
+from common.benches import ROOM, different, journal, output, scanned, seconds
+from harness import PROGRAM
 
 SLACK = 1.2
 
 
 def hinted(program, count):
     """The journal of so many hints, once its report has told them all."""
-    path = journal(f"hints-{count}", count, count, different(count))
+    path = journal(f"hints-{count}", count, count, scanned(count, different))
     report = output(program, ["replay"], path).decode("ascii").splitlines()[-1]
     wanted = f"report entries {2 * count} mapped {count} shared 0 frames {count} reclaimed 0 hints {count}"
     if report != wanted:
@@ -31,12 +31,12 @@ def hinted(program, count):
 
 def main():
     parser = argparse.ArgumentParser(description="Looks that a replay's time grows with its hints and no faster.")
-    parser.add_argument("--program", default=os.path.join(TOP, "out", "pageshare"))
+    parser.add_argument("--program", default=PROGRAM)
     parser.add_argument("--few", type=int, default=10_000)
     parser.add_argument("--times", type=int, default=4)
     parser.add_argument("--turns", type=int, default=9)
     asked = parser.parse_args()
-    os.makedirs(OUT, exist_ok=True)
+    ROOM.mkdir(parents=True, exist_ok=True)
     counts = [asked.few, asked.few * asked.times]
     paths = [hinted(asked.program, count) for count in counts]
     turns = [[seconds(asked.program, ["replay"], path) for path in paths] for _ in range(asked.turns)]

@@ -13,13 +13,14 @@ wrong, and at the end `N passed, M failed` (status 0 where all passed, else 1).
 import errno
 import os
 import pathlib
+import re
 import signal
 import subprocess
 import sys
 
-import plain_fleet
+from common import plain_fleet
+from harness import ANY, PROGRAM, LeftOut, Tally, run
 
-TOP = pathlib.Path(__file__).resolve().parent.parent
 SECONDS = 120
 KNOWN = {"private": 3000, "shared": 700, "memfd": 50, "file": 90, "read-only": 80}
 
@@ -56,19 +57,11 @@ if ctypes.CDLL(None).mprotect(ctypes.c_void_p(address), ctypes.c_size_t(4096 * k
 print("ready", flush=True)
 time.sleep({SECONDS})
 """
-
-passed = failed = 0
-
-
-def case(name, wrong):
-    global passed, failed
-    passed += not wrong
-    failed += bool(wrong)
-    for what in wrong:
-        print(f"{name}: {what}", flush=True)
+ONE_LINE = re.compile("[^\n]+\n")
 
 
 def page_of(kind, number):
+    """A page of the child's, as it fills it."""
     return b"".join(f"{kind}/{number}/{place:04}".encode().ljust(32, b".") for place in range(128))
 
 
@@ -120,65 +113,60 @@ def known_faults(pages):
         yield "pages of zeros are missing"
 
 
-def asked(program, *words):
-    done = subprocess.run([program, "digest", *map(str, words)], capture_output=True, timeout=SECONDS, check=False)
-    return done.returncode, done.stdout.decode(), done.stderr.decode("utf-8", "replace")
-
-
-def digests(program, pid, pages):
+def digests(tally, program, pid, pages):
     """The digests of the stopped child by the program."""
     for salt, sample, workers in [(0, 1, 1), (0, 1, 4), (7, 1, 3), (4294967295, 64, 2), (0, 65536, 4)]:
         words = ["--pid", pid, "--name", "child", "--salt", salt, "--sample", sample, "--workers", workers]
-        status, out, err = asked(program, *words)
-        due = plain_fleet.text_of_pages("child", salt, sample, pages)
-        wrong = [] if (status, err) == (0, "") and out == due else [f"status {status}, {out[:200]!r}, {err!r}, and {due[:200]!r} was due"]
-        case(f"salt {salt}, sample {sample}, {workers} workers", wrong)
+        done = run([program, "digest", *words], seconds=SECONDS)
+        tally.ends(f"salt {salt}, sample {sample}, {workers} workers", done, 0, plain_fleet.text_of_pages("child", salt, sample, pages))
 
 
-def refusals(program, pid):
+def refusals(tally, program, pid):
     """Processes that can't be read: one fault line, and nothing on standard output."""
     with subprocess.Popen(["true"]) as gone:
         gone.wait()
-    for name, words, status in [
-        ("a process that has ended", ["--pid", gone.pid, "--name", "gone"], 1),
-        ("no such number", ["--pid", 0, "--name", "none"], 2),
-        ("no name", ["--pid", pid], 2),
-        ("a process and an image", ["--pid", pid, "--name", "both", os.devnull], 2),
+    for name, words, status, told in [
+        ("a process that has ended", ["--pid", gone.pid, "--name", "gone"], 1, ONE_LINE),
+        ("no such number", ["--pid", 0, "--name", "none"], 2, ANY),
+        ("no name", ["--pid", pid], 2, ANY),
+        ("a process and an image", ["--pid", pid, "--name", "both", os.devnull], 2, ANY),
     ]:
-        given, out, err = asked(program, *words)
-        is_right = given == status and not out and (err.count("\n") == 1 if status == 1 else bool(err))
-        case(name, [] if is_right else [f"status {given}, {out[:200]!r}, {err[:200]!r}"])
+        tally.ends(name, run([program, "digest", *words], seconds=SECONDS), status, "", told)
 
 
-def has_digest(program):
+def by_program(tally, program, pid, pages):
+    """What the program tells of the stopped child."""
     try:
-        return asked(program, "--help")[0] == 0
+        has_digest = run([program, "digest", "--help"]).returncode == 0
     except OSError:
-        return False
+        has_digest = False
+    if not has_digest:
+        raise LeftOut(f"`pageshare digest --pid`, since {program} has no such command")
+    digests(tally, program, pid, pages)
+    refusals(tally, program, pid)
 
 
-def main(program=str(TOP / "out/pageshare")):
+def live_process(tally, program):
+    """A child with known pages, read while it is stopped."""
     if not sys.platform.startswith("linux"):
-        print("left out: live processes, since this is no Linux\n0 passed, 0 failed")
-        return 0
-    child = subprocess.Popen([sys.executable, "-c", CHILD], stdout=subprocess.PIPE, text=True)
-    try:
-        if child.stdout.readline() != "ready\n":
-            case("the child", ["it didn't get ready"])
-        child.send_signal(signal.SIGSTOP)
-        os.waitid(os.P_PID, child.pid, os.WSTOPPED | os.WNOWAIT)
-        pages = pages_of(child.pid)
-        case("known pages, by the count", list(known_faults(pages)))
-        if has_digest(program):
-            digests(program, child.pid, pages)
-            refusals(program, child.pid)
-        else:
-            print(f"left out: `pageshare digest --pid`, since {program} has no such command")
-    finally:
-        child.kill()
-        child.wait()
-    print(f"{passed} passed, {failed} failed")
-    return 1 if failed else 0
+        raise LeftOut("live processes, since this is no Linux")
+    with subprocess.Popen([sys.executable, "-c", CHILD], stdout=subprocess.PIPE, text=True) as child:
+        try:
+            if child.stdout.readline() != "ready\n":
+                tally.case("the child", ["it didn't get ready"])
+            child.send_signal(signal.SIGSTOP)
+            os.waitid(os.P_PID, child.pid, os.WSTOPPED | os.WNOWAIT)
+            pages = pages_of(child.pid)
+            tally.case("known pages, by the count", known_faults(pages))
+            tally.part(by_program, program, child.pid, pages)
+        finally:
+            child.kill()
+
+
+def main(program=PROGRAM):
+    tally = Tally()
+    tally.part(live_process, program)
+    return tally.close()
 
 
 if __name__ == "__main__":

@@ -8,11 +8,11 @@ A layer is a comment line of crates.txt, up to a bracket. The first line of each
 'Proved in a line: WHAT.' says what is proved of the crate; a layer in which one crate has that line needs it of each. Prints what
 is missing, and with --check last 'N passed, M failed' (status 0 where M is 0, else 1).
 """
-import pathlib
 import re
 import sys
 
-TOP = pathlib.Path(__file__).resolve().parent.parent
+from harness import TOP, close
+
 MAP = TOP / "crates/README.md"
 INTRODUCTION = """\
 # Crates
@@ -86,7 +86,7 @@ def main(words):
         wrong.append("crates/README.md isn't current: run checks/map.py")
     print("".join(f"{it}\n" for it in wrong), end="")
     if words:
-        print(f"{crates + 1 - len(wrong)} passed, {len(wrong)} failed")
+        close(crates + 1 - len(wrong), len(wrong))
     return 1 if wrong else 0
 
 

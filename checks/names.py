@@ -9,19 +9,22 @@ the form of a name in code (such as `hash_ahead`, `Core::apply` or `IsNew`) must
 Names of other projects are listed in OTHERS. Prints what is missing, with its line, and
 last 'N passed, M failed' (status 0 where M is 0, else 1).
 """
-import pathlib
 import re
 import subprocess
 import sys
 
-TOP = pathlib.Path(__file__).resolve().parent.parent
+from harness import TOP, Tally
+
 LINK = re.compile(r"\]\(([^)\s]+)\)")
 CODE = re.compile(r"`([^`\n]+)`")
 WORD = re.compile(r"[A-Za-z_][A-Za-z0-9_]*")
 # The form of a name in code: an underscore within, two words by :: or a capital letter behind a small one.
 NAME = re.compile(r"[A-Za-z_][A-Za-z0-9_]*(?:::[A-Za-z_][A-Za-z0-9_]*)*(?:\(\))?")
 PATH = re.compile(r"(?:\.\./)*[\w.+-]+(?:/[\w.+-]+)+/?")
-FOLDERS = ("crates", "docs", "checks", "examples", "monitor", "fleet", "include", "bindings", "benches", "host", "window", "library", "packaging", ".ci")
+FOLDERS = (
+    "crates", "docs", "checks", "examples", "monitor", "fleet", "include", "bindings", "benches", "host", "window", "library", "packaging",
+    ".ci",
+)
 TARGET = re.compile(r"(?m)^([a-z][\w-]*):")
 # What is named and isn't of this tree: names of ELF, of Linux, of other monitors and of the kit.
 OTHERS = set(
@@ -94,14 +97,11 @@ def main():
         if not file.endswith((".md", ".svg")):
             words |= set(WORD.findall((TOP / file).read_text(errors="replace")))
     targets = set(TARGET.findall((TOP / "Makefile").read_text()))
-    passed = failed = 0
+    tally = Tally()
     for file in sorted(it for it in files if it.endswith(".md")):
         for number, name, is_missing in looked_at(file, (TOP / file).read_text(), words, targets):
-            passed, failed = passed + (not is_missing), failed + is_missing
-            if is_missing:
-                print(f"{file}:{number}: {name} isn't there")
-    print(f"{passed} passed, {failed} failed")
-    return 1 if failed else 0
+            tally.case(f"{file}:{number}", [f"{name} isn't there"] if is_missing else [])
+    return tally.close()
 
 
 if __name__ == "__main__":

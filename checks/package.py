@@ -7,8 +7,8 @@ FOLDER is by default out/dist; nothing is built here but programs that use the l
 its program run with nothing of this repository or the kit on PATH: at both levels, on images whose estimate is known. It is installed
 below a prefix, where C and Rust programs are linked by pkg-config, shared and static; man pages and completions are read by the
 programs that show them; systemd rates the host's unit; the library of x86-64-v3 is run on an emulated processor without AVX2, where
-it has to refuse; and what is uninstalled leaves no file. A second `packaging/dist.py` of the same tree has to make the same bytes. Then the Debian package is
-installed, run and removed in an empty Debian that debootstrap makes, which needs root and the network.
+it has to refuse; and what is uninstalled leaves no file. A second `packaging/dist.py` of the same tree has to make the same bytes.
+Then the Debian package is installed, run and removed in an empty Debian that debootstrap makes, which needs root and the network.
 
 What this machine has no program for is left out, and named. Prints each case that went wrong, and last `N passed, M failed` (status 0
 where all passed, else 1).
@@ -19,11 +19,11 @@ import os
 import pathlib
 import re
 import shutil
-import subprocess
 import sys
-import tempfile
 
-TOP = pathlib.Path(__file__).resolve().parent.parent
+import harness
+from harness import OUT, TOP, LeftOut, Tally, needs, new_folder
+
 ROWS = TOP / "examples/rows"
 ESTIMATE = ["estimate", "--json", "--salts", "0,0,5", "first.raw", "second.core", "first.raw"]
 # What examples/rows/images.estimate has of these images.
@@ -31,6 +31,12 @@ TOTAL = {"pages": 17, "zero": 6, "shared": 14, "frames": 9, "reclaimed": 8}
 PLAIN = {"PATH": "/usr/bin:/bin", "HOME": "/nonexistent", "LC_ALL": "C.UTF-8"}
 HAS_V3 = "avx2" in pathlib.Path("/proc/cpuinfo").read_text().split()
 SUITE = "bookworm"
+VERSION = r"pageshare [\d.]+, .*\ncommit .+\nproved and compiled by .+\n"
+MAN_READERS = {"mandoc": ["mandoc", "-Tlint"], "man": ["man", "--warnings", "-l"]}
+COMPLETIONS = {
+    "bash": "bash-completion/completions/pageshare", "zsh": "zsh/site-functions/_pageshare",
+    "fish": "fish/vendor_completions.d/pageshare.fish",
+}
 PROGRAM = """\
 #include <pageshare.h>
 #include <stdio.h>
@@ -67,34 +73,17 @@ fn main() {
     println!("{}", machine.lend(0, 1, &page).expect("lent"));
 }
 """
-passed = failed = 0
 
 
-def expect(what, is_right, said=""):
-    global passed, failed
-    if is_right:
-        passed += 1
-    else:
-        failed += 1
-        print(f"{what}: not as it should be\n{said}".rstrip(), flush=True)
-    return is_right
-
-
-def left_out(what):
-    print(f"left out: {what}", flush=True)
-
-
-def run(*words, env=PLAIN, folder=None, text=None):
-    done = subprocess.run(words, env=env, cwd=folder, input=text, capture_output=True, text=True, errors="replace", check=False)
-    return done.returncode, done.stdout, done.stderr
+def run(*words, env=PLAIN, folder=None):
+    """The status, the output and the errors of a program, which may take long."""
+    done = harness.run(words, seconds=3600, env=env, cwd=folder)
+    return done.returncode, done.stdout.decode("utf-8", "replace"), done.stderr.decode("utf-8", "replace")
 
 
 def has(name):
+    """Whether this machine has a program."""
     return shutil.which(name) is not None
-
-
-def version_of(program):
-    return run(program, "--version")[1]
 
 
 def is_estimate(said):
@@ -103,60 +92,65 @@ def is_estimate(said):
     return code == 0 and not err and TOTAL.items() <= json.loads(out or "{}").get("total", {}).items()
 
 
-def try_program(program):
+def try_program(tally, program):
     """The program at each level that this processor has, and at a level that there isn't."""
     for level in ["", "v2", *(["v3"] if HAS_V3 else [])]:
         env = {**PLAIN, "PAGESHARE_LEVEL": level}
         said = run(program, *ESTIMATE, env=env, folder=ROWS)
-        expect(f"estimate at level {level or 'chosen'}", is_estimate(said), said)
+        tally.holds(f"estimate at level {level or 'chosen'}", is_estimate(said), said)
         shown = run(program, "--version", env=env)
         built = f"built for x86-64-{level or ('v3' if HAS_V3 else 'v2')}\n"
-        lines = r"pageshare [\d.]+, .*\ncommit .+\nproved and compiled by .+\n"
-        expect(f"--version at level {level or 'chosen'}", shown[0] == 0 and built in shown[1] and re.fullmatch(lines, shown[1]), shown)
-    expect("a level that there isn't", run(program, "--version", env={**PLAIN, "PAGESHARE_LEVEL": "v9"})[0] == 2)
-    expect("a wrong command line", run(program, "no-such-command")[0] == 2)
-    if has("qemu-x86_64"):
-        old = run("qemu-x86_64", "-cpu", "Nehalem", program, "--version", env={**PLAIN, "PAGESHARE_LEVEL": "v3"})
-        expect("v3 on an older processor", old[0] == 127 and "older than x86-64-v3" in old[2], old)
-    else:
-        left_out("older processors, since there is no qemu-x86_64")
+        is_version = shown[0] == 0 and built in shown[1] and re.fullmatch(VERSION, shown[1])
+        tally.holds(f"--version at level {level or 'chosen'}", is_version, shown)
+    tally.equal("a level that there isn't", run(program, "--version", env={**PLAIN, "PAGESHARE_LEVEL": "v9"})[0], 2)
+    tally.equal("a wrong command line", run(program, "no-such-command")[0], 2)
+    tally.part(try_older, program)
+
+
+def try_older(tally, program):
+    """The build for x86-64-v3 on an emulated processor without AVX2."""
+    needs("older processors", "qemu-x86_64")
+    old = run("qemu-x86_64", "-cpu", "Nehalem", program, "--version", env={**PLAIN, "PAGESHARE_LEVEL": "v3"})
+    tally.holds("v3 on an older processor", old[0] == 127 and "older than x86-64-v3" in old[2], old)
 
 
 def flags_of(prefix, *words):
+    """What pkg-config says of the library."""
     env = {**PLAIN, "PKG_CONFIG_PATH": f"{prefix}/lib/pkgconfig"}
     return run("pkg-config", *words, "pageshare", env=env)[1].split()
 
 
-def try_c(prefix, room):
+def is_paired(said, level):
+    """Whether a program in C printed what it should over the library of this level."""
+    return said[1].startswith("paired\n") and said[1].endswith(f"level {level} status 0 free 0\n")
+
+
+def try_c(tally, prefix, room):
     """Programs in C over the shared and the static libraries."""
-    if not has("cc") or not has("pkg-config"):
-        left_out("C, since there is no cc or no pkg-config")
-        return
-    source = room / "user.c"
+    needs("C", "cc", "pkg-config")
+    source, library = room / "user.c", prefix / "lib"
     source.write_text(PROGRAM)
     strict = ["cc", "-std=c11", "-Wall", "-Wextra", "-Wpedantic", "-Werror", source]
-    library = prefix / "lib"
     shared = run(*strict, *flags_of(prefix, "--cflags", "--libs"), "-o", room / "shared")
-    expect("C, shared: compiled", shared[0] == 0, shared)
-    level = 3 if HAS_V3 else 2
+    tally.holds("C, shared: compiled", shared[0] == 0, shared)
     said = run(room / "shared", env={**PLAIN, "LD_LIBRARY_PATH": str(library)})
-    expect("C, shared: the loader chooses", said[1].startswith("paired\n") and said[1].endswith(f"level {level} status 0 free 0\n"), said)
+    tally.holds("C, shared: the loader chooses", is_paired(said, 3 if HAS_V3 else 2), said)
     for level, file in [(2, library / "libpageshare.a"), (3, library / "pageshare/x86-64-v3/libpageshare.a")]:
         program = room / f"static-v{level}"
         made = run(*strict, *flags_of(prefix, "--cflags"), file, "-o", program)
-        expect(f"C, static for v{level}: compiled", made[0] == 0, made)
+        tally.holds(f"C, static for v{level}: compiled", made[0] == 0, made)
         if level == 2 or HAS_V3:
             said = run(program)
-            expect(f"C, static for v{level}", said[1].startswith("paired\n") and said[1].endswith(f"level {level} status 0 free 0\n"), said)
-        if level == 3 and has("qemu-x86_64"):
-            said = run("qemu-x86_64", "-cpu", "Nehalem", program)
-            expect("the library for v3 refuses an older processor", said[0] == 0 and said[1].endswith("level 3 status 25 free 6\n"), said)
+            tally.holds(f"C, static for v{level}", is_paired(said, level), said)
+    if has("qemu-x86_64"):
+        said = run("qemu-x86_64", "-cpu", "Nehalem", room / "static-v3")
+        is_refused = said[0] == 0 and said[1].endswith("level 3 status 25 free 6\n")
+        tally.holds("the library for v3 refuses an older processor", is_refused, said)
 
 
-def try_rust(prefix, room):
-    if not has("cargo"):
-        left_out("Rust, since there is no cargo")
-        return
+def try_rust(tally, prefix, room):
+    """A program in Rust, which finds the library in each of both ways."""
+    needs("Rust", "cargo")
     (room / "user/src").mkdir(parents=True)
     (room / "user/Cargo.toml").write_text(CRATE.replace("RUST", f"{prefix}/share/pageshare/rust"))
     (room / "user/src/main.rs").write_text(MAIN)
@@ -167,102 +161,106 @@ def try_rust(prefix, room):
         env = {key: value for key, value in os.environ.items() if not key.startswith("PAGESHARE")}
         env |= {**more, "CARGO_NET_OFFLINE": "true", "CARGO_TARGET_DIR": str(room / f"target-{how}")}
         said = run("cargo", "run", "--quiet", env=env, folder=room / "user")
-        expect(f"Rust by {how}", said[:2] == (0, "paired\n"), said)
+        tally.holds(f"Rust by {how}", said[:2] == (0, "paired\n"), said)
 
 
-def try_exports(prefix):
-    if not has("nm"):
-        left_out("exports, since there is no nm")
-        return
+def try_exports(tally, prefix):
+    """The names that the shared libraries export."""
+    needs("exports", "nm")
     for file in sorted((prefix / "lib").rglob("libpageshare.so.*.*")):
         names = run("nm", "-D", "--defined-only", file)[1].split("\n")
         names = [line.split()[-1] for line in names if line]
-        expect(f"{file.name} exports pageshare_* alone", names and all(it.startswith("pageshare_") for it in names), names)
+        is_right = names and all(it.startswith("pageshare_") for it in names)
+        tally.holds(f"{file.name} exports pageshare_* alone", is_right, names)
 
 
-def try_pages(prefix):
+def try_pages(tally, prefix):
+    """The man pages that there should be."""
     pages = sorted(it for it in (prefix / "share/man").rglob("*.[0-9]") if not it.is_symlink())
+    names = [it.name for it in pages]
     for name in ("pageshare.1", "pageshare-estimate.1", "pageshare.3", "pageshare-journal.5", "pageshare-digest.5"):
-        expect(f"there is {name}", any(it.name == name for it in pages))
-    expect("pageshare_make.3 is pageshare.3", (prefix / "share/man/man3/pageshare_make.3").resolve().name == "pageshare.3")
-    for shown in ("mandoc", "man"):
-        if not has(shown):
-            left_out(f"man pages by {shown}, since it isn't there")
-            continue
-        for page in pages:
-            words = ["mandoc", "-Tlint"] if shown == "mandoc" else ["man", "--warnings", "-l"]
-            code, out, err = run(*words, page)
-            said = out if shown == "mandoc" else err
-            expect(f"{page.name} by {shown}", code == 0 and not said, said)
+        tally.holds(f"there is {name}", name in names, names)
+    same = (prefix / "share/man/man3/pageshare_make.3").resolve().name
+    tally.equal("pageshare_make.3 is pageshare.3", same, "pageshare.3")
+    for reader in MAN_READERS:
+        tally.part(try_reader, reader, pages)
 
 
-def try_completions(prefix):
-    share = prefix / "share"
-    for shell, path in [
-        ("bash", "bash-completion/completions/pageshare"),
-        ("zsh", "zsh/site-functions/_pageshare"),
-        ("fish", "fish/vendor_completions.d/pageshare.fish"),
-    ]:
-        if has(shell):
-            said = run(shell, "-n", share / path)
-            expect(f"the completion for {shell}", said == (0, "", ""), said)
-        else:
-            left_out(f"the completion for {shell}, since it isn't there")
+def try_reader(tally, reader, pages):
+    """Each man page as a program reads it, without a warning."""
+    needs(f"man pages by {reader}", reader)
+    for page in pages:
+        code, out, err = run(*MAN_READERS[reader], page)
+        said = out if reader == "mandoc" else err
+        tally.holds(f"{page.name} by {reader}", code == 0 and not said, said)
+
+
+def try_shell(tally, shell, file):
+    """A shell reads its completions."""
+    needs(f"the completion for {shell}", shell)
+    tally.equal(f"the completion for {shell}", run(shell, "-n", file), (0, "", ""))
+
+
+def try_completions(tally, prefix):
+    """The completions of each shell, and what bash completes."""
+    for shell, path in COMPLETIONS.items():
+        tally.part(try_shell, shell, prefix / "share" / path)
     script = """. "$1"; COMP_WORDS=(pageshare estimate --sv); COMP_CWORD=2; _pageshare; echo "${COMPREPLY[*]}" """
-    said = run("bash", "-c", script, "bash", share / "bash-completion/completions/pageshare")
-    expect("bash completes --sv of estimate", said[1] == "--svg\n", said)
+    said = run("bash", "-c", script, "bash", prefix / "share" / COMPLETIONS["bash"])
+    tally.equal("bash completes --sv of estimate", said[1], "--svg\n")
 
 
-def try_examples(prefix):
-    """What the host's examples say to Prometheus and to systemd."""
-    folder = prefix / "share/doc/pageshare/examples/host"
-    if has("promtool"):
-        said = run("promtool", "check", "rules", folder / "pageshare.rules.yml")
-        expect("the rules for Prometheus", said[0] == 0, said)
-    else:
-        left_out("the rules for Prometheus, since there is no promtool")
-    unit = folder / "pageshare-host@.service"
-    if not has("systemd-analyze"):
-        left_out("the unit of systemd, since there is no systemd-analyze")
-        return
-    code, out, err = run("systemd-analyze", "security", "--offline=true", unit)
+def try_rules(tally, folder):
+    """What Prometheus says of the host's rules."""
+    needs("the rules for Prometheus", "promtool")
+    said = run("promtool", "check", "rules", folder / "pageshare.rules.yml")
+    tally.holds("the rules for Prometheus", said[0] == 0, said)
+
+
+def try_unit(tally, folder):
+    """What systemd says of the host's unit."""
+    needs("the unit of systemd", "systemd-analyze")
+    code, out, err = run("systemd-analyze", "security", "--offline=true", folder / "pageshare-host@.service")
     if "--offline" in err:
-        left_out("the unit of systemd, since this systemd-analyze needs a running one")
-        return
+        raise LeftOut("the unit of systemd, since this systemd-analyze needs a running one")
     level = re.search(r"exposure level for \S+: ([\d.]+)", out)
-    expect("the unit's exposure is at most 3", code == 0 and level and float(level[1]) <= 3, out[-200:] + err)
+    tally.holds("the unit's exposure is at most 3", code == 0 and level and float(level[1]) <= 3, out[-200:] + err)
 
 
-def try_tarball(file, room):
-    expect("the tarball unpacks", run("tar", "xf", file, "-C", room)[0] == 0)
+def try_tarball(tally, file, room):
+    """The tarball: unpacked, installed twice, tried, and uninstalled."""
+    tally.equal("the tarball unpacks", run("tar", "xf", file, "-C", room)[0], 0)
     tree = next(it for it in room.iterdir() if it.name.startswith("pageshare-"))
-    try_program(tree / "bin/pageshare")
+    try_program(tally, tree / "bin/pageshare")
     root = room / "installed"
     prefix = root / "opt/pageshare"
     for times in ("once", "twice"):
         said = run(tree / "install.sh", f"--prefix={prefix}")
-        expect(f"install.sh, {times}", said[0] == 0, said)
-    try_program(prefix / "bin/pageshare")
-    try_c(prefix, room)
-    try_rust(prefix, room)
-    try_exports(prefix)
-    try_pages(prefix)
-    try_completions(prefix)
-    try_examples(prefix)
+        tally.holds(f"install.sh, {times}", said[0] == 0, said)
+    try_program(tally, prefix / "bin/pageshare")
+    tally.part(try_c, prefix, room)
+    tally.part(try_rust, prefix, room)
+    tally.part(try_exports, prefix)
+    try_pages(tally, prefix)
+    try_completions(tally, prefix)
+    for part in (try_rules, try_unit):
+        tally.part(part, prefix / "share/doc/pageshare/examples/host")
     said = run(tree / "install.sh", f"--prefix={prefix}", "--uninstall")
-    expect("install.sh --uninstall leaves nothing", said[0] == 0 and not root.exists(), said)
+    tally.holds("install.sh --uninstall leaves nothing", said[0] == 0 and not root.exists(), said)
 
 
-def try_sums(folder):
+def try_sums(tally, folder):
+    """The sum of each package."""
     for line in (folder / "SHA256SUMS").read_text().splitlines():
         wanted, name = line.split("  ")
-        expect(f"the sum of {name}", hashlib.sha256((folder / name).read_bytes()).hexdigest() == wanted)
+        tally.equal(f"the sum of {name}", hashlib.sha256((folder / name).read_bytes()).hexdigest(), wanted)
 
 
-def try_again(folder, room):
+def try_again(tally, folder, room):
+    """The packages made once more."""
     said = run(sys.executable, TOP / "packaging/dist.py", room / "again", env=dict(os.environ))
     sums = (room / "again/SHA256SUMS").read_text() if said[0] == 0 else ""
-    expect("the same tree makes the same bytes", sums == (folder / "SHA256SUMS").read_text(), said)
+    tally.holds("the same tree makes the same bytes", sums == (folder / "SHA256SUMS").read_text(), said)
 
 
 def files_of(root):
@@ -276,50 +274,55 @@ def files_of(root):
     return found
 
 
-def try_debian(file, room):
-    """The Debian package in a Debian that has nothing else."""
-    root = room / "debian"
-    made = run("debootstrap", "--variant=minbase", SUITE, root, env={**PLAIN, "PATH": "/usr/sbin:/usr/bin:/sbin:/bin"})
+def new_debian(root):
+    """A Debian that has nothing else, and what runs a program inside."""
+    env = {**PLAIN, "PATH": "/usr/sbin:/usr/bin:/sbin:/bin"}
+    made = run("debootstrap", "--variant=minbase", SUITE, root, env=env)
     if made[0] != 0:
-        left_out(f"the Debian package, since debootstrap failed: {(made[1] + made[2]).strip().splitlines()[-1:]}")
-        return
+        raise LeftOut(f"the Debian package, since debootstrap failed: {(made[1] + made[2]).strip().splitlines()[-1:]}")
+    return lambda *words: run("chroot", root, *words, env=env)
+
+
+def try_inside(tally, inside, root, room):
+    """What the installed package does."""
+    said = inside("sh", "-c", f"cd /tmp && pageshare {' '.join(ESTIMATE)}")
+    tally.holds("estimate in an empty Debian", is_estimate(said), said)
+    said = inside("pageshare", "--version")
+    tally.holds("--version in an empty Debian", said[0] == 0 and len(said[1].splitlines()) == 3, said)
+    if (room / "shared").is_file():
+        shutil.copy(room / "shared", root / "tmp")
+        said = inside("/tmp/shared")
+        tally.holds("a C program finds the shared library", said[0] == 0 and said[1].startswith("paired\n"), said)
+
+
+def try_debian(tally, file, room):
+    """The Debian package: installed, tried and removed in a Debian that has nothing else."""
+    if file is None or not has("debootstrap") or os.geteuid() != 0:
+        raise LeftOut("the Debian package: it needs dpkg-deb, debootstrap and root")
+    root = room / "debian"
+    inside = new_debian(root)
     before = files_of(root)
     shutil.copy(file, root / "tmp/pageshare.deb")
     for name in ("first.raw", "second.core"):
         shutil.copy(ROWS / name, root / "tmp")
-    inside = lambda *words: run("chroot", root, *words, env={**PLAIN, "PATH": "/usr/sbin:/usr/bin:/sbin:/bin"})
     said = inside("dpkg", "-i", "/tmp/pageshare.deb")
-    if not expect("dpkg -i", said[0] == 0, said):
+    if not tally.holds("dpkg -i", said[0] == 0, said):
         return
-    said = inside("sh", "-c", f"cd /tmp && pageshare {' '.join(ESTIMATE)}")
-    expect("estimate in an empty Debian", is_estimate(said), said)
-    said = inside("pageshare", "--version")
-    expect("--version in an empty Debian", said[0] == 0 and len(said[1].splitlines()) == 3, said)
-    if (room / "shared").is_file():
-        shutil.copy(room / "shared", root / "tmp")
-        said = inside("/tmp/shared")
-        expect("a C program finds the shared library", said[0] == 0 and said[1].startswith("paired\n"), said)
+    try_inside(tally, inside, root, room)
     said = inside("dpkg", "-P", "pageshare")
-    expect("dpkg -P", said[0] == 0, said)
-    more = {it for it in files_of(root) - before if "pageshare" in it}
-    expect("dpkg -P leaves nothing", not more and files_of(root) == before, sorted(files_of(root) ^ before))
+    tally.holds("dpkg -P", said[0] == 0, said)
+    tally.equal("dpkg -P leaves nothing", sorted(files_of(root) ^ before), [])
 
 
-def main(folder=str(TOP / "out/dist")):
-    folder = pathlib.Path(folder).resolve()
+def main(folder=OUT / "dist"):
+    folder, tally = pathlib.Path(folder).resolve(), Tally()
     tarball = next(folder.glob("pageshare-*-x86_64-linux.tar.gz"))
-    package = next(folder.glob("pageshare_*_amd64.deb"), None)
-    with tempfile.TemporaryDirectory(prefix="package-") as name:
-        room = pathlib.Path(name)
-        try_sums(folder)
-        try_tarball(tarball, room)
-        try_again(folder, room)
-        if package is None or not has("debootstrap") or os.geteuid() != 0:
-            left_out("the Debian package: it needs dpkg-deb, debootstrap and root")
-        else:
-            try_debian(package, room)
-    print(f"{passed} passed, {failed} failed")
-    return 1 if failed else 0
+    with new_folder() as room:
+        try_sums(tally, folder)
+        try_tarball(tally, tarball, room)
+        try_again(tally, folder, room)
+        tally.part(try_debian, next(folder.glob("pageshare_*_amd64.deb"), None), room)
+    return tally.close()
 
 
 if __name__ == "__main__":

@@ -12,7 +12,7 @@ import os
 import subprocess
 import sys
 
-from edits import load_kit
+from common.kit import load_kit
 
 TICKS = os.sysconf("SC_CLK_TCK")
 

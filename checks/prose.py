@@ -7,12 +7,12 @@ By default of each Markdown file of the tree. Code, tables' rules and the target
 item of a list are sentences of their own. Prints a table: words, sentences, how many of them are long, which part that is, and the
 words of the longest. With --show it prints the long ones, too. It judges nothing: the status is 0.
 """
-import pathlib
 import re
 import subprocess
 import sys
 
-TOP = pathlib.Path(__file__).resolve().parent.parent
+from harness import TOP
+
 MOST = 30
 LINK = re.compile(r"!?\[([^\]]*)\]\([^)]*\)")
 # A sentence ends at a full stop, a question mark or an exclamation mark before a space, or at the end of its block.

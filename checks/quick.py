@@ -9,11 +9,11 @@ of live.py and the traces of traces.py, and prints what they print. The last lin
 where all passed, else 1).
 """
 import pathlib
-import re
 import subprocess
 import sys
 
-TOP = pathlib.Path(__file__).resolve().parent.parent
+from harness import PROGRAM, TOP, close, counts_of
+
 SEED = "1"
 CHECKS = [
     ("commands.py", []),
@@ -23,15 +23,15 @@ CHECKS = [
     ("estimate.py", ["100", SEED]),
     ("live.py", []),
 ]
-CLOSING = re.compile(r"^(\d+) passed, (\d+) failed\n\Z", re.M)
 
 
 def tried(check, words):
     """What a check counts as passed and failed; one that ends otherwise than it should has failed once more."""
     done = subprocess.run([sys.executable, TOP / "checks" / check, *words], stdout=subprocess.PIPE, text=True, check=False)
-    closing = CLOSING.search(done.stdout)
-    print(f"{check}:\n{CLOSING.sub('', done.stdout)}", end="", flush=True)
-    passed, failed = map(int, closing.groups()) if closing else (0, 0)
+    lines = done.stdout.splitlines(keepends=True)
+    closing = counts_of(lines[-1]) if lines else None
+    print(f"{check}:\n{''.join(lines[:-1] if closing else lines)}", end="", flush=True)
+    passed, failed = closing or (0, 0)
     if closing is None or done.returncode != (1 if failed else 0):
         print(f"it ended with status {done.returncode}")
         failed += 1
@@ -46,12 +46,11 @@ def beside(program):
     return str(near if near.exists() else path.parents[2] / "window_trace/out/window_trace")
 
 
-def main(program=str(TOP / "out/pageshare"), tracer=None):
+def main(program=PROGRAM, tracer=None):
     results = [tried(check, [*words, program]) for check, words in CHECKS]
     results.append(tried("traces.py", [tracer or beside(str(pathlib.Path(program).resolve()))]))
     passed, failed = map(sum, zip(*results))
-    print(f"{passed} passed, {failed} failed")
-    return 1 if failed else 0
+    return close(passed, failed)
 
 
 if __name__ == "__main__":

@@ -21,15 +21,13 @@ import collections
 import concurrent.futures
 import hashlib
 import os
-import pathlib
 import random
-import subprocess
 import sys
 
-from random_texts import header, request, text_of
+from common.plain_fleet import PAGE
+from common.random_texts import header, request, text_of
+from harness import PROGRAM, Tally, leave, run
 
-TOP = pathlib.Path(__file__).resolve().parent.parent
-PAGE = 4096
 # For two salts the first bytes of pages, zeros behind them, that have different hashes and one key.
 CLASH = {0: bytes.fromhex("0000aa3c"), 7: bytes.fromhex("0000a6aa")}
 DONE = {"mapped", "stored", "copied", "taken"}
@@ -74,10 +72,10 @@ def case(seed, nth):
 
 def replayed(program, text):
     """A verdict for each request, without the guest's number; without the numbers of `totals`, which count both tenants' pages."""
-    done = subprocess.run([program, "replay"], input=text, capture_output=True, text=True, timeout=60, check=False)
-    if done.returncode != 0:
-        return [f"status {done.returncode}"]
-    verdicts = [line.split(" ", 1)[1] for line in done.stdout.splitlines()[:-1]]
+    done = run([program, "replay"], text)
+    if done.returncode != 0 or not done.stdout.endswith(b"\n"):
+        return [f"status {done.returncode}, {done.stdout[-80:]!r}"]
+    verdicts = [line.split(" ", 1)[1] for line in done.stdout.decode().splitlines()[:-1]]
     return ["totals" if verdict.startswith("totals ") else verdict for verdict in verdicts]
 
 
@@ -109,42 +107,46 @@ def failing_premises(lines, requests, verdicts, salts, first):
         yield "a key is both tenants'"
 
 
-def main(count=1000, seed=1, program=str(TOP / "out/pageshare")):
-    count = int(count)
+def compared(program, seed, nth):
+    """Which premises a journal doesn't meet, and whether the first tenant's lines are the same without the second one's entries."""
+    lines, requests, salts, first = case(seed, nth)
+    verdicts = replayed(program, text_of(lines, requests))
+    own = [line for line in requests if guest_of(line) in first]
+    whole = [verdict for line, verdict in zip(requests, verdicts) if guest_of(line) in first]
+    is_same = len(verdicts) == len(requests) and whole == replayed(program, text_of(lines, own))
+    return nth, " and ".join(failing_premises(lines, requests, verdicts, salts, first)), is_same
+
+
+def wrong_lines(seed, nth, is_first):
+    """What to print of a journal with a wrong line, the first of which is left."""
+    lines, requests, _salts, first = case(seed, nth)
+    place = f"; it is at {leave('tenants.journal', text_of(lines, requests))}" if is_first else ""
+    return f"guests {sorted(first)} get other lines without the others{place}"
+
+
+def assert_clash():
+    """The two pages of CLASH have one key and two hashes, so that journals come in which a premise fails."""
     zero, seven = ((salt, start + bytes(PAGE - len(start))) for salt, start in CLASH.items())
     assert key_of(*zero) == key_of(*seven) and hash_of(*zero) != hash_of(*seven)
-    unmet, other, passed, failed = collections.Counter(), collections.Counter(), 0, 0
 
-    def tried(nth):
-        lines, requests, salts, first = case(seed, nth)
-        verdicts = replayed(program, text_of(lines, requests))
-        own = [line for line in requests if guest_of(line) in first]
-        whole = [verdict for line, verdict in zip(requests, verdicts) if guest_of(line) in first]
-        same = len(verdicts) == len(requests) and whole == replayed(program, text_of(lines, own))
-        return nth, " and ".join(failing_premises(lines, requests, verdicts, salts, first)), same
 
+def main(count="1000", seed="1", program=PROGRAM):
+    assert_clash()
+    tally, unmet, other = Tally(), collections.Counter(), collections.Counter()
     with concurrent.futures.ThreadPoolExecutor(os.cpu_count()) as pool:
-        for nth, fails, same in pool.map(tried, range(count)):
+        for nth, fails, is_same in pool.map(lambda nth: compared(program, seed, nth), range(int(count))):
             if fails:
                 unmet[fails] += 1
-                other[fails] += not same
-                continue
-            passed += same
-            failed += not same
-            if failed == 1 and not same:
-                left = TOP / "out/tenants.journal"
-                left.parent.mkdir(exist_ok=True)
-                lines, requests, _salts, first = case(seed, nth)
-                left.write_text(text_of(lines, requests))
-                print(f"journal {nth} of seed {seed}: guests {sorted(first)} get other lines without the others; it is at {left}")
-    print(f"{count} journals of seed {seed}: {passed + failed} met both premises, and {sum(unmet.values())} didn't")
+                other[fails] += not is_same
+            else:
+                tally.case(f"journal {nth} of seed {seed}", [] if is_same else [wrong_lines(seed, nth, tally.failed == 0)])
+    met = tally.passed + tally.failed
+    print(f"{count} journals of seed {seed}: {met} met both premises, and {sum(unmet.values())} didn't")
     for fails, times in sorted(unmet.items()):
         print(f"{times:8} where {fails}; in {other[fails]} of them lines are others")
-    if passed + failed == 0:
-        print("no journal met both premises")
-        failed = 1
-    print(f"{passed} passed, {failed} failed")
-    return 1 if failed else 0
+    if met == 0:
+        tally.case("all journals", ["none met both premises"])
+    return tally.close()
 
 
 if __name__ == "__main__":

@@ -8,10 +8,10 @@ line isn't possible or says something else of a page, and texts that aren't trac
 `N passed, M failed`, with status 0 where all passed, else 1.
 """
 import pathlib
-import subprocess
 import sys
 
-TOP = pathlib.Path(__file__).resolve().parent.parent
+from harness import OUT, Tally, run
+
 HEAD = ["pageshare trace 1", "pages 3 frames 4"]
 # Page 0 is lent to a frame, which is mapped in its place.
 LENT = ["write 0 7", "guard 0", "copy 0", "lend 0 1", "map 0"]
@@ -97,24 +97,15 @@ def cases():
         yield name, text, f"fault {fault}", 2
 
 
-def main(program=str(TOP / "out/window_trace")):
+def main(program=str(OUT / "window_trace")):
+    tally = Tally()
     if not pathlib.Path(program).is_file():
-        print(f"{program} isn't there: `make traces` builds out/window_trace\n0 passed, 1 failed")
-        return 1
-    passed, failed = 0, 0
+        tally.case(program, ["it isn't there: `make traces` builds out/window_trace"])
+        return tally.close()
     for name, text, line, status in cases():
-        done = subprocess.run([program], input=text.encode(), capture_output=True, check=False)
-        if (done.returncode, done.stdout, done.stderr) == (status, f"{line}\n".encode(), b""):
-            passed += 1
-        else:
-            failed += 1
-            print(f"{name}: status {done.returncode} and {done.stdout + done.stderr}, not {status} and {line!r}")
-    done = subprocess.run([program, "/nowhere/to/be/read"], capture_output=True, check=False)
-    is_told = (done.returncode, done.stdout) == (2, b"fault read\n")
-    print("" if is_told else f"a file that isn't there: status {done.returncode} and {done.stdout}\n", end="")
-    passed, failed = passed + is_told, failed + (not is_told)
-    print(f"{passed} passed, {failed} failed")
-    return 1 if failed else 0
+        tally.ends(name, run([program], text), status, f"{line}\n")
+    tally.ends("a file that isn't there", run([program, "/nowhere/to/be/read"]), 2, "fault read\n", None)
+    return tally.close()
 
 
 if __name__ == "__main__":

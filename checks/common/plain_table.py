@@ -122,7 +122,8 @@ def table_text(found, unit="mib", names=None):
         lines.append(f"An estimate from {found['kept']} contents: zeros, and one in {found['sample']} of the others. "
                      'Each estimate is followed by its standard error, under "+-".')
     lines += [f"Each number in {'MiB' if unit == 'mib' else 'pages of 4,096 bytes'}.", ""]
-    lines.append("guest" + table.headings(["memory", "zero", "shared", "distinct", "alone"], known) + f"        salt  {'name' if is_fleet else 'image'}")
+    headings = table.headings(["memory", "zero", "shared", "distinct", "alone"], known)
+    lines.append(f"guest{headings}        salt  {'name' if is_fleet else 'image'}")
     for n, guest in enumerate(found["guests"]):
         name = names[n] if names else guest.get("guest", guest.get("image"))
         salt = "-" if guest["salt"] is None else str(guest["salt"])

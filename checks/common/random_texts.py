@@ -1,4 +1,4 @@
-"""Random journals and scripts, for the checks beside this file. Each follows from the generator that is handed in."""
+"""Random journals and scripts, for the checks of texts. Each follows from the generator that is handed in."""
 
 
 def content(rng):
@@ -10,6 +10,7 @@ def content(rng):
 
 
 def request(rng, pages):
+    """A request of any guest, now and then of a page that isn't there."""
     guest = rng.randrange(len(pages))
     ppn = rng.randrange(pages[guest] + (rng.random() < 0.05))
     kind = rng.choices(["propose", "store", "load", "release", "count"], [40, 40, 10, 8, 2])[0]
@@ -30,15 +31,18 @@ def shape(rng):
 
 
 def header(kind, salted, frames, pages, salts):
+    """The first lines of a text."""
     lines = [f"pageshare {kind} {2 if salted else 1}", f"frames {frames}", "pages " + " ".join(map(str, pages))]
     return [*lines, "salts " + " ".join(map(str, salts))] if salted else lines
 
 
 def text_of(lines, requests):
+    """A whole text of its first lines and its requests."""
     return "\n".join([*lines, *requests, f"end {len(requests)}"]) + "\n"
 
 
 def journal(rng):
+    """A journal, in either version."""
     frames, pages, salts = shape(rng)
     lines = header("journal", rng.random() < 0.3, frames, pages, salts)
     return text_of(lines, [request(rng, pages) for _ in range(rng.choice([0, 10, 100, 300]))])

@@ -1,0 +1,62 @@
+"""`digest` of small images beside a count in Python (common/plain_fleet.py), and each cause for which there is no digest."""
+from command_cases.images import IMAGE_FAULTS, PAGE, core, image, sparse
+from command_cases.subject import IS_A_FOLDER, LEAST, MISSING, NO_ROOM, ROWS, read
+from common.plain_fleet import HEADER, text_of_pages
+from common.plain_images import pages_of_bytes
+from harness import ANY
+
+
+def digest_of(name, data, salt=0, sample=1):
+    """The digest's text that is due of an image's bytes."""
+    return text_of_pages(name, salt, sample, pages_of_bytes(data))
+
+
+def digests(subject, folder):
+    """Raw images and an empty one, with several salts, samples and numbers of workers."""
+    first, large, empty = ROWS / "first.raw", folder / "large.raw", folder / "empty.raw"
+    large.write_bytes(image(0, 700, 30, 40, 300) + b"a")
+    empty.write_bytes(b"")
+    due = digest_of("first.raw", first.read_bytes())
+    subject.tally.equal("first.digest", read("first.digest"), due)
+    subject.writes("digest of first.raw", ["digest", "first.raw"], due, cwd=ROWS)
+    subject.writes("digest of a path", ["digest", str(first)], due)
+    subject.writes("digest of no pages", ["digest", str(empty)], HEADER)
+    for salt, sample, workers in [(0, 1, 1), (7, 1, 3), (4294967295, 2, 64), (0, 64, 2), (9, 65536, 4)]:
+        words = ["digest", "--name", "web-1", "--salt", str(salt), "--sample", str(sample), "--workers", str(workers), str(large)]
+        subject.writes(f"{words}", words, digest_of("web-1", large.read_bytes(), salt, sample))
+
+
+def cores(subject, folder):
+    """A core whose segment begins and ends within a page, and the same read as raw."""
+    elf = folder / "elf.core"
+    elf.write_bytes(core(segment=(4000, 4192)))
+    subject.writes("digest of a core", ["digest", str(elf)], digest_of("elf.core", elf.read_bytes()[4000:]))
+    subject.writes("digest of a core as raw", ["digest", "--raw", str(elf)], digest_of("elf.core", elf.read_bytes()))
+
+
+def bad_inputs(subject, folder):
+    """Paths that lead to no image, images at fault, a full device, and too little memory."""
+    none, broken = str(folder / "none"), folder / "broken.core"
+    subject.fails("digest, no such file", ["digest", none], f"{none}: {MISSING}\n")
+    subject.fails("digest, a folder", ["digest", "--name", "a", str(folder)], f"{folder}: {IS_A_FOLDER}\n")
+    subject.fails("digest, a device", ["digest", "/dev/zero"], "/dev/zero: not a regular file\n")
+    for data, cause in IMAGE_FAULTS:
+        broken.write_bytes(data)
+        subject.fails(f"digest, {cause}", ["digest", str(broken)], f"{broken}: {cause}\n")
+    subject.full_device("digest, a full device", ["digest", str(folder / "large.raw")], f"standard output: {NO_ROOM}\n")
+    large = sparse(folder / "sparse", PAGE << 22)
+    subject.fails("digest, little memory", ["digest", "--workers", "2", large], f"{large}: out of memory\n", limits=LEAST)
+
+
+def command_line(subject, folder):
+    """Words that aren't taken, help, and the line of progress."""
+    raw = str(folder / "large.raw")
+    subject.refuses("digest", [
+        [], [raw, raw], ["--pid", "1"], ["--pid", "0", "--name", "a"], ["--pid", "1", "--name", "a", raw], ["--salt", "x", raw],
+        ["--name", "a b", raw], ["--name", "", raw], ["--name", "a" * 65, raw], ["--sample", "3", raw], ["--sample", "0", raw],
+        ["--sample", "131072", raw], ["--workers", "65", raw], [str(folder) + "/"], [str(folder / "a b")], ["--json", raw],
+    ])
+    subject.writes("digest --help", ["digest", "--help"], ANY)
+    shown = subject.run(["digest", "--progress", "always", raw]).stderr.decode()
+    is_drawn = "100 %  4 of 4 MiB" in shown.split("\r")[-1] and shown.endswith("s left\x1b[K\n")
+    subject.tally.holds("digest, progress", is_drawn, shown)

@@ -1,0 +1,107 @@
+"""`estimate` of small images: what it writes, its pictures letter by letter, each cause for which there is no estimate, and progress."""
+import json
+
+from command_cases.images import IMAGE_FAULTS, PAGE, core, image, sparse
+from command_cases.subject import IS_A_FOLDER, LEAST, LITTLE, MISSING, NO_ROOM, ROWS, read
+from harness import ANY
+
+SALTED = ["estimate", "--workers", "2", "--salts", "0,0,5", "first.raw", "second.core", "first.raw"]
+# The pages of two images, for a picture whose axis is in KiB, and for one in MiB: zeros, own, both and alone (see `image`).
+PICTURES = [("kib.svg", (100, 50, 150, 100), (7, 13, 40, 0)), ("mib.svg", (3000, 40, 1000, 60), (500, 1500, 250, 10))]
+# (characters that break a line, that steer a terminal, or that XML can't hold)
+PICTURE_NAMES = ["web\u2028.raw", "<db>\u2029\uffff\x1b.raw"]
+WRONG_WORDS = [
+    [], ["--salts", "1", "a.raw", "a.raw"], ["--salts", "1,x", "a.raw", "a.raw"], ["--salts", "4294967296", "a.raw"],
+    ["--workers", "0", "a.raw"], ["--workers", "65", "a.raw"], ["--progress", "often", "a.raw"], ["--svg"], ["--table", "a.raw"],
+    ["--unit", "kib", "a.raw"], ["--pid", "0"], ["--pid"],
+]
+
+
+def three_images(folder):
+    """A raw image of three pages and a byte, an empty one, and a core of two pages, of which one is cut."""
+    raw, empty, elf = folder / "a.raw", folder / "empty", folder / "elf.core"
+    raw.write_bytes(bytes(2 * PAGE) + b"a" * PAGE + b"b")
+    empty.write_bytes(b"")
+    elf.write_bytes(core(segment=(4000, 4192)))
+    return map(str, (raw, empty, elf))
+
+
+def numbers(subject, folder):
+    """How many pages images have: two cases for each list of words, by the table and by the object."""
+    raw, empty, elf = three_images(folder)
+    for words, pages in [([raw], 4), ([empty], 0), ([elf], 2), (["--raw", elf], 2), ([raw, "--workers", "64", raw], 8)]:
+        done = subject.run(["estimate", "--json", *words])
+        counted = json.loads(done.stdout or b"{}").get("total", {"pages": 0})["pages"]
+        table = subject.run(["estimate", *words])
+        subject.tally.ends(f"estimate {words}", table, 0, ANY, "")
+        is_right = counted == pages and table.stdout.decode().startswith("Each number in MiB.\n")
+        subject.tally.holds(f"estimate {words}", is_right, done.stdout, f"{pages} pages")
+
+
+def tables(subject):
+    """The worked table of examples/rows, in both units."""
+    in_pages = [*SALTED, "--unit", "pages"]
+    subject.writes("estimate of images.estimate-pages", in_pages, read("images.estimate-pages"), cwd=ROWS)
+    subject.writes("estimate of images.estimate", SALTED, read("images.estimate"), cwd=ROWS)
+
+
+def broken_images(subject, folder):
+    """Each fault of an image, which comes second."""
+    for n, (data, cause) in enumerate(IMAGE_FAULTS):
+        path = folder / f"{n}.core"
+        path.write_bytes(data)
+        subject.fails(f"estimate, {cause}", ["estimate", str(folder / "a.raw"), str(path)], f"{path}: {cause}\n")
+
+
+def pictures(subject, folder):
+    """Pictures of two guests, letter by letter: one whose axis is in KiB and one in MiB."""
+    for name, *parts in PICTURES:
+        for guest, (file, pages) in enumerate(zip(PICTURE_NAMES, parts)):
+            (folder / file).write_bytes(image(guest, *pages))
+        subject.writes(f"the picture {name}", ["estimate", "--svg", name, *PICTURE_NAMES], ANY, cwd=folder)
+        subject.tally.equal(f"the picture {name}", (folder / name).read_text(), read(name))
+
+
+def bad_paths(subject, folder):
+    """Paths that lead to no image, to no place for a picture, or to a device that takes nothing."""
+    raw, none, svg = str(folder / "a.raw"), str(folder / "none"), folder / "a.svg"
+    subject.fails("estimate, no such file", ["estimate", raw, none], f"{none}: {MISSING}\n")
+    subject.fails("estimate, a folder", ["estimate", str(folder)], f"{folder}: {IS_A_FOLDER}\n")
+    subject.fails("estimate, a device", ["estimate", "/dev/zero"], "/dev/zero: not a regular file\n")
+    subject.fails("estimate, a control character", ["estimate", "a\nb"], f"a\ufffdb: {MISSING}\n")
+    nowhere = str(folder / "none" / "a.svg")
+    subject.fails("estimate, no place for the picture", ["estimate", "--svg", nowhere, raw], f"{nowhere}: {MISSING}\n")
+    subject.full_device("estimate, a full device", ["estimate", raw], f"standard output: {NO_ROOM}\n")
+    subject.fails("estimate, a picture to a full device", ["estimate", "--svg", "/dev/full", raw], f"/dev/full: {NO_ROOM}\n")
+    subject.writes("estimate, a picture", ["estimate", "--svg", str(svg), raw], ANY)
+    subject.tally.holds("estimate, a picture", svg.read_text().endswith("</svg>\n"), svg.read_text()[-100:], "a whole picture")
+
+
+def too_much(subject, folder):
+    """More pages than can be counted, and more than there is memory for."""
+    raw, large = str(folder / "a.raw"), [sparse(folder / f"large-{n}", PAGE << 31) for n in (1, 2)]
+    subject.fails("estimate, too many pages", ["estimate", *large], f"{large[1]}: more than 4,294,967,295 pages in all\n")
+    subject.fails("estimate, little memory", ["estimate", large[0]], f"{large[0]}: out of memory\n", limits=LITTLE)
+    subject.fails("estimate, little memory", ["estimate", large[0], raw], f"{large[0]} and 1 more: out of memory\n", limits=LITTLE)
+
+
+def command_line(subject, folder):
+    """Words that aren't taken, and help."""
+    raw = str(folder / "a.raw")
+    subject.refuses("estimate", [[raw if word == "a.raw" else word for word in many] for many in WRONG_WORDS])
+    subject.writes("estimate --help", ["estimate", "--help"], ANY)
+
+
+def progress(subject, folder):
+    """The line of progress: of an image of no MiB, of 9 MiB, and of as much as a little memory has room for."""
+    raw = str(folder / "a.raw")
+    shown = subject.run(["estimate", "--progress", "always", raw]).stderr.decode()
+    is_drawn = shown.startswith("\r100 %  0 of 0 MiB") and shown.endswith("s left\x1b[K\n")
+    subject.tally.holds("estimate, progress", is_drawn, shown)
+    # (with 20 bytes a page, the larger one takes 5 MiB)
+    for size, more, limits in [(9, ["--progress", "always"], None), (1024, ["--workers", "1"], LEAST)]:
+        done = subject.run(["estimate", *more, sparse(folder / "whole", size << 20)], limits=limits)
+        line = f"100 %  {size} of {size} MiB" if "--progress" in more else ""
+        is_right = done.returncode == 0 and line in done.stderr.decode().split("\r")[-1]
+        subject.tally.holds(f"estimate {more}, {size} MiB", is_right, (done.returncode, done.stderr[-200:]))
+    subject.draws_on_terminals("estimate", ["estimate", raw])

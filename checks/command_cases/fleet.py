@@ -1,0 +1,148 @@
+"""`fleet`: the numbers of digests merged, what each two of their guests have in common, each cause for which there are none, and
+progress."""
+import json
+import os
+import threading
+import time
+
+from command_cases.subject import IS_A_FOLDER, MISSING, NO_ROOM, ROWS, read
+from common import plain_fleet
+from common.plain_fleet import HEADER
+from harness import ANY
+
+IMAGES = [str(ROWS / name) for name in ("first.raw", "second.core", "first.raw")]
+SALTS = ["0", "0", "5"]
+FORM = "give six fields of their form, with commas between them and a line feed behind them"
+SLOW_LINES = 150
+
+
+def rounded(folder):
+    """The digests of two guests whose numbers in total are rounded to different MiB: pages 1,067, to reclaim 863, between guests 152,
+    zeros 128, and of these 127 to reclaim."""
+    zeros, both = plain_fleet.digest(0, plain_fleet.ZEROS), "1" * 32
+    once = [f"{n:032x}" for n in range(200)]
+    one = {zeros: 100, both: 300, "2" * 32: 5, **dict.fromkeys(once, 1)}
+    other = {zeros: 28, both: 84, "3" * 32: 200, **dict.fromkeys(once[50:], 1)}
+    paths = [folder / "one.digest", folder / "other.digest"]
+    for path, copies in zip(paths, [one, other]):
+        path.write_text(plain_fleet.text_of_copies(path.stem, 0, 1, copies))
+    return list(map(str, paths))
+
+
+def digests_of_images(subject, folder):
+    """The digests of IMAGES, with their salts."""
+    paths = [folder / f"guest-{n}.digest" for n in range(3)]
+    for path, image, salt in zip(paths, IMAGES, SALTS):
+        path.write_bytes(subject.run(["digest", "--salt", salt, image]).stdout)
+    return list(map(str, paths))
+
+
+def tables(subject, folder):
+    """The worked tables and objects of examples/rows."""
+    subject.writes("fleet of images.fleet", ["fleet", *digests_of_images(subject, folder)], read("images.fleet"))
+    sampled = ["fleet", "sampled-web.digest", "sampled-database.digest"]
+    subject.writes("fleet of sampled.fleet", sampled, read("sampled.fleet"), cwd=ROWS)
+    subject.writes("fleet of sampled.json", [*sampled, "--json"], read("sampled.json"), cwd=ROWS)
+    subject.writes("fleet of rounded.fleet", ["fleet", *rounded(folder)], read("rounded.fleet"))
+
+
+def numbers(subject, folder):
+    """The numbers of digests are those of `estimate` of their images; and those of a digest without lines are none."""
+    counted = json.loads(subject.run(["estimate", "--json", "--salts", ",".join(SALTS), *IMAGES]).stdout)
+    told = json.loads(subject.run(["fleet", "--json", *digests_of_images(subject, folder)]).stdout)
+    for guest in [*counted["guests"], *told["guests"]]:
+        guest.pop("image", None) or guest.pop("guest")
+    subject.tally.equal("fleet beside estimate", told, counted)
+    empty = folder / "empty.digest"
+    empty.write_text(HEADER)
+    given = json.loads(subject.run(["fleet", "--json", str(empty)]).stdout)
+    due = {"guest": None, "salt": None, **dict.fromkeys(["pages", "zero", "distinct", "shared", "alone"], 0)}
+    subject.tally.equal("fleet of no pages", (given["guests"], given["copies"]), ([due], []))
+
+
+def pairs(subject, folder):
+    """What each two guests have in common, by hand: of the two images zeros, 2 and 2 pages, and two contents of 1 and 1."""
+    images, empty = [str(folder / f"guest-{n}.digest") for n in range(3)], str(folder / "empty.digest")
+    sampled = [str(ROWS / "sampled-web.digest"), str(ROWS / "sampled-database.digest")]
+    header, errors = "guest,guest,contents,pages\n", "guest,guest,contents,contents_error,pages,pages_error\n"
+    path = folder / "pairs.csv"
+    for name, paths, due in [
+        ("images", images, header + "first.raw,second.core,3,5\nfirst.raw,first.raw,0,0\nsecond.core,first.raw,0,0\n"),
+        ("a sample", sampled, errors + "web,database,17,15,749,46\n"),
+        ("one guest", images[:1], header),
+        ("no pages", [empty, images[0]], header + ",first.raw,0,0\n"),
+    ]:
+        plain = subject.run(["fleet", *paths]).stdout.decode()
+        path.unlink(missing_ok=True)
+        subject.writes(f"fleet --pairs, {name}", ["fleet", "--pairs", str(path), *paths], plain)
+        subject.tally.equal(f"fleet --pairs, {name}", path.read_text() if path.exists() else None, due)
+    nowhere = str(folder / "none" / "pairs.csv")
+    subject.fails("fleet, no place for the pairs", ["fleet", "--pairs", nowhere, *images], f"{nowhere}: {MISSING}\n")
+    subject.fails("fleet, pairs to a full device", ["fleet", "--pairs", "/dev/full", *images], f"/dev/full: {NO_ROOM}\n")
+
+
+def bad_inputs(subject, folder):
+    """Paths that lead to no digest, digests at fault, two samples, and a full device."""
+    good, none, broken = str(ROWS / "first.digest"), str(folder / "none"), folder / "broken.digest"
+    subject.fails("fleet, no such file", ["fleet", good, none], f"{none}: {MISSING}\n")
+    subject.fails("fleet, a folder", ["fleet", str(folder)], f"{folder}: {IS_A_FOLDER}\n")
+    lines = read("first.digest")
+    for text, cause in [("", f"line 1: {FORM}"), (lines[:-1], f"line 5: {FORM}"), (HEADER + "a\n", f"line 2: {FORM}")]:
+        broken.write_text(text)
+        subject.fails(f"fleet, {cause}", ["fleet", good, str(broken)], f"{broken}: {cause}\n")
+    other = str(ROWS / "sampled-web.digest")
+    subject.fails("fleet, another sample", ["fleet", good, other], f"{other}: another sample than in the digests before\n")
+    subject.full_device("fleet, a full device", ["fleet", good], f"standard output: {NO_ROOM}\n")
+
+
+def too_many(subject, folder):
+    """Two guests of 2^63 pages each."""
+    paths = [folder / "one", folder / "other"]
+    for path in paths:
+        path.write_text(f"{HEADER}{path.name},0,{2**63},1,{'0' * 32},{2**63}\n")
+    words = ["fleet", *map(str, paths)]
+    subject.fails("fleet, too many pages", words, f"{paths[0]} and 1 more: more than 18,446,744,073,709,551,615 pages\n")
+
+
+def command_line(subject):
+    """Words that aren't taken, and help."""
+    good = str(ROWS / "first.digest")
+    subject.refuses("fleet", [
+        [], ["--json"], ["--workers", "1", good], ["--pairs"], ["--pairs", good], ["--progress", "often", good], ["--unit", "kib", good],
+    ])
+    subject.writes("fleet --help", ["fleet", "--help"], ANY)
+
+
+def progress(subject):
+    """The line of progress, by itself, before a fault, and on a terminal."""
+    good, other = str(ROWS / "first.digest"), str(ROWS / "sampled-web.digest")
+    shown = subject.run(["fleet", "--progress", "always", good]).stderr.decode()
+    is_drawn = shown.startswith("\r100 %  0 of 0 MiB") and shown.endswith("s left\x1b[K\n")
+    subject.tally.holds("fleet, progress", is_drawn, shown)
+    shown = subject.run(["fleet", "--progress", "always", good, other]).stderr.decode()
+    is_drawn = shown.startswith("\r100 %") and shown.endswith(f"\x1b[K\n{other}: another sample than in the digests before\n")
+    subject.tally.holds("fleet, progress and a fault", is_drawn, shown)
+    subject.draws_on_terminals("fleet", ["fleet", good], part="100 %  0 of 0 MiB")
+
+
+def feed(path, lines):
+    """Writes lines into a pipe, a hundred a second."""
+    with open(path, "w", encoding="ascii") as pipe:
+        for line in lines:
+            pipe.write(line)
+            pipe.flush()
+            time.sleep(0.01)
+
+
+def progress_of_slow_reads(subject, folder):
+    """A digest that comes slowly through a pipe: the line is drawn several times meanwhile, and at most eleven times a second."""
+    path = str(folder / "slow.digest")
+    os.mkfifo(path)
+    lines = [f"slow,0,{SLOW_LINES},1,{n:032x},1\n" for n in range(SLOW_LINES)]
+    threading.Thread(target=feed, args=(path, [HEADER, *lines]), daemon=True).start()
+    begun = time.monotonic()
+    done = subject.run(["fleet", "--progress", "always", path])
+    seconds, drawn = time.monotonic() - begun, done.stderr.count(b"\r")
+    is_right = done.returncode == 0 and 5 <= drawn <= 11 * seconds + 1
+    told = (done.returncode, f"{drawn} drawings in {seconds:.2f} s", done.stderr[-200:])
+    subject.tally.holds("fleet, progress of slow reads", is_right, told)

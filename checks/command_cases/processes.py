@@ -1,0 +1,90 @@
+"""`digest --pid` and `estimate --pid` of processes whose pages are known, beside SHA-256 of these pages and beside `fleet`."""
+import contextlib
+import json
+import subprocess
+import sys
+
+from command_cases.subject import MISSING, SECONDS, is_clean
+from common.plain_fleet import PAGE, digest
+from harness import ANY
+
+# A process that fills so many pages of its own, private ones and shared ones, and says so. Page n holds the number n.
+OWN_PAGES = 300
+FILLED = f"""
+import mmap, sys
+for flags in [mmap.MAP_PRIVATE, mmap.MAP_SHARED]:
+    own = mmap.mmap(-1, {OWN_PAGES} * 4096, flags=flags | mmap.MAP_ANONYMOUS)
+    for n in range({OWN_PAGES}):
+        own[4096 * n : 4096 * n + 8] = (n + 1).to_bytes(8, "little")
+    globals()[f"own_{{flags}}"] = own
+print("filled", flush=True)
+sys.stdin.read()
+"""
+PAGES = [(n + 1).to_bytes(8, "little").ljust(PAGE, b"\0") for n in range(OWN_PAGES)]
+
+
+@contextlib.contextmanager
+def filled():
+    """The number of a process that has filled its pages and waits; it ends with the case."""
+    with subprocess.Popen([sys.executable, "-c", FILLED], stdin=subprocess.PIPE, stdout=subprocess.PIPE) as child:
+        child.stdout.readline()
+        yield str(child.pid)
+        child.stdin.close()
+        child.wait(SECONDS)
+
+
+def digests(subject):
+    """The pages of a process that waits: each page that it has twice is told of with two copies at least."""
+    with filled() as child:
+        done = subject.run(["digest", "--pid", child, "--name", "own"])
+    lines = [line.split(",") for line in done.stdout.decode().split("\n")[1:-1]]
+    counted = {line[4]: int(line[5]) for line in lines}
+    lacking = [page for page in PAGES if counted.get(digest(0, page), 0) < 2]
+    is_whole = is_clean(done) and sum(counted.values()) == int(lines[0][2]) and sorted(counted) == [line[4] for line in lines]
+    subject.tally.holds("digest of a process", is_whole and not lacking, (done.returncode, done.stderr, f"{len(lacking)} lacking"))
+    words = ["digest", "--pid", child, "--name", "own"]
+    subject.fails("digest of a process that has ended", words, f"process {child}: {MISSING}\n")
+
+
+def by_fleet(subject, folder, sources):
+    """The numbers of images and processes by their digests, merged."""
+    paths = [folder / f"own-{n}.digest" for n in range(len(sources))]
+    for path, own in zip(paths, sources):
+        path.write_bytes(subject.run(["digest", "--name", "own", "--salt", "7", *own]).stdout)
+    merged = json.loads(subject.run(["fleet", "--json", *map(str, paths)]).stdout)
+    for guest in merged["guests"]:
+        guest.pop("guest")
+    return merged
+
+
+def estimates(subject, folder):
+    """Two processes that wait, and an image with their pages: by `estimate` as by `digest` and `fleet`."""
+    raw, picture = folder / "own.raw", folder / "own.svg"
+    raw.write_bytes(b"".join(PAGES))
+    with filled() as one, filled() as other:
+        sources = [[str(raw)], ["--pid", one], ["--pid", other]]
+        words = [word for source in sources for word in source]
+        merged = by_fleet(subject, folder, sources)
+        done = subject.run(["estimate", "--json", "--salts", "7,7,7", *words])
+        table = subject.run(["estimate", "--svg", str(picture), *words])
+    told, names = json.loads(done.stdout or b"{}"), [f"process {one}", f"process {other}"]
+    images = [guest.pop("image") for guest in told.get("guests", [])]
+    subject.tally.holds("estimate of processes", is_clean(done) and told == merged, (done.stderr, told), f"{merged}")
+    subject.tally.equal("estimate of processes, names", images, [str(raw), *names])
+    total = told.get("total", {"reclaimed": None, "parts": {"between": 0, "within": 0}})
+    parts = total["parts"]
+    is_whole = sum(parts.values()) == total["reclaimed"] and min(parts["between"], parts["within"]) >= 2 * OWN_PAGES
+    subject.tally.holds("estimate of processes, parts", is_whole, parts)
+    is_told = is_clean(table) and all(name in table.stdout.decode() for name in names)
+    is_drawn = picture.exists() and picture.read_text().count("<title>process ") == 2
+    subject.tally.holds("estimate of processes, table and picture", is_told and is_drawn, table)
+    ended_processes(subject, folder, str(raw), other)
+
+
+def ended_processes(subject, folder, raw, ended):
+    """Estimates of a process that has ended, of an image that is missing, and with too few salts."""
+    words = ["estimate", raw, "--pid", ended]
+    subject.fails("estimate of a process that has ended", words, f"process {ended}: {MISSING}\n")
+    words = ["estimate", "none", "--pid", ended]
+    subject.fails("estimate of an image that is missing and a process", words, f"none: {MISSING}\n", cwd=folder)
+    subject.expect("estimate of a process, salts", ["estimate", "--salts", "1", raw, "--pid", ended], 2, "", ANY)

@@ -1,0 +1,54 @@
+"""C programs that a check builds and runs, and what a machine needs for that. CC names another compiler than cc, and CFLAGS more words."""
+import os
+import subprocess
+
+from harness import TOP, LeftOut, needs
+
+CC = os.environ.get("CC", "cc")
+FLAGS = "-std=c11 -O2 -g -Wall -Wextra -Wconversion -Werror -pthread".split() + os.environ.get("CFLAGS", "").split()
+# Of windows, through which idle pages are lent: their own sources, and of the monitor what lends.
+WINDOW = sorted((TOP / "window").glob("*.c"))
+LENDER = [TOP / f"monitor/{name}.c" for name in ["lender", "bus", "journal"]]
+SECONDS = 1800
+
+
+def needs_windows():
+    """Leaves all out where there is no C compiler or no userfaultfd."""
+    needs("all", CC)
+    if not can_open("/dev/userfaultfd"):
+        raise LeftOut("all, since there is no /dev/userfaultfd for this user")
+
+
+def can_open(path):
+    """Whether a device can be opened."""
+    try:
+        os.close(os.open(path, os.O_RDWR | os.O_CLOEXEC))
+        return True
+    except OSError:
+        return False
+
+
+def run(words, **more):
+    """Shows a command and runs it."""
+    print("$ " + " ".join(str(word).replace(f"{TOP}/", "") for word in words), flush=True)
+    return subprocess.run(words, timeout=SECONDS, check=False, **more)
+
+
+def passes(tally, words, **more):
+    """A case: a program, which prints what is wrong, must end with status 0."""
+    return tally.equal(f"{os.path.basename(words[0])}, its status", run(words, **more).returncode, 0)
+
+
+def compile_c(words, path):
+    """Compiles and links C with these words to this path, and returns it."""
+    if subprocess.run([CC, *words, "-o", path], check=False).returncode != 0:
+        raise SystemExit(f"{path.name} does not compile")
+    return path
+
+
+def play(tally, trace):
+    """A case: a record of events, through the proved program that plays them."""
+    program = TOP / "out/window_trace"
+    if not program.exists():
+        raise LeftOut("the record through the proved program, since there is no out/window_trace (make out/window_trace)")
+    passes(tally, [program, trace])

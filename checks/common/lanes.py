@@ -1,0 +1,13 @@
+"""How much a machine proves side by side."""
+import os
+import pathlib
+import re
+
+# The most memory that a check of a crate takes, in KiB, with some room.
+CHECK = 5_000_000
+
+
+def lanes():
+    """How many crates `rt ci` is to check side by side, each with one job, since each further job of a check reads all libraries anew."""
+    free = int(re.search(r"MemAvailable:\s+(\d+)", pathlib.Path("/proc/meminfo").read_text())[1])
+    return max(1, min(len(os.sched_getaffinity(0)), free // CHECK))

@@ -1,0 +1,151 @@
+"""What the checks share: they run programs, compare, count, and end with the line that the gate reads. Standard library only.
+
+    tally = Tally()
+    tally.ends("a journal that is cut off", run([PROGRAM, "replay"], "pageshare"), 1, "fault truncated line 1\n")
+    tally.equal("the first page", pages[0], ZEROS)
+    tally.holds("the time", seconds < 5, seconds)
+    tally.part(with_a_compiler, library)
+    sys.exit(tally.close())
+
+Each of these lines but the last two is a case. A case that fails is printed: its name, what was got, and what was due. `close` prints
+`N passed, M failed` and returns the status of the check, which is 0 where all passed and else 1. A part is a function that takes
+the tally; if it raises LeftOut, this machine can't do it, which is printed and is no failure.
+"""
+import contextlib
+import pathlib
+import re
+import shutil
+import subprocess
+import tempfile
+
+TOP = pathlib.Path(__file__).resolve().parent.parent
+OUT = TOP / "out"
+# The program that most checks are of, unless they are called with another one (`make build` leaves it there).
+PROGRAM = str(OUT / "pageshare")
+# The status of a program that didn't end in time.
+LATE = "too late"
+# Any text but the empty one.
+ANY = re.compile(".+", re.S)
+CLOSING = re.compile(r"(\d+) passed, (\d+) failed\n?")
+# How much of a long text is shown, and how much of that comes before the first difference.
+MOST, BEFORE = 300, 60
+
+
+class LeftOut(Exception):
+    """What this machine can't do, and why."""
+
+
+def needs(what, *programs):
+    """Leaves `what` out if one of these programs isn't there."""
+    for program in programs:
+        if shutil.which(program) is None:
+            raise LeftOut(f"{what}, since there is no {program}")
+
+
+def run(words, text="", seconds=60, **how):
+    """Runs a program with this standard input. Its output is bytes, and its status is LATE if it is ended after these seconds.
+
+    `how` goes on to subprocess.run.
+    """
+    words, given = list(map(str, words)), text.encode() if isinstance(text, str) else text
+    try:
+        how = {"stdout": subprocess.PIPE, "stderr": subprocess.PIPE, **how}
+        return subprocess.run(words, input=given, timeout=seconds, check=False, **how)
+    except subprocess.TimeoutExpired as late:
+        return subprocess.CompletedProcess(words, LATE, late.stdout or b"", late.stderr or b"")
+
+
+@contextlib.contextmanager
+def new_folder():
+    """The path of an empty folder, which is removed in the end."""
+    with tempfile.TemporaryDirectory(prefix="checks-") as name:
+        yield pathlib.Path(name)
+
+
+def leave(name, text):
+    """Leaves what failed at out/NAME, and returns where that is."""
+    place = OUT / name
+    place.parent.mkdir(parents=True, exist_ok=True)
+    place.write_bytes(text.encode() if isinstance(text, str) else text)
+    return place
+
+
+def shown(value, start=0):
+    """How a case prints a value: of a long one a part from here on."""
+    value = value.pattern if isinstance(value, re.Pattern) else value
+    text = value if isinstance(value, (str, bytes)) else repr(value)
+    part = text[start : start + MOST]
+    place = f" ({start} to {start + len(part)} of {len(text)})" if len(part) < len(text) else ""
+    return (part if text is not value else repr(part)) + place
+
+
+def parting(given, due):
+    """What was got and what was due. Two texts are shown from shortly before the place where they part."""
+    start = 0
+    if isinstance(given, (str, bytes)) and isinstance(due, type(given)):
+        same = next((at for at, pair in enumerate(zip(given, due)) if pair[0] != pair[1]), min(len(given), len(due)))
+        start = max(0, same - BEFORE) if max(len(given), len(due)) > MOST else 0
+    return f"{shown(given, start)}, and {shown(due, start)} was due"
+
+
+def wrong_end(done, status, out, err):
+    """What is wrong with how a program ended, see Tally.ends."""
+    if done.returncode != status:
+        yield f"status {done.returncode}, and {status} was due"
+    for what, due, given in [("output", out, done.stdout), ("error", err, done.stderr)]:
+        if due is not None:
+            given = given.decode("utf-8", "replace")
+            is_right = due.fullmatch(given) if isinstance(due, re.Pattern) else given == due
+            if not is_right:
+                yield f"standard {what} is {parting(given, due)}"
+
+
+def close(passed, failed):
+    """Prints the closing line, and returns the status that goes with it."""
+    print(f"{passed} passed, {failed} failed", flush=True)
+    return 1 if failed else 0
+
+
+def counts_of(line):
+    """How many passed and how many failed by a closing line; None of another line."""
+    found = CLOSING.fullmatch(line)
+    return (int(found[1]), int(found[2])) if found else None
+
+
+class Tally:
+    """The cases so far. What adds a case returns whether it passed."""
+
+    def __init__(self):
+        self.passed = self.failed = 0
+
+    def case(self, name, wrong, count=1):
+        """A case, or so many, with the list of what is wrong: nothing where it passed."""
+        wrong = list(wrong)
+        for what in wrong:
+            print(f"{name}: {what}", flush=True)
+        self.passed += 0 if wrong else count
+        self.failed += count if wrong else 0
+        return not wrong
+
+    def equal(self, name, given, due):
+        """Whether a value is the one that was due."""
+        return self.case(name, [] if given == due else [parting(given, due)])
+
+    def holds(self, name, is_so, given, due=""):
+        """Whether something holds of a value. `due` says in words what that is, where the name doesn't."""
+        return self.case(name, [] if is_so else [f"not so of {shown(given)}" + (f", and {due} was due" if due else "")])
+
+    def ends(self, name, done, status=0, out="", err=""):
+        """Whether a program ended as was due: each output is a whole text, a pattern of it, or None if nobody looks at it."""
+        return self.case(name, wrong_end(done, status, out, err))
+
+    def part(self, function, *words):
+        """A part of the check, which takes this tally and these words, or is left out."""
+        try:
+            function(self, *words)
+        except LeftOut as what:
+            print(f"left out: {what}", flush=True)
+
+    def close(self):
+        """Ends the check: prints the closing line, and returns the status."""
+        return close(self.passed, self.failed)

@@ -1,0 +1,163 @@
+#!/usr/bin/env python3
+"""Shows checks/harness.py small programs, right and wrong ones, and looks at what it counts and prints.
+
+    checks/harness_test.py
+
+A harness that compares can be wrong itself: it might count a wrong program as right. So each call gets a program or a value that is
+as it was due, and others that differ in one byte, in the status or in time. It counts without the harness. Prints what went wrong, and
+last `N passed, M failed`.
+"""
+import contextlib
+import io
+import re
+import sys
+
+from harness import ANY, LATE, LeftOut, Tally, close, counts_of, leave, needs, new_folder, parting, run, shown
+
+# A program that repeats its standard input but for so many bytes, says its words on standard error, and ends with a status.
+ECHO = """
+import sys
+less, status, text = int(sys.argv[1]), int(sys.argv[2]), sys.stdin.read()
+print(text[:len(text) - less], end="")
+print(*sys.argv[3:], end="", file=sys.stderr)
+sys.exit(status)
+"""
+TEXT = "report entries 0\n"
+LONG = "a" * 1000 + "b" + "a" * 1000
+
+
+def echo(less=0, status=0, *words):
+    """How that program ends with TEXT."""
+    return run([sys.executable, "-c", ECHO, less, status, *words], TEXT)
+
+
+class Plain:
+    """What was looked at so far, counted without the harness."""
+
+    def __init__(self):
+        self.passed = self.failed = 0
+
+    def same(self, name, given, due):
+        """Two values that must be equal."""
+        self.passed += given == due
+        self.failed += given != due
+        print("" if given == due else f"{name}: {given!r}, and {due!r} was due\n", end="")
+
+
+def tried(call, *words):
+    """What a call of a new tally counts, whether it says so, and what it prints."""
+    tally, printed = Tally(), io.StringIO()
+    with contextlib.redirect_stdout(printed):
+        passed = getattr(tally, call)(*words)
+    return (tally.passed, tally.failed), passed, printed.getvalue()
+
+
+def right_ones(plain):
+    """Cases that must pass, and print nothing."""
+    for name, call, words in [
+        ("a program", "ends", (echo(), 0, TEXT, "")),
+        ("a program that fails as is due", "ends", (echo(0, 3, "no"), 3, TEXT, "no")),
+        ("any output", "ends", (echo(), 0, ANY, "")),
+        ("a pattern", "ends", (echo(), 0, re.compile(r"report entries \d\n"), "")),
+        ("an output that nobody looks at", "ends", (echo(1), 0, None, "")),
+        ("equal values", "equal", ([1], [1])),
+        ("what holds", "holds", (True, "shown")),
+        ("nothing wrong", "case", ([],)),
+    ]:
+        plain.same(name, tried(call, name, *words), ((1, 0), True, ""))
+    plain.same("three cases in one", tried("case", "three", [], 3), ((3, 0), True, ""))
+
+
+def wrong_ones(plain):
+    """Cases that must fail, and be printed with their names."""
+    for name, call, words in [
+        ("a byte less", "ends", (echo(1), 0, TEXT, "")),
+        ("a byte more", "ends", (echo(), 0, TEXT[:-1], "")),
+        ("another status", "ends", (echo(0, 1), 0, TEXT, "")),
+        ("no failure where one is due", "ends", (echo(), 1, TEXT, "")),
+        ("a word on standard error", "ends", (echo(0, 0, "a"), 0, TEXT, "")),
+        ("another word there", "ends", (echo(0, 1, "a"), 1, TEXT, "b")),
+        ("no output where some is due", "ends", (echo(len(TEXT)), 0, ANY, "")),
+        ("another status, and no look at the output", "ends", (echo(0, 1), 0, None, None)),
+        ("a pattern of less", "ends", (echo(), 0, re.compile(r"report entries \d"), "")),
+        ("a program that is too late", "ends", (run(["sleep", "9"], seconds=0.1), 0, "", "")),
+        ("a program that is killed", "ends", (run(["sh", "-c", "kill -9 $$"]), 0, "", "")),
+        ("other values", "equal", ([1], [2])),
+        ("a text with a byte less", "equal", (TEXT[:-1], TEXT)),
+        ("bytes and a text", "equal", (TEXT.encode(), TEXT)),
+        ("what doesn't hold", "holds", (False, "shown")),
+        ("something wrong", "case", (["it is wrong"],)),
+    ]:
+        counts, passed, printed = tried(call, name, *words)
+        plain.same(name, (counts, passed, printed[: len(name) + 2]), ((0, 1), False, f"{name}: "))
+    counts, passed, printed = tried("case", "three", ["one", "two"], 3)
+    plain.same("three cases in one that fail", (counts, passed, printed), ((0, 3), False, "three: one\nthree: two\n"))
+
+
+def printed_of(function, *words):
+    """What a function returns and prints."""
+    printed = io.StringIO()
+    with contextlib.redirect_stdout(printed):
+        returned = function(*words)
+    return returned, printed.getvalue()
+
+
+def closing_lines(plain):
+    """The line at the end, and what is read of lines."""
+    plain.same("all passed", printed_of(close, 3, 0), (0, "3 passed, 0 failed\n"))
+    plain.same("one failed", printed_of(close, 3, 1), (1, "3 passed, 1 failed\n"))
+    for line, due in [
+        ("3 passed, 1 failed\n", (3, 1)), ("3 passed, 1 failed", (3, 1)), ("3 passed, 1 failed.\n", None), (" 3 passed, 1 failed\n", None),
+        ("3 passed\n", None), ("-3 passed, 1 failed\n", None), ("", None),
+    ]:
+        plain.same(f"the counts of {line!r}", counts_of(line), due)
+
+
+def left_out(plain):
+    """What a machine can't do is said, and counts for nothing; what it can do is done."""
+    def part(of, program):
+        needs("a part", "sh", program)
+        of.case("it is done", [])
+
+    plain.same("a part", tried("part", part, "sh"), ((1, 0), None, ""))
+    none = "no-such-program-anywhere"
+    due = f"left out: a part, since there is no {none}\n"
+    plain.same("a part that is left out", tried("part", part, none), ((0, 0), None, due))
+    try:
+        needs("a part", none)
+        plain.same("a program that isn't there", "nothing was left out", "")
+    except LeftOut as what:
+        plain.same("a program that isn't there", f"left out: {what}\n", due)
+
+
+def readable(plain):
+    """Long texts are cut, around the place where they part."""
+    told = parting(LONG, LONG.replace("b", "c"))
+    plain.same("where long texts part", (len(told) < 800, "ab" in told, "ac" in told), (True, True, True))
+    plain.same("a short text", shown("a\n"), repr("a\n"))
+    plain.same("a long text", (len(shown(LONG)) < 400, "of 2001" in shown(LONG)), (True, True))
+
+
+def folders(plain):
+    """A folder that goes away, and a text that stays."""
+    with new_folder() as folder:
+        (folder / "file").write_text(TEXT)
+        is_there = folder.is_dir()
+    plain.same("a new folder", (is_there, folder.exists()), (True, False))
+    place = leave("harness_test/text", TEXT)
+    plain.same("a text that is left", place.read_text(), TEXT)
+    place.unlink()
+    place.parent.rmdir()
+    plain.same("a program that is too late", run(["sleep", "9"], seconds=0.1).returncode, LATE)
+
+
+def main():
+    plain = Plain()
+    for part in (right_ones, wrong_ones, closing_lines, left_out, readable, folders):
+        part(plain)
+    print(f"{plain.passed} passed, {plain.failed} failed")
+    return 1 if plain.failed else 0
+
+
+if __name__ == "__main__":
+    sys.exit(main())
