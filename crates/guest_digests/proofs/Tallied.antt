@@ -11,7 +11,8 @@ use Rattle.std.specs.List.Sorted.{IsNonDecreasing, IsPermutation, IsStrictlyIncr
 use Rattle.std.specs.Prelude.{All, ◌==◌}
 use Rattle.memory_pages.specs.Made.{AreMade}
 use Rattle.guest_digests.specs.Counted.{AreCounted, AreDigests, count_of}
-use Rattle.guest_digests.specs.Samples.{Sampled, kept_digests}
+use Rattle.guest_digests.specs.Samples.{Sampled}
+use Rattle.guest_digests.proofs.Kept.{all_given, given}
 use Rattle.guest_digests.specs.declared.line.DigestLine.{DigestLine}
 
 -- a greater number after numbers that rise
@@ -50,7 +51,7 @@ line_more digests done n d lines after so_far below some next e =
 
 -- the lines count what was read, in whichever order
 pub digested : (steady : Type 0) (pages : List (List ℕ)) (by : Sampled) (digests sorted : List ℕ) (lines : List DigestLine)
-    → AreMade steady pages (kept_digests by) [] digests → IsPermutation digests sorted → AreCounted sorted lines → AreDigests steady pages by lines
+    → AreMade steady pages (given by) [] digests → IsPermutation digests sorted → AreCounted sorted lines → AreDigests steady pages by lines
 digested steady pages by digests sorted lines read same counted = record {
   read = read.read;
   all = read.all;
@@ -58,8 +59,8 @@ digested steady pages by digests sorted lines read same counted = record {
   counted = record {
     rising = counted.rising;
     some = counted.some;
-    told = λ x. counted.told x ∙ sum_by-IsPermutation (λ (other : ℕ). cond (other == x) 1 0) digests sorted same ∙ ap (count_of x) read.added;
-    total = counted.total ∙ length_permutation digests sorted same ∙ ap length read.added;
+    told = λ x. counted.told x ∙ sum_by-IsPermutation (λ (other : ℕ). cond (other == x) 1 0) digests sorted same ∙ ap (count_of x) (read.added ∙ all_given by read.read);
+    total = counted.total ∙ length_permutation digests sorted same ∙ ap length (read.added ∙ all_given by read.read);
   };
 }
 

@@ -1,10 +1,6 @@
 //! The digests of pages that were read.
-ghost use Rattle.std.specs.Prelude.{◌≡◌, ◌++◌, OnOk, filter, length};
-ghost use Rattle.page_digest.specs.Hashes.{content_digest};
-ghost use Rattle.guest_digests.specs.Samples.{digests_of, is_kept, kept_digests};
-ghost use Rattle.std.proofs.Common.{◌∙◌, ap};
-ghost use Rattle.std.proofs.lemmas.List.{map-append};
-ghost use Rattle.std.proofs.lemmas.List.Elements.{filter-append};
+ghost use Rattle.std.specs.Prelude.{◌≡◌, [], ◌∷◌, ◌++◌, OnOk, filter, length};
+ghost use Rattle.guest_digests.specs.Samples.{is_kept, kept_digests};
 
 use crate::Sampling;
 use memory_pages::PageWork;
@@ -75,7 +71,7 @@ fn push_kept<A: Allocator>(
 impl PageWork for Sampling {
     type Item = u128;
 
-    ghost made = { kept_digests };
+    ghost gives = { λ by page. kept_digests by (page ∷ []) };
 
     // How many digests a sample keeps isn't known before the pages are hashed.
     fn room(&self, _pages: u32) -> usize {
@@ -89,6 +85,4 @@ impl PageWork for Sampling {
     ) -> Result<(), AllocError> {
         push_digests(*self, pages, items)
     }
-
-    ghost splits = { λ by xs ys. ap (filter (is_kept by)) (map-append (content_digest by.salt) xs ys) ∙ filter-append (is_kept by) (digests_of by.salt xs) (digests_of by.salt ys) };
 }

@@ -33,7 +33,7 @@ pub(crate) fn read_items<S: PageSource, W: PageWork, P: Progress, A: Allocator +
     requires within { from + count ≤ length (S.pages source.now) }
     requires fits { from + count < 2 ^ 32 }
     ensures { IfOk result (λ items.
-        AreMade (S.is_steady source.now) (take count (drop from (S.pages source.now))) (W.made work.now) [] items.items) }
+        AreMade (S.is_steady source.now) (take count (drop from (S.pages source.now))) (W.gives work.now) [] items.items) }
 {
     let mut pages = new_pages(alloc.clone()?, RUN as usize)?;
     let mut items = Vec::with_capacity(alloc.clone()?, work.room(count))?;

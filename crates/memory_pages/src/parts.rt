@@ -25,7 +25,7 @@ pub fn push_all<
     items: &mut Vec<W::Item, A>,
 ) -> Result<(), ReadFault<S::Fault>>
     requires { 1 ≤ workers.now.count }
-    ensures made { OnOk result (AreMade (S.is_steady source.now) (S.pages source.now) (W.made work.now) items.old.items items.new.items) }
+    ensures made { OnOk result (AreMade (S.is_steady source.now) (S.pages source.now) (W.gives work.now) items.old.items items.new.items) }
     ensures capacity { vec_capacity items.old ≤ vec_capacity items.new }
 {
     let count = source.count();
@@ -34,7 +34,7 @@ pub fn push_all<
     let alloc = workers.alloc;
     let part = move |n: usize| -> Result<Vec<W::Item, A>, ReadFault<S::Fault>>
         requires { size * n < length (S.pages source.now) }
-        ensures { IfOk result (λ items. AreMade (S.is_steady source.entry.now) (part_of (S.pages source.entry.now) size n) (W.made work.entry.now) [] items.items) }
+        ensures { IfOk result (λ items. AreMade (S.is_steady source.entry.now) (part_of (S.pages source.entry.now) size n) (W.gives work.entry.now) [] items.items) }
     { read_part(alloc, source, work, progress, size, n) };
     let lists = thread::map_indices(workers.rt, alloc.clone()?, split.parts, &part)?;
     for list in lists {
@@ -54,7 +54,7 @@ fn read_part<S: PageSource, W: PageWork, P: Progress, A: Allocator + Clone>(
 ) -> Result<Vec<W::Item, A>, ReadFault<S::Fault>>
     requires { size * part < length (S.pages source.now) }
     ensures { IfOk result (λ items.
-        AreMade (S.is_steady source.now) (part_of (S.pages source.now) size part) (W.made work.now) [] items.items) }
+        AreMade (S.is_steady source.now) (part_of (S.pages source.now) size part) (W.gives work.now) [] items.items) }
 {
     let count = source.count();
     let from = (size as usize * part) as u32;

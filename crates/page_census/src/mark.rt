@@ -1,9 +1,8 @@
 //! The mark of a page: 0 for a page of zeros, and for any other a hash that isn't 0.
-ghost use Rattle.std.specs.Prelude.{◌≡◌, ◌++◌, OnOk};
+ghost use Rattle.std.specs.Prelude.{◌≡◌, [], ◌∷◌, ◌++◌, OnOk};
 ghost use Rattle.std.specs.Str.{bytes_eq};
 ghost use Rattle.page_model.specs.Pages.{blank};
 ghost use Rattle.page_census.specs.Marks.{mark, marks_of};
-ghost use Rattle.std.proofs.lemmas.List.{map-append};
 
 use memory_pages::PageWork;
 use page_digest::PageHash;
@@ -56,7 +55,7 @@ pub(crate) struct Marking<'a, H> {
 impl<H: PageHash> PageWork for Marking<'_, H> {
     type Item = u64;
 
-    ghost made = { λ marking pages. marks_of H.hash_of marking.salt pages };
+    ghost gives = { λ marking page. mark H.hash_of marking.salt page ∷ [] };
 
     fn room(&self, pages: u32) -> usize {
         pages as usize
@@ -69,6 +68,4 @@ impl<H: PageHash> PageWork for Marking<'_, H> {
     ) -> Result<(), AllocError> {
         push_marks(self.hash, self.salt, pages, items)
     }
-
-    ghost splits = { λ marking xs ys. map-append (mark H.hash_of marking.salt) xs ys };
 }

@@ -1,4 +1,4 @@
-use Rattle.std.proofs.Common.{◌≡◌, [], arith, length, take, refl}
+use Rattle.std.proofs.Common.{◌≡◌, [], arith, drop, length, take, refl}
 use Rattle.std.proofs.lemmas.List.{length-take}
 use Rattle.memory_pages.proofs.Made.{nothing_read, run_read}
 use Rattle.memory_pages.proofs.part.read_items.Goals as goal
@@ -7,7 +7,7 @@ pub loop-done-init : goal.loop-done-init
 loop-done-init g c = record {
   within = omega arith;
   pages = c.in_ok-pages.ensures;
-  made = nothing_read (g.S.PageSource.is_steady c.args.source.now) (g.W.PageWork.made c.args.work.now) (g.met.W.PageWork.splits c.args.work.now) _ 0 [] _ refl c.in_ok-items.ensures.items;
+  made = nothing_read (g.S.PageSource.is_steady c.args.source.now) (g.W.PageWork.gives c.args.work.now) (drop c.args.from (g.S.PageSource.pages c.args.source.now)) 0 [] _ refl c.in_ok-items.ensures.items;
 }
 
 pub loop-done-preserved : goal.loop-done-preserved
@@ -20,6 +20,6 @@ loop-done-preserved g c =
     record {
       within = omega (arith, c.min-run.ensures);
       pages = so_far.pages;
-      made = run_read (g.S.PageSource.is_steady c.args.source.now) (g.W.PageWork.made c.args.work.now) (g.met.W.PageWork.splits c.args.work.now) pages c.args.from c.loop-done.done n c.read_run.new.into [] _ _
+      made = run_read (g.S.PageSource.is_steady c.args.source.now) (g.W.PageWork.gives c.args.work.now) pages c.args.from c.loop-done.done n c.read_run.new.into [] _ _
           so_far.made same (omega (arith, c.min-run.ensures, c.requires.within)) (λ s. rw long at (c.in_ok-read_run.ensures {u = tt} s)) c.in_ok-push.ensures;
     }

@@ -6,7 +6,7 @@ abbrev pub invariant-loop-done : goal.invariant-loop-done
 invariant-loop-done g l = record {
   within : l.done ≤ l.count;
   pages : vec_len l.pages ≡ 64;
-  made : AreMade (g.S.PageSource.is_steady l.source) (take l.done (drop l.from (g.S.PageSource.pages l.source))) (g.W.PageWork.made l.work) [] l.items.items;
+  made : AreMade (g.S.PageSource.is_steady l.source) (take l.done (drop l.from (g.S.PageSource.pages l.source))) (g.W.PageWork.gives l.work) [] l.items.items;
 }
 
 abbrev pub decreases-loop-done : goal.decreases-loop-done

@@ -1,5 +1,5 @@
 use Rattle.std.proofs.Common.{arith}
-use Rattle.memory_pages.proofs.Parts.{parts_hold, part_has}
+use Rattle.memory_pages.proofs.Splits.{parts_hold, part_has}
 use Rattle.memory_pages.proofs.split.split_among.Goals as goal
 
 pub returns-clause-all : goal.returns-clause-all

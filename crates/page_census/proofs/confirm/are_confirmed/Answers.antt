@@ -5,7 +5,7 @@ use Rattle.std.specs.Vec.Iter.{into_iter_items}
 use Rattle.page_census.specs.Contents.{AreSteady, contents}
 use Rattle.page_census.specs.Fingerprints.{AreConfirmed}
 use Rattle.page_census.proofs.Fingerprints.{all_confirmed, part_confirmed}
-use Rattle.memory_pages.proofs.Parts.{at_next}
+use Rattle.memory_pages.proofs.Splits.{at_next}
 use Rattle.page_census.proofs.confirm.are_confirmed.Goals as goal
 
 pub loop-answer-preserved : goal.loop-answer-preserved
