@@ -38,7 +38,11 @@ fn guest_rows<'a, A: Allocator>(
     alloc: A,
     guests: &[GuestLine<'a>],
 ) -> Result<Vec<GuestRow<'a>, A>, AllocError> {
-    guests.iter().map(guest_row).collect(alloc)
+    let mut rows = Vec::with_capacity(alloc, guests.len())?;
+    for guest in guests {
+        rows.push(guest_row(guest))?;
+    }
+    Ok(rows)
 }
 
 fn guest_row<'a>(guest: &GuestLine<'a>) -> GuestRow<'a> {
@@ -60,7 +64,11 @@ fn class_rows<A: Allocator>(
     alloc: A,
     copies: &[CopiesClass],
 ) -> Result<Vec<ClassRow, A>, AllocError> {
-    copies.iter().map(class_row).collect(alloc)
+    let mut rows = Vec::with_capacity(alloc, copies.len())?;
+    for class in copies {
+        rows.push(class_row(class))?;
+    }
+    Ok(rows)
 }
 
 fn class_row(class: &CopiesClass) -> ClassRow {

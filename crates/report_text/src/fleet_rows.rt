@@ -31,10 +31,11 @@ fn guest_rows<'a, A: Allocator>(
     sample: u32,
     guests: &[FleetLine<'a>],
 ) -> Result<Vec<GuestRow<'a>, A>, AllocError> {
-    guests
-        .iter()
-        .map(|guest| guest_row(sample, guest))
-        .collect(alloc)
+    let mut rows = Vec::with_capacity(alloc, guests.len())?;
+    for guest in guests {
+        rows.push(guest_row(sample, guest))?;
+    }
+    Ok(rows)
 }
 
 fn guest_row<'a>(sample: u32, guest: &FleetLine<'a>) -> GuestRow<'a> {
@@ -90,10 +91,11 @@ fn class_rows<A: Allocator>(
     sample: u32,
     copies: &[FleetClass],
 ) -> Result<Vec<ClassRow, A>, AllocError> {
-    copies
-        .iter()
-        .map(|class| class_row(sample, class))
-        .collect(alloc)
+    let mut rows = Vec::with_capacity(alloc, copies.len())?;
+    for class in copies {
+        rows.push(class_row(sample, class))?;
+    }
+    Ok(rows)
 }
 
 fn class_row(sample: u32, class: &FleetClass) -> ClassRow {
