@@ -1,6 +1,6 @@
 use Rattle.std.proofs.Common.{◌≡◌, ◌++◌, OnOk, List, ℕ, subst, sym}
-use Rattle.page_digests.proofs.Kept.{all_given}
-use Rattle.page_digests.proofs.hashed.SamplingPageWork.push.Goals as goal
+use Rattle.guest_digests.proofs.Kept.{all_given}
+use Rattle.guest_digests.proofs.hashed.SamplingPageWork.push.Goals as goal
 
 pub returns : goal.returns
 returns g c =
