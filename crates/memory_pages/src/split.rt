@@ -1,5 +1,7 @@
 //! How pages are split among workers.
-ghost use Rattle.std.specs.Prelude.{ℕ, ◌*◌, ◌<◌, ◌≤◌};
+ghost use Rattle.std.specs.Prelude.{ℕ, ◌≡◌, ◌*◌, ◌<◌, ◌≤◌, max};
+ghost use Rattle.std.specs.Int.{div_ceil};
+ghost use Rattle.memory_pages.specs.declared.split.TheConstants.{RUN};
 
 /// How many pages are read at once.
 pub const RUN: u32 = 64;
@@ -14,6 +16,8 @@ pub struct Split {
 /// Splits `count` pages into parts of equal size, at most one for each worker; fewer of them if there are few pages.
 pub fn split_among(workers: u32, count: u32) -> Split
     requires { 1 ≤ workers }
+    ensures sizes { result.size ≡ max (div_ceil count workers) RUN }
+    ensures parts { result.parts ≡ div_ceil count result.size }
     ensures size { 1 ≤ result.size }
     ensures all { count ≤ result.size * result.parts }
     ensures begins { (n : ℕ) → n < result.parts → result.size * n < count }
