@@ -1,8 +1,8 @@
 //! The mark of a page: 0 for a page of zeros, and for any other a hash that isn't 0.
-ghost use Rattle.std.specs.Prelude.{◌≡◌, [], ◌∷◌, ◌++◌, OnOk};
+ghost use Rattle.std.specs.Prelude.{◌≡◌, [], ◌∷◌};
 ghost use Rattle.std.specs.Str.{bytes_eq};
 ghost use Rattle.page_model.specs.Pages.{blank};
-ghost use Rattle.page_census.specs.Marks.{mark, marks_of};
+ghost use Rattle.page_census.specs.Marks.{mark};
 
 use memory_pages::PageWork;
 use page_digest::PageHash;
@@ -18,31 +18,6 @@ fn is_blank(page: &Page) -> bool
         bits |= *byte;
     }
     bits == 0
-}
-
-fn mark_of<H: PageHash>(hash: &H, salt: u32, page: &Page) -> u64
-    ensures { result ≡ mark H.hash_of salt page.now }
-{
-    if is_blank(page) {
-        0
-    } else {
-        hash.hash(salt, page).max(1)
-    }
-}
-
-/// Appends the mark of each page.
-fn push_marks<H: PageHash, A: Allocator>(
-    hash: &H,
-    salt: u32,
-    pages: &[Page],
-    marks: &mut Vec<u64, A>,
-) -> Result<(), AllocError>
-    ensures { OnOk result (marks.new.items ≡ marks.old.items ++ marks_of H.hash_of salt pages.now) }
-{
-    for page in pages {
-        marks.push(mark_of(hash, salt, page))?;
-    }
-    Ok(())
 }
 
 /// Marks the pages of a guest with this salt.
@@ -66,6 +41,14 @@ impl<H: PageHash> PageWork for Marking<'_, H> {
         pages: &[Page],
         items: &mut Vec<u64, A>,
     ) -> Result<(), AllocError> {
-        push_marks(self.hash, self.salt, pages, items)
+        for page in pages {
+            let mark = if is_blank(page) {
+                0
+            } else {
+                self.hash.hash(self.salt, page).max(1)
+            };
+            items.push(mark)?;
+        }
+        Ok(())
     }
 }
