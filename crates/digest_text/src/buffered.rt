@@ -1,5 +1,6 @@
 //! A source with a buffer.
 ghost use Rattle.std.specs.Prelude.{◌≡◌, ◌≤◌, vec_len};
+ghost use Rattle.digest_text.specs.declared.buffered.TheConstants.{BUFFER_BYTES};
 
 use std::alloc::Allocator;
 
