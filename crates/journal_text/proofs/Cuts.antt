@@ -7,6 +7,7 @@ use Rattle.std.proofs.lemmas.List.Sums.{fails_before_first}
 use Rattle.std.proofs.lemmas.List.Splits.{slice_split_first, slice_split_none}
 use Rattle.text_words.specs.Words.{◌>>=◌, is_space, behind_space, number, with_front}
 use Rattle.text_words.specs.Lines.{at_line}
+use Rattle.text_words.proofs.Cuts.{front_on}
 use Rattle.journal_text.specs.Headers.{words_in, numbers}
 use Rattle.text_words.specs.declared.fault.Cause.{Cause}
 use Rattle.text_words.specs.declared.fault.TextFault.TheVariants as faults

@@ -12,6 +12,7 @@ use Rattle.std.proofs.lemmas.Grind.{elements}
 use Rattle.text_words.specs.declared.fault.Cause.{Cause}
 use Rattle.text_words.specs.declared.fault.TextFault.TheVariants as faults
 use Rattle.text_words.proofs.Cuts.{front_on}
+use Rattle.text_words.proofs.Lines.{lines_step, whole_step, lines_end}
 
 none_onto : (b : ℕ) (lines : List (List ℕ)) → is_none (onto_line b lines) ≡ is_none lines
 none_onto b [] = refl

@@ -4,6 +4,7 @@ use Rattle.std.specs.List.{list_all, slice_split}
 use Rattle.text_words.specs.declared.fault.Cause.{Cause}
 use Rattle.text_words.specs.declared.fault.Cause.TheVariants as causes
 use Rattle.text_words.specs.declared.fault.TextFault.TheVariants as faults
+use Rattle.text_words.specs.Lines.{keyword}
 use Rattle.text_words.specs.Words.{◌>>=◌, is_space, word_at, nothing_at, number, number_at}
 
 -- 1 to 1,048,576 frames

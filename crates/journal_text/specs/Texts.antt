@@ -14,7 +14,7 @@ use Rattle.journal_text.specs.declared.request.Line.TheVariants.{Enters, Ends}
 use Rattle.journal_text.specs.declared.version.Version.{Version}
 use Rattle.journal_text.specs.declared.version.Version.TheVariants.{One, Two}
 use Rattle.text_words.specs.Words.{◌>>=◌}
-use Rattle.text_words.specs.Lines.{line_at, at_line}
+use Rattle.text_words.specs.Lines.{line_at, at_line, lines_of, is_whole}
 use Rattle.journal_text.specs.Headers.{frames_of, pages_of, salts_of}
 use Rattle.journal_text.specs.Requests.{line_of}
 
