@@ -81,14 +81,14 @@ fleet: out/pageshare
 	checks/live.py
 
 # Outside the gate: where the system refuses to start a thread, a run, a script and a hashing of many pages answer so and end.
-no-thread: out/thread_bench out/store_bench out/pageshare
+no-thread: out/page_bench out/pageshare
 	checks/no_thread.sh out
 
-out/%_bench: $(SOURCES)
-	checks/build.py $*_bench $@
+out/page_bench: $(SOURCES)
+	checks/build.py page_bench $@
 
-out/%_bench-v3: $(SOURCES)
-	checks/build.py $*_bench $@ --cpu x86-64-v3
+out/page_bench-v3: $(SOURCES)
+	checks/build.py page_bench $@ --cpu x86-64-v3
 
 # Outside the gate: 100,000 broken texts, each of which must get its output or one fault line (COUNT and SEED may be given).
 fuzz: out/pageshare
@@ -109,11 +109,11 @@ hints: out/pageshare
 # Outside the gate: the proved programs beside plain Rust, in one table; status 1 where a ratio is above its goal. CRATES may name
 # a folder with the sources of the opponents' crates. Builds for x86-64-v3 that are in out/ (`make bench-v3` makes them) are timed
 # as well, beside opponents built for it. Nothing else may run meanwhile.
-bench: out/pageshare out/store_bench out/thread_bench
+bench: out/pageshare out/page_bench
 	checks/bench.py --table out/bench.tsv $(if $(CRATES),--crates $(CRATES))
 	checks/plots.py out/bench.tsv out
 
-bench-v3: out/pageshare-v3 out/store_bench-v3 out/thread_bench-v3 bench
+bench-v3: out/pageshare-v3 out/page_bench-v3 bench
 
 # Outside the gate: the library for C and Rust, left at out/libpageshare.a, or for x86-64-v3 at out/v3/libpageshare.a, with its
 # examples and tests. What this machine has no program for is left out, and told.

@@ -1,4 +1,4 @@
-// The same calls over a `Vec` of pages and a list of free ones, for comparison with `store_bench frames`:
+// The same calls over a `Vec` of pages and a list of free ones, for comparison with `page_bench frames`:
 // rustc -O benches/frames.rs -o /tmp/frames && /tmp/frames 100000
 use std::hint::black_box;
 use std::time::Instant;

@@ -1,4 +1,4 @@
-//! The hash of a page by the crate `sha2`, one by one and by threads of `rayon`, for comparison with `store_bench hash`.
+//! The hash of a page by the crate `sha2`, one by one and by threads of `rayon`, for comparison with `page_bench hash`.
 use rayon::prelude::*;
 use rayon::{ThreadPool, ThreadPoolBuilder};
 use sha2::{Digest, Sha256};

@@ -1,4 +1,4 @@
-//! A hand-written pair of rings, every access `SeqCst`, timed as `thread_bench rings` times the proved one.
+//! A hand-written pair of rings, every access `SeqCst`, timed as `page_bench rings` times the proved one.
 //! `rustc -O benches/rings.rs -o /tmp/rings && /tmp/rings 1000000`
 #![allow(dead_code)]
 

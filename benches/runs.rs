@@ -1,4 +1,4 @@
-//! Whole runs with a thread for each guest, over std's bounded channels, for comparison with `thread_bench run`.
+//! Whole runs with a thread for each guest, over std's bounded channels, for comparison with `page_bench run`.
 mod machine;
 
 use machine::{Bytes, Machine, Request, Verdict};

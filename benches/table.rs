@@ -1,4 +1,4 @@
-// The same calls over a table of the same layout, for comparison with `store_bench table`:
+// The same calls over a table of the same layout, for comparison with `page_bench table`:
 // rustc -O benches/table.rs -o /tmp/table && /tmp/table 1000000
 use std::convert::{TryFrom, TryInto};
 use std::time::Instant;

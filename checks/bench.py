@@ -3,7 +3,7 @@
 
     checks/bench.py [--crates FOLDER] [--turns N] [--quick] [--only WORD] [--table FILE] [--instructions]
 
-The proved programs are those in out/: pageshare (`make build`) and the crates *_bench (`make out/store_bench out/thread_bench`).
+The proved programs are those in out/: pageshare (`make build`) and page_bench (`make out/page_bench`).
 Where their builds for x86-64-v3 are there too (`make bench-v3`) and the processor is of that level, replays, hashes and runs are
 timed with these as well, beside opponents that are built for it. The opponents are the
 Cargo package benches/, which is copied to out/bench and built there. --crates names a folder with the sources of its
@@ -80,7 +80,7 @@ def has_v3():
     """Whether all programs for x86-64-v3 were built, and this processor runs them."""
     with open("/proc/cpuinfo", encoding="ascii") as lines:
         flags = next((set(line.split()) for line in lines if line.startswith("flags")), set())
-    return V3 <= flags and all(os.path.exists(V3_LEVEL.ours(name)) for name in ("pageshare", "store_bench", "thread_bench"))
+    return V3 <= flags and all(os.path.exists(V3_LEVEL.ours(name)) for name in ("pageshare", "page_bench"))
 
 
 def build_opponents(crates, instructions, cpu):
@@ -105,16 +105,19 @@ def build_opponents(crates, instructions, cpu):
 
 
 def told(program, words):
-    """The figures that a benchmark prints, by their names."""
+    """The figures that a benchmark prints, by their names. Of those with one name the least counts."""
     text = subprocess.run([program, *words], capture_output=True, text=True, check=True, timeout=900).stdout
     figures = {}
     for line in text.splitlines():
-        if found := re.fullmatch(r"ns a round trip: (\d+) on one thread, (\d+) between two", line):
+        if found := re.fullmatch(r"(.+): (\d+) in (\d+) ns", line):
+            if found[2] == "0":
+                sys.exit(f"{program} {' '.join(words)}: {line}")
+            figure = float(found[3]) / float(found[2])
+            figures[found[1]] = min(figure, figures.get(found[1], figure))
+        elif found := re.fullmatch(r"ns a round trip: (\d+) on one thread, (\d+) between two", line):
             figures["on one thread"], figures["between two"] = float(found[1]), float(found[2])
-        elif found := re.match(r"(\d+ guests, [^:]+): (\d+) a second(?: in threads, (\d+) on one thread)?$", line):
+        elif found := re.fullmatch(r"(\d+ guests, [^:]+): (\d+) a second", line):
             figures[found[1]] = 1e9 / max(1.0, float(found[2]))
-            if found[3]:
-                figures[found[1] + ", one thread"] = 1e9 / max(1.0, float(found[3]))
         elif found := re.fullmatch(r"(.+): (\d+)( ns a page)?", line):
             figures[found[1]] = float(found[2])
     return figures
@@ -265,7 +268,7 @@ BY_LEVEL = {"replay", "hash", "run"}
 def hashes(table, level):
     """Pages hashed; on x86-64-v3 by the hash type for its vectors, of which one worker is to take a fifth of Rust's time."""
     goals = {"": 1.0, "one worker": 0.20} if level is V3_LEVEL else {"": 1.0}
-    counted(table, level, "store_bench", level.wide + "hash", "hashing", ["2000"], goals, WORKERS)
+    counted(table, level, "page_bench", level.wide + "hash", "hashing", ["2000"], goals, WORKERS)
 
 
 def main():
@@ -291,12 +294,12 @@ def main():
     requests = str(2_000 if asked.quick else 20_000)
     parts = {
         "replay": lambda level: replays(table, level, asked.quick),
-        "frames": lambda level: counted(table, level, "store_bench", "frames", "frames", [size], {"": 1.2, "give_back": None}),
-        "table": lambda level: counted(table, level, "store_bench", "table", "table", [size], {"": 1.2}),
-        "rings": lambda level: counted(table, level, "thread_bench", "rings", "rings", [size], {"": 1.2, "between two": None}),
+        "frames": lambda level: counted(table, level, "page_bench", "frames", "frames", [size], {"": 1.2, "give_back": None}),
+        "table": lambda level: counted(table, level, "page_bench", "table", "table", [size], {"": 1.2}),
+        "rings": lambda level: counted(table, level, "page_bench", "rings", "rings", [size], {"": 1.2, "between two": None}),
         "hash": lambda level: hashes(table, level),
         "estimate": lambda level: estimates(table, level.theirs, asked.quick),
-        "run": lambda level: counted(table, level, "thread_bench", level.wide + "run", "runs", [requests], {"": 1.0}, LARGEST + THREADS),
+        "run": lambda level: counted(table, level, "page_bench", level.wide + "run", "runs", [requests], {"": 1.0}, LARGEST + THREADS),
     }
     for name, part in parts.items():
         if asked.only in name:

@@ -4,8 +4,8 @@
 #
 #     checks/no_thread.sh [FOLDER]
 #
-# FOLDER has the programs thread_bench, pageshare and store_bench, by default out/ at the repository's top, where `make
-# no-thread` leaves them. Nothing is built here.
+# FOLDER has the programs page_bench and pageshare, by default out/ at the repository's top, where `make no-thread` leaves
+# them. Nothing is built here.
 #
 # A new thread's stack is as large as `ulimit -s` says, and can't be had where `ulimit -v` leaves less room. Unlike a
 # limit on the number of threads, this binds the root user too.
@@ -39,29 +39,31 @@ script() {
     printf 'end %d\n' "$1"
 }
 
-for name in thread_bench pageshare store_bench; do
+for name in page_bench pageshare; do
     [ -x "$folder/$name" ] || fail "there is no program $folder/$name"
 done
 
 # Whole runs, of one guest and then of more.
-refused='guests: no thread could be started'
+mix='guests, a proposal in 16'
 
-text=$(timeout 60 "$folder/thread_bench" run 2>&1)
+text=$(timeout 60 "$folder/page_bench" run 2>&1)
 check_ended $? 'a run without a limit'
 case $text in
-*"$refused"*) fail 'a thread was refused without a limit:' "$text" ;;
+*'no thread'*) fail 'a thread was refused without a limit:' "$text" ;;
 esac
 
-text=$(limited 1000000 500000 "$folder/thread_bench" run)
+text=$(limited 1000000 500000 "$folder/page_bench" run)
 check_ended $? 'a run without room for a thread'
-[ "$text" = "1 $refused" ] || fail 'a run without room for a thread printed:' "$text"
+case $text in
+*"1 $mix: no thread"*"64 $mix: no thread"*) ;;
+*) fail 'a run without room for a thread printed:' "$text" ;;
+esac
 
 # The run of one guest goes well, and there is no room for eight.
-text=$(limited 200000 1000000 "$folder/thread_bench" run)
+text=$(limited 200000 1000000 "$folder/page_bench" run)
 check_ended $? 'a run with room for some threads'
 case $text in
-"1 $refused"*) fail 'the first thread was refused beside room for some:' "$text" ;;
-*"$refused") ;;
+*"1 $mix: "[0-9]*"8 $mix: no thread"*) ;;
 *) fail 'a run with room for some threads printed:' "$text" ;;
 esac
 
@@ -89,14 +91,14 @@ for form in run 'run --journal'; do
 done
 
 # Hashes by one worker, which is the calling thread, by two, which start one more, and by four.
-text=$(limited 1000000 500000 "$folder/store_bench" hash 64)
+text=$(limited 1000000 500000 "$folder/page_bench" hash 64)
 check_ended $? 'hashes without room for a thread'
 case $text in
 *'one worker: '[0-9]*'two workers: no thread'*'four workers: no thread'*) ;;
 *) fail 'hashes without room for a thread printed:' "$text" ;;
 esac
 
-text=$(limited 300000 500000 "$folder/store_bench" hash 64)
+text=$(limited 300000 500000 "$folder/page_bench" hash 64)
 check_ended $? 'hashes with room for one thread'
 case $text in
 *'two workers: '[0-9]*'four workers: no thread'*) ;;

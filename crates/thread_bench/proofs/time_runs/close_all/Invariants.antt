@@ -1,6 +1,0 @@
-use Rattle.std.proofs.Common.{◌≡◌, ◌+◌, length}
-use Rattle.merge_core.specs.Shown.{state_of}
-use Rattle.thread_bench.proofs.time_runs.close_all.Given as goal
-
-abbrev pub invariant-loop-guest : goal.invariant-loop-guest
-invariant-loop-guest g l = (l.core.entries ≡ l.initial.core.entries + l.guest) × (length (state_of l.core).guests ≡ length (state_of l.initial.core).guests)

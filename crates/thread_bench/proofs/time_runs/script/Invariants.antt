@@ -1,6 +1,0 @@
-use Rattle.std.proofs.Common.{◌≡◌, ◌≤◌, false, vec_len, vec_capacity}
-use Rattle.share_rings.specs.Closing.{has_close}
-use Rattle.thread_bench.proofs.time_runs.script.Given as goal
-
-abbrev pub invariant-loop-n : goal.invariant-loop-n
-invariant-loop-n l = (has_close l.script.items ≡ false) × (vec_len l.script ≡ l.n) × (l.requests ≤ vec_capacity l.script)

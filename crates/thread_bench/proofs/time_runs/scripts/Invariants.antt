@@ -1,6 +1,0 @@
-use Rattle.std.proofs.Common.{◌≡◌, ◌≤◌, false, All, vec_len, vec_capacity}
-use Rattle.share_rings.specs.Closing.{has_close}
-use Rattle.thread_bench.proofs.time_runs.scripts.Given as goal
-
-abbrev pub invariant-loop-guest : goal.invariant-loop-guest
-invariant-loop-guest l = All (λ script. has_close script.items ≡ false) l.scripts.items × (vec_len l.scripts ≡ l.guest) × (l.guests ≤ vec_capacity l.scripts)
