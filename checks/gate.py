@@ -41,6 +41,7 @@ COMMANDS = {
     "test": [
         ("rt ci", ["rt", "ci"], True),
         ("runs", ["checks/quick.py", PROGRAM], False),
+        ("harness", ["checks/harness_test.py"], False),
         ("documents", ["checks/names.py"], False),
         ("map of crates", ["checks/map.py", "--check"], False),
     ],
