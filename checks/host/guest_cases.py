@@ -171,6 +171,23 @@ def case_backends():
         HERE.place.clean()
 
 
+def case_kvm():
+    """Guests under KVM, as root, since only root may use /dev/kvm everywhere."""
+    host = Host("--trust-peers")
+    if not os.access("/dev/kvm", os.R_OK | os.W_OK):
+        raise LeftOut("/dev/kvm")
+    HERE.place.guests_possible()
+    made = [guest(number, host, accelerator="kvm", wrap=[]) for number in range(2)]
+    try:
+        for it in made:
+            it.wait(120)
+    except RuntimeError as cause:
+        raise LeftOut(f"KVM doesn't run a guest here: {cause}") from cause
+    settle(host, made)
+    go_on(made, 4)
+    show(host, made, "under KVM")
+
+
 def case_locked():
     """QEMU locks its memory (mlockall): nothing is lent, and it runs."""
     host = Host()
@@ -199,8 +216,8 @@ def case_no_host():
 
 def case_soak():
     """Guests that work for a long time, while hosts and QEMUs end and begin."""
-    seconds, host = int(os.environ.get("SECONDS", "600")), Host()
-    made, end, turn = guests(GUESTS, host), time.time() + int(os.environ.get("SECONDS", "600")), 0
+    seconds, host, rounds, hosts, ended = int(os.environ.get("SECONDS", "600")), Host(), 0, 0, 0
+    made, end, turn = guests(GUESTS, host), time.time() + seconds, 0
     while time.time() < end:
         time.sleep(min(30, max(1, end - time.time())))
         right(made)
@@ -208,11 +225,17 @@ def case_soak():
         turn += 1
         if turn % 4 == 1:
             host.kill()
+            hosts += 1
             time.sleep(2)
             host.start()
         elif turn % 4 == 3:
+            rounds, ended = rounds + made[0].ticks(), ended + 1
             made[0].kill()
             made[0] = guest(0, host).wait()
+    right(made)
+    rounds += sum(it.ticks() for it in made)
+    print(f"  {seconds} s: {rounds} rounds of guests, {hosts} hosts and {ended} QEMUs killed, longest hold "
+          f"{max(it.counts().get('hold_most_ns', 0) for it in made) / 1e6:.1f} ms")
     for it in made:
         it.kill()
     all_released(host)

@@ -47,11 +47,16 @@ def settled_after(series):
     return series[-1][0]
 
 
+def held_about(made, host):
+    """The same by counts of the system that cost nothing, where the guests share by the host."""
+    return sum(it.anonymous() - it.beside for it in made) + host.status()["frame_bytes"] // PAGE if host else held(made, host)
+
+
 def watch(made, host, seconds):
-    begin, series = time.time(), [(0.0, held(made, host))]
+    begin, series = time.time(), [(0.0, held_about(made, host))]
     while time.time() - begin < seconds:
-        time.sleep(1)
-        series.append((time.time() - begin, held(made, host)))
+        time.sleep(0.5 if host else 1)
+        series.append((time.time() - begin, held_about(made, host)))
     return series
 
 
@@ -141,6 +146,37 @@ def case_memory():
           f"lent and shared by nobody {row['alone_percent']:.1f} %; mappings {row['mappings']}")
     (OUT / "memory.json").write_text(json.dumps(rows, indent=1))
     must(row["saved_percent"] >= 90, f"saved {row['saved_percent']:.1f} % of the bound")
+
+
+def longest_below(held, part):
+    """The bound below which that part of the pages was held, in microseconds."""
+    left = sum(held) * (1 - part)
+    for step in range(len(held) - 1, 0, -1):
+        left -= held[step]
+        if left < 0:
+            return 1 << step
+    return 1
+
+
+def case_holds():
+    """How long pages are held: on this machine as it is, and beside a busy loop, two and four of them for each processor."""
+    program = compile_c("stress")
+    for loops in (0, 1, 2, 4):
+        host = Host(memory="256M")
+        busy = [subprocess.Popen([*AS_NOBODY, "sh", "-c", "while :; do :; done"]) for _ in range(loops * (os.cpu_count() or 1))]
+        HERE.place.started += busy
+        counts = [HERE.place.room / f"holds{number}" for number in range(2)]
+        ran = [subprocess.Popen([*AS_NOBODY, program, "20", "48", "1"], env=preloaded(host, {"PAGESHARE_COUNTS": str(it)}),
+                                text=True, stdout=subprocess.PIPE) for it in counts]
+        said = [it.communicate(timeout=200)[0] for it in ran]
+        must(all(it.returncode == 0 for it in ran), f"{said}")
+        read_counts = [json.loads(read(it)) for it in counts]
+        held = [sum(it) for it in zip(*[it["held"] for it in read_counts])]
+        longest = max(it["hold_most_ns"] for it in read_counts) / 1e6
+        print(f"  {loops} loops for each processor, load {os.getloadavg()[0]:.1f}: {sum(held)} pages held; half of them for less than "
+              f"{longest_below(held, 0.5)} us, 99.9 % {longest_below(held, 0.999)} us, all but one in 100,000 "
+              f"{longest_below(held, 0.99999)} us; the longest {longest:.2f} ms", flush=True)
+        HERE.place.clean()
 
 
 def case_price():

@@ -1,6 +1,4 @@
 """Guests that run beside a host: they start, share, work on, and have read no wrong byte."""
-import time
-
 from places import AS_NOBODY, HERE, must, until
 from qemu_guests import PAGE, Guest, read
 
