@@ -61,8 +61,8 @@ def watch(made, host, seconds):
 
 
 def share(count, seconds):
-    """The table's rows of guests that share by the host."""
-    host = Host()
+    """The table's rows of guests that share by the host, whose frames may take a third of the guests' memory."""
+    host = Host(memory=f"{count * 256 // 3}M")
     host.kill()  # (guests boot without it: what they hold before is then known)
     made = [it.remember_ram() for it in guests(count, host)]
     before = sum(it.ram()["anonymous"] for it in made)
@@ -74,7 +74,8 @@ def share(count, seconds):
     lasted = time.time() - begin
     used = [(it.counts()["processor_ns"] - past) / lasted / 1e7 for it, past in zip(made, processor)]
     host_used = (host.status()["processor_nanoseconds_total"] - host_before) / lasted / 1e7
-    end, state, counts = held(made, host), host.status(), [it.counts() for it in made]
+    counts = [it.counts() for it in made]  # (before the system is asked, which holds up who maps memory in the guests' processes)
+    end, state = held(made, host), host.status()
     right(made)
     bound = dump(made)
     series[0] = (0.0, before)
