@@ -2,6 +2,7 @@
 #include "connection.h"
 #include "remote.h"
 #include "sharing.h"
+#include "slices.h"
 #include "trouble.h"
 #include <fcntl.h>
 #include <pthread.h>
@@ -18,6 +19,7 @@ enum {
     MUCH = 256,
     LITTLE = 4,
     EAGER_LOOKS = 8,    /* looks that come sooner after there is a new host or a new window */
+    FIRST_NICE = -10,   /* the nice value of the thread, where it may have it */
     PATH_ROOM = 256
 };
 static const uint64_t retry_ns = 1000000000, scan_ns = 1000000000;
@@ -173,17 +175,26 @@ static void choose_period(const struct windows_counts *now) {
     my.before = *now;
 }
 
+/* How many pages were held for less than 2^i microseconds each, with commas between. */
+static void write_times(const uint64_t *held, char *text, size_t room) {
+    size_t used = 0;
+    text[0] = 0;
+    for (size_t i = 0; i < WINDOWS_TIMES && used < room; i++)
+        used += (size_t)snprintf(text + used, room - used, "%s%llu", i > 0 ? "," : "", (unsigned long long)held[i]);
+}
+
 /* The counts as JSON, for tests and for who wants to know. */
 static void write_counts(const struct windows_counts *now) {
-    char text[2048];
+    char text[2560], held[WINDOWS_TIMES * 21];
     if (told.counts < 0) return;
+    write_times(now->held, held, sizeof held);
     int length = snprintf(
         text, sizeof text,
         "{\"connected\":%d,\"pause\":%d,\"windows\":%zu,\"pages\":%zu,\"lent\":%zu,\"zeros_now\":%zu,\"mappings\":%zu,"
         "\"table_bytes\":%zu,\"looks\":%llu,"
         "\"lends\":%llu,\"copied\":%llu,\"zeros\":%llu,\"discarded\":%llu,\"taken_home\":%llu,\"asked\":%llu,\"seen\":%llu,\"changed\":%llu,"
         "\"pinned\":%llu,\"no_frame\":%llu,\"no_mapping\":%llu,\"lender_failures\":%llu,\"look_ns\":%llu,\"ask_ns\":%llu,\"lend_ns\":%llu,"
-        "\"map_ns\":%llu,\"hold_most_ns\":%llu,\"processor_ns\":%llu,\"period_ms\":%u,\"devices\":%d}\n",
+        "\"map_ns\":%llu,\"hold_most_ns\":%llu,\"processor_ns\":%llu,\"period_ms\":%u,\"devices\":%d,\"held\":[%s]}\n",
         my.remote.socket >= 0, (int)now->pause, now->windows, now->pages, now->lent, now->zeros_now, now->mappings, now->table_bytes,
         (unsigned long long)now->looks, (unsigned long long)now->lends, (unsigned long long)now->copied, (unsigned long long)now->zeros,
         (unsigned long long)now->discarded, (unsigned long long)now->taken_home, (unsigned long long)now->asked,
@@ -191,7 +202,7 @@ static void write_counts(const struct windows_counts *now) {
         (unsigned long long)now->no_frame, (unsigned long long)now->no_mapping, (unsigned long long)now->lender_failures,
         (unsigned long long)now->look_ns, (unsigned long long)now->ask_ns, (unsigned long long)now->lend_ns,
         (unsigned long long)now->map_ns, (unsigned long long)now->hold_most_ns,
-        (unsigned long long)clock_ns(CLOCK_THREAD_CPUTIME_ID), my.period_ms, (int)ranges_devices());
+        (unsigned long long)clock_ns(CLOCK_THREAD_CPUTIME_ID), my.period_ms, (int)ranges_devices(), held);
     bool fits = length > 0 && (size_t)length < sizeof text;
     if (!fits || pwrite(told.counts, text, (size_t)length, 0) != length || ftruncate(told.counts, length) != 0) {
         close(told.counts);
@@ -214,6 +225,9 @@ static void turn(void) {
 void *connection_thread(void *unused) {
     pthread_setname_np(pthread_self(), "pageshare");
     sharing_stay_inside();
+    /* Who touches a page that is held waits for this thread. (Where a higher priority isn't allowed it has the monitor's.) */
+    if (getpriority(PRIO_PROCESS, 0) > FIRST_NICE) setpriority(PRIO_PROCESS, 0, FIRST_NICE);
+    ask_for_short_slices();
     for (;;) {
         struct timespec pause = {.tv_sec = my.period_ms / 1000, .tv_nsec = (long)(my.period_ms % 1000) * 1000000};
         nanosleep(&pause, NULL);

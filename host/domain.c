@@ -1,6 +1,7 @@
 #define _GNU_SOURCE
 #include "domain.h"
 #include "clients.h"
+#include "slices.h"
 #include "trouble.h"
 #include <fcntl.h>
 #include <signal.h>
@@ -15,12 +16,14 @@
 
 /*
  * How a domain's numbers follow from its memory. Lent pages are those that another page is equal to, so a frame is shared by some
- * slots: SLOTS_OF_FRAME of them, on average, can be lent before slots run out.
+ * slots: SLOTS_OF_FRAME of them, on average, can be lent before slots run out, unless an option says how much may be lent. Questions
+ * concern pages that nobody else has: for every SLOTS_OF_QUESTION slots one is remembered.
  */
 enum {
     MACHINE_MOST = 1048576, /* slots or frames of one machine */
     MACHINES_MOST = 64,
     SLOTS_OF_FRAME = 4,
+    SLOTS_OF_QUESTION = 2,
     RECENT_MOST = 16777216, /* questions that a host may remember */
     EVENTS = 32,
     BACKLOG = 64
@@ -78,14 +81,14 @@ bool domain_bind(struct domain *domain, const struct domain_settings *settings, 
 
 /* ---- memory ---- */
 
-/* As many frames as the memory has pages, in as few machines as their slots need. */
+/* As many frames as the memory has pages, in as few machines as frames and slots need. */
 static struct pageshare_host_shape shape_of(const struct domain_settings *settings, uint32_t client_most) {
-    uint64_t frames = settings->memory / PAGE, slots = frames * SLOTS_OF_FRAME;
-    uint64_t machines = (slots + MACHINE_MOST - 1) / MACHINE_MOST;
+    uint64_t frames = settings->memory / PAGE, slots = settings->lent ? settings->lent / PAGE : frames * SLOTS_OF_FRAME;
+    uint64_t machines = ((slots > frames ? slots : frames) + MACHINE_MOST - 1) / MACHINE_MOST;
     if (machines > MACHINES_MOST) machines = MACHINES_MOST;
     uint64_t of_one = (frames + machines - 1) / machines, slots_of_one = (slots + machines - 1) / machines;
     uint64_t quota = settings->client_memory ? settings->client_memory / PAGE : UINT32_MAX;
-    uint64_t recent = slots < RECENT_MOST ? slots : RECENT_MOST;
+    uint64_t recent = slots / SLOTS_OF_QUESTION < RECENT_MOST ? slots / SLOTS_OF_QUESTION : RECENT_MOST;
     return (struct pageshare_host_shape){.machines = (uint32_t)machines,
                                          .slots = (uint32_t)(slots_of_one < MACHINE_MOST ? slots_of_one : MACHINE_MOST),
                                          .frames = (uint32_t)(of_one < MACHINE_MOST ? of_one : MACHINE_MOST),
@@ -137,6 +140,7 @@ static bool handle(struct domain *domain, union event_key key) {
 static void *serve(void *of) {
     struct domain *domain = of;
     struct epoll_event events[EVENTS];
+    ask_for_short_slices(); /* all clients wait for this thread */
     for (bool goes_on = true; goes_on;) {
         int wait_ms = domain->ending ? 0 : (int)(tick_ns / 1000000);
         int count = epoll_wait(domain->poll, events, EVENTS, wait_ms);

@@ -5,6 +5,7 @@
  */
 #include "domain.h"
 #include "pageshare.h"
+#include "tables.h"
 #include "trouble.h"
 #include <fcntl.h>
 #include <grp.h>
@@ -48,6 +49,7 @@ static bool start_all(struct domain *domains, const struct settings *settings, s
     if (prctl(PR_SET_DUMPABLE, 0) != 0) trouble("prctl"); /* processes of the same user can't reach into this one */
     for (size_t i = 0; i < settings->domain_count; i++)
         if (!domain_make(&domains[i])) return false;
+    tables_give_zeros_back();
     for (size_t i = 0; i < settings->domain_count; i++)
         if (!domain_start(&domains[i])) return false;
     return true;
@@ -65,6 +67,7 @@ static int serve_all(const struct settings *settings) {
     sigaddset(&ends, SIGHUP);
     if (sigprocmask(SIG_BLOCK, &ends, NULL) != 0 || signal(SIGPIPE, SIG_IGN) == SIG_ERR) return trouble("signals"), 1;
     raise_limits();
+    if (prctl(PR_SET_THP_DISABLE, 1, 0, 0, 0) != 0) trouble("prctl"); /* a huge page would take memory for 512 pages of zeros */
     bool good = start_all(domains, settings, &begun, faults_device);
     for (size_t i = 0; good && i < begun; i++)
         tell("domain %s serves at %s: up to %u clients, %llu MiB of frames", settings->domains[i].name, settings->domains[i].socket,

@@ -13,6 +13,7 @@ const char settings_help[] =
     "\n"
     "Of the domain named before it, or before the first one of all domains:\n"
     "  --memory SIZE          the most memory that shared pages take (default 1G; 512M, 16G, ..)\n"
+    "  --lent SIZE            the most memory of guests that may be lent at a time (default four times --memory)\n"
     "  --clients N            the most clients at a time (default 64)\n"
     "  --client-memory SIZE   the most memory that one client may have lent (default: no limit)\n"
     "  --client-rate N        the most messages that are taken of one client in a second (default 20000)\n"
@@ -132,6 +133,7 @@ static bool read_numbers(struct domain_settings *domain, const char *option, con
     uint64_t number = 0;
     *known = true;
     if (strcmp(option, "memory") == 0) return read_size(option, value, &domain->memory);
+    if (strcmp(option, "lent") == 0) return read_size(option, value, &domain->lent);
     if (strcmp(option, "client-memory") == 0) return read_size(option, value, &domain->client_memory);
     if (strcmp(option, "clients") == 0) {
         if (!read_number(option, value, 10, 1, CLIENTS_MOST, &number)) return false;

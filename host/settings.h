@@ -16,6 +16,7 @@ struct domain_settings {
     char name[NAME_MOST];
     char socket[PATH_MOST];
     uint64_t memory;        /* bytes: the most that frames take */
+    uint64_t lent;          /* bytes: the most guests' memory that may be lent at a time; 0: as follows from `memory` */
     uint64_t client_memory; /* bytes: the most that one client may have lent; 0: all */
     uint32_t clients;       /* the most at a time */
     uint32_t client_rate;   /* messages that are taken of one client in a second */

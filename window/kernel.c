@@ -8,6 +8,7 @@
 #include <string.h>
 #include <sys/ioctl.h>
 #include <sys/mman.h>
+#include <sys/resource.h>
 #include <sys/syscall.h>
 #include <time.h>
 #include <unistd.h>
@@ -73,6 +74,11 @@ int faults_watch(const struct faults *faults, void *at, size_t pages, enum fault
     return error_of(ioctl(faults->fd, UFFDIO_REGISTER, &watched));
 }
 
+int faults_wake(const struct faults *faults, void *at, size_t pages) {
+    struct uffdio_range range = range_of(at, pages);
+    return error_of(ioctl(faults->fd, UFFDIO_WAKE, &range));
+}
+
 int faults_end_watch(const struct faults *faults, void *at, size_t pages) {
     struct uffdio_range range = range_of(at, pages);
     int cause = EAGAIN;
@@ -81,7 +87,7 @@ int faults_end_watch(const struct faults *faults, void *at, size_t pages) {
         cause = error_of(ioctl(faults->fd, UFFDIO_UNREGISTER, &range));
     }
     /* (who waited for what is mapped anew by now is woken here) */
-    int woken = error_of(ioctl(faults->fd, UFFDIO_WAKE, &range));
+    int woken = faults_wake(faults, at, pages);
     return cause != 0 ? cause : woken;
 }
 
@@ -209,3 +215,8 @@ static uint64_t clock_ns(clockid_t clock) {
 uint64_t clock_now_ns(void) { return clock_ns(CLOCK_MONOTONIC); }
 
 uint64_t clock_spent_ns(void) { return clock_ns(CLOCK_THREAD_CPUTIME_ID); }
+
+uint64_t losses_of_processor(void) {
+    struct rusage usage;
+    return getrusage(RUSAGE_THREAD, &usage) == 0 ? (uint64_t)usage.ru_nivcsw : 0;
+}

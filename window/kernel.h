@@ -25,6 +25,8 @@ enum faults_of { FAULTS_OF_MISSING, FAULTS_OF_WRITES };
 int faults_watch(const struct faults *faults, void *at, size_t pages, enum faults_of of);
 /* Ends that, lifts write protection, and wakes who waits. The range may have been mapped anew in between. */
 int faults_end_watch(const struct faults *faults, void *at, size_t pages);
+/* Wakes who waits for pages that have been mapped anew meanwhile. Waits for nobody itself. */
+int faults_wake(const struct faults *faults, void *at, size_t pages);
 /* Where it fails a part of the pages may be protected. */
 int faults_protect(const struct faults *faults, void *at, size_t pages);
 
@@ -84,5 +86,7 @@ size_t mappings_limit(void);
 /* Nanoseconds of a clock that only runs forward, and of this thread's processor time. */
 uint64_t clock_now_ns(void);
 uint64_t clock_spent_ns(void);
+/* How often this thread lost its processor to another one. */
+uint64_t losses_of_processor(void);
 
 #endif

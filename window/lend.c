@@ -3,15 +3,21 @@
 #include "bytes.h"
 #include "set.h"
 #include <errno.h>
+#include <sched.h>
 #include <string.h>
 #include <sys/mman.h>
+
+/* A thread that has run for so long lets others run before it holds pages: after some milliseconds the system makes it stop. */
+static const uint64_t turn_ns = 1000000;
 
 /* Pages in a row that are to be shown as frames or zeros. All of them lie over frames, or none. */
 struct hold {
     struct window *window;
     size_t first, count;
-    bool moves;     /* they are taken out of their place; otherwise writes are guarded */
-    size_t scratch; /* where they are then, in the scratch area */
+    uint64_t begun_ns; /* since then somebody may have to wait for them */
+    size_t left;       /* how many of them are held still */
+    bool moves;        /* they are taken out of their place; otherwise writes are guarded */
+    size_t scratch;    /* where they are then, in the scratch area */
     uint32_t targets[HOLD_MOST];
     bool held[HOLD_MOST], equal[HOLD_MOST], shown[HOLD_MOST];
 };
@@ -41,6 +47,7 @@ static void take(struct hold *hold) {
         note_failure(windows, WINDOW_NO_MAPPING, cause);
         return;
     }
+    hold->begun_ns = clock_now_ns();
     if (hold->moves) {
         hold->scratch = windows->scratch_used;
         windows->scratch_used += hold->count;
@@ -57,6 +64,7 @@ static void compare(struct hold *hold) {
     struct windows *windows = hold->window->windows;
     for (size_t i = 0; i < hold->count; i++) {
         if (!hold->held[i]) continue;
+        hold->left++;
         const uint8_t *page = place_of(hold, i);
         uint32_t target = hold->targets[i];
         hold->equal[i] = target == ZEROS ? is_zero(page) : are_equal(page, windows->frames_at + bytes_of(target));
@@ -74,15 +82,27 @@ static size_t run_of(const struct hold *hold, size_t i) {
     return end - i;
 }
 
+/* Counts how long pages were held that are held no longer. */
+static void note_held(struct hold *hold, size_t count) {
+    struct windows_counts *counts = &hold->window->windows->counts;
+    uint64_t took = clock_now_ns() - hold->begun_ns;
+    size_t class = 0;
+    if (count == 0) return;
+    hold->left -= count;
+    while (class + 1 < WINDOWS_TIMES && took / 1000 >= (uint64_t)1 << class) class++;
+    counts->held[class] += count;
+    if (took > counts->hold_most_ns) counts->hold_most_ns = took;
+}
+
+/* Maps what is to be shown, and lets those go on who wait for it. */
 static void map(struct hold *hold) {
     struct windows *windows = hold->window->windows;
-    bool any_file = false;
     for (size_t i = 0, count = 1; i < hold->count; i += count) {
         count = hold->equal[i] ? run_of(hold, i) : 1;
         if (!hold->equal[i]) continue;
-        bool is_file = hold->targets[i] != ZEROS;
         /* (where a page was taken out of anonymous memory zeros are left) */
-        int cause = is_file || !hold->moves ? map_pages(hold->window, hold->first + i, count, hold->targets[i]) : 0;
+        bool is_mapped = hold->targets[i] != ZEROS || !hold->moves;
+        int cause = is_mapped ? map_pages(hold->window, hold->first + i, count, hold->targets[i]) : 0;
         if (cause != 0) {
             windows->counts.no_mapping += count;
             windows->counts.pause = WINDOWS_CROWDED;
@@ -90,9 +110,9 @@ static void map(struct hold *hold) {
             continue;
         }
         memset(hold->shown + i, true, count * sizeof hold->shown[0]);
-        any_file = any_file || is_file;
+        /* (if nobody is woken here the end of the watch does it) */
+        if (is_mapped && faults_wake(&windows->faults, address_of(hold->window, hold->first + i), count) == 0) note_held(hold, count);
     }
-    if (any_file) say_again(hold->window, hold->first, hold->count, true);
 }
 
 static bool is_stuck(const struct windows *windows, size_t page) {
@@ -163,8 +183,8 @@ static void note_page(const struct hold *hold, size_t i) {
  */
 static void settle(struct hold *hold) {
     struct windows *windows = hold->window->windows;
-    uint64_t begun = clock_now_ns(), spent = clock_spent_ns();
-    bool was_past[HOLD_MOST];
+    uint64_t spent = clock_spent_ns();
+    bool was_past[HOLD_MOST], any_file = false;
     for (size_t i = 0; i < hold->count; i++) {
         const struct page *page = &hold->window->pages[hold->first + i];
         was_past[i] = page->shows == 1 && page->past == 1;
@@ -174,13 +194,14 @@ static void settle(struct hold *hold) {
     trace_dawdle();
     map(hold);
     let_go(hold);
+    note_held(hold, hold->left);
     for (size_t i = 0; i < hold->count; i++) {
         if (was_past[i] && hold->shown[i]) windows->past--;
+        any_file = any_file || (hold->shown[i] && hold->targets[i] != ZEROS);
         note_page(hold, i);
     }
-    uint64_t took = clock_now_ns() - begun;
+    if (any_file) say_again(hold->window, hold->first, hold->count, true);
     windows->counts.map_ns += clock_spent_ns() - spent;
-    if (took > windows->counts.hold_most_ns) windows->counts.hold_most_ns = took;
 }
 
 /* Whether a page may be held. With the lock. */
@@ -191,22 +212,56 @@ static bool can_settle(const struct window *window, size_t number) {
     return page->shows == 0 || page->past == 1;
 }
 
+/*
+ * Whether a page equals what it is to show, although it may still be written: otherwise it isn't held at all. The comparison that
+ * counts comes later, and finds both in the processor's cache.
+ */
+static bool seems_equal(const struct window *window, size_t number, uint32_t target) {
+    const uint8_t *page = address_of(window, number);
+    return target == ZEROS ? is_zero(page) : are_equal(page, window->windows->frames_at + bytes_of(target));
+}
+
+/* A page that was written since its bytes were copied stays private. */
+static void note_changed(struct window *window, size_t number) {
+    window->windows->counts.changed++;
+    window->pages[number].looks = 0;
+    window->pages[number].asks = 0;
+}
+
+/* Lets others run, where this thread has run for long since it got its processor, so that it doesn't lose it while it holds pages. */
+static void begin_turn(struct turn *turn) {
+    uint64_t losses = losses_of_processor(), now = clock_spent_ns();
+    if (losses != turn->losses) turn->begun_ns = turn->counted_ns;
+    if (now - turn->begun_ns >= turn_ns) {
+        sched_yield();
+        losses = losses_of_processor();
+        turn->begun_ns = now;
+    }
+    turn->losses = losses;
+    turn->counted_ns = now;
+}
+
 /* Settles pages of the batch from the i-th on that are in a row. Returns how many. Takes the lock. */
 static size_t settle_run(struct windows *windows, const struct batch *batch, size_t i, const uint32_t *targets) {
     struct window *window = batch->window;
     struct hold hold = {.window = window, .first = batch->pages[i]};
-    size_t count = 0;
+    begin_turn(&windows->turn);
     lock_for_look(windows);
-    for (; hold.count < HOLD_MOST && i + count < batch->count; count++) {
-        size_t page = batch->pages[i + count];
-        if (page != hold.first + hold.count || targets[i + count] == WINDOW_NO_FRAME || windows->stuck_count > 0) break;
+    while (hold.count < HOLD_MOST && i + hold.count < batch->count) {
+        size_t page = batch->pages[i + hold.count];
+        uint32_t target = targets[i + hold.count];
+        if (page != hold.first + hold.count || target == WINDOW_NO_FRAME || windows->stuck_count > 0) break;
         if (!can_settle(window, page) || window->pages[page].over != window->pages[hold.first].over) break;
-        if (targets[i + count] == ZEROS && window->pages[page].holds == 1) break;
-        hold.targets[hold.count++] = targets[i + count];
+        if (target == ZEROS && window->pages[page].holds == 1) break;
+        if (!seems_equal(window, page, target)) {
+            if (hold.count == 0) note_changed(window, page);
+            break;
+        }
+        hold.targets[hold.count++] = target;
     }
     if (hold.count > 0) settle(&hold);
     unlock_set(windows);
-    return count > 0 ? count : 1;
+    return hold.count > 0 ? hold.count : 1;
 }
 
 static void settle_all(struct windows *windows, struct batch *batch, const uint32_t *targets) {

@@ -10,7 +10,7 @@
 
 enum {
     PART = PAGEMAP_MOST, /* pages that one step of a look, or of a long call, handles under the lock */
-    HOLD_MOST = 64,      /* pages that are held at once */
+    HOLD_MOST = 16,      /* pages that are held at once */
     SCRATCH = 512,       /* pages that were taken out are discarded together, since that interrupts all processors */
     HOME_MOST = 64,      /* pages that are guarded at once while they are copied home */
     STILL = 3,           /* looks with the same fingerprint that make a page idle */
@@ -70,6 +70,13 @@ struct stuck {
 };
 static const uint32_t NOWHERE = UINT32_MAX;
 
+/* For how long the looking thread has had its processor. All is processor time of the thread. */
+struct turn {
+    uint64_t losses;     /* of the processor, as they were last counted */
+    uint64_t counted_ns; /* when that was */
+    uint64_t begun_ns;   /* it got the processor then, or later */
+};
+
 struct windows {
     pthread_mutex_t lock; /* round all below but what never changes, and what only the looking thread uses */
     atomic_uint waiting;  /* threads that wait for the lock: looks let them go first */
@@ -93,6 +100,7 @@ struct windows {
     /* Of the looking thread. */
     struct window_lender lender;
     bool has_lender, lender_waits; /* waits: it didn't answer, and is left alone until the next look */
+    struct turn turn;
     int frames_fd;
     const uint8_t *frames_at; /* the frames' file, for reading */
     uint64_t fingerprint_of_zeros;

@@ -153,6 +153,8 @@ enum windows_pause {
     WINDOWS_CROWDED,   /* as many mappings as there may be */
 };
 
+enum { WINDOWS_TIMES = 24 };
+
 /* Counts of a set, since it was made, but for the first seven. */
 struct windows_counts {
     enum windows_pause pause;
@@ -169,6 +171,7 @@ struct windows_counts {
     uint64_t lender_failures;
     uint64_t look_ns, ask_ns, lend_ns, map_ns; /* processor time of looks: all; in the lender's calls; from hold to wake */
     uint64_t hold_most_ns;                     /* the longest time that a page was held, by the clock */
+    uint64_t held[WINDOWS_TIMES]; /* pages that were held for less than 2^i microseconds, and not for less than half of it */
 };
 void windows_count(struct windows *windows, struct windows_counts *counts);
 

@@ -26,16 +26,16 @@ def draw(rows, path):
     for count in range(1, most + 1):
         out.append(text(place(count, 0)[0], HEIGHT - BOTTOM + 18, str(count), ' text-anchor="middle"'))
     out.append(text((LEFT + WIDTH - RIGHT) / 2, HEIGHT - 12, "guests of 128 MiB", ' text-anchor="middle"'))
-    taken = []
+    ends = []
     for work, column, label, colour, dashes in LINES:
         points = [place(row[1], row[column]) for row in rows if row[0] == work]
         if not points:
             continue
         out.append(f'<polyline fill="none" stroke="{colour}" stroke-width="2"{dashes} points="{" ".join("%.1f,%.1f" % it for it in points)}"/>')
-        y = points[-1][1] + 4
-        while any(abs(y - other) < 14 for other in taken):
-            y += 2
-        taken.append(y)
-        out.append(text(points[-1][0] + 8, y, label, f' fill="{colour}"'))
+        ends.append((points[-1][1] + 4, points[-1][0] + 8, label, colour))
+    lowest = 0
+    for y, x, label, colour in sorted(ends):
+        lowest = max(y, lowest + 14)
+        out.append(text(x, lowest, label, f' fill="{colour}"'))
     out.append("</svg>")
     path.write_text("\n".join(out) + "\n", encoding="utf-8")

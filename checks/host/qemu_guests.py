@@ -165,9 +165,15 @@ class Guest:
                     self.begin = low
         return self.begin
 
+    def anonymous(self):
+        """The process's anonymous memory, in pages. Unlike `ram` it holds up nobody who maps memory in the process."""
+        found = re.search(r"^RssAnon:\s+(\d+) kB", read(f"/proc/{self.pid}/status"), re.M)
+        return int(found[1]) // 4 if found else 0
+
     def remember_ram(self):
-        """Before anything is lent of it, the RAM is one mapping."""
-        self.ram()
+        """Before anything is lent of it, the RAM is one mapping. And what the process has beside the RAM."""
+        ram = self.ram()["anonymous"]
+        self.beside = self.anonymous() - ram
         return self
 
     def kill(self):

@@ -37,6 +37,11 @@ static int refuse(int cause) {
     return -1;
 }
 
+static void watched(const struct uffdio_range *range) {
+    bool is_in = range->start >= planned.window && range->start < planned.window_end;
+    if (planned.watches != NULL && is_in) planned.watches((uintptr_t)range->start, (size_t)range->len);
+}
+
 static bool is_put(uint64_t to) { return to >= planned.window && to < planned.window_end && planned.puts > 0; }
 
 int __wrap_ioctl(int fd, unsigned long request, ...) {
@@ -50,6 +55,7 @@ int __wrap_ioctl(int fd, unsigned long request, ...) {
         __real_ioctl(fd, request, &half);
         return refuse(ENOMEM);
     }
+    if (request == UFFDIO_REGISTER) watched(&((struct uffdio_register *)with)->range);
     if (request == UFFDIO_UNREGISTER && fails(&planned.releases)) return refuse(EINVAL);
     if (request == MOVE_PAGES && is_put(((struct move *)with)->to)) return refuse(ENOMEM);
     if (request == UFFDIO_COPY && is_put(((struct uffdio_copy *)with)->dst)) return refuse(ENOMEM);

@@ -3,6 +3,7 @@
 #define PAGESHARE_WINDOW_FAULTS_H
 
 #include <stdbool.h>
+#include <stddef.h>
 #include <stdint.h>
 
 /* Each counts calls that are yet to fail. */
@@ -13,6 +14,7 @@ struct planned {
     int populates;                /* MADV_POPULATE_WRITE fails with EINVAL */
     int punches;                  /* fallocate fails with EINTR */
     uintptr_t window, window_end; /* where pages can't be put */
+    void (*watches)(uintptr_t at, size_t bytes); /* is called before a part of the window is watched; NULL: nothing */
 };
 extern struct planned planned;
 

@@ -58,13 +58,9 @@ static void guard_fails(void) {
 
 static void make_differ(uint8_t *at, size_t page) { at[page * PAGE + 100] ^= 1; }
 
-/* A lender that changes pages while it is asked: then they must be put back. */
-static const struct window_lender *inner;
-static uint8_t *changed_at;
-static int lend_changing(void *opaque, const uint32_t *pages, size_t count, struct window_loan *loans) {
-    int cause = inner->lend(opaque, pages, count, loans);
-    for (size_t i = 0; i < count && changed_at != NULL; i++) make_differ(changed_at, pages[i]);
-    return cause;
+/* Somebody writes to pages just before they are held: then they must be put back. */
+static void change(uintptr_t at, size_t bytes) {
+    for (size_t page = 0; page < bytes / PAGE; page++) make_differ((uint8_t *)at, page);
 }
 
 /* Pages that changed since they were lent can't be put back for some time. */
@@ -73,15 +69,9 @@ static void put_fails(void) {
     struct fixture fixture = fixture_make(&config, PAGES);
     uint8_t *at = memory(PAGES);
     struct window *window = window_over(&fixture, at, PAGES);
-    struct window_lender changing = *lender_interface(fixture.lender);
     struct write write;
-    inner = lender_interface(fixture.lender);
-    changing.lend = lend_changing;
-    windows_detach(fixture.windows);
-    must(windows_attach(fixture.windows, &changing), "windows_attach");
     fill(at, PAGES, 1);
-    changed_at = at;
-    planned = (struct planned){.puts = 3, .window = (uintptr_t)at, .window_end = (uintptr_t)at + PAGES * PAGE};
+    planned = (struct planned){.puts = 3, .watches = change, .window = (uintptr_t)at, .window_end = (uintptr_t)at + PAGES * PAGE};
     struct window_result result = {0};
     for (int i = 0; i < 20 && result.status != WINDOW_STUCK; i++) result = windows_look(fixture.windows);
     if (planned.puts == 3) {
@@ -90,14 +80,13 @@ static void put_fails(void) {
         check(result.status == WINDOW_STUCK && result.cause == ENOMEM, "the look tells of pages that are stuck");
         start(&write, at + 5 * PAGE);
         check(window_discard(window, 6, 1).status == WINDOW_OK || planned.puts == 0, "a discard tries to put them back");
-        changed_at = NULL;
+        planned.watches = NULL;
         for (int i = 0; i < 5; i++) result = windows_look(fixture.windows);
         check(is_done_in_time(&write), "a write goes on when they are put back");
         pthread_join(write.thread, NULL);
         check(at[5 * PAGE] == 200 && at[7 * PAGE] == 1 && at[7 * PAGE + 100] != 1, "no byte of them is lost");
     }
     planned = (struct planned){0};
-    changed_at = NULL;
     must(window_free(window, WINDOW_DROP), "window_free");
     fixture_free(&fixture);
 }

@@ -489,6 +489,47 @@ static void lenders(void) {
     lender_free(fixture.lender);
 }
 
+static uint64_t held_by(const struct fixture *fixture) {
+    struct windows_counts counts = counts_of(fixture);
+    uint64_t held = 0;
+    for (size_t i = 0; i < WINDOWS_TIMES; i++) held += counts.held[i];
+    return held;
+}
+
+/* What a lender is that somebody writes to a window under. */
+static struct {
+    const struct window_lender *own;
+    uint8_t *writes_to;
+} busy;
+
+static int lend_and_write(void *opaque, const uint32_t *numbers, size_t count, struct window_loan *loans) {
+    int cause = busy.own->lend(opaque, numbers, count, loans);
+    if (busy.writes_to != NULL) *busy.writes_to = 99;
+    busy.writes_to = NULL;
+    return cause;
+}
+
+/* A page that is written after its bytes were copied isn't held, and keeps what was written. The others are held once. */
+static void changes(void) {
+    struct fixture fixture = fixture_make(&never_pinned, PAGES);
+    uint8_t *at = memory(PAGES);
+    struct window *window = window_over(&fixture, at, PAGES);
+    struct window_lender lender = *lender_interface(fixture.lender);
+    fill(at, PAGES, 2);
+    busy.own = lender_interface(fixture.lender);
+    busy.writes_to = at + 5 * PAGE;
+    lender.lend = lend_and_write;
+    windows_detach(fixture.windows);
+    must(windows_attach(fixture.windows, &lender), "windows_attach");
+    check(look_until(&fixture, PAGES - 1) == PAGES - 1, "all pages but the written one are lent");
+    check(counts_of(&fixture).changed == 1 && held_by(&fixture) == PAGES - 1, "which isn't held");
+    check(at[5 * PAGE] == 99 && at[7 * PAGE] == 2, "and has what was written");
+    at[5 * PAGE] = 2;
+    check(look_until(&fixture, PAGES) == PAGES && held_by(&fixture) == PAGES, "it is lent when it is equal again");
+    must(window_free(window, WINDOW_DROP), "window_free");
+    fixture_free(&fixture);
+}
+
 /* Pages that leave a window are the caller's. */
 static void cuts(void) {
     struct fixture fixture = fixture_make(&never_pinned, PAGES);
@@ -523,6 +564,7 @@ int main(void) {
     marks(false);
     marks(true);
     lenders();
+    changes();
     cuts();
     puts(check_count() == 0 ? "pages: ok" : "pages: WRONG");
     return check_count() == 0 ? 0 : 1;

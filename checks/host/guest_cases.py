@@ -1,0 +1,246 @@
+"""Cases with guests: what ends, and what monitors do with their guests' memory."""
+import os
+import signal
+import subprocess
+import time
+
+from measures import GUESTS
+from places import AS_NOBODY, HERE, Host, LeftOut, all_released, must, until
+from qemu_guests import read
+from running_guests import go_on, guest, guests, lent, right, settle, show
+
+
+def case_ends():
+    """The host killed and started anew, stopped and continued; a QEMU killed; all while guests work."""
+    host = Host()
+    made = guests(2, host)
+    print(f"  settled after {settle(host, made):.0f} s")
+    show(host, made, "settled")
+    host.kill()
+    go_on(made)
+    host.start()
+    took = settle(host, made)
+    show(host, made, f"a new host, settled after {took:.0f} s")
+    host.signal(signal.SIGSTOP)
+    go_on(made)
+    host.signal(signal.SIGCONT)
+    go_on(made)
+    show(host, made, "the host stopped and continued")
+    before = host.status()["lent_bytes"]
+    made[0].kill()
+    good, took = until(10, lambda: host.status()["clients"] == 1, 0.1)
+    must(good and host.status()["lent_bytes"] < before, f"a killed QEMU's pages are lent still: {host.status()}")
+    print(f"  a killed QEMU's pages were released after {took:.1f} s")
+    go_on(made[1:])
+    made[1].kill()
+    all_released(host)
+    host.stop()
+
+
+def case_balloon():
+    """A balloon takes memory from a guest, and gives it back."""
+    host = Host()
+    made = guests(2, host)
+    settle(host, made)
+    made[0].qmp().do("balloon", value=190 << 20)
+    good, _ = until(60, lambda: made[0].qmp().do("query-balloon")["return"]["actual"] <= 192 << 20)
+    must(good, f"{made[0].qmp().do('query-balloon')}")
+    go_on(made)
+    made[0].qmp().do("balloon", value=256 << 20)
+    go_on(made, 4)
+    show(host, made, f"inflated and deflated, discarded {made[0].counts().get('discarded')} pages")
+    must(made[0].counts().get("discarded", 0) > 1000, "the balloon discarded nothing in the window")
+
+
+def case_snapshot():
+    """savevm and loadvm, and the guest goes on and shares again."""
+    host, disk = Host(), HERE.place.room / "snapshot.qcow2"
+    HERE.place.guests_possible()
+    subprocess.run(["qemu-img", "create", "-q", "-f", "qcow2", disk, "64M"], check=True)
+    os.chmod(disk, 0o666)
+    more = ["-drive", f"file={disk},if=none,id=d", "-device", "virtio-blk-pci,drive=d"]
+    made = [guest(0, host, more=more), guest(1, host)]
+    for it in made:
+        it.wait()
+    settle(host, made)
+    for line in ("savevm a", "loadvm a"):
+        answer = made[0].qmp().monitor(line)
+        must(answer.get("return") == "", f"{line}: {answer}")
+        go_on(made)
+        show(host, made, line)
+    print(f"  shares again after {settle(host, made):.0f} s")
+
+
+def case_migration():
+    """A guest is written to a file, and goes on in another process."""
+    host, file = Host(), HERE.place.room / "migration"
+    made = guests(2, host)
+    settle(host, made)
+    made[1].qmp().do("migrate", uri=f"exec:cat > {file}")
+    good, _ = until(120, lambda: made[1].qmp().do("query-migrate")["return"].get("status") in ("completed", "failed"))
+    must(good and made[1].qmp().do("query-migrate")["return"]["status"] == "completed", str(made[1].qmp().do("query-migrate")))
+    ticks = made[1].ticks()
+    made[1].kill()
+    again = guest(1, host, more=["-incoming", f"exec:cat {file}"])
+    must(until(120, lambda: again.ticks() > 1, 1)[0], f"the guest stands still after {ticks} rounds: {read(again.log)[-300:]}")
+    settle(host, [made[0], again])
+    go_on([made[0], again])
+    show(host, [made[0], again], "in another process")
+
+
+def case_background():
+    """A background snapshot guards memory by a userfaultfd of QEMU's own: lending ends, and the snapshot completes."""
+    host = Host("--trust-peers")
+    made = guests(2, host, wrap=[])  # (as root: QEMU asks for a userfaultfd that holds up the kernel, too)
+    settle(host, made)
+    monitor = made[0].qmp()
+    capability = [{"capability": "background-snapshot", "state": True}]
+    answer = monitor.do("migrate-set-capabilities", capabilities=capability)
+    if "error" in answer:
+        raise LeftOut(f"background snapshots: {answer['error']['desc']}")
+    answer = monitor.do("migrate", uri=f"exec:cat > {HERE.place.room / 'background'}")
+    if "error" in answer:
+        raise LeftOut(f"background snapshots: {answer['error']['desc']}")
+    good, _ = until(120, lambda: monitor.do("query-migrate")["return"].get("status") in ("completed", "failed"))
+    state = monitor.do("query-migrate")["return"]
+    must(good and state["status"] == "completed", str(state))
+    monitor.do("cont")
+    go_on(made)
+    said = [line for line in made[0].said() if "userfaultfd" in line]
+    must(len(said) == 1, f"lending should end with one line: {made[0].said()}")
+    show(host, made, said[0])
+
+
+def disk_case(aio):
+    host, made = Host(), []
+    HERE.place.guests_possible()
+    for number in range(2):
+        disk = HERE.place.room / f"disk{number}"
+        with open(disk, "wb") as file:
+            file.truncate(32 << 20)
+        os.chmod(disk, 0o666)
+        more = ["-drive", f"file={disk},format=raw,if=none,id=d,cache=none,aio={aio}", "-device", "virtio-blk-pci,drive=d"]
+        made.append(guest(number, host, more=more, work="disk"))
+    for it in made:
+        it.wait()
+    if any("O_DIRECT" in read(it.log) for it in made):
+        raise LeftOut("O_DIRECT on this file system")
+    settle(host, made, 4000)
+    go_on(made, 5)
+    show(host, made, f"aio={aio}, devices {[it.counts().get('devices') for it in made]}")
+    must(all(it.counts().get("devices") == 1 for it in made), "O_DIRECT wasn't noticed")
+
+
+def case_direct():
+    """A disk by O_DIRECT (aio=native), written and read back by the guests."""
+    disk_case("native")
+
+
+def case_uring():
+    """The same by io_uring."""
+    disk_case("io_uring")
+
+
+def case_sandbox():
+    """QEMU with its sandbox, all of it. (In all cases it runs as nobody.)"""
+    host = Host()
+    made = guests(2, host, more=["-sandbox", "on,obsolete=deny,elevateprivileges=deny,spawn=deny,resourcecontrol=deny"])
+    settle(host, made)
+    go_on(made)
+    show(host, made, "-sandbox on")
+
+
+def case_backends():
+    """Kinds of memory: preallocated, memfd private and shared, and a QEMU that doesn't offer its memory."""
+    kinds = {
+        "prealloc": (["-object", "memory-backend-ram,id=m,size=256M,prealloc=on"], "q35,memory-backend=m", True),
+        "memfd shared": (["-object", "memory-backend-memfd,id=m,size=256M,share=on"], "q35,memory-backend=m", False),
+        "memfd private": (["-object", "memory-backend-memfd,id=m,size=256M,share=off"], "q35,memory-backend=m", False),
+        "mem-merge=off": ([], "q35,mem-merge=off", False),
+    }
+    for name, (more, machine, shares) in kinds.items():
+        host = Host()
+        made = guests(2, host, more=more, machine=machine)
+        if shares:
+            settle(host, made)
+        else:
+            time.sleep(10)
+            must(all(it < 2000 for it in lent(made)), f"{name}: lent {lent(made)}")
+        go_on(made)
+        show(host, made, name)
+        HERE.place.clean()
+
+
+def case_kvm():
+    """Guests under KVM, as root, since only root may use /dev/kvm everywhere."""
+    host = Host("--trust-peers")
+    if not os.access("/dev/kvm", os.R_OK | os.W_OK):
+        raise LeftOut("/dev/kvm")
+    HERE.place.guests_possible()
+    made = [guest(number, host, accelerator="kvm", wrap=[]) for number in range(2)]
+    try:
+        for it in made:
+            it.wait(120)
+    except RuntimeError as cause:
+        raise LeftOut(f"KVM doesn't run a guest here: {cause}") from cause
+    settle(host, made)
+    go_on(made, 4)
+    show(host, made, "under KVM")
+
+
+def case_locked():
+    """QEMU locks its memory (mlockall): nothing is lent, and it runs."""
+    host, wrap = Host("--trust-peers"), ["prlimit", "--memlock=unlimited", *AS_NOBODY]
+    HERE.place.guests_possible()
+    if subprocess.run([*wrap, "true"], capture_output=True).returncode != 0:
+        wrap = []  # (root may not raise the limit, but perhaps lock memory beyond it)
+    made = [guest(0, host, more=["-overcommit", "mem-lock=on"], wrap=wrap)]
+    try:
+        made[0].wait()
+    except RuntimeError:
+        if "locking memory failed" not in read(made[0].log):
+            raise
+        raise LeftOut("the right to lock memory") from None
+    go_on(made, 1)
+    time.sleep(5)
+    must(lent(made) == [0], f"lent {lent(made)}")
+    print(f"  {made[0].said()}")
+
+
+def case_no_host():
+    """No host at the socket: the guest runs as ever, and shares as soon as there is one."""
+    host = Host()
+    host.kill()
+    made = guests(2, host)
+    must(all(any("no host" in line for line in it.said()) for it in made), f"{[it.said() for it in made]}")
+    go_on(made, 1)
+    host.start()
+    print(f"  shares after {settle(host, made):.0f} s")
+    go_on(made, 1)
+
+
+def case_soak():
+    """Guests that work for a long time, while hosts and QEMUs end and begin."""
+    seconds, host, rounds, hosts, ended = int(os.environ.get("SECONDS", "600")), Host(), 0, 0, 0
+    made, end, turn = guests(GUESTS, host), time.time() + seconds, 0
+    while time.time() < end:
+        time.sleep(min(30, max(1, end - time.time())))
+        right(made)
+        show(host, made, f"{seconds - (end - time.time()):.0f} s")
+        turn += 1
+        if turn % 4 == 1:
+            host.kill()
+            hosts += 1
+            time.sleep(2)
+            host.start()
+        elif turn % 4 == 3:
+            rounds, ended = rounds + made[0].ticks(), ended + 1
+            made[0].kill()
+            made[0] = guest(0, host).wait()
+    right(made)
+    rounds += sum(it.ticks() for it in made)
+    print(f"  {seconds} s: {rounds} rounds of guests, {hosts} hosts and {ended} QEMUs killed, longest hold "
+          f"{max(it.counts().get('hold_most_ns', 0) for it in made) / 1e6:.1f} ms")
+    for it in made:
+        it.kill()
+    all_released(host)

@@ -1,0 +1,166 @@
+"""Where the cases of checks/host.py run: a folder, the host and the library, what the machine has, and what must be so."""
+import json
+import os
+import pathlib
+import re
+import shutil
+import signal
+import subprocess
+import tempfile
+import time
+import types
+
+from qemu_guests import NOBODY, QEMU, initramfs, is_there, read
+
+TOP = pathlib.Path(__file__).resolve().parent.parent.parent
+OUT = TOP / "out/host"
+CC = os.environ.get("CC", "cc")
+FLAGS = "-std=c11 -O2 -g -Wall -Wextra -Wconversion -Werror -pthread".split()
+AS_NOBODY = ["setpriv", f"--reuid={NOBODY}", f"--regid={NOBODY}", "--clear-groups"]
+PACKAGES = {QEMU: "qemu-system-x86", "qemu-img": "qemu-utils", "busybox": "busybox-static"}
+KERNEL_PACKAGE = "linux-image-cloud-amd64"
+# The folder of this run, and the host and the library that it runs.
+HERE = types.SimpleNamespace(place=None, host=OUT / "pageshare-host", library=OUT / "libpageshare-window.so")
+
+
+class LeftOut(Exception):
+    """A case that this machine can't run, and why."""
+
+
+class Wrong(Exception):
+    """A case that failed, and how."""
+
+
+def must(is_so, what):
+    if not is_so:
+        raise Wrong(what)
+
+
+def until(seconds, is_so, step=0.5):
+    """Waits until something is so. Answers whether it became so, and after how many seconds."""
+    begin = time.time()
+    while time.time() - begin < seconds:
+        if is_so():
+            return True, time.time() - begin
+        time.sleep(step)
+    return is_so(), time.time() - begin
+
+
+def install(package):
+    if os.environ.get("INSTALL") != "1":
+        return False
+    print(f"installs {package}", flush=True)
+    words = ["apt-get", "-qq", "-o", "DPkg::Lock::Timeout=300", "install", "-y", "--no-install-recommends", package]
+    return subprocess.run(words, env={**os.environ, "DEBIAN_FRONTEND": "noninteractive"}, stdout=subprocess.DEVNULL).returncode == 0
+
+
+def find_kernel():
+    """A kernel of Debian's for clouds, and its modules: the machine's own, or one that is unpacked in out/host."""
+    for boot, modules in (("/boot", "/lib/modules"), (OUT / "kernel/boot", OUT / "kernel/lib/modules")):
+        for image in sorted(pathlib.Path(boot).glob("vmlinuz-*cloud-amd64")):
+            tree = pathlib.Path(modules) / image.name.removeprefix("vmlinuz-") / "kernel"
+            if tree.is_dir():
+                return image, tree
+    if os.environ.get("INSTALL") != "1":
+        raise LeftOut(f"there is no kernel of {KERNEL_PACKAGE} (INSTALL=1 unpacks one)")
+    said = subprocess.run(["apt-cache", "depends", KERNEL_PACKAGE], capture_output=True, text=True).stdout
+    found = re.search(r"Depends: (linux-image-\S+)", said)
+    must(found, f"{KERNEL_PACKAGE} isn't known to apt-get")
+    with tempfile.TemporaryDirectory() as room:
+        os.chmod(room, 0o777)
+        subprocess.run(["apt-get", "-qq", "download", found[1]], cwd=room, check=True)
+        subprocess.run(["dpkg", "-x", next(pathlib.Path(room).glob("*.deb")), OUT / "kernel"], check=True)
+    return find_kernel()
+
+
+class Place:
+    """A folder for one run, with what guests boot."""
+
+    def __init__(self):
+        self.room = pathlib.Path(tempfile.mkdtemp(prefix="pageshare-host-"))
+        os.chmod(self.room, 0o777)
+        self.kernel = self.initrd = None
+        self.started = []
+
+    def guests_possible(self):
+        if self.kernel:
+            return
+        for program, package in PACKAGES.items():
+            if not is_there(program) and not (install(package) and is_there(program)):
+                raise LeftOut(f"there is no {program} (package {package}; INSTALL=1 installs it)")
+        kernel, modules = find_kernel()
+        self.initrd, self.small_initrd = self.room / "initrd", self.room / "small_initrd"
+        self.initrd.write_bytes(initramfs(shutil.which("busybox"), modules))
+        self.small_initrd.write_bytes(initramfs(shutil.which("busybox"), modules, 12 << 20))
+        self.kernel = kernel
+
+    def clean(self):
+        """Ends what a case started."""
+        for it in self.started:
+            it.kill()
+        self.started = []
+
+    def remove(self):
+        self.clean()
+        shutil.rmtree(self.room, ignore_errors=True)
+
+
+class Host:
+    """A host that runs as the user daemon, with one domain."""
+
+    def __init__(self, *more, memory="1G", name="web", program=None, user=("--user", "daemon")):
+        self.socket, self.log = HERE.place.room / f"{name}.sock", HERE.place.room / f"{name}.log"
+        self.words = [program or HERE.host, "--domain", f"{name}={self.socket}", "--memory", memory, "--group", str(NOBODY), *user, *more]
+        HERE.place.started.append(self)
+        self.start()
+
+    def start(self):
+        with open(self.log, "a", encoding="utf-8") as log:
+            self.process = subprocess.Popen(self.words, stdin=subprocess.DEVNULL, stdout=log, stderr=subprocess.STDOUT)
+        served, _ = until(10, lambda: self.status() is not None, 0.05)
+        must(served, f"the host doesn't serve: {read(self.log)[-400:]}")
+        return self
+
+    def status(self):
+        ran = subprocess.run([HERE.host, "--status", self.socket, "--json"], capture_output=True, text=True)
+        return json.loads(ran.stdout) if ran.returncode == 0 else None
+
+    def signal(self, number):
+        self.process.send_signal(number)
+
+    def kill(self):
+        if self.process.poll() is None:
+            self.process.send_signal(signal.SIGCONT)
+            self.process.kill()
+        self.process.wait()
+
+    def stop(self):
+        self.process.terminate()
+        must(self.process.wait(20) == 0, f"the host ended with a status: {read(self.log)[-2000:]}")
+
+
+def all_released(host, seconds=20):
+    """When all clients have ended no page is lent, no frame is in use, and their memory is given back."""
+    good, _ = until(seconds, lambda: (it := host.status()) and it["clients"] == 0 and it["lent_bytes"] == 0, 0.2)
+    state = host.status()
+    must(good and state["frame_bytes"] == 0, f"left behind: {state}")
+    must(state["file_bytes"] <= 8 << 20, f"the file of frames has {state['file_bytes'] >> 20} MiB with no frame in use")
+
+
+def compile_c(name):
+    HERE.place.started.append(types.SimpleNamespace(kill=lambda: None))
+    program = OUT / name
+    if subprocess.run([CC, *FLAGS, "-o", program, TOP / f"checks/host/{name}.c"]).returncode != 0:
+        raise Wrong(f"{name}.c doesn't compile")
+    return program
+
+
+def preloaded(host, more=()):
+    words = {**os.environ, "PAGESHARE_SOCKET": str(host.socket), "LD_PRELOAD": str(HERE.library), "PAGESHARE_PERIOD_MS": "10"}
+    return {**words, **dict(more)}
+
+
+def sources(variable):
+    """What the Makefile builds the host or the library of."""
+    found = re.search(rf"{variable} = \$\(addprefix host/,([^)]*)\)", (TOP / "Makefile").read_text())
+    return [TOP / "host" / name for name in found[1].split()]

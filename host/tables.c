@@ -1,0 +1,111 @@
+#define _GNU_SOURCE
+#include "tables.h"
+#include "trouble.h"
+#include <pthread.h>
+#include <stddef.h>
+#include <stdlib.h>
+#include <sys/mman.h>
+
+/* A block that is so large is a mapping of its own. */
+enum { LARGE = 1 << 18, STEP = 512 /* pages that are looked at together */ };
+
+/* What stands before each block. A mapping begins with a page of which this is the end, so that the block is whole pages. */
+struct head {
+    struct head *before, *next; /* in the list of mappings; it itself, where it is none */
+    size_t bytes;               /* of the block */
+    size_t unused;
+};
+_Static_assert(sizeof(struct head) % 16 == 0, "blocks are aligned to 16 bytes");
+
+/* What the library gets. Where it is refused a block, `at` is one that it doesn't touch. */
+struct tried {
+    bool ok;
+    void *at;
+};
+struct tried rattle_alloc(size_t bytes, size_t align);
+struct tried rattle_realloc(void *at, size_t kept, size_t bytes, size_t align);
+void rattle_dealloc(void *at);
+
+static _Alignas(16) unsigned char nothing[16];
+static pthread_mutex_t lock = PTHREAD_MUTEX_INITIALIZER; /* round the list */
+static struct head mappings = {.before = &mappings, .next = &mappings};
+
+static void *block_of(struct head *head) { return head + 1; }
+static struct head *head_of(void *block) { return (struct head *)block - 1; }
+static size_t mapped_bytes(const struct head *head) { return PAGE + head->bytes; }
+
+static struct head *map_block(size_t bytes) {
+    uint8_t *at = mmap(NULL, PAGE + bytes, PROT_READ | PROT_WRITE, MAP_PRIVATE | MAP_ANONYMOUS, -1, 0);
+    if (at == MAP_FAILED) return NULL;
+    struct head *head = head_of(at + PAGE);
+    pthread_mutex_lock(&lock);
+    *head = (struct head){.before = &mappings, .next = mappings.next, .bytes = bytes};
+    mappings.next->before = head;
+    mappings.next = head;
+    pthread_mutex_unlock(&lock);
+    return head;
+}
+
+struct tried rattle_alloc(size_t bytes, size_t align) {
+    struct head *head = NULL;
+    (void)align; /* (at most 16) */
+    if (bytes > SIZE_MAX - 2 * PAGE) return (struct tried){false, nothing};
+    if (bytes >= LARGE) head = map_block(bytes);
+    else if ((head = malloc(sizeof *head + bytes)) != NULL) *head = (struct head){.before = head, .next = head, .bytes = bytes};
+    return head ? (struct tried){true, block_of(head)} : (struct tried){false, nothing};
+}
+
+void rattle_dealloc(void *at) {
+    struct head *head = head_of(at);
+    if (head->next == head) {
+        free(head);
+        return;
+    }
+    pthread_mutex_lock(&lock);
+    head->before->next = head->next;
+    head->next->before = head->before;
+    pthread_mutex_unlock(&lock);
+    munmap((uint8_t *)at - PAGE, mapped_bytes(head));
+}
+
+/* A block that can't be had leaves the old one as it is. */
+struct tried rattle_realloc(void *at, size_t kept, size_t bytes, size_t align) {
+    struct tried made = rattle_alloc(bytes, align);
+    if (!made.ok) return (struct tried){false, at};
+    size_t before = head_of(at)->bytes;
+    (void)kept; /* (how much of it is in use) */
+    memcpy(made.at, at, before < bytes ? before : bytes);
+    rattle_dealloc(at);
+    return made;
+}
+
+static bool is_zero(const uint8_t *page) {
+    const uint64_t *words = (const uint64_t *)(const void *)page;
+    for (size_t i = 0; i < PAGE / sizeof *words; i++)
+        if (words[i] != 0) return false;
+    return true;
+}
+
+/* Whole pages from `at` on; those that have no memory aren't read. Returns how many are given back. */
+static size_t give_back(uint8_t *at, size_t pages) {
+    unsigned char has_memory[STEP];
+    size_t given = 0;
+    if (mincore(at, pages * PAGE, has_memory) != 0) return 0;
+    for (size_t i = 0, end; i < pages; i = end + 1) {
+        for (end = i; end < pages && (has_memory[end] & 1) != 0 && is_zero(at + end * PAGE); end++) {}
+        if (end > i && madvise(at + i * PAGE, (end - i) * PAGE, MADV_DONTNEED) == 0) given += end - i;
+    }
+    return given;
+}
+
+uint64_t tables_give_zeros_back(void) {
+    uint64_t given = 0;
+    pthread_mutex_lock(&lock);
+    for (struct head *head = mappings.next; head != &mappings; head = head->next)
+        for (size_t at = 0; at + PAGE <= head->bytes; at += (size_t)STEP * PAGE) {
+            size_t pages = (head->bytes - at) / PAGE;
+            given += give_back((uint8_t *)block_of(head) + at, pages < STEP ? pages : STEP);
+        }
+    pthread_mutex_unlock(&lock);
+    return given * PAGE;
+}
