@@ -7,9 +7,9 @@ To be run at the repository's top after `make test`, over the libraries that it 
 line 'file: PATH', and then pairs of lines 'old: TEXT' and 'new: TEXT'. Prints each edit with its first error, how long each
 check took, and last 'N passed, M failed' (status 0 where M is 0, else 1).
 
-As `rt ci` does with what it proved, a refusal is kept on this machine under a sum of all that it rests on: the edit, the crate, the
-libraries below it as they were built, the kit and this script. Where nothing of these has changed the edit isn't tried again,
-but with --anew.
+A kit that keeps what `rt ci` proved also keeps refusals, on this machine, under a sum of all that each rests on: the edit, the
+crate, the libraries below it as they were built, the kit and this script. Where nothing of these has changed the edit isn't tried
+again, but with --anew. Over a kit that keeps nothing, every edit is tried.
 
 A function is proved from the contracts of what it calls and never from their bodies. So edits of different functions can stand in
 one copy of the crate, which is checked once, and each edited function must be refused by itself: an error in its own proof, or a
@@ -177,6 +177,16 @@ def whole_changes(texts, plain):
             end += 1
         changes.append((file, start, len(old) - end, text[start : len(text) - end]))
     return changes
+
+
+class Nothing:
+    """The refusals that runs on this machine have seen, with a kit that keeps none."""
+
+    def find(self, _crate, _path):
+        return None
+
+    def keep(self, _crate, _path, _said):
+        pass
 
 
 class Earlier:
@@ -403,7 +413,8 @@ def main(words):
     print("".join(f"{said}\n" for _is_refused, said in told), end="")
     crates = [it for it in crates if not names or it.name in names]
     every = {below.name: below for it in crates for below in [*it.below(), it]}
-    told += try_crates(kit, crates, Earlier(kit, list(every.values()), "--anew" in words))
+    earlier = Earlier(kit, list(every.values()), "--anew" in words) if hasattr(kit, "Kept") else Nothing()
+    told += try_crates(kit, crates, earlier)
     failed = [said for is_refused, said in told if not is_refused]
     for said in failed:
         print(f"FAILED: {said}")

@@ -135,7 +135,7 @@ def looked_at(text, edits, old, *words, checks=None):
 def main():
     # (the second run may take what the first one kept, if this machine keeps anything; the third is of a crate that is new to it)
     wrong = looked_at(CRATE, EDITS, 0, "--anew")
-    keeps = os.path.isdir(load_kit().STORE)
+    keeps = os.path.isdir(getattr(load_kit(), "STORE", ""))
     wrong += looked_at(CRATE, REFUSED, len(REFUSED) if keeps else 0)
     wrong += looked_at(CRATE.replace("    4", f"    {secrets.randbelow(2**32)}"), REFUSED[:1], 0)
     # (functions that call an edited one, or pass its impl, aren't refused by themselves: one check is enough)
