@@ -3,10 +3,10 @@
 
     checks/build.py CRATE FILE [--cpu LEVEL]
 
-First `rt ci CRATE` proves the crate and those below it, many side by side, and takes what an earlier run on this machine has
-proved of the same files. Then the crate's program, or its static library, is put to FILE: the program that was built as it was
-proved, or one for another processor LEVEL, such as x86-64-v3. That one is proved once more, over the same libraries. Status 0
-where FILE was written, else 1. All that was proved is kept beside the kit, as by `make test`.
+First the crate and those below it are proved, many side by side, but for what was proved of the same files: by an earlier run on
+this machine where the kit keeps that, and else in this tree, for example by `make test`. Then the crate's program, or its static
+library, is put to FILE: the program that was built as it was proved, or one for another processor LEVEL, such as x86-64-v3. That
+one is proved once more, over the same libraries. Status 0 where FILE was written, else 1.
 """
 import argparse
 import os
@@ -15,6 +15,7 @@ import shutil
 import subprocess
 import sys
 
+from common import proved
 from common.kit import load_kit
 from common.lanes import lanes
 from harness import TOP, new_folder
@@ -22,11 +23,11 @@ from harness import TOP, new_folder
 DEFAULT = "x86-64-v2"
 
 
-def prove(name):
-    """Proves the crate and those below it, and says how far that is."""
+def prove_kept(name):
+    """Proves the crate and those below it with a kit that keeps what it proved, and says how far that is."""
     done, said = 0, []
     words, how = ["rt", "ci", name], {"cwd": TOP, "stdin": subprocess.DEVNULL, "stdout": subprocess.PIPE, "stderr": subprocess.STDOUT}
-    with subprocess.Popen(words, env={**os.environ, "RT_JOBS": str(lanes()), "CI": ""}, text=True, errors="replace", **how) as ran:
+    with subprocess.Popen(words, env={**os.environ, "CI": ""}, text=True, errors="replace", **how) as ran:
         for line in ran.stdout:
             said.append(line)
             if line.startswith("rt: ") and line.rstrip().endswith(" proved"):
@@ -52,10 +53,21 @@ def copied(kit, name, room):
     return wanted, is_given
 
 
+def proved_here(kit, name, cpu):
+    """The crate in this tree, once it and those below it are proved, with its processor level and whether its program is built."""
+    crate = proved.crates_of(kit)[name]
+    is_given = not crate.is_static and cpu == DEFAULT
+    # (what isn't given is proved as it is built)
+    if not proved.prove(kit, [name] if is_given else [it.name for it in crate.deps]):
+        sys.exit(1)
+    return crate, cpu, is_given
+
+
 def built(kit, crate, cpu, is_given):
     """Builds the crate for a processor level, and returns where its program or library lies."""
-    made = f"{crate.folder}/out/{f'lib{crate.name}.a' if crate.is_static else crate.name}"
-    if is_given and cpu == DEFAULT and os.path.isfile(made):
+    level = "" if cpu == DEFAULT else f"-{cpu}"
+    made = f"{crate.folder}/out/{f'lib{crate.name}{level}.a' if crate.is_static else f'{crate.name}{level}'}"
+    if is_given and not level and os.path.isfile(made):
         return made
     flags = ["--jobs", str(lanes()), "--cpu", cpu]
     words = [*crate.words(flags, keeps=False), "--toolchain", f"{kit.KIT}/toolchain", "--backend", "llvm"]
@@ -63,9 +75,28 @@ def built(kit, crate, cpu, is_given):
     words = [*kit.rtlib.guarded(), kit.rtlib.RATTLE, "build", *words, "-o", to]
     if subprocess.run(words, cwd=crate.folder, stdout=sys.stderr, check=False).returncode:
         sys.exit(f"{crate.name} was not built")
-    if not crate.is_static and crate.link(to, f"out/{crate.name}"):
+    if not crate.is_static and crate.link(to, os.path.relpath(made, crate.folder)):
         sys.exit(f"{crate.name} was not linked")
     return made
+
+
+def put(made, file):
+    file.parent.mkdir(parents=True, exist_ok=True)
+    shutil.copyfile(made, file)
+    shutil.copymode(made, file)
+
+
+def build(kit, name, cpu, file):
+    """Builds from what is proved in this tree, or with a kit that keeps what it proved from that."""
+    if not proved.keeps(kit):
+        put(built(kit, *proved_here(kit, name, cpu)), file)
+        return 0
+    if not prove_kept(name):
+        return 1
+    with new_folder() as room:
+        crate, is_given = copied(kit, name, f"{room}/repo")
+        put(built(kit, crate, cpu, is_given), file)
+    return 0
 
 
 def main():
@@ -74,17 +105,10 @@ def main():
     options.add_argument("file", type=pathlib.Path)
     options.add_argument("--cpu", default=DEFAULT)
     given = options.parse_args()
-    if not prove(given.crate):
-        return 1
     kit = load_kit()
     kit.Crate.allowed = kit.handles_of(str(TOP))
-    with new_folder() as room:
-        crate, is_given = copied(kit, given.crate, f"{room}/repo")
-        made = built(kit, crate, given.cpu, is_given)
-        given.file.parent.mkdir(parents=True, exist_ok=True)
-        shutil.copyfile(made, given.file)
-        shutil.copymode(made, given.file)
-    return 0
+    os.environ["RT_JOBS"] = str(lanes())
+    return build(kit, given.crate, given.cpu, given.file)
 
 
 if __name__ == "__main__":

@@ -13,7 +13,7 @@ repeats it alone. The last line is 'N passed, M failed'. All that the steps prin
 out/gate-edits.log.
 
 On a machine that has run none of it all is done from nothing. What an earlier run there has proved or seen refused, of the same
-files, is taken from it, but with --anew.
+files, is taken from it if the kit keeps that, but with --anew.
 
 out/gate.tsv has a line for each step of both commands: the command, the kind, the crate or the step, when it started, its wall
 seconds and its processor seconds, and of a step how much passed and failed. Those of a crate are read off /proc once a second, so
@@ -30,6 +30,8 @@ import sys
 import threading
 import time
 
+from common import proved
+from common.kit import load_kit
 from common.lanes import lanes
 from harness import TOP, close, counts_of
 
@@ -158,7 +160,7 @@ class Progress:
         told = []
         for name in dict.fromkeys(re.match(r"\w+", it)[0] for it in self.wrong if re.match(r"\w+", it)):
             told += [f"-- {it}" for it in self.sections.get(name, [])[-30:]] if self.name == "rt ci" else []
-            told.append(f"FAILED: {name}: repeat it by `{'rt ci' if self.name == 'rt ci' else 'checks/edits.py'} {name}`")
+            told.append(f"FAILED: {name}: repeat it by `checks/{'prove.py' if self.name == 'rt ci' else 'edits.py'} {name}`")
         return told or [f"-- {it}" for it in self.last] + [f"FAILED: {self.name}: repeat it by `{' '.join(words)}`"]
 
 
@@ -168,7 +170,7 @@ def used_so_far():
 
 
 def run_step(name, words, log):
-    """Runs a step. Returns how many passed and how many failed by its last line, and what to print of what failed."""
+    """Runs a step. Returns how many passed and how many failed by its last line, what to print of what failed, and what was proved."""
     counts, progress = None, Progress(name, log)
     how = {"stdin": subprocess.DEVNULL, "stdout": subprocess.PIPE, "stderr": subprocess.STDOUT, "text": True, "errors": "replace"}
     with subprocess.Popen(words, cwd=TOP, env={**os.environ, "RT_JOBS": str(lanes())}, **how) as ran:
@@ -178,7 +180,7 @@ def run_step(name, words, log):
     progress.end()
     passed, failed = counts or (0, 1)
     failed = max(failed, int(ran.returncode != 0))
-    return passed, failed, progress.failures(words) if failed else []
+    return passed, failed, progress.failures(words) if failed else [], progress.proved
 
 
 def remove_libraries():
@@ -201,7 +203,8 @@ def write_table(command, begun, rows, steps):
 
 def run_command(command, is_anew):
     begun, watch, rows, sums, failures = time.time(), Watch(), [], [0, 0], []
-    minutes = MINUTES[command]
+    minutes, kit = MINUTES[command], load_kit()
+    rests = proved.sums_now(kit)
     print(f"make {command}: from nothing this takes some {minutes} processor minutes, {minutes / lanes():.0f} minutes here")
     if command == "test":
         remove_libraries()
@@ -210,7 +213,10 @@ def run_command(command, is_anew):
     with open(TABLE.parent / f"gate-{command}.log", "w", encoding="utf-8") as log:
         for name, words, takes_anew in COMMANDS[command]:
             watch.phase, start, before = name, time.time(), used_so_far()
-            passed, failed, said = run_step(name, [*words, *(["--anew"] if is_anew and takes_anew else [])], log)
+            # (a kit that keeps nothing has no word for it)
+            anew = ["--anew"] if is_anew and takes_anew and proved.keeps(kit) else []
+            passed, failed, said, done = run_step(name, [*words, *anew], log)
+            proved.note_all(kit, done, rests)
             sums, failures = [sums[0] + passed, sums[1] + failed], failures + said
             wall, used = time.time() - start, used_so_far() - before
             rows.append([command, "step", name, f"{start - begun:.0f}", f"{wall:.0f}", f"{used:.0f}", str(passed), str(failed)])

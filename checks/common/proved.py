@@ -1,0 +1,93 @@
+"""Which crates are proved in out/ of the files as they are now, and how to prove the others.
+
+Some kits keep what `rt ci` proved in a folder of their own (`keeps`), and take it from there. Others keep nothing. With these, a note
+in crates/NAME/out/proved says of which files the library or program beside it was proved: a sum of the crate's files, of the crates
+below it and of the kit. The notes are as trustworthy as out/ itself.
+"""
+import copy
+import hashlib
+import os
+import pathlib
+import tempfile
+import threading
+
+from harness import TOP
+
+PARTS = ("src", "specs", "proofs")
+
+
+def keeps(kit):
+    """Whether the kit keeps what it proved."""
+    return hasattr(kit, "Kept")
+
+
+def crates_of(kit):
+    """All crates of this tree, by name, lowest first."""
+    kit.Crate.allowed = kit.handles_of(str(TOP))
+    return {it.name: it for it in sorted(kit.rtlib.crates_below(str(TOP)), key=lambda it: len(it.below()))}
+
+
+def sums_of(kit, crates):
+    """What each crate's proof rests on, as a sum by its name. A crate comes after those below it."""
+    sums, kit_id = {}, pathlib.Path(kit.KIT, "KIT-ID").read_text(encoding="utf-8")
+    for crate in crates:
+        folder, rests = pathlib.Path(crate.folder), hashlib.sha256()
+        rests.update(repr((kit_id, crate.name, crate.is_static, sorted(crate.of_kit), [sums[it.name] for it in crate.deps])).encode())
+        for file in sorted(it for part in PARTS for it in (folder / part).rglob("*") if it.is_file()):
+            rests.update(repr((str(file.relative_to(folder)), hashlib.sha256(file.read_bytes()).hexdigest())).encode())
+        sums[crate.name] = rests.hexdigest()
+    return sums
+
+
+def is_proved(crate, due):
+    """Whether out/ has what `rt ci` left of the files of this sum. (A stamp is that of another command's library.)"""
+    note, stamp = pathlib.Path(crate.folder, "out/proved"), pathlib.Path(crate.folder, "out/rlib/stamp")
+    return note.is_file() and note.read_text(encoding="utf-8") == due and not stamp.exists()
+
+
+def note(crate, due):
+    """Notes that out/ has what was proved of the files of this sum."""
+    pathlib.Path(crate.folder, "out/proved").write_text(due, encoding="utf-8")
+
+
+def sums_now(kit):
+    """What all crates rest on; nothing with a kit that keeps what it proved."""
+    return {} if keeps(kit) else sums_of(kit, crates_of(kit).values())
+
+
+def note_all(kit, names, before):
+    """Notes those of these crates that rest on what they rested on before, when `rt ci` began."""
+    now = sums_now(kit)
+    for crate in crates_of(kit).values():
+        if crate.name in names and crate.name in now and now[crate.name] == before[crate.name]:
+            note(crate, now[crate.name])
+
+
+def prove(kit, names):
+    """Proves these crates and those below them, side by side, but for what is proved. Returns whether all are."""
+    every = crates_of(kit)
+    wanted = [it for it in every.values() if it.name in names or any(it in every[name].below() for name in names)]
+    sums, printing = sums_of(kit, every.values()), threading.Lock()
+    missing = [it for it in wanted if not is_proved(it, sums[it.name])]
+
+    def work(crate, given, jobs):
+        if not all(given[it.name] for it in crate.below() if it in missing):
+            return False
+        crate = copy.copy(crate)
+        os.makedirs(f"{crate.folder}/out", exist_ok=True)
+        with tempfile.TemporaryFile("a+", errors="replace") as crate.out:
+            is_well = not crate.ci(["--jobs", str(jobs)], False)
+            crate.out.seek(0)
+            said = "" if is_well else crate.out.read()[-6000:]
+        if is_well:
+            note(crate, sums[crate.name])
+        with printing:
+            print(f"{said}{crate.name} {'proved' if is_well else 'NOT PROVED'}", flush=True)
+        return is_well
+
+    tasks = {}
+    for crate in missing:
+        waits = [it.name for it in crate.below() if it in missing]
+        call = lambda given, jobs, it=crate: work(it, given, jobs)
+        tasks[crate.name] = (waits, crate.count(rb"\n"), kit.need(crate), call)
+    return all(kit.in_lanes(tasks).values())

@@ -1,0 +1,46 @@
+#!/usr/bin/env python3
+"""Proves crates and those below them, as `rt ci` does, and with --test their tests as well, which it then runs.
+
+    checks/prove.py [--test] CRATE ..
+
+What is proved of the same files is taken as it is: from an earlier run on this machine where the kit keeps that, and else from this
+tree, where `make test` or this script left it. Status 0 where all is proved and passed, else 1.
+"""
+import argparse
+import os
+import subprocess
+import sys
+
+from common import proved
+from common.kit import load_kit
+from common.lanes import lanes
+from harness import TOP
+
+
+def is_tested(kit, crate):
+    """Proves a crate's tests, runs them, and returns whether they passed."""
+    if not crate.has_tests():
+        print(f"{crate.name} has no tests")
+        return True
+    return not crate.ci(["--jobs", str(lanes())], True) and kit.run(crate, True)
+
+
+def main():
+    options = argparse.ArgumentParser(description=__doc__.splitlines()[0])
+    options.add_argument("crates", nargs="+", metavar="CRATE")
+    options.add_argument("--test", action="store_true", help="prove and run the crates' tests as well")
+    given = options.parse_args()
+    kit = load_kit()
+    os.environ["RT_JOBS"] = str(lanes())
+    every = proved.crates_of(kit)
+    unknown = [it for it in given.crates if it not in every]
+    if unknown:
+        sys.exit(f"{unknown[0]}: no crate has this name")
+    if proved.keeps(kit):
+        return subprocess.run(["rt", "ci", *given.crates], cwd=TOP, stdin=subprocess.DEVNULL, check=False).returncode
+    is_well = proved.prove(kit, given.crates)
+    return 0 if is_well and (not given.test or all(is_tested(kit, every[it]) for it in given.crates)) else 1
+
+
+if __name__ == "__main__":
+    sys.exit(main())
