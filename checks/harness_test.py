@@ -4,14 +4,16 @@
     checks/harness_test.py
 
 A harness that compares can be wrong itself: it might count a wrong program as right. So each call gets a program or a value that is
-as it was due, and others that differ in one byte, in the status or in time. It counts without the harness. Prints what went wrong, and
-last `N passed, M failed`.
+as it was due, and others that differ in one byte, in the status or in time. It counts without the harness. Likewise
+checks/common/proved.py gets crates that changed since they were proved. Prints what went wrong, and last `N passed, M failed`.
 """
 import contextlib
 import io
 import re
 import sys
+import types
 
+from common import proved
 from harness import ANY, LATE, LeftOut, Tally, close, counts_of, leave, needs, new_folder, parting, run, shown
 
 # A program that repeats its standard input but for so many bytes, says its words on standard error, and ends with a status.
@@ -151,9 +153,44 @@ def folders(plain):
     plain.same("a program that is too late", run(["sleep", "9"], seconds=0.1).returncode, LATE)
 
 
+def crate_in(folder, name, *below):
+    """A crate as the kit has it, with a file and a folder out/."""
+    (folder / name / "src").mkdir(parents=True)
+    (folder / name / "out").mkdir()
+    (folder / name / "src/lib.rt").write_text(name)
+    return types.SimpleNamespace(name=name, folder=f"{folder / name}", deps=below, of_kit=["core"], is_static=False)
+
+
+def notes(plain):
+    """A crate counts as proved only of the files that it and the crates below it had, and only over the library of `rt ci`."""
+    with new_folder() as folder:
+        (folder / "KIT-ID").write_text("kit")
+        kit, low = types.SimpleNamespace(KIT=folder), crate_in(folder, "low")
+        high = crate_in(folder, "high", low)
+        are_proved = lambda: [proved.is_proved(it, proved.sums_of(kit, [low, high])[it.name]) for it in (low, high)]
+        plain.same("crates without a note", are_proved(), [False, False])
+        sums = proved.sums_of(kit, [low, high])
+        for it in (low, high):
+            proved.note(it, sums[it.name])
+        plain.same("crates with a note", are_proved(), [True, True])
+        for name, file, due in [
+            ("another file above", "high/src/more.rt", [True, False]),
+            ("another kit", "KIT-ID", [False, False]),
+            ("another command's library", "low/out/rlib/stamp", [False, True]),
+            ("a changed file below", "low/src/lib.rt", [False, False]),
+        ]:
+            place = folder / file
+            before = place.read_text() if place.exists() else None
+            place.parent.mkdir(exist_ok=True)
+            place.write_text("other")
+            plain.same(name, are_proved(), due)
+            place.unlink() if before is None else place.write_text(before)
+        plain.same("the files of before", are_proved(), [True, True])
+
+
 def main():
     plain = Plain()
-    for part in (right_ones, wrong_ones, closing_lines, left_out, readable, folders):
+    for part in (right_ones, wrong_ones, closing_lines, left_out, readable, folders, notes):
         part(plain)
     print(f"{plain.passed} passed, {plain.failed} failed")
     return 1 if plain.failed else 0
