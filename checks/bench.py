@@ -104,7 +104,7 @@ def build_opponents(crates, instructions, cpu):
     return os.path.join(target, "release"), None
 
 
-def told(program, words):
+def figures_of(program, words):
     """The figures that a benchmark prints, by their names. Of those with one name the least counts."""
     text = subprocess.run([program, *words], capture_output=True, text=True, check=True, timeout=900).stdout
     figures = {}
@@ -239,7 +239,7 @@ def counted(table, level, program, part, opponent, words, goals, own=()):
     """The figures that a part of a benchmark and its opponent print, and of its own those that stand beside one another."""
     ours, theirs = level.ours(program), level.theirs
     other = os.path.join(theirs, opponent) if theirs and opponent else None
-    mine, others = table.in_turns(lambda: told(ours, [part, *words]), (lambda: told(other, words)) if other else None)
+    mine, others = table.in_turns(lambda: figures_of(ours, [part, *words]), (lambda: figures_of(other, words)) if other else None)
     for figure in mine[0]:
         same = "one by one" if figure in ("four at once", "eight at once", "one worker") else figure
         rest = [turn[same] for turn in others] if others and same in others[0] else []

@@ -77,13 +77,13 @@ def meant_by(line, verdict):
     return [*stores, f"{guest} propose {rest[0]}"] if proposes else stores
 
 
-def verdict_among(line, told):
+def verdict_among(line, answers):
     """The verdict of a line by those of the requests that it stands for, whose later stores follow from the first."""
-    stores = [it.split()[1] for it in told[:64]]
+    stores = [it.split()[1] for it in answers[:64]]
     refused = stores[0] in ("no-page", "no-frame")
-    if len(told) > 1 and any(it != (stores[0] if refused else "stored") for it in stores[1:]):
+    if len(answers) > 1 and any(it != (stores[0] if refused else "stored") for it in stores[1:]):
         return f"stores of one page: {stores}"
-    return told[-1] if len(told) == 65 else told[0]
+    return answers[-1] if len(answers) == 65 else answers[0]
 
 
 class Pages:
@@ -107,13 +107,13 @@ class Pages:
 
 def split_written(lines, written):
     """The verdict of each line and what it took back, and the report at the end."""
-    told, rest = [], written.splitlines()
+    answers, rest = [], written.splitlines()
     for line in lines:
         verdict, took = rest.pop(0), ""
         if " take-back " in line and "released" in verdict:
             took = rest.pop(0)
-        told.append((verdict, took))
-    return told, rest
+        answers.append((verdict, took))
+    return answers, rest
 
 
 def whole_pages_differ(rng, verdicts):
@@ -125,9 +125,9 @@ def whole_pages_differ(rng, verdicts):
     written = {name: replay(words, text) for name, words in [*PROGRAMS.items(), *IN_REGION.items()] if name != "pageshare replay"}
     if len(set(written.values())) != 1 or "report" not in written["C"]:
         return f"C and Rust differ: {[lines[:200] for lines in written.values()]}", text
-    told, report = split_written(lines, written["C"])
+    answers, report = split_written(lines, written["C"])
     groups, last = [], Pages()
-    for line, (verdict, took) in zip(lines, told):
+    for line, (verdict, took) in zip(lines, answers):
         word = verdict.split()[1]
         verdicts[line.split()[1] + ": " + " ".join(verdict.split()[1:3] if word == "released" else [word])] += 1
         if took and took != last.pages.get((line.split()[0], line.split()[2]), "00" * 4096):
@@ -135,7 +135,7 @@ def whole_pages_differ(rng, verdicts):
         last.follow(line, word)
         groups.append(meant_by(line, word))
     meant = replay(PROGRAMS["pageshare replay"], text_of(head, [it for group in groups for it in group])).splitlines()
-    for line, group, (verdict, _took) in zip(lines, groups, told):
+    for line, group, (verdict, _took) in zip(lines, groups, answers):
         wanted, meant = verdict_among(line, meant[: len(group)]), meant[len(group) :]
         if wanted != verdict:
             return f"{line[:80]}: {verdict}, and by its requests {wanted}", text

@@ -1,5 +1,5 @@
 #!/usr/bin/env python3
-"""Compares what `estimate` tells with a count of its own, by hashes of whole pages and sets of bytes (common/plain_estimate.py).
+"""Compares what `estimate` prints with a count of its own, by hashes of whole pages and sets of bytes (common/plain_estimate.py).
 
     checks/estimate.py [COUNT [SEED [PROGRAM]]]
 
@@ -29,7 +29,7 @@ def table_faults(text, due, unit):
     lines, wanted = text.split("\n"), plain_table.table_text(due, unit).split("\n")
     if len(lines) != len(wanted):
         yield f"the table has {len(lines)} lines, and {len(wanted)} were due"
-    yield from [f"{line!r} is told, and {one!r} was due" for line, one in zip(lines, wanted) if line != one][:5]
+    yield from [f"{line!r} is printed, and {one!r} was due" for line, one in zip(lines, wanted) if line != one][:5]
 
 
 def written(draw, folder, images):

@@ -45,6 +45,7 @@ COMMANDS = {
         ("runs", ["checks/quick.py", PROGRAM], False),
         ("harness", ["checks/harness_test.py"], False),
         ("documents", ["checks/names.py"], False),
+        ("limits", ["checks/limits.py"], False),
         ("map of crates", ["checks/map.py", "--check"], False),
     ],
     "edits": [("edits' test", ["checks/edits_test.py"], False), ("edits", ["checks/edits.py"], True)],

@@ -6,7 +6,7 @@
 A journal of --few hints (by default 10,000) stores to as many pages, each with a content of its own, and proposes each once;
 another has --times as many (4). Both are replayed --turns times (9), in turns, by out/pageshare (`make build`) or another
 program that takes the word `replay`. The machine has a frame for each page, so the table is as full as it gets. Each report
-must tell all the hints, and the least time of the longer journal may be 1.2 times --times that of the shorter: a table that
+must count all the hints, and the least time of the longer journal may be 1.2 times --times that of the shorter: a table that
 is searched from its front takes about --times squared. Prints both times (status 0, or 1 where it takes longer). Nothing else
 may run on the machine meanwhile.
 """
@@ -20,7 +20,7 @@ SLACK = 1.2
 
 
 def hinted(program, count):
-    """The journal of so many hints, once its report has told them all."""
+    """The journal of so many hints, once its report has counted them all."""
     path = journal(f"hints-{count}", count, count, scanned(count, different))
     report = output(program, ["replay"], path).decode("ascii").splitlines()[-1]
     wanted = f"report entries {2 * count} mapped {count} shared 0 frames {count} reclaimed 0 hints {count}"

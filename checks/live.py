@@ -125,17 +125,17 @@ def refusals(tally, program, pid):
     """Processes that can't be read: one fault line, and nothing on standard output."""
     with subprocess.Popen(["true"]) as gone:
         gone.wait()
-    for name, words, status, told in [
+    for name, words, status, printed in [
         ("a process that has ended", ["--pid", gone.pid, "--name", "gone"], 1, ONE_LINE),
         ("no such number", ["--pid", 0, "--name", "none"], 2, ANY),
         ("no name", ["--pid", pid], 2, ANY),
         ("a process and an image", ["--pid", pid, "--name", "both", os.devnull], 2, ANY),
     ]:
-        tally.ends(name, run([program, "digest", *words], seconds=SECONDS), status, "", told)
+        tally.ends(name, run([program, "digest", *words], seconds=SECONDS), status, "", printed)
 
 
 def by_program(tally, program, pid, pages):
-    """What the program tells of the stopped child."""
+    """What the program prints of the stopped child."""
     try:
         has_digest = run([program, "digest", "--help"]).returncode == 0
     except OSError:

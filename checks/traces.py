@@ -50,7 +50,7 @@ IMPOSSIBLE = {
     "a page that isn't there": ["discard 3"],
 }
 
-# What is played after the head, and what is told of its last line.
+# What is played after the head, and what is printed of its last line.
 OTHER = {
     "another content": ([*LENT, "shows 0 8"], "page 0 shows 7, not 8"),
     "a content of before": ([*JOINED, "write 1 9", "shows 1 7"], "page 1 shows 9, not 7"),
@@ -91,8 +91,8 @@ def cases():
         yield name, text_of(lines), f"{events} events, each possible; {looks} pages shown right", 0
     for name, lines in IMPOSSIBLE.items():
         yield name, text_of([*lines, "shows 0 99"]), f"line {len(HEAD) + len(lines)}: not possible", 1
-    for name, (lines, told) in OTHER.items():
-        yield name, text_of([*lines, "copy 2"]), f"line {len(HEAD) + len(lines)}: {told}", 1
+    for name, (lines, outcome) in OTHER.items():
+        yield name, text_of([*lines, "copy 2"]), f"line {len(HEAD) + len(lines)}: {outcome}", 1
     for name, (text, fault) in FAULTS.items():
         yield name, text, f"fault {fault}", 2
 

@@ -57,11 +57,11 @@ def is_kept(word, sample):
 
 def write_digest(folder, host, guest, sample):
     copies = collections.Counter(contents_of(host, guest))
-    told = sorted(((digest if content >> 43 else shared_digest)(content), count) for content, count in copies.items())
+    lines = sorted(((digest if content >> 43 else shared_digest)(content), count) for content, count in copies.items())
     head = f"{name_of(host, guest)},0,{PAGES},{sample}"
     with open(folder / f"{name_of(host, guest)}.csv", "w", encoding="ascii") as out:
         out.write("guest,salt,pages,sample,digest,copies\n")
-        out.writelines(f"{head},{word},{count}\n" for word, count in told if is_kept(word, sample))
+        out.writelines(f"{head},{word},{count}\n" for word, count in lines if is_kept(word, sample))
 
 
 def write_image(folder, host, guest):

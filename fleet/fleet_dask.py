@@ -64,7 +64,7 @@ def main():
     words.add_argument("--workers", type=int, default=2)
     words.add_argument("digests", nargs="+")
     asked = words.parse_args()
-    # (a client that is closed after a fault may tell there of answers that it no longer waits for)
+    # (a client that is closed after a fault may print there of answers that it no longer waits for)
     logging.getLogger("asyncio").setLevel(logging.CRITICAL)
     cluster = asked.scheduler or LocalCluster(
         n_workers=asked.workers, threads_per_worker=1, dashboard_address=None, silence_logs=logging.CRITICAL

@@ -55,7 +55,7 @@ def with_errors(known, sums, sample):
 
 
 def guest_numbers(head, kinds, sample):
-    """The numbers of a guest, from its kinds of lines. A digest without lines tells no name, no salt and no pages."""
+    """The numbers of a guest, from its kinds of lines. A digest without lines has no name, no salt and no pages."""
     zero = sum(kind.copies * times for kind, times in kinds if kind.zero)
     known = {"guest": head and head.guest, "salt": head and head.salt, "pages": head.pages if head else 0, "zero": zero}
     worth = {"distinct": lambda _: 1, "shared": shared_pages, "alone": lambda kind: kind.copies - 1}

@@ -48,9 +48,9 @@ def rows_of(tables, query):
     asked = tables.execute(query)
     names = [column[0] for column in asked.description]
     for row in asked:
-        told = {NAMES.get(name, name): value for name, value in zip(names, row)}
-        errors = {name.removesuffix("_error"): math.floor(value) for name, value in told.items() if name.endswith("_error")}
-        yield {name: value for name, value in told.items() if not name.endswith("_error")}, errors
+        numbers = {NAMES.get(name, name): value for name, value in zip(names, row)}
+        errors = {name.removesuffix("_error"): math.floor(value) for name, value in numbers.items() if name.endswith("_error")}
+        yield {name: value for name, value in numbers.items() if not name.endswith("_error")}, errors
 
 
 def with_errors(members, errors, sample):

@@ -54,15 +54,15 @@ static void forget(struct client *client) {
  * ends at once: its process shows no frame for it.
  */
 static void part(struct domain *domain, struct client *client) {
-    struct pageshare_host_session told;
+    struct pageshare_host_session session;
     uint32_t freed;
     size_t count;
     if (client->socket >= 0) close(client->socket);
     client->socket = NOTHING;
     client->state = CLIENT_APART;
     pageshare_host_disconnect(&domain->host, client->session);
-    bool is_there = pageshare_host_session(&domain->host, client->session, &told) == PAGESHARE_HOST_OK;
-    if (is_there && told.slots == 0) {
+    bool is_there = pageshare_host_session(&domain->host, client->session, &session) == PAGESHARE_HOST_OK;
+    if (is_there && session.slots == 0) {
         pageshare_host_end(&domain->host, client->session, &freed, 1, &count);
         is_there = false;
     }
@@ -149,12 +149,12 @@ void clients_accept(struct domain *domain) {
     struct client *client = NULL;
     if (!is_trusted(domain, &peer)) {
         if (domain->turned_away++ == 0)
-            tell("domain %s: process %d of user %u isn't taken: it could write shared pages (see --trust-peers)", domain->settings.name,
+            log_line("domain %s: process %d of user %u isn't taken: it could write shared pages (see --trust-peers)", domain->settings.name,
                  (int)peer.pid, (unsigned)peer.uid);
     } else {
         client = free_entry(domain, peer.pid);
         if (!client && domain->turned_away++ == 0)
-            tell("domain %s: process %d isn't taken: there are as many clients, or connections of it, as may be (see --clients)",
+            log_line("domain %s: process %d isn't taken: there are as many clients, or connections of it, as may be (see --clients)",
                  domain->settings.name, (int)peer.pid);
     }
     if (!client) close(socket);
@@ -267,7 +267,7 @@ static bool take_packet(struct domain *domain, struct client *client, uint8_t *b
     domain->messages++;
     if (got.status != PAGESHARE_HOST_OK) {
         if (domain->faults++ < 10)
-            tell("domain %s: process %d sent what is no message (%u); its connection ends", domain->settings.name, (int)client->pid,
+            log_line("domain %s: process %d sent what is no message (%u); its connection ends", domain->settings.name, (int)client->pid,
                  (unsigned)got.status);
         return false;
     }
@@ -290,7 +290,7 @@ void clients_readable(struct domain *domain, union event_key key) {
     struct client *client = client_of(domain, key);
     uint8_t packet[PAGESHARE_HOST_MAX_MESSAGE + 1]; /* a packet that is longer is no message, and so is its beginning */
     if (!client || client->state != CLIENT_CONNECTED) return;
-    if (client->is_paused) { /* only a connection's end is told then */
+    if (client->is_paused) { /* only a connection's end is served then */
         part(domain, client);
         return;
     }
@@ -340,7 +340,7 @@ void clients_release_some(struct domain *domain) {
         frames_freed(&domain->frames, freed, count);
         return;
     }
-    if (status != PAGESHARE_HOST_OK) tell("domain %s: a session can't be ended (%u)", domain->settings.name, (unsigned)status);
+    if (status != PAGESHARE_HOST_OK) log_line("domain %s: a session can't be ended (%u)", domain->settings.name, (unsigned)status);
     forget(client);
     domain->ending--;
 }

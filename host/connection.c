@@ -31,18 +31,18 @@ static struct {
     unsigned period_ms;
     unsigned flags; /* of window_make */
     int counts;     /* a file for the counts, or NOTHING */
-} told = {.period_ms = PERIOD_MS, .counts = NOTHING};
+} settings = {.period_ms = PERIOD_MS, .counts = NOTHING};
 
 /* The thread's own. */
 static struct {
     struct remote remote;
     struct windows *windows;
-    bool is_attached, was_told, is_refused;
+    bool is_attached, was_reported, is_refused;
     uint64_t next_try_ns, next_scan_ns;
     struct windows_counts before;
     unsigned period_ms, calm, eager;
     size_t windows_before;
-    enum window_status trouble; /* of the last look, so that it is told once */
+    enum window_status trouble; /* of the last look, so that it is printed once */
 } my = {.remote = REMOTE_CLOSED};
 
 bool connection_is_wanted(void) {
@@ -77,14 +77,14 @@ static void read_path(const char *name, char to[PATH_ROOM]) {
 void connection_prepare(void) {
     char counts[PATH_ROOM];
     const char *period = getenv("PAGESHARE_PERIOD_MS"), *fork = getenv("PAGESHARE_DONTFORK");
-    read_path("PAGESHARE_SOCKET", told.socket);
-    read_path("PAGESHARE_TRACE", told.trace);
+    read_path("PAGESHARE_SOCKET", settings.socket);
+    read_path("PAGESHARE_TRACE", settings.trace);
     read_path("PAGESHARE_COUNTS", counts);
     unsigned long asked = period ? strtoul(period, NULL, 10) : PERIOD_MS;
-    told.period_ms = asked >= 1 && asked <= 3600000 ? (unsigned)asked : PERIOD_MS;
-    told.flags = fork && strcmp(fork, "1") == 0 ? WINDOW_NO_CHILD : 0;
-    if (*counts) told.counts = sharing_own((int)syscall(SYS_openat, AT_FDCWD, counts, O_WRONLY | O_CREAT | O_TRUNC | O_CLOEXEC, 0644));
-    my.period_ms = told.period_ms;
+    settings.period_ms = asked >= 1 && asked <= 3600000 ? (unsigned)asked : PERIOD_MS;
+    settings.flags = fork && strcmp(fork, "1") == 0 ? WINDOW_NO_CHILD : 0;
+    if (*counts) settings.counts = sharing_own((int)syscall(SYS_openat, AT_FDCWD, counts, O_WRONLY | O_CREAT | O_TRUNC | O_CLOEXEC, 0644));
+    my.period_ms = settings.period_ms;
     end_preload();
 }
 
@@ -94,7 +94,7 @@ void connection_prepare(void) {
 static bool make_windows(void) {
     struct windows_config config = {.pins = ranges_devices() == DEVICES_NONE ? WINDOWS_PINS_NEVER : WINDOWS_PINS_POSSIBLE,
                                     .faults = my.remote.faults_device > 0 ? my.remote.faults_device : 0,
-                                    .trace = *told.trace ? told.trace : NULL};
+                                    .trace = *settings.trace ? settings.trace : NULL};
     struct window_result result = windows_make(&my.windows, &config);
     if (result.status == WINDOW_OK) {
         ranges_use(my.windows);
@@ -113,7 +113,7 @@ static void attach(void) {
     struct window_result result = windows_attach(my.windows, &lender);
     my.is_attached = result.status == WINDOW_OK;
     my.eager = EAGER_LOOKS;
-    if (!my.is_attached) tell("the host's frames can't be used: %s", window_status_words(result.status));
+    if (!my.is_attached) log_line("the host's frames can't be used: %s", window_status_words(result.status));
 }
 
 /* Connects where there is no connection, not too often. Returns whether there is one. */
@@ -121,14 +121,14 @@ static bool connect_host(void) {
     if (my.remote.socket >= 0) return my.is_attached;
     if (my.is_refused || now_ns() < my.next_try_ns) return false;
     my.next_try_ns = now_ns() + retry_ns;
-    enum remote_found found = remote_connect(&my.remote, told.socket);
+    enum remote_found found = remote_connect(&my.remote, settings.socket);
     if (found == REMOTE_NONE) {
-        if (!my.was_told) tell("no host at %s (%s); it is tried again each second", told.socket, strerror(errno));
-        my.was_told = true;
+        if (!my.was_reported) log_line("no host at %s (%s); it is tried again each second", settings.socket, strerror(errno));
+        my.was_reported = true;
         return false;
     }
-    if (my.was_told) tell("connected to the host at %s", told.socket);
-    my.was_told = false;
+    if (my.was_reported) log_line("connected to the host at %s", settings.socket);
+    my.was_reported = false;
     if (!my.windows && !make_windows()) return false;
     if (found == REMOTE_NEW || !my.is_attached) attach();
     return my.is_attached;
@@ -145,17 +145,17 @@ static void scan_devices(void) {
     if (found == DEVICES_WRITE_ALL) ranges_refuse("a device is given to the guest and writes to its memory (VFIO, vDPA)");
 }
 
-static void tell_look(struct window_result result) {
+static void report_look(struct window_result result) {
     bool is_news = result.status != my.trouble && result.status != WINDOW_OK;
     my.trouble = result.status;
     if (result.status == WINDOW_LENDER_FAILED) {
-        if (my.remote.socket < 0 && !my.was_told) {
-            tell("the host at %s doesn't answer (%s); what is shared stays, and it is tried again each second", told.socket,
+        if (my.remote.socket < 0 && !my.was_reported) {
+            log_line("the host at %s doesn't answer (%s); what is shared stays, and it is tried again each second", settings.socket,
                  strerror(result.cause));
-            my.was_told = true;
+            my.was_reported = true;
         }
     } else if (is_news) {
-        tell("a look: %s%s%s", window_status_words(result.status), result.cause ? ": " : "", result.cause ? strerror(result.cause) : "");
+        log_line("a look: %s%s%s", window_status_words(result.status), result.cause ? ": " : "", result.cause ? strerror(result.cause) : "");
     }
 }
 
@@ -168,9 +168,9 @@ static void choose_period(const struct windows_counts *now) {
     bool is_eager = my.eager > 0 && my.is_attached;
     my.eager -= is_eager;
     my.calm = found <= LITTLE && asked <= MUCH ? my.calm + 1 : 0;
-    if (is_eager || (found >= MUCH && found >= now->pages / MUCH_PART)) my.period_ms = told.period_ms / BUSY_PART;
-    else if (my.calm >= CALM_LOOKS) my.period_ms = my.period_ms < told.period_ms * CALM_PART ? my.period_ms + told.period_ms / 4 : my.period_ms;
-    else my.period_ms = told.period_ms;
+    if (is_eager || (found >= MUCH && found >= now->pages / MUCH_PART)) my.period_ms = settings.period_ms / BUSY_PART;
+    else if (my.calm >= CALM_LOOKS) my.period_ms = my.period_ms < settings.period_ms * CALM_PART ? my.period_ms + settings.period_ms / 4 : my.period_ms;
+    else my.period_ms = settings.period_ms;
     if (my.period_ms == 0) my.period_ms = 1;
     my.before = *now;
 }
@@ -186,7 +186,7 @@ static void write_times(const uint64_t *held, char *text, size_t room) {
 /* The counts as JSON, for tests and for who wants to know. */
 static void write_counts(const struct windows_counts *now) {
     char text[2560], held[WINDOWS_TIMES * 21];
-    if (told.counts < 0) return;
+    if (settings.counts < 0) return;
     write_times(now->held, held, sizeof held);
     int length = snprintf(
         text, sizeof text,
@@ -204,19 +204,19 @@ static void write_counts(const struct windows_counts *now) {
         (unsigned long long)now->map_ns, (unsigned long long)now->hold_most_ns,
         (unsigned long long)clock_ns(CLOCK_THREAD_CPUTIME_ID), my.period_ms, (int)ranges_devices(), held);
     bool fits = length > 0 && (size_t)length < sizeof text;
-    if (!fits || pwrite(told.counts, text, (size_t)length, 0) != length || ftruncate(told.counts, length) != 0) {
-        close(told.counts);
-        told.counts = NOTHING;
+    if (!fits || pwrite(settings.counts, text, (size_t)length, 0) != length || ftruncate(settings.counts, length) != 0) {
+        close(settings.counts);
+        settings.counts = NOTHING;
     }
 }
 
 /* One turn of the thread. */
 static void turn(void) {
     struct windows_counts counts;
-    if (connect_host()) ranges_open(told.flags);
+    if (connect_host()) ranges_open(settings.flags);
     if (!my.windows) return;
     scan_devices();
-    tell_look(windows_look(my.windows));
+    report_look(windows_look(my.windows));
     windows_count(my.windows, &counts);
     choose_period(&counts);
     write_counts(&counts);

@@ -106,7 +106,7 @@ static bool make_host(struct domain *domain) {
     shape.seed = drawn[1];
     if (!frames_make(&domain->frames, shape.machines * shape.frames)) return false;
     uint32_t status = pageshare_host_make(&domain->host, &shape, domain->frames.at, (size_t)domain->frames.count * PAGE);
-    if (status != PAGESHARE_HOST_OK) tell("domain %s: the library refuses its numbers or its memory (%u)", domain->settings.name, (unsigned)status);
+    if (status != PAGESHARE_HOST_OK) log_line("domain %s: the library refuses its numbers or its memory (%u)", domain->settings.name, (unsigned)status);
     return status == PAGESHARE_HOST_OK;
 }
 

@@ -45,13 +45,13 @@ struct domain {
     int faults_device; /* /dev/userfaultfd, or NOTHING; all domains have the one */
     bool is_deaf;      /* the system has no descriptor for another connection: none is taken until the next tick */
     struct pageshare_host_totals counted; /* the library's totals, as they were last counted */
-    uint64_t counted_until_ns;            /* and until when they are told */
+    uint64_t counted_until_ns;            /* and until when they are reported */
     uint64_t start_ns, next_tick_ns, messages, asked, lends, releases, refused, faults, turned_away;
     pthread_t thread;
     bool has_thread;
 };
 
-/* Binds a domain's sockets, before the host becomes another user. Returns false where that fails, after it has told why. */
+/* Binds a domain's sockets, before the host becomes another user. Returns false where that fails, after it has printed why. */
 bool domain_bind(struct domain *domain, const struct domain_settings *settings, int faults_device);
 /* Makes the domain's frames and the library's host. */
 bool domain_make(struct domain *domain);

@@ -24,7 +24,7 @@ struct frames {
     uint64_t punched;     /* how many were given back, in all */
 };
 
-/* Makes a file with memory for `count` frames. Returns false where the system refuses, after it has told why. */
+/* Makes a file with memory for `count` frames. Returns false where the system refuses, after it has printed why. */
 bool frames_make(struct frames *frames, uint32_t count);
 void frames_free(struct frames *frames);
 

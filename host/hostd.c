@@ -20,7 +20,7 @@
 static int open_faults_device(void) {
     int device = open("/dev/userfaultfd", O_RDWR | O_CLOEXEC);
     if (device < 0)
-        tell("/dev/userfaultfd: %s; only clients that may make a userfaultfd themselves can lend", strerror(errno));
+        log_line("/dev/userfaultfd: %s; only clients that may make a userfaultfd themselves can lend", strerror(errno));
     return device;
 }
 
@@ -28,7 +28,7 @@ static int open_faults_device(void) {
 static bool become(const char *name) {
     const struct passwd *user = getpwnam(name);
     if (!user) {
-        tell("--user %s: there is no such user", name);
+        log_line("--user %s: there is no such user", name);
         return false;
     }
     return (initgroups(name, user->pw_gid) == 0 && setgid(user->pw_gid) == 0 && setuid(user->pw_uid) == 0) || trouble(name);
@@ -70,7 +70,7 @@ static int serve_all(const struct settings *settings) {
     if (prctl(PR_SET_THP_DISABLE, 1, 0, 0, 0) != 0) trouble("prctl"); /* a huge page would take memory for 512 pages of zeros */
     bool good = start_all(domains, settings, &begun, faults_device);
     for (size_t i = 0; good && i < begun; i++)
-        tell("domain %s serves at %s: up to %u clients, %llu MiB of frames", settings->domains[i].name, settings->domains[i].socket,
+        log_line("domain %s serves at %s: up to %u clients, %llu MiB of frames", settings->domains[i].name, settings->domains[i].socket,
              settings->domains[i].clients, (unsigned long long)(settings->domains[i].memory >> 20));
     if (good && sigwait(&ends, &got) != 0) good = false;
     for (size_t i = 0; i < begun; i++) domain_end(&domains[i]);

@@ -19,15 +19,15 @@ static uint64_t host_bytes(void) {
 static void list_clients(struct domain *domain, struct status_totals *totals, struct status_client *clients) {
     for (uint32_t i = 0; i < domain->client_most; i++) {
         const struct client *client = &domain->clients[i];
-        struct pageshare_host_session told;
-        if (client->state == CLIENT_NONE || pageshare_host_session(&domain->host, client->session, &told) != PAGESHARE_HOST_OK) continue;
+        struct pageshare_host_session session;
+        if (client->state == CLIENT_NONE || pageshare_host_session(&domain->host, client->session, &session) != PAGESHARE_HOST_OK) continue;
         totals->clients++;
         if (totals->listed == STATUS_CLIENTS_MOST) continue;
         clients[totals->listed++] = (struct status_client){.pid = (uint64_t)client->pid,
                                                            .uid = client->uid,
                                                            .connected = client->state == CLIENT_CONNECTED,
-                                                           .lent_pages = told.slots,
-                                                           .messages = told.messages,
+                                                           .lent_pages = session.slots,
+                                                           .messages = session.messages,
                                                            .lends = client->lends};
     }
 }
@@ -37,7 +37,7 @@ static const struct pageshare_host_totals *count(struct domain *domain) {
     enum { PART = 20 };
     uint64_t begin = now_ns();
     if (begin < domain->counted_until_ns) return &domain->counted;
-    if (pageshare_host_report(&domain->host, &domain->counted) != PAGESHARE_HOST_OK) tell("the library's totals aren't there");
+    if (pageshare_host_report(&domain->host, &domain->counted) != PAGESHARE_HOST_OK) log_line("the library's totals aren't there");
     domain->counted_until_ns = now_ns() + (now_ns() - begin) * PART;
     return &domain->counted;
 }

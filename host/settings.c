@@ -36,7 +36,7 @@ static const uint64_t memory_least = 1 << 20, memory_most = UINT64_C(1) << 38; /
 
 /* One line or word where it is wrong. Returns false. */
 static bool wrong(const char *option, const char *value, const char *why) {
-    tell("--%s %s: %s", option, value ? value : "", why);
+    log_line("--%s %s: %s", option, value ? value : "", why);
     return false;
 }
 
@@ -150,7 +150,7 @@ static bool read_numbers(struct domain_settings *domain, const char *option, con
     return true;
 }
 
-/* One option. `value` is NULL where none follows; `used` tells whether it was one of the option's. */
+/* One option. `value` is NULL where none follows; `used` says whether it was one of the option's. */
 static bool read_option(struct settings *settings, const char *option, const char *value, bool *used) {
     struct domain_settings *domain =
         settings->domain_count ? &settings->domains[settings->domain_count - 1] : &settings->usual;
@@ -197,7 +197,7 @@ static bool read_file(struct settings *settings, const char *path) {
     for (unsigned number = 1; good && fgets(line, sizeof line, file); number++) {
         good = strlen(line) + 1 < sizeof line || wrong("settings", path, "a line is too long");
         good = good && read_line(settings, line);
-        if (!good) tell("%s: line %u", path, number);
+        if (!good) log_line("%s: line %u", path, number);
     }
     if (good && ferror(file)) good = trouble(path);
     fclose(file);

@@ -1,4 +1,4 @@
-/* What the host is told: by its command line, and by a settings file whose lines are the same options. */
+/* The settings of the host: from its command line, and from a settings file whose lines are the same options. */
 #ifndef HOST_SETTINGS_H
 #define HOST_SETTINGS_H
 
@@ -39,7 +39,7 @@ struct settings {
     bool watch;
 };
 
-/* Reads the command line. Returns false where a word or a line of the file is wrong, after it has told which. */
+/* Reads the command line. Returns false where a word or a line of the file is wrong, after it has printed which. */
 bool settings_read(struct settings *settings, int count, char **words);
 
 extern const char settings_help[];

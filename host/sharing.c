@@ -16,8 +16,8 @@
 enum {
     RANGES_MOST = 256,
     LEAST_BYTES = 65536,     /* a range that is smaller is no window: it saves nothing */
-    TELL_BYTES = 1 << 20,    /* and of one that is smaller than that nothing is told */
-    TELL_MOST = 16,          /* lines of the process on standard error in all */
+    REPORT_BYTES = 1 << 20,  /* and of one that is smaller than that nothing is printed */
+    REPORTS_MOST = 16,       /* lines of the process on standard error in all */
     SPARE_DESCRIPTORS = 32,  /* the library's descriptors are among so many last ones */
     BITS = 8
 };
@@ -40,7 +40,7 @@ static _Atomic(struct windows *) windows;
 static atomic_int owner;  /* the process that shares, or 0 */
 static atomic_bool over;  /* lending has ended for good */
 static atomic_int worst;  /* an enum devices: the worst that was seen */
-static atomic_int told;
+static atomic_int reported;
 static atomic_uchar owned[DESCRIPTORS_MOST / BITS];
 /* (the model needs no call of the C library, so this is right in any thread at any time) */
 static _Thread_local int inside __attribute__((tls_model("initial-exec")));
@@ -55,7 +55,7 @@ static bool is_owner(void) {
 
 /* One line on standard error, and not very many of them. */
 static void say(const char *what, size_t bytes, const char *why) {
-    if (atomic_fetch_add(&told, 1) < TELL_MOST) tell("%s of %zu MiB: %s", what, bytes >> 20, why);
+    if (atomic_fetch_add(&reported, 1) < REPORTS_MOST) log_line("%s of %zu MiB: %s", what, bytes >> 20, why);
 }
 
 /* ---- descriptors ---- */
@@ -226,7 +226,7 @@ bool sharing_leave(void *from, size_t bytes, enum sharing_content content, const
     for (struct range *range; result.status == WINDOW_OK && (range = next_range(at, end)) != NULL;) {
         struct piece piece = piece_of(range, at, end);
         at = piece.at + piece.bytes;
-        if (content == SHARING_KEEP && piece.bytes >= TELL_BYTES) say("lending ends", piece.bytes, why);
+        if (content == SHARING_KEEP && piece.bytes >= REPORT_BYTES) say("lending ends", piece.bytes, why);
         if (range->window) result = cut(range, piece, content);
         else if (!take_out(range, piece)) remove_range(range);
     }
@@ -296,7 +296,7 @@ void ranges_open(unsigned flags) {
         struct window_result result = window_make(&range->window, atomic_load(&windows), range->at, range->bytes, flags);
         range->begin = range->at;
         if (result.status == WINDOW_OK) continue;
-        if (range->bytes >= TELL_BYTES) say("nothing is lent", range->bytes, window_status_words(result.status));
+        if (range->bytes >= REPORT_BYTES) say("nothing is lent", range->bytes, window_status_words(result.status));
         range->window = NULL;
         remove_range(range);
     }

@@ -26,10 +26,10 @@ int sharing_advise(void *at, size_t bytes, int advice);
 /* What happens to the content of pages that leave their windows. */
 enum sharing_content { SHARING_KEEP, SHARING_LOSE };
 /* A range leaves its windows, and is the monitor's alone afterwards. Returns false, with errno, where the system refuses: then the
- * range must stay as it is. `why` is told where content is kept. */
+ * range must stay as it is. `why` is printed where content is kept. */
 bool sharing_leave(void *at, size_t bytes, enum sharing_content content, const char *why);
 
-/* Lending ends for good, and each page gets memory of its own. `why` is told, once. */
+/* Lending ends for good, and each page gets memory of its own. `why` is printed, once. */
 void sharing_end(const char *why);
 
 /* Devices may write from now on. */

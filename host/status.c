@@ -75,7 +75,7 @@ static bool receive(const char *socket_path, struct report *report) {
     size_t totals = sizeof report->totals;
     bool is_whole = (size_t)got >= totals && report->totals.version == STATUS_VERSION && report->totals.listed <= STATUS_CLIENTS_MOST &&
                     (size_t)got == totals + report->totals.listed * sizeof *report->clients;
-    if (!is_whole) tell("%s: not a status of this version", name.sun_path);
+    if (!is_whole) log_line("%s: not a status of this version", name.sun_path);
     report->totals.domain[NAME_MOST - 1] = 0;
     return is_whole;
 }

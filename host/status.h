@@ -1,5 +1,5 @@
 /*
- * What a domain tells of itself, for operators: on a socket of its own beside the domain's (SOCKET.status), which only the host's
+ * What a domain reports of itself, for operators: on a socket of its own beside the domain's (SOCKET.status), which only the host's
  * user and root may open, since totals show a client what others have.
  *
  * Whoever connects is sent one message: a struct status_totals and its clients, and then the connection ends. Host and reader are the
@@ -44,7 +44,7 @@ struct status_client {
     uint64_t lends;
 };
 
-/* Prints what the domain at `socket` tells, in the form asked for; with `watch` each second until the reader ends it. Returns the
+/* Prints what the domain at `socket` reports, in the form asked for; with `watch` each second until the reader ends it. Returns the
  * process's status: 0, or 1 where the domain can't be asked. */
 int status_show(const char *socket, enum status_form form, bool watch);
 

@@ -1,4 +1,4 @@
-/* How the host and the preloaded library tell of a failure, and clocks. */
+/* How the host and the preloaded library report a failure, and clocks. */
 #ifndef HOST_TROUBLE_H
 #define HOST_TROUBLE_H
 
@@ -13,7 +13,7 @@
 enum { PAGE = 4096, NOTHING = -1 };
 
 /* Writes one line on standard error. */
-__attribute__((format(printf, 1, 2))) static inline void tell(const char *form, ...) {
+__attribute__((format(printf, 1, 2))) static inline void log_line(const char *form, ...) {
     char line[512];
     va_list words;
     va_start(words, form);
@@ -24,7 +24,7 @@ __attribute__((format(printf, 1, 2))) static inline void tell(const char *form, 
 
 /* The same, with the cause that errno has. Returns false. */
 static inline bool trouble(const char *what) {
-    tell("%s: %s", what, strerror(errno));
+    log_line("%s: %s", what, strerror(errno));
     return false;
 }
 

@@ -31,7 +31,7 @@ struct memory {
 static uint32_t added[PROCESSORS][MIXED_MOST];
 static uint64_t filled; /* processors that have filled their part */
 
-static const struct guest_told *told;
+static const struct guest_config *config;
 
 static void out(uint16_t port, uint8_t byte) { __asm__ volatile("outb %0, %1" : : "a"(byte), "Nd"(port) : "memory"); }
 
@@ -59,7 +59,7 @@ static uint64_t cycles(void) {
     return (uint64_t)high << 32 | low;
 }
 
-static uint64_t part(uint64_t pages, uint64_t processor) { return pages * processor / told->processors; }
+static uint64_t part(uint64_t pages, uint64_t processor) { return pages * processor / config->processors; }
 
 static void fill_page(const struct region *region, uint64_t page, uint64_t seed) {
     for (uint64_t i = page * WORDS; i < (page + 1) * WORDS; i++) region->at[i] = word_at(seed, i);
@@ -93,7 +93,7 @@ static uint64_t own_word(uint64_t page, uint64_t processor) { return page * WORD
 /* Checks all mixed pages: of the words that processors change, one's own alone. */
 static void check_mixed(const struct region *region, uint64_t processor) {
     for (uint64_t page = 0; page < region->pages; page++) {
-        uint64_t own = own_word(page, processor), first = own_word(page, 0), end = own_word(page, told->processors);
+        uint64_t own = own_word(page, processor), first = own_word(page, 0), end = own_word(page, config->processors);
         for (uint64_t i = page * WORDS; i < (page + 1) * WORDS; i++) {
             uint64_t more = i == own ? added[processor][page] : 0;
             if ((i >= first && i < end && i != own) || region->at[i] == word_at(region->seed, i) + more) continue;
@@ -114,16 +114,16 @@ static struct region cut(const char *name, uint64_t *at, uint64_t pages, uint64_
 
 /* The regions of this guest, in hundredths of its memory. */
 static struct memory plan(void) {
-    uint64_t at = told->begin + told->number * SHIFT * WORDS * 8, share = (told->end - told->begin) / (WORDS * 8) / 100;
+    uint64_t at = config->begin + config->number * SHIFT * WORDS * 8, share = (config->end - config->begin) / (WORDS * 8) / 100;
     uint64_t mixed = 6 * share < MIXED_MOST ? 6 * share : MIXED_MOST;
     struct memory memory;
     memory.common = cut("common", &at, 40 * share, SEED_COMMON);
     memory.same = cut("same", &at, 9 * share, SEED_SAME);
-    memory.own = cut("own", &at, 9 * share, SEED_OWN + told->number);
+    memory.own = cut("own", &at, 9 * share, SEED_OWN + config->number);
     memory.zero = cut("zero", &at, 9 * share, 0);
     memory.mixed = cut("mixed", &at, mixed, SEED_MIXED);
-    memory.hot = cut("hot", &at, share * 3 / 2, (SEED_OWN + told->number) << 32);
-    memory.fresh = cut("fresh", &at, (told->end - at) / (WORDS * 8), SEED_FRESH + told->number);
+    memory.hot = cut("hot", &at, share * 3 / 2, (SEED_OWN + config->number) << 32);
+    memory.fresh = cut("fresh", &at, (config->end - at) / (WORDS * 8), SEED_FRESH + config->number);
     return memory;
 }
 
@@ -137,7 +137,7 @@ static void fill_all(const struct memory *memory, uint64_t processor) {
     fill(&memory->mixed, processor, memory->mixed.seed);
     fill(&memory->hot, processor, memory->hot.seed);
     __atomic_fetch_add(&filled, 1, __ATOMIC_SEQ_CST);
-    while (__atomic_load_n(&filled, __ATOMIC_SEQ_CST) < told->processors) __asm__ volatile("pause");
+    while (__atomic_load_n(&filled, __ATOMIC_SEQ_CST) < config->processors) __asm__ volatile("pause");
 }
 
 static void check_all(const struct memory *memory, uint64_t processor, uint64_t round, uint64_t freshened) {
@@ -156,7 +156,7 @@ static uint64_t change(const struct memory *memory, uint64_t processor, uint64_t
     static uint64_t state[PROCESSORS];
     uint64_t spent = 0;
     for (uint64_t i = 0; i < CHANGES; i++) {
-        state[processor] = scrambled(state[processor] + round * PROCESSORS * 64 + told->number * PROCESSORS + processor);
+        state[processor] = scrambled(state[processor] + round * PROCESSORS * 64 + config->number * PROCESSORS + processor);
         uint64_t page = state[processor] % memory->mixed.pages, own = own_word(page, processor);
         added[processor][page] = added[processor][page] == 0 ? (uint32_t)round : 0;
         uint64_t value = word_at(memory->mixed.seed, own) + added[processor][page], begun = cycles();
@@ -175,8 +175,8 @@ static uint64_t touch(const struct memory *memory, uint64_t processor, uint64_t 
     return freshened + 1;
 }
 
-void guest_run(const struct guest_told *from, uint64_t processor) {
-    __atomic_store_n(&told, from, __ATOMIC_RELAXED); /* (all processors store the same) */
+void guest_run(const struct guest_config *from, uint64_t processor) {
+    __atomic_store_n(&config, from, __ATOMIC_RELAXED); /* (all processors store the same) */
     struct memory memory = plan();
     uint64_t freshened = 0;
     fill_all(&memory, processor);
@@ -192,11 +192,11 @@ void guest_run(const struct guest_told *from, uint64_t processor) {
         print(processor, " ");
         print_number(processor, took / 1000);
         print(processor, "\n");
-        out(PORT_REST, (uint8_t)told->rest);
+        out(PORT_REST, (uint8_t)config->rest);
     }
 }
 
 #ifndef GUEST_OF_LINUX
 void begin(uint64_t processor);
-void begin(uint64_t processor) { guest_run((const struct guest_told *)GUEST_TOLD, processor); }
+void begin(uint64_t processor) { guest_run((const struct guest_config *)GUEST_CONFIG, processor); }
 #endif

@@ -19,6 +19,6 @@ int main(void) {
     if (ioperm(PORT_TEXT, 1, 1) < 0 || ioperm(PORT_REST, 1, 1) < 0) return 1;
     void *at = mmap(NULL, bytes, PROT_READ | PROT_WRITE, MAP_PRIVATE | MAP_ANONYMOUS, -1, 0);
     if (at == MAP_FAILED) return 1;
-    const struct guest_told told = {number("guest"), 1, (uintptr_t)at, (uintptr_t)at + bytes, number("rest")};
-    guest_run(&told, 0);
+    const struct guest_config config = {number("guest"), 1, (uintptr_t)at, (uintptr_t)at + bytes, number("rest")};
+    guest_run(&config, 0);
 }

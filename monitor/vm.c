@@ -167,7 +167,7 @@ const uint8_t *vm_map_file(const char *path, size_t *bytes) {
 
 void vm_unmap_file(const uint8_t *image, size_t bytes) { munmap((void *)(uintptr_t)image, bytes); }
 
-/* Answers a program's beginning, or 0, having told why. */
+/* Answers a program's beginning, or 0, having printed why. */
 static uint64_t load(struct vm *vm, const char *program) {
     size_t bytes;
     const uint8_t *image = vm_map_file(program, &bytes);
@@ -180,10 +180,10 @@ static uint64_t load(struct vm *vm, const char *program) {
 
 bool vm_set_guest(struct vm *vm, const char *program, unsigned rest) {
     const uint64_t table[] = {0, 0, 0, 0, 0, USER_CODE, USER_DATA};
-    const struct guest_told told = {vm->number, vm->count, GUEST_DATA, vm->bytes, rest};
+    const struct guest_config config = {vm->number, vm->count, GUEST_DATA, vm->bytes, rest};
     uint64_t entry = load(vm, program);
     if (entry == 0) return false;
-    if (!vm_put(vm, GUEST_GDT, table, sizeof table) || !vm_put(vm, GUEST_TOLD, &told, sizeof told)) return false;
+    if (!vm_put(vm, GUEST_GDT, table, sizeof table) || !vm_put(vm, GUEST_CONFIG, &config, sizeof config)) return false;
     put_tables(vm);
     for (unsigned i = 0; i < vm->count; i++) {
         const uint64_t stack = GUEST_STACKS + (uint64_t)(i + 1) * GUEST_STACK_BYTES - 8;
@@ -193,7 +193,7 @@ bool vm_set_guest(struct vm *vm, const char *program, unsigned rest) {
     return true;
 }
 
-/* Serves an access to ports: bytes are told, and what is read is ones, or that a byte may be written. Answers false where the
+/* Serves an access to ports: bytes are reported, and what is read is ones, or that a byte may be written. Answers false where the
  * processor is to halt. */
 static bool serve_port(struct processor *processor) {
     struct kvm_run *run = processor->run;

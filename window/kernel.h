@@ -31,7 +31,7 @@ int faults_wake(const struct faults *faults, void *at, size_t pages);
 int faults_protect(const struct faults *faults, void *at, size_t pages);
 
 /*
- * Moves pages out of their place, and tells of each whether it was moved: it isn't if it is missing, or the system has it in other
+ * Moves pages out of their place, and notes of each whether it was moved: it isn't if it is missing, or the system has it in other
  * uses too, as that of a device that has pinned it. Nobody is woken.
  */
 void faults_move(const struct faults *faults, void *to, void *from, size_t pages, bool *moved);
@@ -41,7 +41,7 @@ int faults_put(const struct faults *faults, void *to, void *from, bool *remapped
 /* What a look finds of a page. */
 enum { PAGE_NONE, PAGE_PRESENT, PAGE_SWAPPED };
 
-/* How it is told which pages have memory of their own. */
+/* How pages with memory of their own are found. */
 struct pagemap {
     int fd;
     bool scans; /* it has PAGEMAP_SCAN */
@@ -50,7 +50,7 @@ int pagemap_open(struct pagemap *pagemap, bool never_scan);
 enum { PAGEMAP_MOST = 512 };
 /* Tells of up to PAGEMAP_MOST pages whether each has memory of its own: no file's page, not the page of zeros, no guard's mark. */
 int pagemap_find(const struct pagemap *pagemap, const void *at, size_t pages, uint8_t *found);
-/* Whether this page has memory of its own, asked in another way; false where that can't be told. */
+/* Whether this page has memory of its own, asked in another way; false where that can't be known. */
 bool pagemap_is_own(const struct pagemap *pagemap, const void *at);
 
 /* A memory policy of mbind. */

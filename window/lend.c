@@ -284,7 +284,7 @@ void lender_failed(struct windows *windows, int cause) {
     unlock_set(windows);
 }
 
-/* Leaves those pages of the batch that others have. Returns false where the lender didn't tell. */
+/* Leaves those pages of the batch that others have. Returns false where the lender didn't answer. */
 static bool ask(struct windows *windows, struct batch *batch) {
     uint32_t numbers[WINDOW_BATCH];
     unsigned char seen[WINDOW_BATCH] = {0};

@@ -49,10 +49,10 @@ def tables(subject, folder):
 def numbers(subject, folder):
     """The numbers of digests are those of `estimate` of their images; and those of a digest without lines are none."""
     counted = json.loads(subject.run(["estimate", "--json", "--salts", ",".join(SALTS), *IMAGES]).stdout)
-    told = json.loads(subject.run(["fleet", "--json", *digests_of_images(subject, folder)]).stdout)
-    for guest in [*counted["guests"], *told["guests"]]:
+    printed = json.loads(subject.run(["fleet", "--json", *digests_of_images(subject, folder)]).stdout)
+    for guest in [*counted["guests"], *printed["guests"]]:
         guest.pop("image", None) or guest.pop("guest")
-    subject.tally.equal("fleet beside estimate", told, counted)
+    subject.tally.equal("fleet beside estimate", printed, counted)
     empty = folder / "empty.digest"
     empty.write_text(HEADER)
     given = json.loads(subject.run(["fleet", "--json", str(empty)]).stdout)
@@ -144,5 +144,5 @@ def progress_of_slow_reads(subject, folder):
     done = subject.run(["fleet", "--progress", "always", path])
     seconds, drawn = time.monotonic() - begun, done.stderr.count(b"\r")
     is_right = done.returncode == 0 and 5 <= drawn <= 11 * seconds + 1
-    told = (done.returncode, f"{drawn} drawings in {seconds:.2f} s", done.stderr[-200:])
-    subject.tally.holds("fleet, progress of slow reads", is_right, told)
+    shown = (done.returncode, f"{drawn} drawings in {seconds:.2f} s", done.stderr[-200:])
+    subject.tally.holds("fleet, progress of slow reads", is_right, shown)

@@ -34,7 +34,7 @@ def filled():
 
 
 def digests(subject):
-    """The pages of a process that waits: each page that it has twice is told of with two copies at least."""
+    """The pages of a process that waits: each page that it has twice is listed with two copies at least."""
     with filled() as child:
         done = subject.run(["digest", "--pid", child, "--name", "own"])
     lines = [line.split(",") for line in done.stdout.decode().split("\n")[1:-1]]
@@ -67,17 +67,17 @@ def estimates(subject, folder):
         merged = by_fleet(subject, folder, sources)
         done = subject.run(["estimate", "--json", "--salts", "7,7,7", *words])
         table = subject.run(["estimate", "--svg", str(picture), *words])
-    told, names = json.loads(done.stdout or b"{}"), [f"process {one}", f"process {other}"]
-    images = [guest.pop("image") for guest in told.get("guests", [])]
-    subject.tally.holds("estimate of processes", is_clean(done) and told == merged, (done.stderr, told), f"{merged}")
+    printed, names = json.loads(done.stdout or b"{}"), [f"process {one}", f"process {other}"]
+    images = [guest.pop("image") for guest in printed.get("guests", [])]
+    subject.tally.holds("estimate of processes", is_clean(done) and printed == merged, (done.stderr, printed), f"{merged}")
     subject.tally.equal("estimate of processes, names", images, [str(raw), *names])
-    total = told.get("total", {"reclaimed": None, "parts": {"between": 0, "within": 0}})
+    total = printed.get("total", {"reclaimed": None, "parts": {"between": 0, "within": 0}})
     parts = total["parts"]
     is_whole = sum(parts.values()) == total["reclaimed"] and min(parts["between"], parts["within"]) >= 2 * OWN_PAGES
     subject.tally.holds("estimate of processes, parts", is_whole, parts)
-    is_told = is_clean(table) and all(name in table.stdout.decode() for name in names)
+    is_printed = is_clean(table) and all(name in table.stdout.decode() for name in names)
     is_drawn = picture.exists() and picture.read_text().count("<title>process ") == 2
-    subject.tally.holds("estimate of processes, table and picture", is_told and is_drawn, table)
+    subject.tally.holds("estimate of processes, table and picture", is_printed and is_drawn, table)
     ended_processes(subject, folder, str(raw), other)
 
 

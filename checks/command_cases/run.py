@@ -1,11 +1,11 @@
-"""`run --progress`: the line that tells how far a run is, and what it shares meanwhile."""
+"""`run --progress`: the line that shows how far a run is, and what it shares meanwhile."""
 import re
 import time
 
 from command_cases.subject import read
 
 LINE = re.compile(r" *\d+ %  (\d+) of (\d+) requests  \d+ a second  (\d+) pages mapped, (\d+) shared, (\d+) reclaimed\x1b\[K")
-# What is told of LONG_SCRIPT: its requests, and its report by hand.
+# What is printed of LONG_SCRIPT: its requests, and its report by hand.
 ALL = 9026
 REPORT = f"report entries {ALL} mapped 512 shared 512 frames 1 reclaimed 511 hints 0"
 

@@ -148,7 +148,7 @@ def no_thread(subject):
 
 
 def terminals(subject, folder):
-    """What a terminal is told of a fault: a sentence, beside the word for programs on standard output."""
+    """What a terminal shows of a fault: a sentence, beside the word for programs on standard output."""
     none = str(folder / "none")
     cut_off = 'line 1 is cut off: expected "pageshare script 1" or "pageshare script 2", and a line feed behind it\n'
     rings = faults.ONE_GUEST.replace("ring", "rings")

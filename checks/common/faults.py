@@ -1,4 +1,4 @@
-"""Texts at fault, each with the fault that its one line tells, for the cases of the commands that read them."""
+"""Texts at fault, each with the fault that its one line names, for the cases of the commands that read them."""
 
 # Where a journal's requests begin: one frame, and a guest with one page.
 ONE_PAGE = "pageshare journal 1\nframes 1\npages 1\n"

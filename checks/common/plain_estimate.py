@@ -33,7 +33,7 @@ def classes_of(copies):
 
 
 def counted(names, salts, images):
-    """What `--json` is to tell of the pages of some images."""
+    """What `--json` is to print of the pages of some images."""
     keys = [[(salt, hashlib.sha256(page).digest()) for page in pages] for salt, pages in zip(salts, images)]
     everything = [key for own in keys for key in own]
     copies = collections.Counter(everything)

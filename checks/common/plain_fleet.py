@@ -51,10 +51,10 @@ class Amounts:
 
 
 def members(known, amounts, sample):
-    told = {**known, **{name: amount.value() for name, amount in amounts.items()}}
+    numbers = {**known, **{name: amount.value() for name, amount in amounts.items()}}
     if sample > 1:
-        told["errors"] = {name: amount.error() for name, amount in amounts.items()}
-    return told
+        numbers["errors"] = {name: amount.error() for name, amount in amounts.items()}
+    return numbers
 
 
 def rows_of(text):
@@ -85,9 +85,9 @@ def total_of(guests, copies, owners, zeros, sample):
             amounts[name].add(word in zeros, value)
     zero = sum(guest["zero"] for guest in guests)
     known = {"pages": sum(guest["pages"] for guest in guests), "zero": zero, "zero_reclaimed": zero - len(zeros & set(copies))}
-    told = members(known, amounts, sample)
+    numbers = members(known, amounts, sample)
     others = [(count, owners[word]) for word, count in copies.items() if word not in zeros]
-    told["parts"] = {
+    numbers["parts"] = {
         "zeros": known["zero_reclaimed"], "between": sample * sum(own - 1 for _count, own in others),
         "within": sample * sum(count - own for count, own in others),
     }
@@ -95,9 +95,9 @@ def total_of(guests, copies, owners, zeros, sample):
         # (an upper bound: each content's own square is at most the difference of the two)
         squares = sum((count - 1) ** 2 - (own - 1) ** 2 for count, own in others)
         assert squares >= sum((count - own) ** 2 for count, own in others)
-        told["errors"]["within"] = math.isqrt(sample * (sample - 1) * squares)
+        numbers["errors"]["within"] = math.isqrt(sample * (sample - 1) * squares)
     order = ("pages", "zero", "shared", "frames", "reclaimed", "zero_reclaimed", "between", "parts", "errors")
-    return {name: told[name] for name in order if name in told}
+    return {name: numbers[name] for name in order if name in numbers}
 
 
 def classes_of(copies, zeros, sample):

@@ -77,7 +77,7 @@ static void put_fails(void) {
     if (planned.puts == 3) {
         puts("left out: pages that can't be put back, since this system can't move pages");
     } else {
-        check(result.status == WINDOW_STUCK && result.cause == ENOMEM, "the look tells of pages that are stuck");
+        check(result.status == WINDOW_STUCK && result.cause == ENOMEM, "the look reports pages that are stuck");
         start(&write, at + 5 * PAGE);
         check(window_discard(window, 6, 1).status == WINDOW_OK || planned.puts == 0, "a discard tries to put them back");
         planned.watches = NULL;
@@ -101,7 +101,7 @@ static void release_fails(bool never_move) {
     planned.releases = 1;
     struct window_result result = {0};
     for (int i = 0; i < 20 && result.status != WINDOW_STUCK; i++) result = windows_look(fixture.windows);
-    check(result.status == WINDOW_STUCK && result.cause == EINVAL, "the look tells so");
+    check(result.status == WINDOW_STUCK && result.cause == EINVAL, "the look reports so");
     check(look_until(&fixture, PAGES) == PAGES, "a later look ends it");
     must(window_free(window, WINDOW_TAKE_HOME), "window_free");
     check(at[0] == 1 && at[(PAGES - 1) * PAGE] == 1, "no byte is lost");
@@ -139,7 +139,7 @@ static void punch_fails(void) {
     must(window_discard(window, 0, PAGES), "window_discard");
     must(windows_look(fixture.windows), "windows_look");
     planned.punches = 1;
-    check(lender_trim(fixture.lender) == PAGES / 2, "a trim tells how many frames it could not give back");
+    check(lender_trim(fixture.lender) == PAGES / 2, "a trim returns how many frames it could not give back");
     check(lender_trim(fixture.lender) == 0, "the next one gives them back");
     lender_count(fixture.lender, &totals, &counts);
     check(totals.frames == 0 && counts.frame_bytes <= PAGE, "the file holds nothing but perhaps the spare frame");

@@ -92,7 +92,7 @@ static void bounds(void) {
     struct lender *none;
     struct lender_result refused = lender_make(&none, &few);
     check(refused.status == LENDER_REFUSED && refused.cause == PAGESHARE_ERROR_FRAMES && none == NULL,
-          "a limit is told as what it is");
+          "a limit is reported as what it is");
     windows_detach(fixture.windows);
     bad.frame_count = WINDOW_FRAMES_MOST;
     check(windows_attach(fixture.windows, &bad).status == WINDOW_BAD_LENDER, "its file has all its frames");
@@ -294,7 +294,7 @@ static size_t own_pages(const uint8_t *at, size_t pages) {
     check(pagemap_open(&pagemap, true) == 0, "pagemap");
     for (size_t page = 0; page < pages; page += PAGEMAP_MOST) {
         size_t count = pages - page < PAGEMAP_MOST ? pages - page : PAGEMAP_MOST;
-        check(pagemap_find(&pagemap, at + page * PAGE, count, found) == 0, "pages are told");
+        check(pagemap_find(&pagemap, at + page * PAGE, count, found) == 0, "pages are found");
         for (size_t i = 0; i < count; i++) own += found[i] == PAGE_NONE ? 0 : 1;
     }
     close(pagemap.fd);
@@ -408,7 +408,7 @@ static void second_userfaultfd(void) {
     fixture_free(&fixture);
 }
 
-/* What is told of each kind of page: a guard's own mark is no copy. */
+/* What is found of each kind of page: a guard's own mark is no copy. */
 static void marks(bool never_scan) {
     enum { KINDS = 8 };
     const uint8_t wanted[KINDS] = {PAGE_NONE, PAGE_NONE, PAGE_PRESENT, PAGE_NONE, PAGE_NONE, PAGE_NONE, PAGE_PRESENT, PAGE_NONE};
@@ -428,9 +428,9 @@ static void marks(bool never_scan) {
     fallocate(fd, FALLOC_FL_PUNCH_HOLE | FALLOC_FL_KEEP_SIZE, 5 * PAGE, PAGE); /* (leaves a mark) */
     at[6 * PAGE] = 1;
     fallocate(fd, FALLOC_FL_PUNCH_HOLE | FALLOC_FL_KEEP_SIZE, 6 * PAGE, PAGE);
-    check(pagemap_find(&pagemap, at, KINDS, found) == 0, "pages are told");
+    check(pagemap_find(&pagemap, at, KINDS, found) == 0, "pages are found");
     for (size_t page = 0; page < KINDS; page++) {
-        check(found[page] == wanted[page], "each kind of page is told as what it is");
+        check(found[page] == wanted[page], "each kind of page is found as what it is");
         check(pagemap_is_own(&pagemap, at + page * PAGE) == (wanted[page] != PAGE_NONE), "in both ways");
     }
     close(faults.fd), close(pagemap.fd), close(fd);
@@ -463,7 +463,7 @@ static void lenders(void) {
     struct slots slots = {0};
     check(look_until(&fixture, PAGES) == PAGES, "all pages are lent");
     must(window_discard(window, PAGES - 1, 1), "window_discard");
-    check(windows_each_slot(fixture.windows, count_slot, &slots) == 5, "each slot is told until a call wants no more");
+    check(windows_each_slot(fixture.windows, count_slot, &slots) == 5, "each slot is passed until a call wants no more");
     check(slots.shown == PAGES - 1 && slots.hidden == 1, "and whether its page may show its frame");
     memset(at + (PAGES - 1) * PAGE, 2, PAGE);
     windows_detach(fixture.windows);
@@ -480,7 +480,7 @@ static void lenders(void) {
     check(look_until(&fixture, PAGES - 1) == PAGES - 1, "its frames take the place of the first one's");
     at[PAGE] = 9;
     struct window_result result = windows_look(fixture.windows);
-    check(result.status == WINDOW_LENDER_FAILED && result.cause == ENOTCONN, "a lender that doesn't answer is told");
+    check(result.status == WINDOW_LENDER_FAILED && result.cause == ENOTCONN, "a lender that doesn't answer is reported");
     check(at[PAGE] == 9 && at[3 * PAGE] == 2, "and nothing is lost");
     windows_detach(fixture.windows);
     must(window_free(window, WINDOW_TAKE_HOME), "window_free");

@@ -1,7 +1,7 @@
 /*
  * Windows of threads in place of guests. Each writes words of its own and checks them, while a thread looks without a pause, pages
  * are discarded, pinned and swapped out, devices read into pinned pages, windows come and go, and children are forked. There are
- * fewer frames than pages. With --pins 1 windows aren't told which pages are pinned.
+ * fewer frames than pages. With --pins 1 windows don't know which pages are pinned.
  *
  *     stress [--writes N] [--seconds N] [--trace FILE] [--move 0] [--scan 0] [--pins 1] [--rest N] [--pages N] [--seed N]
  *

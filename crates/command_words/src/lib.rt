@@ -1,7 +1,7 @@
 //! The command line of the program `pageshare`: what its words ask for, with help and the faults of words by the crate `clap`.
 //!
-//! `clap`'s builder carries all that is known of an argument from call to call, so a function here makes few of its calls, and
-//! hands on an argument or a command of which nothing is told.
+//! `clap`'s builder carries all that is known of an argument from call to call. So a function here makes few of its calls, and has
+//! no clause about the argument or the command that it returns.
 #![tactic(auto)]
 
 mod digest_words;

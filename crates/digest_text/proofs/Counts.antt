@@ -42,9 +42,9 @@ digests_are_lines guest by read lines fits c =
       some = c.some;
       kept = λ k d within.
           let digest = (get_or lines k d).digest in
-          let told = get_or-le-sum_by (λ (line : DigestLine). cond (line.digest == digest) line.copies 0) lines k d within in
+          let listed = get_or-le-sum_by (λ (line : DigestLine). cond (line.digest == digest) line.copies 0) lines k d within in
           let own : cond (digest == digest) (get_or lines k d).copies 0 ≡ (get_or lines k d).copies = rw (eq-eqb digest digest refl) refl in
-          found_passes (is_kept by) digest all (omega (arith, told, own, c.some k d within, c.told digest));
+          found_passes (is_kept by) digest all (omega (arith, listed, own, c.some k d within, c.copies digest));
       rising = c.rising;
       few = omega (arith, c.total, length-filter (is_kept by) all, count_by-le-length (is_kept by) all, long);
       whole = λ one. c.total ∙ ap length (all_pass (is_kept by) (λ x. one_keeps by x one) all) ∙ long;

@@ -74,9 +74,9 @@ module _ (head : DigestHead) where
       bytes_same [] = refl
       bytes_same (x ∷ xs) = rw (eq-eqb x x refl) (bytes_same xs)
 
-  -- the end, once all pages are told of where they must be
-  end_told : (n digest left : ℕ) → (head.sample ≡ 1 → 0 ≡ left) → ended {X = Row} n (Some (noted head digest left)) ≡ Ok []
-  end_told n digest left all = elim (cases_Bool (head.sample == 1)) [
+  -- the end, once all pages are listed where they must be
+  end_listed : (n digest left : ℕ) → (head.sample ≡ 1 → 0 ≡ left) → ended {X = Row} n (Some (noted head digest left)) ≡ Ok []
+  end_listed n digest left all = elim (cases_Bool (head.sample == 1)) [
     | inl whole ↦ let none : left ≡ 0 = sym (all (eqb-true head.sample 1 whole)) in rw (whole, none) refl
     | inr part ↦ rw part refl
   ]
@@ -85,7 +85,7 @@ module _ (head : DigestHead) where
   lines_read : (lines : List DigestLine) (n digest left : ℕ) → IsHead head → All (IsLine head) lines → IsStrictlyIncreasing (digest ∷ map (λ line. line.digest) lines)
       → all_copies lines ≤ left → (head.sample ≡ 1 → all_copies lines ≡ left)
       → rows_after n (Some (noted head digest left)) (lines_text (head_text head) lines) ≡ Ok (rows_of head lines)
-  lines_read [] n digest left h each rising few whole = rows_end n (Some (noted head digest left)) ∙ end_told n digest left whole
+  lines_read [] n digest left h each rising few whole = rows_end n (Some (noted head digest left)) ∙ end_listed n digest left whole
   lines_read (line ∷ lines) n digest left h each rising few whole =
       let rest : List ℕ = lines_text (head_text head) lines in
       let sum = sum_by-cons (λ (l : DigestLine). l.copies) line lines in

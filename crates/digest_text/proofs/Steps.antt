@@ -1,4 +1,4 @@
--- What is left to tell, line by line.
+-- The rows that are left, line by line.
 use Rattle.std.proofs.Common.{◌≡◌, ◌≢◌, ℕ, ◌+◌, ◌<◌, ◌≤◌, Bool, List, [], ◌∷◌, ◌++◌, length, take, drop, Option, Some, None, Result, Ok, Err, refl, sym, ap, ◌∙◌, arith, length-append, inl, inr}
 use Rattle.std.specs.Prelude.{IfSome}
 use Rattle.std.specs.List.{position_or_len, before_first, after_first, slice_split}
@@ -13,7 +13,7 @@ use Rattle.digest_text.specs.Left.{IsBroken, IsFound}
 use Rattle.digest_text.specs.Noted.{IsNoted, IsRow, IsTaken}
 use Rattle.digest_text.specs.Repeats.{Spells}
 use Rattle.digest_text.specs.Rows.{◌>>=◌, at_line, check_header, digest_of, ended, is_feed, line_after, rows_after, rows_in, with_row}
-use Rattle.digest_text.specs.Told.{IsNext}
+use Rattle.digest_text.specs.Unread.{IsNext}
 use Rattle.digest_text.specs.declared.buffered.Found.{Found}
 use Rattle.digest_text.specs.declared.buffered.Found.TheVariants.{Broken, End}
 use Rattle.digest_text.specs.declared.buffered.Found.TheVariants.{Line as FoundLine}
@@ -115,7 +115,7 @@ module _ (unread rest : List ℕ) (count : ℕ) (few : count < length unread) (f
   rest_is = ap (λ (k : ℕ). drop (k + 1) (unread ++ rest)) place ∙ drop-append-le (count + 1) unread rest (omega (arith, few))
 
 module _ (n next : ℕ) (counted : next ≡ line_after n) (so_far : Option SoFar) where
-  -- a line is told
+  -- a line is read
   pub next_row : (old rest others : Option (List ℕ)) (unread after : List ℕ) (count : ℕ) (new : Option SoFar) (line : DigestLine)
       → Keeps old (option_map (λ more. unread ++ more) rest) → count < length unread → position_or_len is_feed unread ≡ count → after ≡ drop (count + 1) unread
       → others ≡ rest → IsRow so_far new (take count unread) line
@@ -125,7 +125,7 @@ module _ (n next : ℕ) (counted : next ≡ line_after n) (so_far : Option SoFar
   next_row (Some bytes) (Some rest) others unread after count new line keeps few first is same row = rw same (record {
     of = row.after.head;
     known = rw row.noted refl;
-    told = rw (← keeps, is, row.noted, counted) (rows_step n so_far (unread ++ rest) (here unread rest count few first) ∙ rw (line_is unread rest count few first, row.read, rest_is unread rest count few first) refl);
+    rows_are = rw (← keeps, is, row.noted, counted) (rows_step n so_far (unread ++ rest) (here unread rest count few first) ∙ rw (line_is unread rest count few first, row.read, rest_is unread rest count few first) refl);
   })
 
   -- a line is at fault

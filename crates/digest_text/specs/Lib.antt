@@ -5,6 +5,6 @@ pub mod Left
 pub mod Noted
 pub mod Repeats
 pub mod Names
-pub mod Told
+pub mod Unread
 pub mod Written
 pub mod Reread

@@ -19,12 +19,12 @@ pub record IsRow (old new : Option SoFar) (bytes : List ℕ) (line : DigestLine)
   pub noted : new ≡ Some after
   pub read : with_row old (row_in bytes) ≡ Ok (after, record { head = after.head; line = line })
 
--- a line was noted, or its fault is told, and nothing was noted
+-- a line was noted, or its fault is reported, and nothing was noted
 abbrev pub IsTaken : Option SoFar → Option SoFar → List ℕ → Result DigestLine Cause → Type 0
 IsTaken old new bytes (Ok line) = IsRow old new bytes line
 IsTaken old new bytes (Err cause) = (with_row old (row_in bytes) ≡ Err cause) × (new ≡ old)
 
--- nothing is wrong at the end, or the last line is told
+-- nothing is wrong at the end, or the last line is at fault
 abbrev pub IsEnd : Option SoFar → ℕ → Result (Unit {0}) LineFault → Type 0
 IsEnd so_far n (Ok done) = ended {X = Row} n so_far ≡ Ok []
 IsEnd so_far n (Err fault) = ended {X = Row} n so_far ≡ Err fault

@@ -16,7 +16,7 @@ pub record IsHead (head : DigestHead) : Type 0 where
   pub pages : head.pages < 2 ^ 64
   pub sample : IsSample head.sample
 
--- lines of different digests that the sample keeps, rising, which tell of all pages, or with a sample of at most all
+-- lines of different digests that the sample keeps, rising, which list all pages, or with a sample of at most all
 pub record AreLines (head : DigestHead) (lines : List DigestLine) : Type 0 where
   pub fits : All (λ line. line.digest < 2 ^ 128) lines
   pub some : All (λ line. 1 ≤ line.copies) lines

@@ -33,7 +33,7 @@ abbrev pub rises : Option SoFar → ℕ → Bool
 rises None digest = true
 rises (Some so_far) digest = nat_lt so_far.digest digest
 
--- how many of all pages no line so far tells of; None: the lines tell of more
+-- how many of all pages no line so far lists; None: the lines list more
 abbrev pub left_before : Option SoFar → DigestHead → Option ℕ
 left_before None head = Some head.pages
 left_before (Some so_far) head = so_far.left
@@ -67,7 +67,7 @@ abbrev pub with_row : Option SoFar → Option Row → Result (SoFar × Row) Caus
 with_row so_far None = Err causes.Form
 with_row so_far (Some row) = after_row so_far row >>= λ after. Ok (after, row)
 
--- a line's fault is told with its number
+-- a line's fault is reported with its number
 abbrev pub at_line : {X : Type 0} → ℕ → Result X Cause → Result X LineFault
 at_line n (Ok x) = Ok x
 at_line n (Err cause) = Err (record { line = n; cause = cause })
@@ -76,12 +76,12 @@ at_line n (Err cause) = Err (record { line = n; cause = cause })
 abbrev pub line_after : ℕ → ℕ
 line_after n = min (n + 1) (2 ^ 64 - 1)
 
--- as many copies are told of as there are pages
+-- as many copies are listed as there are pages
 abbrev pub is_all : Option ℕ → Bool
 is_all None = false
 is_all (Some left) = left == 0
 
--- What comes at the end, after line n: where each content is kept, all pages must be told of.
+-- What comes at the end, after line n: where each content is kept, all pages must be listed.
 abbrev pub ended : {X : Type 0} → ℕ → Option SoFar → Result (List X) LineFault
 ended n None = Ok []
 ended n (Some so_far) =

@@ -5,7 +5,7 @@ ghost use Rattle.digest_text.specs.declared.name.TheConstants.{MAX_NAME_BYTES};
 ghost use Rattle.digest_text.specs.declared.row.TheConstants.{MAX_LINE_BYTES};
 
 /// The text that is written of lines is read as these lines, each under its head: of lines that rise, that the sample keeps, and
-/// that tell of all pages. The lines of a guest's digests are such lines, whatever the source of its pages returned.
+/// that list all pages. The lines of a guest's digests are such lines, whatever the source of its pages returned.
 pub fn reading_law()
     ensures written { ReadsAsWritten }
     ensures digests { DigestsAreLines }

@@ -3,7 +3,7 @@ ghost use Rattle.std.specs.Prelude.{◌≡◌, IfSome};
 ghost use Rattle.std.specs.Option.{option_map};
 ghost use Rattle.digest_text.specs.Noted.{IsEnd};
 ghost use Rattle.digest_text.specs.Rows.{check_header};
-ghost use Rattle.digest_text.specs.Told.{IsFirst, IsNext, failure_after, failure_of, head_of, told};
+ghost use Rattle.digest_text.specs.Unread.{IsFirst, IsNext, failure_after, failure_of, head_of, rows_left};
 
 use crate::buffered::{Found, Lines};
 use crate::row::{Front, MAX_LINE_BYTES};
@@ -29,7 +29,7 @@ fn check_header(line: &[u8]) -> Result<(), Cause>
     Ok(())
 }
 
-/// Checks that the lines tell of all pages, where each content is kept.
+/// Checks that the lines list all pages, where each content is kept.
 fn check_end(so_far: &Option<SoFar>, line: u64) -> Result<(), LineFault>
     ensures { IsEnd so_far.now line result }
 {
@@ -48,11 +48,11 @@ fn check_end(so_far: &Option<SoFar>, line: u64) -> Result<(), LineFault>
 /// Returns the error of the last read that failed, by what it was before a line was read and how that ended.
 fn failure_after(
     failure: Option<io::Error>,
-    told: &Result<Option<DigestLine>, ReadFault>,
+    found: &Result<Option<DigestLine>, ReadFault>,
 ) -> Option<io::Error>
-    ensures { result ≡ failure_after failure told.now }
+    ensures { result ≡ failure_after failure found.now }
 {
-    match told {
+    match found {
         Ok(_line) => failure,
         Err(ReadFault::Read(error)) => Some(*error),
         Err(ReadFault::OutOfMemory) => failure,
@@ -63,7 +63,7 @@ fn failure_after(
 impl<R: Read + Drop, A: Allocator> DigestReader<R, A> {
     /// Makes a reader of a digest's text, and reads its header.
     pub fn new(alloc: A, source: R) -> Result<DigestReader<R, A>, ReadFault>
-        ensures { IfSome (R.remaining source) (λ text. IsFirst (told R.remaining) text result) }
+        ensures { IfSome (R.remaining source) (λ text. IsFirst (rows_left R.remaining) text result) }
     {
         let mut lines = Lines::new(alloc, source)?;
         let Found::Line(count) = lines.find()? else {
@@ -103,17 +103,17 @@ impl<R: Read + Drop, A: Allocator> DigestReader<R, A> {
     /// Reads the next line; `None` at the end. After a fault of a line or the end the reader returns the same again, and after
     /// a read that failed it goes on where it was.
     pub fn next_line(&mut self) -> Result<Option<DigestLine>, ReadFault>
-        ensures next { IfSome (told R.remaining self.old) (λ rows. IsNext rows (told R.remaining self.new) (head_of self.new) result) }
+        ensures next { IfSome (rows_left R.remaining self.old) (λ rows. IsNext rows (rows_left R.remaining self.new) (head_of self.new) result) }
         ensures failure { failure_of self.new ≡ failure_after (failure_of self.old) result }
     {
-        let told = self.read_line();
-        self.failure = failure_after(self.failure, &told);
-        told
+        let found = self.read_line();
+        self.failure = failure_after(self.failure, &found);
+        found
     }
 
     /// Reads the next line, and notes nothing of a read that fails.
     fn read_line(&mut self) -> Result<Option<DigestLine>, ReadFault>
-        ensures next { IfSome (told R.remaining self.old) (λ rows. IsNext rows (told R.remaining self.new) (head_of self.new) result) }
+        ensures next { IfSome (rows_left R.remaining self.old) (λ rows. IsNext rows (rows_left R.remaining self.new) (head_of self.new) result) }
         ensures failure { failure_of self.new ≡ failure_of self.old }
     {
         let line = self.line.saturating_add(1);

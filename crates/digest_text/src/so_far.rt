@@ -16,7 +16,7 @@ pub(crate) struct SoFar {
     pub(crate) sampling: Sampling,
     /// The last digest.
     pub(crate) digest: u128,
-    /// How many of all pages no line so far tells of. `None`: the lines tell of more copies than there are pages.
+    /// How many of all pages no line so far lists. `None`: the lines list more copies than there are pages.
     pub(crate) left: Option<u64>,
 }
 

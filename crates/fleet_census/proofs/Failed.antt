@@ -3,7 +3,7 @@ use Rattle.std.proofs.Common.{◌≡◌, ◌∙◌, ℕ, ◌<◌, List, length, 
 use Rattle.std.proofs.lemmas.List.{get_or-map}
 use Rattle.std.specs.Prelude.{Option, Some, None, Result, Ok, Err, IfErr}
 use Rattle.std.specs.declared.io.Error.{Error}
-use Rattle.digest_text.specs.Told.{failure_after}
+use Rattle.digest_text.specs.Unread.{failure_after}
 use Rattle.digest_text.specs.declared.read_fault.ReadFault.{ReadFault}
 use Rattle.digest_text.specs.declared.read_fault.ReadFault.TheVariants as reads
 use Rattle.fleet_census.specs.Faults.{HasFailed, IsFailureOf, fault_of}
@@ -14,11 +14,11 @@ use Rattle.fleet_census.specs.declared.first.First.{First}
 use Rattle.fleet_census.specs.declared.open.Opening.{Opening}
 
 -- a fault of a reader that noted it
-pub noted : (file : ℕ) (fault : ReadFault) (before after : Option Error) (told : FleetFault) → told ≡ fault_of file fault → after ≡ failure_after before (Err fault)
-    → IsFailureOf file after told
-noted file reads.OutOfMemory before after told e is = rw e tt
-noted file (reads.Read error) before after told e is = rw e (refl, is)
-noted file (reads.Line line) before after told e is = rw e tt
+pub noted : (file : ℕ) (fault : ReadFault) (before after : Option Error) (rows_left : FleetFault) → rows_left ≡ fault_of file fault → after ≡ failure_after before (Err fault)
+    → IsFailureOf file after rows_left
+noted file reads.OutOfMemory before after rows_left e is = rw e tt
+noted file (reads.Read error) before after rows_left e is = rw e (refl, is)
+noted file (reads.Line line) before after rows_left e is = rw e tt
 
 failed_at : (failures : List (Option Error)) (file : ℕ) (failure : Option Error) → get_or failures file None ≡ failure → (fault : FleetFault) → IsFailureOf file failure fault
     → HasFailed failures fault

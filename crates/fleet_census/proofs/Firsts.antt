@@ -3,7 +3,7 @@ use Rattle.std.proofs.Common.{◌≡◌, ℕ, [], refl, sym, ◌∙◌}
 use Rattle.std.specs.Prelude.{Option, Some, None, Ok, Err, IfSome}
 use Rattle.std.specs.Option.{option_map}
 use Rattle.guest_digests.specs.declared.line.DigestLine.{DigestLine}
-use Rattle.digest_text.specs.Told.{IsNext}
+use Rattle.digest_text.specs.Unread.{IsNext}
 use Rattle.digest_text.specs.declared.head.DigestHead.{DigestHead}
 use Rattle.digest_text.specs.declared.read_fault.ReadFault.{ReadFault}
 use Rattle.fleet_census.specs.Faults.{fault_of}
@@ -27,7 +27,7 @@ line_first file line first said (Some left) head entry says next = (
   rw entry (line_read file line said (Some left) head next),
   λ rows e.
       let heads = rw next.known at says in
-      let more = rest_of left rows (record { head = next.of; line = line }) (sym e ∙ next.told) in
+      let more = rest_of left rows (record { head = next.of; line = line }) (sym e ∙ next.rows_are) in
       rw more.2 (record { salt = heads.0; pages = heads.1; every = heads.2 }),
 )
 
@@ -40,18 +40,18 @@ end_first file first said (Some left) head is next =
       λ rows e. let none : [] ≡ rows = let h = next.0 in cc in rw (← none) (record { salt = refl; pages = refl; every = refl }),
     )
 
-pub first_line : (file : ℕ) (line : DigestLine) (first : First) (told now : Option Said) (head : Option DigestHead)
+pub first_line : (file : ℕ) (line : DigestLine) (first : First) (rows_left now : Option Said) (head : Option DigestHead)
     → first.entry ≡ record { digest = line.digest; copies = line.copies; file = file } → SaysHead head first
-    → IfSome told (λ (said : Said). IsNext said now head (Ok (Some line))) → IfSome told (λ (said : Said). IsFirstRead file said now (Ok first))
-first_line file line first told now head entry says next = if_some told (λ (said : Said). IsNext said now head (Ok (Some line))) _ (λ said. line_first file line first said now head entry says) next
+    → IfSome rows_left (λ (said : Said). IsNext said now head (Ok (Some line))) → IfSome rows_left (λ (said : Said). IsFirstRead file said now (Ok first))
+first_line file line first rows_left now head entry says next = if_some rows_left (λ (said : Said). IsNext said now head (Ok (Some line))) _ (λ said. line_first file line first said now head entry says) next
 
-pub first_end : (file : ℕ) (told now : Option Said) (head : Option DigestHead)
-    → IfSome told (λ (said : Said). IsNext said now head (Ok None)) → IfSome told (λ (said : Said). IsFirstRead file said now (Ok (record { entry = AT_END; salt = 0; pages = 0; every = 0 })))
-first_end file told now head next = if_some told (λ (said : Said). IsNext said now head (Ok None)) _ (λ said. end_first file _ said now head refl) next
+pub first_end : (file : ℕ) (rows_left now : Option Said) (head : Option DigestHead)
+    → IfSome rows_left (λ (said : Said). IsNext said now head (Ok None)) → IfSome rows_left (λ (said : Said). IsFirstRead file said now (Ok (record { entry = AT_END; salt = 0; pages = 0; every = 0 })))
+first_end file rows_left now head next = if_some rows_left (λ (said : Said). IsNext said now head (Ok None)) _ (λ said. end_first file _ said now head refl) next
 
-pub first_fault : (file : ℕ) (fault : ReadFault) (told now : Option Said) (head : Option DigestHead) (told_fault : FleetFault) → told_fault ≡ fault_of file fault
-    → IfSome told (λ (said : Said). IsNext said now head (Err fault)) → IfSome told (λ (said : Said). IsFirstRead file said now (Err told_fault))
-first_fault file fault told now head told_fault e next = rw e (if_some told (λ (said : Said). IsNext said now head (Err fault)) _ (λ said. fault_read file fault said now head) next)
+pub first_fault : (file : ℕ) (fault : ReadFault) (rows_left now : Option Said) (head : Option DigestHead) (file_fault : FleetFault) → file_fault ≡ fault_of file fault
+    → IfSome rows_left (λ (said : Said). IsNext said now head (Err fault)) → IfSome rows_left (λ (said : Said). IsFirstRead file said now (Err file_fault))
+first_fault file fault rows_left now head file_fault e next = rw e (if_some rows_left (λ (said : Said). IsNext said now head (Err fault)) _ (λ said. fault_read file fault said now head) next)
 
 -- a head that is read
 pub says_head : {H : Type 0} (found : Option H) (now : H → DigestHead) (head : Option DigestHead) (first : First) → option_map now found ≡ head

@@ -1,4 +1,4 @@
--- What is found of a file among those that tell of a content.
+-- What is found of a file among those that list a content.
 use Rattle.std.proofs.Common.{◌≡◌, ◌≢◌, ℕ, suc, ◌+◌, ◌<◌, ◌≤◌, Bool, true, false, cond, eqb, List, [], ◌∷◌, ◌++◌, length, take, drop, get_or, set, refl, sym, ap, ◌∙◌, arith, inl, inr, get_or-set_other, get_or-set_same}
 use Rattle.std.proofs.lemmas.Bool.{cases_lt, cases_eq, eq-eqb, ne_eqb}
 use Rattle.std.proofs.lemmas.List.{get_or_append_left, get_or-drop, get_or-take, length-drop, length-take, length_push, take-append-drop, take_more}
@@ -77,7 +77,7 @@ found_before holders k other rising within before =
 module _ {X : Type 0} (none : X) (after : X → Option Holder → X) (stays : (x : X) → after x None ≡ x) (before items : List X) (holders : List Holder)
     (k : ℕ) (rising : AreRising holders) (within : k < length holders)
     (so_far : (file : ℕ) → file < length before → get_or items file none ≡ after (get_or before file none) (found file (take k holders))) where
-  -- one more of those that tell of the content is counted
+  -- one more of those that list the content is counted
   pub counted_more : (new : X) → length items ≡ length before → (get_or holders k no_holder).file < length before
       → new ≡ after (get_or items (get_or holders k no_holder).file none) (Some (get_or holders k no_holder)) → (file : ℕ) → file < length before
       → get_or (set items (get_or holders k no_holder).file new) file none ≡ after (get_or before file none) (found file (take (k + 1) holders))

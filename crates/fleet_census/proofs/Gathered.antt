@@ -1,4 +1,4 @@
--- The files that tell of a digest, one after the other.
+-- The files that list a digest, one after the other.
 use Rattle.std.proofs.Common.{◌≡◌, ◌≢◌, ℕ, zero, suc, ◌+◌, ◌-◌, ◌<◌, ◌≤◌, ◌^◌, Bool, true, false, cond, eqb, List, [], ◌∷◌, ◌++◌, length, take, get_or, refl, sym, ap, ◌∙◌, arith, inl, inr}
 use Rattle.std.proofs.lemmas.Bool.{cases_lt, cases_eq, lt-ltb, le-ltb}
 use Rattle.std.proofs.lemmas.List.{get_or_append_left, length_push, take_all, take_more}
@@ -60,8 +60,8 @@ one_of n e = rw e refl
 pub none_held : (file digest : ℕ) (rows : List Row) → copies_of digest rows ≡ 0 → holder_of file digest rows ≡ None
 none_held file digest rows e = rw (le-ltb 0 (copies_of digest rows) (omega (arith, e))) refl
 
-module _ (fleet : List (List Row)) (digest turn : ℕ) (leaves : List Entry) (told : List (Option Said)) (holders : List Holder) (content : Content)
-    (so_far : IsSoFar fleet digest turn leaves told holders content) where
+module _ (fleet : List (List Row)) (digest turn : ℕ) (leaves : List Entry) (rows_left : List (Option Said)) (holders : List Holder) (content : Content)
+    (so_far : IsSoFar fleet digest turn leaves rows_left holders content) where
   -- a file that isn't named
   unnamed : (file : ℕ) → so_far.count ≤ file → found file holders ≡ None
   unnamed file ge = found_none file holders (λ i lt. let low = so_far.below i lt in let ne : (get_or holders i no_holder).file ≢ file = omega arith in ne)
@@ -140,15 +140,15 @@ module _ (fleet : List (List Row)) (digest turn : ℕ) (leaves : List Entry) (to
   so_far_done after now last =
       gathered after now last.after.each (record { each = λ file lt. rw (passed_before digest (length fleet) file lt) at (last.behind.each file lt) })
 
-  pub so_far_full : turn ≡ length fleet → AreGathered fleet digest leaves told holders content
+  pub so_far_full : turn ≡ length fleet → AreGathered fleet digest leaves rows_left holders content
   so_far_full e =
-      gathered leaves told (λ other ge lt. absurd (omega (arith, so_far.enough, e)))
+      gathered leaves rows_left (λ other ge lt. absurd (omega (arith, so_far.enough, e)))
       (record { each = λ file lt. rw (passed_before digest so_far.count file (omega (arith, so_far.enough, e))) at (so_far.behind.each file lt) })
 
 -- no file is named yet
-pub nothing_so_far : (fleet : List (List Row)) (digest : ℕ) (leaves : List Entry) (told : List (Option Said)) → AreBehind fleet (λ file. digest) leaves told
-    → IsSoFar fleet digest 0 leaves told [] (record { copies = 0; zero = 0; holders = 0 })
-nothing_so_far fleet digest leaves told behind = record {
+pub nothing_so_far : (fleet : List (List Row)) (digest : ℕ) (leaves : List Entry) (rows_left : List (Option Said)) → AreBehind fleet (λ file. digest) leaves rows_left
+    → IsSoFar fleet digest 0 leaves rows_left [] (record { copies = 0; zero = 0; holders = 0 })
+nothing_so_far fleet digest leaves rows_left behind = record {
   count = 0;
   enough = omega arith;
   within = omega arith;
@@ -162,11 +162,11 @@ nothing_so_far fleet digest leaves told behind = record {
 }
 
 -- a fault of a read is no other
-pub gathered_fault : (fleet : List (List Row)) (digest : ℕ) (leaves : List Entry) (told : List (Option Said)) (holders : List Holder) (fault : FleetFault)
-    → IsNoOther fault → IsGathered fleet digest leaves told holders (Err fault)
-gathered_fault fleet digest leaves told holders OutOfMemory other = tt
-gathered_fault fleet digest leaves told holders TooManyDigests other = absurd other
-gathered_fault fleet digest leaves told holders TooManyPages other = absurd other
-gathered_fault fleet digest leaves told holders (OtherSample number) other = absurd other
-gathered_fault fleet digest leaves told holders (Read number error) other = tt
-gathered_fault fleet digest leaves told holders (Line number fault) other = tt
+pub gathered_fault : (fleet : List (List Row)) (digest : ℕ) (leaves : List Entry) (rows_left : List (Option Said)) (holders : List Holder) (fault : FleetFault)
+    → IsNoOther fault → IsGathered fleet digest leaves rows_left holders (Err fault)
+gathered_fault fleet digest leaves rows_left holders OutOfMemory other = tt
+gathered_fault fleet digest leaves rows_left holders TooManyDigests other = absurd other
+gathered_fault fleet digest leaves rows_left holders TooManyPages other = absurd other
+gathered_fault fleet digest leaves rows_left holders (OtherSample number) other = absurd other
+gathered_fault fleet digest leaves rows_left holders (Read number error) other = tt
+gathered_fault fleet digest leaves rows_left holders (Line number fault) other = tt

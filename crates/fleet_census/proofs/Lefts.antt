@@ -3,7 +3,7 @@ use Rattle.std.proofs.Common.{◌≡◌, ◌≢◌, ℕ, ◌+◌, ◌-◌, ◌^�
 use Rattle.std.proofs.lemmas.Bool.{eq-eqb, ne_eqb}
 use Rattle.std.proofs.lemmas.List.Sums.{sum_by-cons}
 use Rattle.std.specs.Prelude.{Option, Some, None, Ok, Err, IfSome}
-use Rattle.guest_digests.specs.Counted.{told_copies}
+use Rattle.guest_digests.specs.Counted.{listed_copies}
 use Rattle.guest_digests.specs.declared.line.DigestLine.{DigestLine}
 use Rattle.digest_text.specs.Fields.{Row}
 use Rattle.digest_text.specs.Rows.{◌>>=◌}
@@ -14,11 +14,11 @@ use Rattle.fleet_census.specs.declared.entry.Entry.{Entry}
 use Rattle.fleet_census.specs.declared.entry.TheConstants.{AT_END, NO_FILE}
 use Rattle.fleet_census.specs.declared.fault.FleetFault.TheVariants.{Line}
 
-counted_line : (digest : ℕ) (line : DigestLine) (lines : List DigestLine) → told_copies digest (line ∷ lines) ≡ cond (eqb line.digest digest) line.copies 0 + told_copies digest lines
+counted_line : (digest : ℕ) (line : DigestLine) (lines : List DigestLine) → listed_copies digest (line ∷ lines) ≡ cond (eqb line.digest digest) line.copies 0 + listed_copies digest lines
 counted_line digest line lines = sum_by-cons (λ (l : DigestLine). cond (eqb l.digest digest) l.copies 0) line lines
 
--- lines that rise tell of no digest before the first
-pub none_before : (digest low : ℕ) (lines : List DigestLine) → From low lines → digest < low → told_copies digest lines ≡ 0
+-- lines that rise list no digest before the first
+pub none_before : (digest low : ℕ) (lines : List DigestLine) → From low lines → digest < low → listed_copies digest lines ≡ 0
 none_before digest low [] from less = refl
 none_before digest low (line ∷ lines) from less =
     let other : line.digest ≢ digest = omega (arith, from.0) in
@@ -27,7 +27,7 @@ none_before digest low (line ∷ lines) from less =
 
 -- the first line was taken
 pub line_taken : (lines : List DigestLine) (bound digest : ℕ) (line : DigestLine) (rest : List DigestLine) → IsLeft lines bound (line ∷ rest)
-    → line.digest ≡ digest → (told_copies digest lines ≡ line.copies) × IsLeft lines (digest + 1) rest
+    → line.digest ≡ digest → (listed_copies digest lines ≡ line.copies) × IsLeft lines (digest + 1) rest
 line_taken lines bound digest line rest left is =
     let none = none_before digest (line.digest + 1) rest left.from.2 (omega arith) in
     let within : bound ≤ digest = omega (arith, left.from.0) in (
@@ -45,7 +45,7 @@ pub left_raised : (lines : List DigestLine) (bound above : ℕ) (left : List Dig
 left_raised lines bound above left is within from = record { same = λ digest low. is.same digest (omega arith); from = from }
 
 pub none_between : (lines : List DigestLine) (bound above : ℕ) (left : List DigestLine) (digest : ℕ) → IsLeft lines bound left → From above left
-    → bound ≤ digest → digest < above → told_copies digest lines ≡ 0
+    → bound ≤ digest → digest < above → listed_copies digest lines ≡ 0
 none_between lines bound above left digest is from low high = is.same digest low ∙ none_before digest above left from high
 
 more_done : (done : List Row) (row : Row) (left : Said)
@@ -53,9 +53,9 @@ more_done : (done : List Row) (row : Row) (left : Said)
 more_done done row (Ok rest) = rw (append_assoc done (row ∷ []) rest) refl
 more_done done row (Err fault) = refl
 
--- what a file says is told on, or its fault
-pub chained_on : (file : ℕ) (said : Said) (told now : Option Said) (entry : Entry) → IsChained said told
-    → IfSome told (λ (before : Said). IsRead file before now (Ok entry)) → IsChained said now
+-- what a file says is read on, or its fault is reported
+pub chained_on : (file : ℕ) (said : Said) (rows_left now : Option Said) (entry : Entry) → IsChained said rows_left
+    → IfSome rows_left (λ (before : Said). IsRead file before now (Ok entry)) → IsChained said now
 chained_on file said None now entry chained read = let e = chained.is in absurd cc
 chained_on file said (Some before) None entry chained read = absurd read
 chained_on file said (Some before) (Some after) entry chained read =
@@ -64,25 +64,25 @@ chained_on file said (Some before) (Some after) entry chained read =
       | inl ended ↦ record { done = chained.done; left = after; is = refl; whole = chained.whole ∙ rw (same, ended.1, ended.2) refl }
       | inr line ↦
           let row : Row = record { head = line.head; line = record { digest = entry.digest; copies = entry.copies } } in
-          record { done = chained.done ++ row ∷ []; left = after; is = refl; whole = chained.whole ∙ rw (same, line.told) (more_done chained.done row after) }
+          record { done = chained.done ++ row ∷ []; left = after; is = refl; whole = chained.whole ∙ rw (same, line.rows_are) (more_done chained.done row after) }
     ]
 
--- where there is no next line, nothing is left to tell
-pub none_told : (file : ℕ) (told now : Option Said) (entry : Entry) (left : Said) → told ≡ Some left → file < 2 ^ 32 - 1
-    → IfSome told (λ (before : Said). IsRead file before now (Ok entry)) → entry.file ≡ NO_FILE → now ≡ Some (Ok [])
-none_told file None now entry left is low read none = absurd cc
-none_told file (Some before) None entry left is low read none = absurd read
-none_told file (Some before) (Some after) entry left is low read none = elim read [
+-- where there is no next line, nothing is left to read
+pub no_row_left : (file : ℕ) (rows_left now : Option Said) (entry : Entry) (left : Said) → rows_left ≡ Some left → file < 2 ^ 32 - 1
+    → IfSome rows_left (λ (before : Said). IsRead file before now (Ok entry)) → entry.file ≡ NO_FILE → now ≡ Some (Ok [])
+no_row_left file None now entry left is low read none = absurd cc
+no_row_left file (Some before) None entry left is low read none = absurd read
+no_row_left file (Some before) (Some after) entry left is low read none = elim read [
   | inl ended ↦ ap Some ended.2
   | inr line ↦ absurd (omega (arith, line.own, none, low))
 ]
 
-pub chained_fault : (file number : ℕ) (said : Said) (told now : Option Said) (fault : LineFault) → IsChained said told
-    → IfSome told (λ (before : Said). IsRead file before now (Err (Line number fault))) → (number ≡ file) × (said ≡ Err fault)
+pub chained_fault : (file number : ℕ) (said : Said) (rows_left now : Option Said) (fault : LineFault) → IsChained said rows_left
+    → IfSome rows_left (λ (before : Said). IsRead file before now (Err (Line number fault))) → (number ≡ file) × (said ≡ Err fault)
 chained_fault file number said None now fault chained read = let e = chained.is in absurd cc
 chained_fault file number said (Some before) None fault chained read = absurd read
 chained_fault file number said (Some before) (Some after) fault chained read =
-    let same : chained.left ≡ Err fault = let e = chained.is in let told = read.1 in cc in
+    let same : chained.left ≡ Err fault = let e = chained.is in let same_rows = read.1 in cc in
     (read.0, chained.whole ∙ rw same refl)
 
 -- the line of an entry of a file
@@ -97,8 +97,8 @@ rest_of (Err fault) rows row e = absurd cc
 
 module _ (rows : List Row) (bound : ℕ) where
   -- what comes next of a file was read
-  pub read_behind : (file : ℕ) (told now : Option Said) (entry : Entry) → IsUnread rows bound told → file < 2 ^ 32 - 1
-      → IfSome told (λ (before : Said). IsRead file before now (Ok entry)) → IsBehind rows bound entry now
+  pub read_behind : (file : ℕ) (rows_left now : Option Said) (entry : Entry) → IsUnread rows bound rows_left → file < 2 ^ 32 - 1
+      → IfSome rows_left (λ (before : Said). IsRead file before now (Ok entry)) → IsBehind rows bound entry now
   read_behind file None now entry unread low read = let e = unread.is in absurd cc
   read_behind file (Some before) None entry unread low read = absurd read
   read_behind file (Some before) (Some after) entry unread low read =
@@ -109,7 +109,7 @@ module _ (rows : List Row) (bound : ℕ) where
             record { rest = []; is = rw ended.2 refl; at_end = λ e. refl; left = rw ended.0 (rw none at unread.left) }
         | inr line ↦
             let row : Row = record { head = line.head; line = record { digest = entry.digest; copies = entry.copies } } in
-            let more = rest_of after unread.rest row (sym same ∙ line.told) in
+            let more = rest_of after unread.rest row (sym same ∙ line.rows_are) in
             let is : Some after ≡ Some (Ok more.0) = ap (λ (left : Said). Some left) more.1 in
             record {
               rest = more.0;
@@ -120,30 +120,30 @@ module _ (rows : List Row) (bound : ℕ) where
       ]
 
   -- a line that was read is taken
-  pub behind_taken : (digest : ℕ) (entry : Entry) (file : ℕ) (told : Option Said) → IsBehind rows bound entry told → entry.file ≡ file → file < 2 ^ 32 - 1
-      → entry.digest ≡ digest → IsUnread rows (digest + 1) told × (copies_of digest rows ≡ entry.copies) × (bound ≤ digest) × (1 ≤ entry.copies)
-  behind_taken digest entry file told behind own low is =
+  pub behind_taken : (digest : ℕ) (entry : Entry) (file : ℕ) (rows_left : Option Said) → IsBehind rows bound entry rows_left → entry.file ≡ file → file < 2 ^ 32 - 1
+      → entry.digest ≡ digest → IsUnread rows (digest + 1) rows_left × (copies_of digest rows ≡ entry.copies) × (bound ≤ digest) × (1 ≤ entry.copies)
+  behind_taken digest entry file rows_left behind own low is =
       let left : IsLeft (lines_of rows) bound (record { digest = entry.digest; copies = entry.copies } ∷ lines_of behind.rest) = rw (own_line entry file (lines_of behind.rest) own low) at behind.left in
       let both = line_taken (lines_of rows) bound digest (record { digest = entry.digest; copies = entry.copies }) (lines_of behind.rest) left is in
       (record { rest = behind.rest; is = behind.is; left = both.1 }, both.0, rw is at left.from.0, left.from.1)
 
   -- what is left begins with the entry's line
-  from_above : (above : ℕ) (entry : Entry) (file : ℕ) (told : Option Said) (behind : IsBehind rows bound entry told)
+  from_above : (above : ℕ) (entry : Entry) (file : ℕ) (rows_left : Option Said) (behind : IsBehind rows bound entry rows_left)
       → (entry ≡ AT_END) ⊎ ((entry.file ≡ file) × (above ≤ entry.digest)) → file < 2 ^ 32 - 1
       → From above (lines_left entry (lines_of behind.rest))
-  from_above above entry file told behind (inl ended) low =
+  from_above above entry file rows_left behind (inl ended) low =
       let none = behind.at_end (rw ended refl) in
       rw (none, ended) tt
-  from_above above entry file told behind (inr own) low =
+  from_above above entry file rows_left behind (inr own) low =
       let left = rw (own_line entry file (lines_of behind.rest) own.0 low) at behind.left in
       rw (own_line entry file (lines_of behind.rest) own.0 low) (own.1, left.from.1, left.from.2)
 
   -- where all that is left comes later, the bound may be raised
-  pub behind_raised : (above : ℕ) (entry : Entry) (file : ℕ) (told : Option Said) → IsBehind rows bound entry told → bound ≤ above
+  pub behind_raised : (above : ℕ) (entry : Entry) (file : ℕ) (rows_left : Option Said) → IsBehind rows bound entry rows_left → bound ≤ above
       → (entry ≡ AT_END) ⊎ ((entry.file ≡ file) × (above ≤ entry.digest)) → file < 2 ^ 32 - 1
-      → IsBehind rows above entry told × ((digest : ℕ) → bound ≤ digest → digest < above → copies_of digest rows ≡ 0)
-  behind_raised above entry file told behind within which low =
-      let from = from_above above entry file told behind which low in (
+      → IsBehind rows above entry rows_left × ((digest : ℕ) → bound ≤ digest → digest < above → copies_of digest rows ≡ 0)
+  behind_raised above entry file rows_left behind within which low =
+      let from = from_above above entry file rows_left behind which low in (
         record {
           rest = behind.rest;
           is = behind.is;
@@ -153,8 +153,8 @@ module _ (rows : List Row) (bound : ℕ) where
         λ digest ge lt. none_between (lines_of rows) bound above (lines_left entry (lines_of behind.rest)) digest behind.left from ge lt,
       )
 
-  -- the entry of a line tells of a digest from the bound on
-  pub behind_low : (entry : Entry) (file : ℕ) (told : Option Said) → IsBehind rows bound entry told → entry.file ≡ file → file < 2 ^ 32 - 1 → bound ≤ entry.digest
-  behind_low entry file told behind own low =
+  -- the entry of a line lists a digest from the bound on
+  pub behind_low : (entry : Entry) (file : ℕ) (rows_left : Option Said) → IsBehind rows bound entry rows_left → entry.file ≡ file → file < 2 ^ 32 - 1 → bound ≤ entry.digest
+  behind_low entry file rows_left behind own low =
       let left : IsLeft (lines_of rows) bound (record { digest = entry.digest; copies = entry.copies } ∷ lines_of behind.rest) = rw (own_line entry file (lines_of behind.rest) own low) at behind.left in
       left.from.0

@@ -8,7 +8,7 @@ use Rattle.guest_digests.specs.Samples.{zeros_digest}
 use Rattle.digest_text.specs.Fields.{Row}
 use Rattle.fleet_census.specs.Fleets.{lines_of, pages_of}
 use Rattle.fleet_census.specs.Openings.{IsFirstRead, IsJoined, IsJoint, IsOpen, IsOpenTo, IsOpened, sample_of}
-use Rattle.fleet_census.specs.States.{AreChained, From, IsBehind, IsNoOther, IsReadOn, IsToldOn, IsUnread, Said}
+use Rattle.fleet_census.specs.States.{AreChained, From, IsBehind, IsNoOther, IsReadOn, AreReadOn, IsUnread, Said}
 use Rattle.fleet_census.specs.Steps.{no_amount, no_guest}
 use Rattle.fleet_census.specs.Tournaments.{entry_at, nothing}
 use Rattle.fleet_census.specs.declared.entry.Entry.{Entry}
@@ -41,22 +41,22 @@ some_joined fleet turn every more new true e is sample so_far = inr (turn, omega
 some_joined fleet turn every more new false e is sample (inl zero) = inl (is ∙ zero)
 some_joined fleet turn every more new false e is sample (inr one) = inr (one.0, omega (arith, one.1), one.2 ∙ sym is)
 
-module _ (fleet : List (List Row)) (turn : ℕ) (leaves : List Entry) (told : List (Option Said)) (zeros : List ℕ) (guests : List FleetGuest) (opening : Opening)
-    (so_far : IsOpenTo fleet turn leaves told zeros guests opening) (within : turn < length fleet) (few : length fleet ≤ 65536) (rise : From 0 (lines_of (get_or fleet turn []))) where
-  unread_here : IsUnread (get_or fleet turn []) 0 (get_or told turn None)
+module _ (fleet : List (List Row)) (turn : ℕ) (leaves : List Entry) (rows_left : List (Option Said)) (zeros : List ℕ) (guests : List FleetGuest) (opening : Opening)
+    (so_far : IsOpenTo fleet turn leaves rows_left zeros guests opening) (within : turn < length fleet) (few : length fleet ≤ 65536) (rise : From 0 (lines_of (get_or fleet turn []))) where
+  unread_here : IsUnread (get_or fleet turn []) 0 (get_or rows_left turn None)
   unread_here = record { rest = get_or fleet turn []; is = so_far.unread turn (omega arith) within; left = record { same = λ digest low. refl; from = rise } }
 
-  module _ (now : List (Option Said)) (first : First) (read : IsReadOn turn told now (Ok first.entry)) (opened : IsOpened (get_or fleet turn []) first)
-      (leaves_len : length leaves ≡ length fleet) (told_len : length told ≡ length fleet) (zeros_len : length zeros ≡ turn) (guests_len : length guests ≡ turn) where
-    behind_now : (file : ℕ) → file < turn + 1 → IsBehind (get_or fleet file []) 0 (entry_at (set leaves turn first.entry) file) (get_or (set told turn read.now) file None)
+  module _ (now : List (Option Said)) (first : First) (read : IsReadOn turn rows_left now (Ok first.entry)) (opened : IsOpened (get_or fleet turn []) first)
+      (leaves_len : length leaves ≡ length fleet) (left_len : length rows_left ≡ length fleet) (zeros_len : length zeros ≡ turn) (guests_len : length guests ≡ turn) where
+    behind_now : (file : ℕ) → file < turn + 1 → IsBehind (get_or fleet file []) 0 (entry_at (set leaves turn first.entry) file) (get_or (set rows_left turn read.now) file None)
     behind_now file lt = elim (cases_eq file turn) [
       | inl e ↦
           let leaf : entry_at (set leaves turn first.entry) file ≡ first.entry = rw e (get_or-set_same leaves turn first.entry nothing (omega arith)) in
-          let said : get_or (set told turn read.now) file None ≡ read.now = rw e (get_or-set_same told turn read.now None (omega arith)) in
-          rw (leaf, said, e) (read_behind (get_or fleet turn []) 0 turn (get_or told turn None) read.now first.entry unread_here (omega arith) read.next)
+          let said : get_or (set rows_left turn read.now) file None ≡ read.now = rw e (get_or-set_same rows_left turn read.now None (omega arith)) in
+          rw (leaf, said, e) (read_behind (get_or fleet turn []) 0 turn (get_or rows_left turn None) read.now first.entry unread_here (omega arith) read.next)
       | inr ne ↦
           let leaf : entry_at (set leaves turn first.entry) file ≡ entry_at leaves file = get_or-set_other leaves turn file first.entry nothing ne in
-          let said : get_or (set told turn read.now) file None ≡ get_or told file None = get_or-set_other told turn file read.now None ne in
+          let said : get_or (set rows_left turn read.now) file None ≡ get_or rows_left file None = get_or-set_other rows_left turn file read.now None ne in
           rw (leaf, said) (so_far.behind file (omega arith))
     ]
 
@@ -64,7 +64,7 @@ module _ (fleet : List (List Row)) (turn : ℕ) (leaves : List Entry) (told : Li
         → IsJoint opening first more → IsOpenTo fleet (turn + 1) (set leaves turn first.entry) now (zeros ++ z ∷ []) (guests ++ guest ∷ []) more
     open_more z guest more z_is guest_is joint = record {
       behind = λ file lt. rw read.others (behind_now file lt);
-      unread = λ file ge lt. rw read.others (get_or-set_other told turn file read.now None (omega arith) ∙ so_far.unread file (omega arith) lt);
+      unread = λ file ge lt. rw read.others (get_or-set_other rows_left turn file read.now None (omega arith) ∙ so_far.unread file (omega arith) lt);
       zeros_are = λ file lt. elim (cases_lt file turn) [
         | inl low ↦ at_left zeros z 0 turn file zeros_len low ∙ so_far.zeros_are file low
         | inr ge ↦ let e : file ≡ turn = omega arith in rw e (at_last zeros z 0 turn zeros_len ∙ z_is ∙ ap zeros_digest opened.salt)
@@ -101,55 +101,55 @@ module _ (fleet : List (List Row)) (turn : ℕ) (leaves : List Entry) (told : Li
     })
   ]
 
--- what the files say is told on where a file was joined
-pub joined_told : (files : List Said) (opened : ℕ) (leaves : List Entry) (told : List (Option Said)) (opening : Opening) (first : First) (turn : ℕ) (result : Result Opening FleetFault)
-    → IsJoined opening first turn result → AreChained files opened leaves told → IsToldOn files opened leaves told result
-joined_told files opened leaves told opening first turn (Ok more) joined chained = chained
-joined_told files opened leaves told opening first turn (Err OutOfMemory) joined chained = tt
-joined_told files opened leaves told opening first turn (Err TooManyDigests) joined chained = absurd joined
-joined_told files opened leaves told opening first turn (Err TooManyPages) joined chained = tt
-joined_told files opened leaves told opening first turn (Err (OtherSample number)) joined chained = tt
-joined_told files opened leaves told opening first turn (Err (Read number error)) joined chained = tt
-joined_told files opened leaves told opening first turn (Err (Line number fault)) joined chained = absurd joined
+-- what the files say was read on where a file was joined
+pub joined_read : (files : List Said) (opened : ℕ) (leaves : List Entry) (rows_left : List (Option Said)) (opening : Opening) (first : First) (turn : ℕ) (result : Result Opening FleetFault)
+    → IsJoined opening first turn result → AreChained files opened leaves rows_left → AreReadOn files opened leaves rows_left result
+joined_read files opened leaves rows_left opening first turn (Ok more) joined chained = chained
+joined_read files opened leaves rows_left opening first turn (Err OutOfMemory) joined chained = tt
+joined_read files opened leaves rows_left opening first turn (Err TooManyDigests) joined chained = absurd joined
+joined_read files opened leaves rows_left opening first turn (Err TooManyPages) joined chained = tt
+joined_read files opened leaves rows_left opening first turn (Err (OtherSample number)) joined chained = tt
+joined_read files opened leaves rows_left opening first turn (Err (Read number error)) joined chained = tt
+joined_read files opened leaves rows_left opening first turn (Err (Line number fault)) joined chained = absurd joined
 
 -- a fault of a read is no other
-pub open_read_fault : (fleet : List (List Row)) (turn : ℕ) (leaves : List Entry) (told : List (Option Said)) (zeros : List ℕ) (guests : List FleetGuest) (fault : FleetFault)
-    → IsNoOther fault → IsOpen fleet turn leaves told zeros guests (Err fault)
-open_read_fault fleet turn leaves told zeros guests OutOfMemory other = tt
-open_read_fault fleet turn leaves told zeros guests TooManyDigests other = absurd other
-open_read_fault fleet turn leaves told zeros guests TooManyPages other = absurd other
-open_read_fault fleet turn leaves told zeros guests (OtherSample number) other = absurd other
-open_read_fault fleet turn leaves told zeros guests (Read number error) other = tt
-open_read_fault fleet turn leaves told zeros guests (Line number fault) other = tt
+pub open_read_fault : (fleet : List (List Row)) (turn : ℕ) (leaves : List Entry) (rows_left : List (Option Said)) (zeros : List ℕ) (guests : List FleetGuest) (fault : FleetFault)
+    → IsNoOther fault → IsOpen fleet turn leaves rows_left zeros guests (Err fault)
+open_read_fault fleet turn leaves rows_left zeros guests OutOfMemory other = tt
+open_read_fault fleet turn leaves rows_left zeros guests TooManyDigests other = absurd other
+open_read_fault fleet turn leaves rows_left zeros guests TooManyPages other = absurd other
+open_read_fault fleet turn leaves rows_left zeros guests (OtherSample number) other = absurd other
+open_read_fault fleet turn leaves rows_left zeros guests (Read number error) other = tt
+open_read_fault fleet turn leaves rows_left zeros guests (Line number fault) other = tt
 
 pub if_ok : {T : Type 0} (result : Result T FleetFault) (P : Type 0) → P → IfOk result (λ (x : T). P)
 if_ok (Ok x) P h = h
 if_ok (Err fault) P h = tt
 
-pub first_opened : (rows : List Row) (file : ℕ) (told now : Option Said) (first : First) → told ≡ Some (Ok rows) → IfSome told (λ (said : Said). IsFirstRead file said now (Ok first)) → IsOpened rows first
-first_opened rows file told now first e read = (rw e at read).1 rows refl
+pub first_opened : (rows : List Row) (file : ℕ) (rows_left now : Option Said) (first : First) → rows_left ≡ Some (Ok rows) → IfSome rows_left (λ (said : Said). IsFirstRead file said now (Ok first)) → IsOpened rows first
+first_opened rows file rows_left now first e read = (rw e at read).1 rows refl
 
 -- what comes next was read
-pub first_on : {T : Type 0} (told : T → Option Said) (readers : List T) (file : ℕ) (within : file < length readers) (d new : T) (first : First)
-    → IfSome (told (get_or readers file d)) (λ (said : Said). IsFirstRead file said (told new) (Ok first)) → IsReadOn file (map told readers) (map told (set readers file new)) (Ok first.entry)
-first_on told readers file within d new first read = on told readers file within d new (Ok first.entry) (if_some (told (get_or readers file d)) (λ (said : Said). IsFirstRead file said (told new) (Ok first)) _ (λ said h. h.0) read)
+pub first_on : {T : Type 0} (rows_left : T → Option Said) (readers : List T) (file : ℕ) (within : file < length readers) (d new : T) (first : First)
+    → IfSome (rows_left (get_or readers file d)) (λ (said : Said). IsFirstRead file said (rows_left new) (Ok first)) → IsReadOn file (map rows_left readers) (map rows_left (set readers file new)) (Ok first.entry)
+first_on rows_left readers file within d new first read = on rows_left readers file within d new (Ok first.entry) (if_some (rows_left (get_or readers file d)) (λ (said : Said). IsFirstRead file said (rows_left new) (Ok first)) _ (λ said h. h.0) read)
 
-module _ (fleet : List (List Row)) (turn : ℕ) (leaves : List Entry) (told : List (Option Said)) (zeros : List ℕ) (guests : List FleetGuest) (opening : Opening)
-    (so_far : IsOpenTo fleet turn leaves told zeros guests opening) (within : turn < length fleet) (few : length fleet ≤ 65536) (rise : From 0 (lines_of (get_or fleet turn [])))
-    (now : List (Option Said)) (first : First) (read : IsReadOn turn told now (Ok first.entry)) (opened : IsOpened (get_or fleet turn []) first)
-    (leaves_len : length leaves ≡ length fleet) (told_len : length told ≡ length fleet) (zeros_len : length zeros ≡ turn) (guests_len : length guests ≡ turn) where
+module _ (fleet : List (List Row)) (turn : ℕ) (leaves : List Entry) (rows_left : List (Option Said)) (zeros : List ℕ) (guests : List FleetGuest) (opening : Opening)
+    (so_far : IsOpenTo fleet turn leaves rows_left zeros guests opening) (within : turn < length fleet) (few : length fleet ≤ 65536) (rise : From 0 (lines_of (get_or fleet turn [])))
+    (now : List (Option Said)) (first : First) (read : IsReadOn turn rows_left now (Ok first.entry)) (opened : IsOpened (get_or fleet turn []) first)
+    (leaves_len : length leaves ≡ length fleet) (left_len : length rows_left ≡ length fleet) (zeros_len : length zeros ≡ turn) (guests_len : length guests ≡ turn) where
   pub open_joined : (z : ℕ) (guest : FleetGuest) (result : Result Opening FleetFault) → z ≡ zeros_digest first.salt
       → guest ≡ record { pages = first.pages; zero = 0; distinct = no_amount; shared = no_amount; alone = no_amount }
       → IsJoined opening first turn result → IsOpen fleet (turn + 1) (set leaves turn first.entry) now (zeros ++ z ∷ []) (guests ++ guest ∷ []) result
-  open_joined z guest (Ok more) z_is guest_is joined = open_more fleet turn leaves told zeros guests opening so_far within few rise now first read opened leaves_len told_len zeros_len guests_len z guest more z_is guest_is joined
-  open_joined z guest (Err fault) z_is guest_is joined = open_fault fleet turn leaves told zeros guests opening so_far within few rise first (set leaves turn first.entry) now (zeros ++ z ∷ []) (guests ++ guest ∷ []) fault opened joined
+  open_joined z guest (Ok more) z_is guest_is joined = open_more fleet turn leaves rows_left zeros guests opening so_far within few rise now first read opened leaves_len left_len zeros_len guests_len z guest more z_is guest_is joined
+  open_joined z guest (Err fault) z_is guest_is joined = open_fault fleet turn leaves rows_left zeros guests opening so_far within few rise first (set leaves turn first.entry) now (zeros ++ z ∷ []) (guests ++ guest ∷ []) fault opened joined
 
 -- a fault says the same after any file
-pub fault_anywhere : (fleet : List (List Row)) (turn other : ℕ) (leaves : List Entry) (told : List (Option Said)) (zeros : List ℕ) (guests : List FleetGuest) (fault : FleetFault)
-    → IsOpen fleet turn leaves told zeros guests (Err fault) → IsOpen fleet other leaves told zeros guests (Err fault)
-fault_anywhere fleet turn other leaves told zeros guests OutOfMemory h = h
-fault_anywhere fleet turn other leaves told zeros guests TooManyDigests h = h
-fault_anywhere fleet turn other leaves told zeros guests TooManyPages h = h
-fault_anywhere fleet turn other leaves told zeros guests (OtherSample number) h = h
-fault_anywhere fleet turn other leaves told zeros guests (Read number error) h = h
-fault_anywhere fleet turn other leaves told zeros guests (Line number fault) h = h
+pub fault_anywhere : (fleet : List (List Row)) (turn other : ℕ) (leaves : List Entry) (rows_left : List (Option Said)) (zeros : List ℕ) (guests : List FleetGuest) (fault : FleetFault)
+    → IsOpen fleet turn leaves rows_left zeros guests (Err fault) → IsOpen fleet other leaves rows_left zeros guests (Err fault)
+fault_anywhere fleet turn other leaves rows_left zeros guests OutOfMemory h = h
+fault_anywhere fleet turn other leaves rows_left zeros guests TooManyDigests h = h
+fault_anywhere fleet turn other leaves rows_left zeros guests TooManyPages h = h
+fault_anywhere fleet turn other leaves rows_left zeros guests (OtherSample number) h = h
+fault_anywhere fleet turn other leaves rows_left zeros guests (Read number error) h = h
+fault_anywhere fleet turn other leaves rows_left zeros guests (Line number fault) h = h

@@ -38,7 +38,7 @@ module _ (content : Content) (before rows : List (List FleetPair)) (holders : Li
     (same : row_lengths rows ≡ row_lengths before)
     (so_far : (file other : ℕ) → other < file → other < length (get_or before file [])
     → pair_at rows file other ≡ pair_after content (pair_at before file other) (found file (take k holders)) (found other holders)) where
-  -- the row of one more of those that tell of the content
+  -- the row of one more of those that list the content
   pub row_counted : (row : List FleetPair) → (get_or holders k no_holder).file < length rows
       → ((other : ℕ) → other < length (get_or rows (get_or holders k no_holder).file []) → get_or row other no_pair
       ≡ pair_after content (get_or (get_or rows (get_or holders k no_holder).file []) other no_pair) (Some (get_or holders k no_holder)) (found other (take k holders)))

@@ -22,13 +22,13 @@ use Rattle.fleet_census.proofs.Lefts.{behind_low, behind_raised, behind_taken}
 use Rattle.fleet_census.proofs.Sums.{sum_grows, sum_more}
 use Rattle.fleet_census.proofs.Takes.{all_ended, first_own, later}
 
-module _ (fleet : List (List Row)) (bound above : ℕ) (leaves : List Entry) (told : List (Option Said)) (within : bound ≤ above) (behind : AreBehind fleet (λ file. bound) leaves told)
+module _ (fleet : List (List Row)) (bound above : ℕ) (leaves : List Entry) (rows_left : List (Option Said)) (within : bound ≤ above) (behind : AreBehind fleet (λ file. bound) leaves rows_left)
     (few : length fleet ≤ 65536) (which : (file : ℕ) → file < length fleet → (entry_at leaves file ≡ AT_END) ⊎ ((entry_at leaves file).file ≡ file) × (above ≤ (entry_at leaves file).digest)) where
-  raise_one : (file : ℕ) → (lt : file < length fleet) → IsBehind (get_or fleet file []) above (entry_at leaves file) (get_or told file None) × ((digest : ℕ) → bound ≤ digest → digest < above → copies_of digest (get_or fleet file []) ≡ 0)
-  raise_one file lt = behind_raised (get_or fleet file []) bound above (entry_at leaves file) file (get_or told file None) (behind.each file lt) within (which file lt) (omega arith)
+  raise_one : (file : ℕ) → (lt : file < length fleet) → IsBehind (get_or fleet file []) above (entry_at leaves file) (get_or rows_left file None) × ((digest : ℕ) → bound ≤ digest → digest < above → copies_of digest (get_or fleet file []) ≡ 0)
+  raise_one file lt = behind_raised (get_or fleet file []) bound above (entry_at leaves file) file (get_or rows_left file None) (behind.each file lt) within (which file lt) (omega arith)
 
   -- all that is left comes later
-  pub raise_all : AreBehind fleet (λ file. above) leaves told
+  pub raise_all : AreBehind fleet (λ file. above) leaves rows_left
   raise_all = record { each = λ file lt. (raise_one file lt).0 }
 
   pub none_below : NoneBelow fleet bound above
@@ -58,21 +58,21 @@ tallied_stays fleet every bound above tally within none tallied = record {
   light = tallied.light;
 }
 
-module _ {A : Type 0} (fleet : List (List Row)) (every turn : ℕ) (leaves : List Entry) (told : List (Option Said)) (tally : Tally A) (so_far : IsAt fleet every turn leaves told tally)
+module _ {A : Type 0} (fleet : List (List Row)) (every turn : ℕ) (leaves : List Entry) (rows_left : List (Option Said)) (tally : Tally A) (so_far : IsAt fleet every turn leaves rows_left tally)
     (first : Entry) (is : IsFirst leaves first) (own : AreOwn leaves) (same : length leaves ≡ length fleet) (few : length fleet ≤ 65536) where
   -- all is counted at the end
   pub at_last : first.file ≡ NO_FILE → AreTallied fleet every all_digests tally
   unfolding all_digests
   at_last none =
       let which : (file : ℕ) → file < length fleet → (entry_at leaves file ≡ AT_END) ⊎ ((entry_at leaves file).file ≡ file) × (2 ^ 128 ≤ (entry_at leaves file).digest) = λ file lt. inl (all_ended leaves first is own (omega arith) none file (omega arith)) in
-      tallied_stays fleet every so_far.bound (2 ^ 128) tally so_far.within (none_below fleet so_far.bound (2 ^ 128) leaves told so_far.within so_far.behind few which) so_far.tallied
+      tallied_stays fleet every so_far.bound (2 ^ 128) tally so_far.within (none_below fleet so_far.bound (2 ^ 128) leaves rows_left so_far.within so_far.behind few which) so_far.tallied
 
   module _ (some : first.file ≢ NO_FILE) where
     here : (first.file < length leaves) × (entry_at leaves first.file ≡ first)
     here = first_own leaves first is own (omega arith) some
 
     pub low : so_far.bound ≤ first.digest
-    low = behind_low (get_or fleet first.file []) so_far.bound first first.file (get_or told first.file None) (rw here.1 at (so_far.behind.each first.file (omega (arith, here.0)))) refl (omega (arith, here.0))
+    low = behind_low (get_or fleet first.file []) so_far.bound first first.file (get_or rows_left first.file None) (rw here.1 at (so_far.behind.each first.file (omega (arith, here.0)))) refl (omega (arith, here.0))
 
     pub high : first.digest < 2 ^ 128
     high = elim (rw here.1 at (own.each first.file here.0)) [
@@ -83,15 +83,15 @@ module _ {A : Type 0} (fleet : List (List Row)) (every turn : ℕ) (leaves : Lis
     which : (file : ℕ) → file < length fleet → (entry_at leaves file ≡ AT_END) ⊎ ((entry_at leaves file).file ≡ file) × (first.digest ≤ (entry_at leaves file).digest)
     which file lt = later leaves first is own (omega arith) first.digest file (omega arith) (omega (arith, here.0)) (omega arith)
 
-    pub up_to : AreBehind fleet (λ file. first.digest) leaves told
-    up_to = raise_all fleet so_far.bound first.digest leaves told low so_far.behind few which
+    pub up_to : AreBehind fleet (λ file. first.digest) leaves rows_left
+    up_to = raise_all fleet so_far.bound first.digest leaves rows_left low so_far.behind few which
 
     pub none_up_to : NoneBelow fleet so_far.bound first.digest
-    none_up_to = none_below fleet so_far.bound first.digest leaves told low so_far.behind few which
+    none_up_to = none_below fleet so_far.bound first.digest leaves rows_left low so_far.behind few which
 
     pub one_copy : 1 ≤ all_copies fleet first.digest
     one_copy =
-        let taken = behind_taken (get_or fleet first.file []) so_far.bound first.digest first first.file (get_or told first.file None) (rw here.1 at (so_far.behind.each first.file (omega (arith, here.0)))) refl (omega (arith, here.0)) refl in
+        let taken = behind_taken (get_or fleet first.file []) so_far.bound first.digest first first.file (get_or rows_left first.file None) (rw here.1 at (so_far.behind.each first.file (omega (arith, here.0)))) refl (omega (arith, here.0)) refl in
         omega (arith, taken.1, taken.3, one_of_all (copies_of first.digest) fleet first.file refl)
 
     -- one content more
@@ -114,7 +114,7 @@ module _ {A : Type 0} (fleet : List (List Row)) (every turn : ℕ) (leaves : Lis
         let e : first.digest + 1 ≡ suc first.digest = omega arith in
         too_many_pages fleet every first.digest high (rw e (omega (arith, full, so_far.enough, so_far.tallied.weight_is, weight_step fleet every so_far.bound first.digest low none_up_to.each, weight_low fleet every first.digest some_every, one_copy)))
 
-    -- a fault of the files that tell of the next content
+    -- a fault of the files that list the next content
     pub content_fault : {B : Type 0} (after : List Entry) (now : List (Option Said)) (holders : List Holder) (new : Tally B) (fault : FleetFault) → 1 ≤ every
         → IsGathered fleet first.digest after now holders (Err fault) → IsCounted fleet every new (Err fault)
     content_fault after now holders new OutOfMemory some_every gathered = tt

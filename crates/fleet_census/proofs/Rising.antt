@@ -1,4 +1,4 @@
--- The lines of a whole text rise, and each tells of a copy at least.
+-- The lines of a whole text rise, and each lists a copy at least.
 use Rattle.std.proofs.Common.{◌≡◌, ℕ, ◌+◌, ◌≤◌, Bool, true, false, cond, List, [], ◌∷◌, refl, sym, arith}
 use Rattle.std.proofs.lemmas.Bool.{ltb-true}
 use Rattle.std.specs.Prelude.{Option, Some, None, Result, Ok, Err, not, nat_lt, is_none, ◌&&◌, ◌==◌}

@@ -9,13 +9,13 @@ use Rattle.std.specs.Option.{option_map}
 use Rattle.digest_text.specs.Fields.{Row}
 use Rattle.digest_text.specs.Rows.{◌>>=◌, is_feed, rows_after}
 use Rattle.digest_text.specs.Left.{left}
-use Rattle.digest_text.specs.Told.{told}
+use Rattle.digest_text.specs.Unread.{rows_left}
 use Rattle.digest_text.specs.declared.digest_reader.DigestReader.{DigestReader}
 use Rattle.digest_text.specs.declared.so_far.SoFar.{SoFar}
 use Rattle.guest_digests.specs.declared.line.DigestLine.{DigestLine}
 use Rattle.fleet_census.specs.Amounts.{all_digests, sum_below}
 use Rattle.fleet_census.specs.Classes.{has_contents, no_class, no_contents}
-use Rattle.fleet_census.specs.Fleets.{class_below, class_numbers, copies_table, guest_numbers, lines_of, pages_of, pair_below, pair_table, pairs_told}
+use Rattle.fleet_census.specs.Fleets.{class_below, class_numbers, copies_table, guest_numbers, lines_of, pages_of, pair_below, pair_table, pairs_counted}
 use Rattle.fleet_census.specs.Gathers.{AreZeros}
 use Rattle.fleet_census.specs.Merged.{IsCounted}
 use Rattle.fleet_census.specs.Numbers.{IsAllCounted, IsMerged, IsSampleOf, fleet_of, rows_in}
@@ -36,29 +36,29 @@ use Rattle.fleet_census.specs.declared.tally.Tally.{Tally}
 use Rattle.fleet_census.proofs.Paired.{as_many, row_long}
 use Rattle.fleet_census.proofs.Rising.{rows_from}
 
--- nothing of a file was told yet
-untold : (said : Said) → said ≡ (said >>= λ rest. Ok ([] ++ rest))
-untold (Ok rows) = refl
-untold (Err fault) = refl
+-- nothing of a file was read yet
+nothing_read : (said : Said) → said ≡ (said >>= λ rest. Ok ([] ++ rest))
+nothing_read (Ok rows) = refl
+nothing_read (Err fault) = refl
 
 -- as many files as readers
 pub same_length : {T : Type 0} (say : T → Option Said) (readers : List T) (files : List Said) → map say readers ≡ map Some files → length files ≡ length readers
 same_length say readers files is = let lens = ap length is in omega (arith, lens, length-map readers say, length-map files Some)
 
-pub unread_chained : (files : List Said) (leaves : List Entry) (told : List (Option Said)) → told ≡ map Some files → AreChained files 0 leaves told
-unread_chained files leaves told is = record {
+pub unread_chained : (files : List Said) (leaves : List Entry) (rows_left : List (Option Said)) → rows_left ≡ map Some files → AreChained files 0 leaves rows_left
+unread_chained files leaves rows_left is = record {
   each = λ file lt. record {
     done = [];
     left = get_or files file (Ok []);
     is = rw is (get_or-map Some files file (Ok []) None lt);
-    whole = untold (get_or files file (Ok []));
+    whole = nothing_read (get_or files file (Ok []));
   };
   ended = λ file lt. absurd (omega arith);
 }
 
-module _ (fleet : List (List Row)) (leaves : List Entry) (told : List (Option Said)) (zeros : List ℕ) (guests : List FleetGuest) (opening : Opening)
-    (opened : IsOpenTo fleet (length fleet) leaves told zeros guests opening) where
-  pub opened_behind : AreBehind fleet (λ file. 0) leaves told
+module _ (fleet : List (List Row)) (leaves : List Entry) (rows_left : List (Option Said)) (zeros : List ℕ) (guests : List FleetGuest) (opening : Opening)
+    (opened : IsOpenTo fleet (length fleet) leaves rows_left zeros guests opening) where
+  pub opened_behind : AreBehind fleet (λ file. 0) leaves rows_left
   opened_behind = record { each = opened.behind }
 
   pub opened_zeros : AreZeros fleet zeros
@@ -109,14 +109,14 @@ module _ (fleet : List (List Row)) (leaves : List Entry) (told : List (Option Sa
   ]
 
 -- a fault of the lines behind them
-pub count_told : {A : Type 0} (fleet : List (List Row)) (sample : ℕ) (tally : Tally A) (fault : FleetFault) → IsSampleOf fleet sample
+pub count_read : {A : Type 0} (fleet : List (List Row)) (sample : ℕ) (tally : Tally A) (fault : FleetFault) → IsSampleOf fleet sample
     → IsCounted fleet sample tally (Err fault) → IsAllCounted fleet tally (Err fault)
-count_told fleet sample tally OutOfMemory is h = tt
-count_told fleet sample tally TooManyDigests is h = absurd h
-count_told fleet sample tally TooManyPages is h = inr (record { sample = sample; is = is; most = h })
-count_told fleet sample tally (OtherSample number) is h = absurd h
-count_told fleet sample tally (Read number error) is h = tt
-count_told fleet sample tally (Line number fault) is h = tt
+count_read fleet sample tally OutOfMemory is h = tt
+count_read fleet sample tally TooManyDigests is h = absurd h
+count_read fleet sample tally TooManyPages is h = inr (record { sample = sample; is = is; most = h })
+count_read fleet sample tally (OtherSample number) is h = absurd h
+count_read fleet sample tally (Read number error) is h = tt
+count_read fleet sample tally (Line number fault) is h = tt
 
 -- the lines of a whole file rise
 from_nothing : (low : ℕ) (lines : List DigestLine) → From low lines → From 0 lines
@@ -128,29 +128,29 @@ rise line so_far None rows e = absurd cc
 rise line so_far (Some bytes) rows e = from_nothing _ (lines_of rows) (rows_from line so_far (slice_split is_feed bytes) rows cc)
 
 module _ {R A : Type 0} (remaining : R → Option (List ℕ)) where
-  all_rise : (readers : List (DigestReader R A)) (file : ℕ) (rows : List Row) → get_or (map (told remaining) readers) file None ≡ Some (Ok rows) → From 0 (lines_of rows)
+  all_rise : (readers : List (DigestReader R A)) (file : ℕ) (rows : List Row) → get_or (map (rows_left remaining) readers) file None ≡ Some (Ok rows) → From 0 (lines_of rows)
   all_rise [] file rows e = absurd cc
   all_rise (reader ∷ readers) zero rows e = rise reader.line reader.so_far (left remaining reader.lines) rows e
   all_rise (reader ∷ readers) (suc file) rows e = all_rise readers file rows e
 
   -- files of which none is at fault
-  pub whole : (readers : List (DigestReader R A)) (files : List Said) → map (told remaining) readers ≡ map Some files → AreSound files
-      → AreWhole (fleet_of files) (map (told remaining) readers)
+  pub whole : (readers : List (DigestReader R A)) (files : List Said) → map (rows_left remaining) readers ≡ map Some files → AreSound files
+      → AreWhole (fleet_of files) (map (rows_left remaining) readers)
   whole readers files is sound =
-      let said : (file : ℕ) → file < length (fleet_of files) → get_or (map (told remaining) readers) file None ≡ Some (Ok (get_or (fleet_of files) file [])) = λ file lt.
+      let said : (file : ℕ) → file < length (fleet_of files) → get_or (map (rows_left remaining) readers) file None ≡ Some (Ok (get_or (fleet_of files) file [])) = λ file lt.
       let within : file < length files = omega (arith, length-map files rows_in) in
       let it = sound.each file within in
       rw is (get_or-map Some files file (Ok []) None within ∙ ap Some (it.is ∙ ap Ok (sym (get_or-map rows_in files file (Ok []) [] within ∙ rw it.is refl)))) in
-      record { told_are = said; rise = λ file lt. all_rise readers file (get_or (fleet_of files) file []) (said file lt) }
+      record { rows_left_are = said; rise = λ file lt. all_rise readers file (get_or (fleet_of files) file []) (said file lt) }
 
 -- a fault of a merge
 pub fault_merged : {A : Type 0} (files : List Said) (pairs : Pairs) (tally : Tally A) (fault : FleetFault) → IsFaultOf files fault → (AreSound files → IsAllCounted (fleet_of files) tally (Err fault)) → IsMerged {A = A} files pairs (Err fault)
-fault_merged files pairs tally OutOfMemory told counted = tt
-fault_merged files pairs tally TooManyDigests told counted = absurd told
-fault_merged files pairs tally TooManyPages told counted = counted
-fault_merged files pairs tally (OtherSample number) told counted = counted
-fault_merged files pairs tally (Read number error) told counted = tt
-fault_merged files pairs tally (Line number fault) told counted = told
+fault_merged files pairs tally OutOfMemory rows_left counted = tt
+fault_merged files pairs tally TooManyDigests rows_left counted = absurd rows_left
+fault_merged files pairs tally TooManyPages rows_left counted = counted
+fault_merged files pairs tally (OtherSample number) rows_left counted = counted
+fault_merged files pairs tally (Read number error) rows_left counted = tt
+fault_merged files pairs tally (Line number fault) rows_left counted = rows_left
 
 -- the guests' numbers, the classes and the pairs, where all digests are counted
 module _ {A : Type 0} (fleet : List (List Row)) (sample : ℕ) (tally : Tally A) (tallied : AreTallied fleet sample all_digests tally) where
@@ -177,7 +177,7 @@ module _ {A : Type 0} (fleet : List (List Row)) (sample : ℕ) (tally : Tally A)
       let apart : other < file = omega (arith, within, long) in
       tallied.pairs file other lt apart within ∙ sym (get_or-map pair (take file fleet) other [] no_pair (omega (arith, before, apart)) ∙ ap pair (get_or-take file fleet other [] apart)))
 
-  pub pairs_are : (pairs : Pairs) → row_lengths (rows_of tally.pairs.items) ≡ row_lengths (rows_for pairs (length fleet)) → rows_of tally.pairs.items ≡ pairs_told pairs fleet
+  pub pairs_are : (pairs : Pairs) → row_lengths (rows_of tally.pairs.items) ≡ row_lengths (rows_for pairs (length fleet)) → rows_of tally.pairs.items ≡ pairs_counted pairs fleet
   pairs_are Omitted lengths = nil_from_length (rows_of tally.pairs.items) (as_many (rows_of tally.pairs.items) [] lengths)
   pairs_are Counted lengths =
       let rows = rows_of tally.pairs.items in

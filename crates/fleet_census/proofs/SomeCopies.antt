@@ -1,4 +1,4 @@
--- A line of the form tells of a copy at least.
+-- A line of the form lists a copy at least.
 use Rattle.std.proofs.Common.{◌≡◌, ◌≢◌, ℕ, ◌≤◌, ◌^◌, ◌-◌, Bool, true, false, cond, eqb, List, refl, arith}
 use Rattle.std.proofs.lemmas.Bool.{eqb-false}
 use Rattle.std.specs.Prelude.{Option, Some, None, length, nat_lt}

@@ -21,7 +21,7 @@ fault_of file reads.OutOfMemory = FleetFault.OutOfMemory
 fault_of file (reads.Read error) = FleetFault.Read file error
 fault_of file (reads.Line line) = FleetFault.Line file line
 
--- A read that failed is told with the number of a file whose reader noted that error.
+-- A read that failed is reported with the number of a file whose reader noted that error.
 abbrev pub HasFailed : List (Option Error) → FleetFault → Type 0
 HasFailed failures faults.OutOfMemory = Unit {0}
 HasFailed failures faults.TooManyDigests = Unit {0}

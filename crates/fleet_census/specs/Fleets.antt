@@ -1,7 +1,7 @@
 -- What is counted of a fleet: of the rows of each guest's file. Each number is a sum over all digests.
 use Rattle.std.specs.Prelude.{ℕ, ◌+◌, ◌-◌, ◌*◌, ◌==◌, ◌&&◌, min, nat_lt, Bool, if◌then◌else◌, List, [], ◌∷◌, count_by, filter, length, map, slice_index_or, sum_by, take, Option, Some, None}
 use Rattle.std.specs.List.{range_with_len}
-use Rattle.guest_digests.specs.Counted.{told_copies}
+use Rattle.guest_digests.specs.Counted.{listed_copies}
 use Rattle.guest_digests.specs.Samples.{zeros_digest}
 use Rattle.guest_digests.specs.declared.line.DigestLine.{DigestLine}
 use Rattle.digest_text.specs.Fields.{Row}
@@ -31,7 +31,7 @@ pages_of (row ∷ rows) = row.head.pages
 
 -- how many pages of a guest have this digest
 abbrev pub copies_of : ℕ → List Row → ℕ
-copies_of digest rows = told_copies digest (lines_of rows)
+copies_of digest rows = listed_copies digest (lines_of rows)
 
 -- how many of them are pages of zeros: all, if it is the digest of these under the guest's salt
 abbrev pub zero_of : ℕ → List Row → ℕ
@@ -113,9 +113,9 @@ pair_table fleet = map (λ file. map (pair_below fleet all_digests (slice_index_
     (range_with_len 0 (length fleet))
 
 -- the same where it is counted, and no rows where it isn't
-abbrev pub pairs_told : Pairs → List (List Row) → List (List FleetPair)
-pairs_told Counted fleet = pair_table fleet
-pairs_told Omitted fleet = []
+abbrev pub pairs_counted : Pairs → List (List Row) → List (List FleetPair)
+pairs_counted Counted fleet = pair_table fleet
+pairs_counted Omitted fleet = []
 
 -- the numbers of all classes
 unfoldable pub class_numbers : List ℕ
@@ -125,7 +125,7 @@ class_numbers = range_with_len 0 65
 abbrev pub copies_table : List (List Row) → List FleetClass
 copies_table fleet = filter has_contents (map (class_below fleet all_digests) class_numbers)
 
--- all that is told of a digest
+-- all that is listed of a digest
 abbrev pub content_of : List (List Row) → ℕ → Content
 content_of fleet digest = record { copies = all_copies fleet digest; zero = all_zero fleet digest; holders = all_holders fleet digest }
 

@@ -1,4 +1,4 @@
--- The files that tell of a content.
+-- The files that list a content.
 use Rattle.std.specs.Prelude.{ℕ, ◌<◌, ◌==◌, if◌then◌else◌, List, [], ◌∷◌, length, slice_index_or, Option, Some, None}
 use Rattle.fleet_census.specs.declared.content.Holder.{Holder}
 

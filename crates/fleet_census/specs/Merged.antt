@@ -11,11 +11,11 @@ use Rattle.fleet_census.specs.declared.fault.FleetFault.TheVariants.{OutOfMemory
 use Rattle.fleet_census.specs.declared.tally.Tally.{Tally}
 
 -- the digests below a bound are counted, and at least as many pages as turns were taken
-pub record IsAt {A : Type 0} (fleet : List (List Row)) (every turn : ℕ) (leaves : List Entry) (told : List (Option Said))
+pub record IsAt {A : Type 0} (fleet : List (List Row)) (every turn : ℕ) (leaves : List Entry) (rows_left : List (Option Said))
     (tally : Tally A) : Type 0 where
   pub bound : ℕ
   pub within : bound ≤ 2 ^ 128
-  pub behind : AreBehind fleet (λ file. bound) leaves told
+  pub behind : AreBehind fleet (λ file. bound) leaves rows_left
   pub tallied : AreTallied fleet every bound tally
   pub enough : turn ≤ tally.weight
 

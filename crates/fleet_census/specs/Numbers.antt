@@ -2,7 +2,7 @@
 use Rattle.std.specs.Prelude.{◌≡◌, ℕ, ◌^◌, ◌⊎◌, ◌<◌, ◌≤◌, List, [], length, map, slice_index_or, sum_by, Result, Ok, Err}
 use Rattle.digest_text.specs.Fields.{Row}
 use Rattle.fleet_census.specs.Amounts.{all_digests}
-use Rattle.fleet_census.specs.Fleets.{all_pages, copies_table, guest_numbers, pages_of, pairs_told, total_numbers}
+use Rattle.fleet_census.specs.Fleets.{all_pages, copies_table, guest_numbers, pages_of, pairs_counted, total_numbers}
 use Rattle.fleet_census.specs.Openings.{IsOther, sample_of}
 use Rattle.fleet_census.specs.Pairs.{rows_of}
 use Rattle.fleet_census.specs.States.{AreSound, Said}
@@ -62,9 +62,9 @@ pub record AreNumbers {A : Type 0} (fleet : List (List Row)) (pairs : Pairs) (nu
   pub guests : numbers.guests.items ≡ map (guest_numbers fleet) fleet
   pub total : numbers.total ≡ total_numbers fleet
   pub copies : numbers.copies.items ≡ copies_table fleet
-  pub pairs_are : rows_of numbers.pairs.items ≡ pairs_told pairs fleet
+  pub pairs_are : rows_of numbers.pairs.items ≡ pairs_counted pairs fleet
 
--- The numbers of whole files. Or a file at fault is told, with its first fault; or, where all are whole, the first other sample, or that the
+-- The numbers of whole files. Or a file at fault is reported, with its first fault; or, where all are whole, the first other sample, or that the
 -- pages are too many.
 abbrev pub IsMerged : {A : Type 0} → List Said → Pairs → Result (FleetNumbers A) FleetFault → Type 0
 IsMerged files pairs (Ok numbers) = AreSound files × AreNumbers (fleet_of files) pairs numbers

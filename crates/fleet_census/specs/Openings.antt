@@ -24,14 +24,14 @@ pub record IsOpened (rows : List Row) (first : First) : Type 0 where
   pub pages : first.pages ≡ pages_of rows
   pub every : first.every ≡ sample_of rows
 
--- the first line was read, or a fault is told
+-- the first line was read, or a fault is reported
 abbrev pub IsFirstRead : ℕ → Said → Option Said → Result First FleetFault → Type 0
 IsFirstRead file said now (Ok first) = IsRead file said now (Ok first.entry) × ((rows : List Row) → said ≡ Ok rows → IsOpened rows first)
 IsFirstRead file said now (Err fault) = IsRead file said now (Err fault)
 
 -- all files are whole, and none of their lines was read
-pub record AreWhole (fleet : List (List Row)) (told : List (Option Said)) : Type 0 where
-  pub told_are : (file : ℕ) → file < length fleet → slice_index_or told file None ≡ Some (Ok (slice_index_or fleet file []))
+pub record AreWhole (fleet : List (List Row)) (rows_left : List (Option Said)) : Type 0 where
+  pub rows_left_are : (file : ℕ) → file < length fleet → slice_index_or rows_left file None ≡ Some (Ok (slice_index_or fleet file []))
   pub rise : (file : ℕ) → file < length fleet → From 0 (lines_of (slice_index_or fleet file []))
 
 -- a guest without contents
@@ -39,11 +39,11 @@ abbrev pub guest_start : List Row → FleetGuest
 guest_start rows = record { pages = pages_of rows; zero = 0; distinct = no_amount; shared = no_amount; alone = no_amount }
 
 -- the files before this one were opened
-pub record IsOpenTo (fleet : List (List Row)) (turn : ℕ) (leaves : List Entry) (told : List (Option Said)) (zeros : List ℕ)
+pub record IsOpenTo (fleet : List (List Row)) (turn : ℕ) (leaves : List Entry) (rows_left : List (Option Said)) (zeros : List ℕ)
     (guests : List FleetGuest)
     (opening : Opening) : Type 0 where
-  pub behind : (file : ℕ) → file < turn → IsBehind (slice_index_or fleet file []) 0 (entry_at leaves file) (slice_index_or told file None)
-  pub unread : (file : ℕ) → turn ≤ file → file < length fleet → slice_index_or told file None ≡ Some (Ok (slice_index_or fleet file []))
+  pub behind : (file : ℕ) → file < turn → IsBehind (slice_index_or fleet file []) 0 (entry_at leaves file) (slice_index_or rows_left file None)
+  pub unread : (file : ℕ) → turn ≤ file → file < length fleet → slice_index_or rows_left file None ≡ Some (Ok (slice_index_or fleet file []))
   pub zeros_are : (file : ℕ) → file < turn → slice_index zeros file ≡ zeros_digest (salt_of (slice_index_or fleet file []))
   pub guests_are : (file : ℕ) → file < turn → guest_at guests file ≡ guest_start (slice_index_or fleet file [])
   pub pages_are : opening.pages ≡ sum_by pages_of (take turn fleet)
@@ -77,12 +77,12 @@ IsJoined old first file (Err (Read number error)) = ⊥
 IsJoined old first file (Err OutOfMemory) = ⊥
 IsJoined old first file (Err TooManyDigests) = ⊥
 
--- all files are opened, or the first other sample is told, or the pages are too many
+-- all files are opened, or the first other sample is reported, or the pages are too many
 abbrev pub IsOpen : List (List Row) → ℕ → List Entry → List (Option Said) → List ℕ → List FleetGuest → Result Opening FleetFault → Type 0
-IsOpen fleet turn leaves told zeros guests (Ok opening) = IsOpenTo fleet turn leaves told zeros guests opening
-IsOpen fleet turn leaves told zeros guests (Err (OtherSample number)) = IsOther fleet number
-IsOpen fleet turn leaves told zeros guests (Err TooManyPages) = 2 ^ 64 ≤ sum_by pages_of fleet
-IsOpen fleet turn leaves told zeros guests (Err (Line number fault)) = Unit {0}
-IsOpen fleet turn leaves told zeros guests (Err (Read number error)) = Unit {0}
-IsOpen fleet turn leaves told zeros guests (Err OutOfMemory) = Unit {0}
-IsOpen fleet turn leaves told zeros guests (Err TooManyDigests) = ⊥
+IsOpen fleet turn leaves rows_left zeros guests (Ok opening) = IsOpenTo fleet turn leaves rows_left zeros guests opening
+IsOpen fleet turn leaves rows_left zeros guests (Err (OtherSample number)) = IsOther fleet number
+IsOpen fleet turn leaves rows_left zeros guests (Err TooManyPages) = 2 ^ 64 ≤ sum_by pages_of fleet
+IsOpen fleet turn leaves rows_left zeros guests (Err (Line number fault)) = Unit {0}
+IsOpen fleet turn leaves rows_left zeros guests (Err (Read number error)) = Unit {0}
+IsOpen fleet turn leaves rows_left zeros guests (Err OutOfMemory) = Unit {0}
+IsOpen fleet turn leaves rows_left zeros guests (Err TooManyDigests) = ⊥

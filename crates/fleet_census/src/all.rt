@@ -1,12 +1,12 @@
 //! All contents, counted one after the other.
 ghost use Rattle.std.specs.Prelude.{◌≡◌, ◌<◌, ◌≤◌, ℕ, List, length, map, vec_capacity, vec_len, IfErr};
 ghost use Rattle.digest_text.specs.Fields.{Row};
-ghost use Rattle.digest_text.specs.Told.{told, failure_of};
+ghost use Rattle.digest_text.specs.Unread.{rows_left, failure_of};
 ghost use Rattle.fleet_census.specs.declared.merging.TheConstants.{MAX_DIGESTS};
 ghost use Rattle.fleet_census.specs.Gathers.{AreZeros};
 ghost use Rattle.fleet_census.specs.Merged.{IsCounted};
 ghost use Rattle.fleet_census.specs.Pairs.{row_lengths, rows_of};
-ghost use Rattle.fleet_census.specs.States.{AreBehind, AreChained, AreOwn, IsToldWhole, Said};
+ghost use Rattle.fleet_census.specs.States.{AreBehind, AreChained, AreOwn, IsReadWhole, Said};
 ghost use Rattle.fleet_census.specs.Tallies.{AreTallied};
 ghost use Rattle.fleet_census.specs.Tournaments.{leaves};
 ghost use Rattle.fleet_census.specs.Faults.{HasFailed};
@@ -43,10 +43,10 @@ pub(crate) fn count_all<R: Read + Drop, A: Allocator>(
     ensures classes { vec_len tally.new.classes ≡ 65 }
     ensures lengths { row_lengths (rows_of tally.new.pairs.items) ≡ row_lengths (rows_of tally.old.pairs.items) }
     ensures failed { IfErr result (HasFailed (map failure_of readers.new)) }
-    ensures told { (files : List Said) → length files ≡ length readers.old → AreChained files (length files)
-        (leaves tournament.old.files tournament.old.entries.items) (map (told R.remaining) readers.old) → IsToldWhole files result }
+    ensures read { (files : List Said) → length files ≡ length readers.old → AreChained files (length files)
+        (leaves tournament.old.files tournament.old.entries.items) (map (rows_left R.remaining) readers.old) → IsReadWhole files result }
     ensures counted { (fleet : List (List Row)) → length fleet ≡ length readers.old → AreZeros fleet zeros.now
-        → AreBehind fleet (λ file. 0) (leaves tournament.old.files tournament.old.entries.items) (map (told R.remaining) readers.old)
+        → AreBehind fleet (λ file. 0) (leaves tournament.old.files tournament.old.entries.items) (map (rows_left R.remaining) readers.old)
         → AreTallied fleet every 0 tally.old → IsCounted fleet every tally.new result }
 {
     for _turn in 0..u64::MAX {

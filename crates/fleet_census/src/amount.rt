@@ -2,7 +2,7 @@
 ghost use Rattle.std.specs.Prelude.{◌≡◌, ◌+◌, ◌*◌, ◌-◌, ◌<◌, ◌≤◌, ◌^◌, min};
 ghost use Rattle.fleet_census.specs.Amounts.{IsRoot, estimate, variance, with_content};
 
-/// A sum over contents: of each content that the digests tell of a number.
+/// A sum over contents: a number of each content that the digests list.
 #[derive(Clone, Copy, Debug, PartialEq, Eq)]
 pub struct Amount {
     /// The sum over the contents of zeros, which every sample keeps.

@@ -1,7 +1,7 @@
-//! A content that files tell of, and who has it.
+//! A content that files list, and who has it.
 ghost use Rattle.std.specs.Prelude.{◌≡◌, nat_lt, if◌then◌else◌};
 
-/// A file that tells of a content.
+/// A file that lists a content.
 #[derive(Clone, Copy)]
 pub(crate) struct Holder {
     pub(crate) file: u32,
@@ -11,14 +11,14 @@ pub(crate) struct Holder {
     pub(crate) zero: u64,
 }
 
-/// What all files together tell of a content.
+/// What all files together list of a content.
 #[derive(Clone, Copy)]
 pub(crate) struct Content {
     /// How many pages have it.
     pub(crate) copies: u64,
     /// How many of them are pages of zeros.
     pub(crate) zero: u64,
-    /// How many files tell of it.
+    /// How many files list it.
     pub(crate) holders: u64,
 }
 

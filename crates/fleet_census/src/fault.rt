@@ -7,7 +7,7 @@ use std::alloc::AllocError;
 use std::io;
 use thiserror::Error;
 
-/// Why digests can't be merged. Files are told by their number.
+/// Why digests can't be merged. Files are named by their number.
 #[derive(Clone, Copy, Debug, Error)]
 pub enum FleetFault {
     /// Memory was refused.

@@ -1,6 +1,6 @@
 //! Files that are read on, one line at a time.
 ghost use Rattle.std.specs.Prelude.{◌≡◌, ◌<◌, ◌≤◌, ℕ, IfOk, length, map, IfErr};
-ghost use Rattle.digest_text.specs.Told.{told, failure_of};
+ghost use Rattle.digest_text.specs.Unread.{rows_left, failure_of};
 ghost use Rattle.fleet_census.specs.declared.merging.TheConstants.{MAX_DIGESTS};
 ghost use Rattle.fleet_census.specs.States.{IsOwn, IsReadOn};
 ghost use Rattle.fleet_census.specs.Faults.{fault_of, HasFailed};
@@ -31,7 +31,7 @@ pub(crate) fn read_entry<R: Read + Drop, A: Allocator>(
     requires few { length readers.old ≤ MAX_DIGESTS }
     ensures own { IfOk result (λ entry. IsOwn file entry) }
     ensures failed { IfErr result (HasFailed (map failure_of readers.new)) }
-    ensures read { IsReadOn file (map (told R.remaining) readers.old) (map (told R.remaining) readers.new) result }
+    ensures read { IsReadOn file (map (rows_left R.remaining) readers.old) (map (rows_left R.remaining) readers.new) result }
 {
     match readers[file].next_line() {
         Ok(Some(line)) => Ok(Entry {

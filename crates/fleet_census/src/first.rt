@@ -1,6 +1,6 @@
 //! The first line of a file.
 ghost use Rattle.std.specs.Prelude.{◌≡◌, ◌<◌, ℕ, IfOk, IfSome, IfErr};
-ghost use Rattle.digest_text.specs.Told.{told, failure_of};
+ghost use Rattle.digest_text.specs.Unread.{rows_left, failure_of};
 ghost use Rattle.fleet_census.specs.declared.merging.TheConstants.{MAX_DIGESTS};
 ghost use Rattle.fleet_census.specs.Openings.{IsFirstRead};
 ghost use Rattle.fleet_census.specs.States.{IsOwn};
@@ -53,7 +53,7 @@ pub(crate) fn read_first<R: Read + Drop, A: Allocator>(
     requires { file < MAX_DIGESTS }
     ensures own { IfOk result (λ first. IsOwn file first.entry) }
     ensures failed { IfErr result (IsFailureOf file (failure_of reader.new)) }
-    ensures read { IfSome (told R.remaining reader.old) (λ said. IsFirstRead file said (told R.remaining reader.new) result) }
+    ensures read { IfSome (rows_left R.remaining reader.old) (λ said. IsFirstRead file said (rows_left R.remaining reader.new) result) }
 {
     match reader.next_line() {
         Ok(Some(line)) => {

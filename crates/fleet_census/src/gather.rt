@@ -1,9 +1,9 @@
-//! All that the files tell of one digest.
+//! All that the files list of one digest.
 ghost use Rattle.std.specs.Prelude.{◌≡◌, ◌+◌, ◌<◌, ◌≤◌, ◌^◌, ℕ, List, All, IfOk, MatchOption, length, map, vec_capacity, IfErr};
 ghost use Rattle.digest_text.specs.Fields.{Row};
-ghost use Rattle.digest_text.specs.Told.{told, failure_of};
+ghost use Rattle.digest_text.specs.Unread.{rows_left, failure_of};
 ghost use Rattle.fleet_census.specs.declared.merging.TheConstants.{MAX_DIGESTS};
-ghost use Rattle.fleet_census.specs.States.{AreBehind, AreChained, AreOwn, IsToldOn, Said};
+ghost use Rattle.fleet_census.specs.States.{AreBehind, AreChained, AreOwn, AreReadOn, Said};
 ghost use Rattle.fleet_census.specs.Gathers.{AreZeros, IsGathered};
 ghost use Rattle.fleet_census.specs.Tournaments.{leaves};
 ghost use Rattle.fleet_census.specs.Faults.{HasFailed};
@@ -17,7 +17,7 @@ use std::alloc::Allocator;
 use std::io::Read;
 
 impl Content {
-    /// Adds what one more file tells. `None`: there are 2^64 copies or more.
+    /// Adds what one more file lists. `None`: there are 2^64 copies or more.
     fn with(&self, holder: &Holder) -> Option<Content>
         requires zero { self.now.zero ≤ self.now.copies }
         requires part { holder.now.zero ≤ holder.now.copies }
@@ -37,7 +37,7 @@ impl Content {
     }
 }
 
-/// Gathers the files that tell of a digest, which is the least that is left, and reads each of them on. `holders` has room for all files.
+/// Gathers the files that list a digest, which is the least that is left, and reads each of them on. `holders` has room for all files.
 pub(crate) fn gather<R: Read + Drop, A: Allocator>(
     readers: &mut [DigestReader<R, A>],
     tournament: &mut Tournament<A>,
@@ -55,12 +55,12 @@ pub(crate) fn gather<R: Read + Drop, A: Allocator>(
     ensures room { vec_capacity holders.new ≡ vec_capacity holders.old }
     ensures holders { All (λ holder. holder.file < length readers.old) holders.new.items }
     ensures failed { IfErr result (HasFailed (map failure_of readers.new)) }
-    ensures told { (files : List Said) → length files ≡ length readers.old → AreChained files (length files)
-        (leaves tournament.old.files tournament.old.entries.items) (map (told R.remaining) readers.old)
-        → IsToldOn files (length files) (leaves tournament.new.files tournament.new.entries.items) (map (told R.remaining) readers.new) result }
+    ensures read { (files : List Said) → length files ≡ length readers.old → AreChained files (length files)
+        (leaves tournament.old.files tournament.old.entries.items) (map (rows_left R.remaining) readers.old)
+        → AreReadOn files (length files) (leaves tournament.new.files tournament.new.entries.items) (map (rows_left R.remaining) readers.new) result }
     ensures gathered { (fleet : List (List Row)) → length fleet ≡ length readers.old → AreZeros fleet zeros.now
-        → AreBehind fleet (λ file. digest) (leaves tournament.old.files tournament.old.entries.items) (map (told R.remaining) readers.old)
-        → IsGathered fleet digest (leaves tournament.new.files tournament.new.entries.items) (map (told R.remaining) readers.new)
+        → AreBehind fleet (λ file. digest) (leaves tournament.old.files tournament.old.entries.items) (map (rows_left R.remaining) readers.old)
+        → IsGathered fleet digest (leaves tournament.new.files tournament.new.entries.items) (map (rows_left R.remaining) readers.new)
         holders.new.items result }
 {
     holders.clear();

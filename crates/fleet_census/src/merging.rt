@@ -2,12 +2,12 @@
 ghost use Rattle.std.specs.Prelude.{◌≡◌, ◌<◌, ◌≤◌, ℕ, List, Err, IfOk, Some, [], length, map, replicate, vec_capacity, vec_len, IfErr};
 ghost use Rattle.std.specs.List.{range_with_len};
 ghost use Rattle.digest_text.specs.Fields.{Row};
-ghost use Rattle.digest_text.specs.Told.{told, failure_of};
+ghost use Rattle.digest_text.specs.Unread.{rows_left, failure_of};
 ghost use Rattle.fleet_census.specs.Classes.{no_contents};
 ghost use Rattle.fleet_census.specs.Numbers.{IsAllCounted, IsMerged};
 ghost use Rattle.fleet_census.specs.Openings.{AreWhole};
 ghost use Rattle.fleet_census.specs.Pairs.{row_lengths, rows_of};
-ghost use Rattle.fleet_census.specs.States.{IsToldWhole, Said};
+ghost use Rattle.fleet_census.specs.States.{IsReadWhole, Said};
 ghost use Rattle.fleet_census.specs.Tallies.{IsNew};
 ghost use Rattle.fleet_census.specs.Tournaments.{leaves};
 ghost use Rattle.fleet_census.specs.declared.entry.TheConstants.{AT_END};
@@ -28,10 +28,10 @@ use std::io::Read;
 /// The most digests of one merge.
 pub const MAX_DIGESTS: usize = 65_536;
 
-/// Counts what the digests tell together, and, if asked, what each two guests have in common. The guests are in the readers'
+/// Counts what the digests list together, and, if asked, what each two guests have in common. The guests are in the readers'
 /// order. A digest is read once, and what is kept of all of them doesn't grow with their length.
 ///
-/// If several digests are at fault, any of them may be the one that is told; and none of their lines is read if there are more
+/// If several digests are at fault, any of them may be the one that is reported; and none of their lines is read if there are more
 /// than `MAX_DIGESTS`.
 pub fn merge<R: Read + Drop, A: Allocator + Copy>(
     alloc: A,
@@ -41,7 +41,7 @@ pub fn merge<R: Read + Drop, A: Allocator + Copy>(
     requires some { 1 ≤ length readers.old }
     ensures few { MAX_DIGESTS < length readers.old → result ≡ Err FleetFault.TooManyDigests }
     ensures failed { IfErr result (HasFailed (map failure_of readers.new)) }
-    ensures merged { (files : List Said) → map (told R.remaining) readers.old ≡ map Some files → IsMerged files pairs result }
+    ensures merged { (files : List Said) → map (rows_left R.remaining) readers.old ≡ map Some files → IsMerged files pairs result }
 {
     let files = readers.len();
     if files > MAX_DIGESTS {
@@ -84,8 +84,8 @@ fn count_files<R: Read + Drop, A: Allocator>(
     ensures lens { IfOk result (λ _. (vec_len tally.new.guests ≡ length readers.old) × (vec_len tally.new.classes ≡ CLASSES)) }
     ensures lengths { IfOk result (λ _. row_lengths (rows_of tally.new.pairs.items) ≡ row_lengths (rows_of tally.old.pairs.items)) }
     ensures failed { IfErr result (HasFailed (map failure_of readers.new)) }
-    ensures told { (files : List Said) → map (told R.remaining) readers.old ≡ map Some files → IsToldWhole files result }
-    ensures counted { (fleet : List (List Row)) → length fleet ≡ length readers.old → AreWhole fleet (map (told R.remaining) readers.old)
+    ensures read { (files : List Said) → map (rows_left R.remaining) readers.old ≡ map Some files → IsReadWhole files result }
+    ensures counted { (fleet : List (List Row)) → length fleet ≡ length readers.old → AreWhole fleet (map (rows_left R.remaining) readers.old)
         → IsAllCounted fleet tally.new result }
 {
     let opening = match open(readers, &mut tournament, &mut zeros, &mut tally.guests) {

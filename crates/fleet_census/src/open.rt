@@ -1,12 +1,12 @@
 //! The first lines of all files.
 ghost use Rattle.std.specs.Prelude.{◌≡◌, ◌+◌, ◌<◌, ◌≤◌, ℕ, List, [], IfOk, length, map, max, slice_index_or, vec_capacity, vec_len, IfErr};
 ghost use Rattle.digest_text.specs.Fields.{Row};
-ghost use Rattle.digest_text.specs.Told.{told, failure_of};
+ghost use Rattle.digest_text.specs.Unread.{rows_left, failure_of};
 ghost use Rattle.guest_digests.specs.Samples.{zeros_digest};
 ghost use Rattle.fleet_census.specs.declared.merging.TheConstants.{MAX_DIGESTS};
 ghost use Rattle.fleet_census.specs.Fleets.{lines_of};
 ghost use Rattle.fleet_census.specs.Openings.{AreWhole, IsJoined, IsOpen, IsOpenTo};
-ghost use Rattle.fleet_census.specs.States.{AreChained, AreOwn, From, IsToldOn, Said};
+ghost use Rattle.fleet_census.specs.States.{AreChained, AreOwn, From, AreReadOn, Said};
 ghost use Rattle.fleet_census.specs.Tournaments.{leaves};
 ghost use Rattle.fleet_census.specs.Faults.{HasFailed};
 
@@ -82,13 +82,13 @@ fn open_next<R: Read + Drop, A: Allocator>(
     ensures lens { IfOk result (λ opening. (vec_len zeros.new ≡ file + 1) × (vec_len guests.new ≡ file + 1)) }
     ensures room { (vec_capacity zeros.new ≡ vec_capacity zeros.old) × (vec_capacity guests.new ≡ vec_capacity guests.old) }
     ensures failed { IfErr result (HasFailed (map failure_of readers.new)) }
-    ensures told { (files : List Said) → length files ≡ length readers.old → AreChained files file
-        (leaves tournament.old.files tournament.old.entries.items) (map (told R.remaining) readers.old)
-        → IsToldOn files (file + 1) (leaves tournament.new.files tournament.new.entries.items) (map (told R.remaining) readers.new) result }
+    ensures read { (files : List Said) → length files ≡ length readers.old → AreChained files file
+        (leaves tournament.old.files tournament.old.entries.items) (map (rows_left R.remaining) readers.old)
+        → AreReadOn files (file + 1) (leaves tournament.new.files tournament.new.entries.items) (map (rows_left R.remaining) readers.new) result }
     ensures opened { (fleet : List (List Row)) → length fleet ≡ length readers.old → From 0 (lines_of (slice_index_or fleet file []))
-        → IsOpenTo fleet file (leaves tournament.old.files tournament.old.entries.items) (map (told R.remaining) readers.old)
+        → IsOpenTo fleet file (leaves tournament.old.files tournament.old.entries.items) (map (rows_left R.remaining) readers.old)
         zeros.old.items guests.old.items opening
-        → IsOpen fleet (file + 1) (leaves tournament.new.files tournament.new.entries.items) (map (told R.remaining) readers.new)
+        → IsOpen fleet (file + 1) (leaves tournament.new.files tournament.new.entries.items) (map (rows_left R.remaining) readers.new)
         zeros.new.items guests.new.items result }
 {
     match read_first(&mut readers[file], file) {
@@ -125,11 +125,11 @@ pub(crate) fn open<R: Read + Drop, A: Allocator>(
     ensures own { AreOwn (leaves tournament.new.files tournament.new.entries.items) }
     ensures lens { IfOk result (λ opening. (vec_len zeros.new ≡ length readers.old) × (vec_len guests.new ≡ length readers.old)) }
     ensures failed { IfErr result (HasFailed (map failure_of readers.new)) }
-    ensures told { (files : List Said) → length files ≡ length readers.old → AreChained files 0
-        (leaves tournament.old.files tournament.old.entries.items) (map (told R.remaining) readers.old)
-        → IsToldOn files (length files) (leaves tournament.new.files tournament.new.entries.items) (map (told R.remaining) readers.new) result }
-    ensures opened { (fleet : List (List Row)) → length fleet ≡ length readers.old → AreWhole fleet (map (told R.remaining) readers.old)
-        → IsOpen fleet (length fleet) (leaves tournament.new.files tournament.new.entries.items) (map (told R.remaining) readers.new)
+    ensures read { (files : List Said) → length files ≡ length readers.old → AreChained files 0
+        (leaves tournament.old.files tournament.old.entries.items) (map (rows_left R.remaining) readers.old)
+        → AreReadOn files (length files) (leaves tournament.new.files tournament.new.entries.items) (map (rows_left R.remaining) readers.new) result }
+    ensures opened { (fleet : List (List Row)) → length fleet ≡ length readers.old → AreWhole fleet (map (rows_left R.remaining) readers.old)
+        → IsOpen fleet (length fleet) (leaves tournament.new.files tournament.new.entries.items) (map (rows_left R.remaining) readers.new)
         zeros.new.items guests.new.items result }
 {
     let mut opening = Opening { every: 0, pages: 0 };

@@ -1,9 +1,9 @@
-//! The files that tell of one digest.
+//! The files that list one digest.
 ghost use Rattle.std.specs.Prelude.{◌≡◌, ◌<◌, ◌≤◌, ◌==◌, ℕ, List, IfOk, IfSome, if◌then◌else◌, length, map, slice_index, IfErr};
 ghost use Rattle.digest_text.specs.Fields.{Row};
-ghost use Rattle.digest_text.specs.Told.{told, failure_of};
+ghost use Rattle.digest_text.specs.Unread.{rows_left, failure_of};
 ghost use Rattle.fleet_census.specs.declared.merging.TheConstants.{MAX_DIGESTS};
-ghost use Rattle.fleet_census.specs.States.{AreBehind, AreChained, AreOwn, IsTaken, IsToldOn, Said, passed};
+ghost use Rattle.fleet_census.specs.States.{AreBehind, AreChained, AreOwn, IsTaken, AreReadOn, Said, passed};
 ghost use Rattle.fleet_census.specs.Tournaments.{leaves};
 ghost use Rattle.fleet_census.specs.Faults.{HasFailed};
 
@@ -16,7 +16,7 @@ use digest_text::DigestReader;
 use std::alloc::Allocator;
 use std::io::Read;
 
-/// What an entry tells of its guest. `zeros` has the digests of pages of zeros under the guests' salts.
+/// What an entry says of its guest. `zeros` has the digests of pages of zeros under the guests' salts.
 fn holder_of(entry: Entry, zeros: &[u128]) -> Holder
     requires { entry.file < length zeros.now }
     ensures is { result ≡ record {
@@ -39,7 +39,7 @@ fn holder_of(entry: Entry, zeros: &[u128]) -> Holder
     }
 }
 
-/// Takes the next line of all if it tells of this digest, and reads that file on.
+/// Takes the next line of all if it lists this digest, and reads that file on.
 pub(crate) fn take_holder<R: Read + Drop, A: Allocator>(
     readers: &mut [DigestReader<R, A>],
     tournament: &mut Tournament<A>,
@@ -54,14 +54,14 @@ pub(crate) fn take_holder<R: Read + Drop, A: Allocator>(
     ensures own { AreOwn (leaves tournament.new.files tournament.new.entries.items) }
     ensures holder { IfOk result (λ found. IfSome found (λ holder. (holder.file < length readers.old) × (holder.zero ≤ holder.copies))) }
     ensures failed { IfErr result (HasFailed (map failure_of readers.new)) }
-    ensures told { (files : List Said) → length files ≡ length readers.old → AreChained files (length files)
-        (leaves tournament.old.files tournament.old.entries.items) (map (told R.remaining) readers.old)
-        → IsToldOn files (length files) (leaves tournament.new.files tournament.new.entries.items) (map (told R.remaining) readers.new) result }
+    ensures read { (files : List Said) → length files ≡ length readers.old → AreChained files (length files)
+        (leaves tournament.old.files tournament.old.entries.items) (map (rows_left R.remaining) readers.old)
+        → AreReadOn files (length files) (leaves tournament.new.files tournament.new.entries.items) (map (rows_left R.remaining) readers.new) result }
     ensures taken { (fleet : List (List Row)) (count : ℕ) → length fleet ≡ length readers.old
         → AreBehind fleet (passed digest count) (leaves tournament.old.files tournament.old.entries.items) (map
-        (told R.remaining) readers.old)
+        (rows_left R.remaining) readers.old)
         → IsTaken fleet digest count zeros.now (leaves tournament.new.files tournament.new.entries.items) (map
-        (told R.remaining) readers.new) result }
+        (rows_left R.remaining) readers.new) result }
 {
     let first = tournament.first();
     if first.file == NO_FILE || first.digest != digest {

@@ -25,7 +25,7 @@ unfolding digest_bytes
 bytes_low h zero = All-nil IsByte
 bytes_low h (suc n) = All-append IsByte (digest_bytes h n) (to_be_bytes w32 (slice_index h n)) (bytes_low h n) (word_low (slice_index h n))
 
--- what bytes tell of a number of 128 bits
+-- what bytes hold of a number of 128 bits
 number_low : (bytes : List ℕ) → ((i : ℕ) → slice_index bytes i < 256) → from_be_bytes w128 bytes < 2 ^ 128
 number_low bytes low = omega (arith, low 0, low 1, low 2, low 3, low 4, low 5, low 6, low 7, low 8, low 9, low 10, low 11, low 12, low 13, low 14, low 15)
 

@@ -1,4 +1,4 @@
--- What the rows of all guests tell together.
+-- What the rows of all guests list together.
 use Rattle.std.proofs.Common.{◌≡◌, ℕ, zero, suc, ◌+◌, ◌-◌, ◌<◌, ◌≤◌, ◌^◌, min, cond, List, [], ◌∷◌, ◌++◌, length, length-append, map, eqb, ltb, refl, ap, sym, ◌∙◌, arith}
 use Rattle.std.specs.Prelude.{All, filter, sum_by}
 use Rattle.std.specs.List.{AllZip, Contains}
@@ -14,8 +14,8 @@ use Rattle.page_census.specs.declared.numbers.GuestNumbers.{GuestNumbers}
 use Rattle.page_census.specs.declared.guest.Guest.{Guest}
 use Rattle.fleet_census.specs.Amounts.{all_digests, sum_below}
 use Rattle.fleet_census.specs.Fleets.{all_copies, all_holders, all_zero, copies_of, pages_of, zero_of}
-use Rattle.fleet_laws.specs.Merges.{AreRowsOf, AreToldApart, digest, zeros}
-use Rattle.fleet_laws.proofs.Contents.{distinct_told}
+use Rattle.fleet_laws.specs.Merges.{AreRowsOf, AreApart, digest, zeros}
+use Rattle.fleet_laws.proofs.Contents.{distinct_by_digest}
 use Rattle.fleet_laws.proofs.Digests.{digest_low}
 use Rattle.fleet_laws.proofs.Guests.{AreCounts, guest_counts}
 use Rattle.fleet_laws.proofs.Keys.{in_both}
@@ -50,7 +50,7 @@ module _ {S : Type 0} (pages : S → List (List ℕ)) where
   abbrev pub AreAllCounts : List (Guest S) → List (List Row) → Type 0
   AreAllCounts guests fleet = AllZip (λ (guest : Guest S) (rows : List Row). AreCounts (contents_of pages guest) rows) guests fleet
 
-  module _ (known : List Content) (told : AreToldApart known) where
+  module _ (known : List Content) (apart : AreApart known) where
     pub each_counts : (guests : List (Guest S)) (fleet : List (List Row)) → AllZip (AreRowsOf pages) guests fleet
         → All (Contains known) (contents pages guests) → All (Contains known) (zeros guests) → AreAllCounts guests fleet
     each_counts [] [] are ks kz = tt
@@ -61,7 +61,7 @@ module _ {S : Type 0} (pages : S → List (List ℕ)) where
         let rest : List Content = contents pages guests in
         let zero : Content = (guest.salt, blank) in
         let both = in_both (Contains known) own rest ks in (
-          guest_counts known told pages guest rows (All-head (Contains known) zero (zeros guests) kz) both.0 are.0,
+          guest_counts known apart pages guest rows (All-head (Contains known) zero (zeros guests) kz) both.0 are.0,
           each_counts guests fleet are.1 both.1 (All-tail (Contains known) zero (zeros guests) kz),
         )
 
@@ -78,7 +78,7 @@ module _ {S : Type 0} (pages : S → List (List ℕ)) where
         let sums : sum_alone (guest_numbers all own ∷ numbers) ≡ length own - distinct is_same own + sum_alone numbers =
         sum_by-cons (λ (n : GuestNumbers). n.alone) (guest_numbers all own) numbers in
         let more = sum_by-cons (λ (g : Guest S). distinct eqb (map digest (contents_of pages g))) guest guests in
-        let same : distinct is_same own ≡ distinct eqb (map digest own) = distinct_told known told own both.0 in
+        let same : distinct is_same own ≡ distinct eqb (map digest own) = distinct_by_digest known apart own both.0 in
         let few : distinct eqb (map digest own) ≤ length (map digest own) = distinct_few (map digest own) all_digests (digests_low own) in
         let len : length (own ++ rest) ≡ length own + length rest = length-append own rest in
         omega (arith, sums, more, same, few, len, length-map own digest, sum_alone_is all guests both.1)

@@ -1,4 +1,4 @@
--- What the rows of a whole digest tell of a guest's pages.
+-- What the rows of a whole digest list of a guest's pages.
 use Rattle.std.proofs.Common.{◌≡◌, ℕ, ◌+◌, ◌%◌, ◌^◌, Bool, true, false, cond, List, [], ◌∷◌, length, map, eqb, refl, ap, sym, ◌∙◌, ⊎_elim, arith}
 use Rattle.std.specs.Prelude.{All, filter}
 use Rattle.std.specs.List.{Contains}
@@ -8,7 +8,7 @@ use Rattle.std.proofs.lemmas.List.Elements.{All-cons, All-head, All-nil, All-tai
 use Rattle.std.proofs.lemmas.List.Sums.{sum_by-cons}
 use Rattle.page_model.specs.Pages.{blank}
 use Rattle.page_digest.specs.Hashes.{content_digest}
-use Rattle.guest_digests.specs.Counted.{AreCounted, count_of, told_copies}
+use Rattle.guest_digests.specs.Counted.{AreCounted, count_of, listed_copies}
 use Rattle.guest_digests.specs.Samples.{digests_of, is_kept, kept_digests, zeros_digest}
 use Rattle.guest_digests.specs.declared.line.DigestLine.{DigestLine}
 use Rattle.digest_text.specs.Fields.{Row}
@@ -19,8 +19,8 @@ use Rattle.page_census.specs.Contents.{Content, contents_of}
 use Rattle.page_census.specs.Numbers.{copies, is_zero}
 use Rattle.page_census.specs.declared.guest.Guest.{Guest}
 use Rattle.fleet_census.specs.Fleets.{copies_of, lines_of, pages_of, zero_of}
-use Rattle.fleet_laws.specs.Merges.{AreRowsOf, AreToldApart, digest, whole}
-use Rattle.fleet_laws.proofs.Contents.{zero_told}
+use Rattle.fleet_laws.specs.Merges.{AreRowsOf, AreApart, digest, whole}
+use Rattle.fleet_laws.proofs.Contents.{zero_by_digest}
 use Rattle.fleet_laws.proofs.Keys.{Agrees, filter_by}
 
 -- the rows count the digests of these contents
@@ -87,13 +87,13 @@ copies_passing q d (x ∷ ds) =
     both true e m = ap (λ (b : Bool). cond b 1 0 + cond (q d) m 0) (ap q (sym (eqb-true d x e))) ∙ there (q d) m
     both false e m = elsewhere (q x) (q d) m
 
-module _ (known : List Content) (told : AreToldApart known) (salt : ℕ) (zeros_known : let zeros : Content = (salt, blank) in Contains known zeros) where
+module _ (known : List Content) (apart : AreApart known) (salt : ℕ) (zeros_known : let zeros : Content = (salt, blank) in Contains known zeros) where
   zeros_agree : (pages : List (List ℕ)) → All (Contains known) (contents_with salt pages) → All (Agrees digest is_zero (λ k. eqb k (zeros_digest salt))) (contents_with salt pages)
   zeros_agree [] ks = All-nil (Agrees digest is_zero (λ k. eqb k (zeros_digest salt)))
   zeros_agree (bytes ∷ pages) ks =
       let c : Content = (salt, bytes) in
       All-cons (Agrees digest is_zero (λ k. eqb k (zeros_digest salt))) c (contents_with salt pages)
-      (zero_told known told salt bytes zeros_known (All-head (Contains known) c (contents_with salt pages) ks))
+      (zero_by_digest known apart salt bytes zeros_known (All-head (Contains known) c (contents_with salt pages) ks))
       (zeros_agree pages (All-tail (Contains known) c (contents_with salt pages) ks))
 
   -- of rows of these lines
@@ -111,7 +111,7 @@ module _ (known : List Content) (told : AreToldApart known) (salt : ℕ) (zeros_
       let head : DigestHead = head_by name (whole salt) pages in
       let own : List Content = contents_with salt pages in
       let of : (d : ℕ) → copies_of d (rows_of head (line ∷ lines)) ≡ copies eqb d (map digest own) = λ d.
-      ap (told_copies d) (lines_are head (line ∷ lines)) ∙ counted.told d ∙ ap (count_of d) (all_kept salt (digests_of salt pages) ∙ digests_are salt pages) ∙ flipped d (map digest own) in
+      ap (listed_copies d) (lines_are head (line ∷ lines)) ∙ counted.copies d ∙ ap (count_of d) (all_kept salt (digests_of salt pages) ∙ digests_are salt pages) ∙ flipped d (map digest own) in
       record {
         copies_are = of;
         zero_are = λ d.
@@ -121,7 +121,7 @@ module _ (known : List Content) (told : AreToldApart known) (salt : ℕ) (zeros_
       }
 
 -- of a guest's rows
-pub guest_counts : (known : List Content) → AreToldApart known → {S : Type 0} (pages : S → List (List ℕ)) (guest : Guest S) (rows : List Row)
+pub guest_counts : (known : List Content) → AreApart known → {S : Type 0} (pages : S → List (List ℕ)) (guest : Guest S) (rows : List Row)
     → (let zeros : Content = (guest.salt, blank) in Contains known zeros) → All (Contains known) (contents_of pages guest) → AreRowsOf pages guest rows
     → AreCounts (contents_of pages guest) rows
-guest_counts known told pages guest rows kz ks are = rw are.are (by_lines known told guest.salt kz (pages guest.source) are.name are.lines ks are.counted)
+guest_counts known apart pages guest rows kz ks are = rw are.are (by_lines known apart guest.salt kz (pages guest.source) are.name are.lines ks are.counted)

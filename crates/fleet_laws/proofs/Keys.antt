@@ -32,7 +32,7 @@ module _ {X : Type 0} (P : X → Type 0) (same : X → X → Bool) (key : X → 
       let later = All-tail P x xs ps in
       rw (any_by x (All-head P x xs ps) xs later, distinct_by xs later) refl
 
--- what passes is told by the keys
+-- what passes is known by the keys
 module _ {X : Type 0} (key : X → ℕ) (p : X → Bool) (q : ℕ → Bool) where
   abbrev pub Agrees : X → Type 0
   Agrees x = p x ≡ q (key x)

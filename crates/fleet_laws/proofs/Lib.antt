@@ -4,7 +4,7 @@ mod Sums
 mod Contents
 mod Guests
 mod Fleets
-mod Told
+mod Matched
 mod Table
 mod Merges
 mod Texts

@@ -1,4 +1,4 @@
--- A merge of whole digests tells the numbers of a census.
+-- A merge of whole digests has the numbers of a census.
 use Rattle.std.proofs.Common.{◌≡◌, ℕ, zero, suc, ◌<◌, List, [], ◌∷◌, ◌++◌, length, map, get_or, eqb, refl, inl, inr, arith}
 use Rattle.std.specs.Prelude.{◌⊎◌, All}
 use Rattle.std.specs.List.{AllZip, Contains}
@@ -15,28 +15,28 @@ use Rattle.fleet_census.specs.Fleets as merged
 use Rattle.fleet_census.specs.Numbers.{IsSampleOf}
 use Rattle.fleet_census.specs.Openings.{sample_of}
 use Rattle.fleet_census.specs.Fleets.{all_copies}
-use Rattle.fleet_laws.specs.Merges.{AreRowsOf, AreToldApart, DigestLaw, MergeLaw, TellsGuest, digest, whole, zeros}
+use Rattle.fleet_laws.specs.Merges.{AreRowsOf, AreApart, DigestLaw, MergeLaw, MatchesGuest, digest, whole, zeros}
 use Rattle.fleet_laws.proofs.Fleets.{AreAllCounts, all_copies_are, each_counts}
 use Rattle.fleet_laws.proofs.Keys.{in_both}
 use Rattle.fleet_laws.proofs.Table.{table_is}
-use Rattle.fleet_laws.proofs.Told.{tells_guest, tells_total}
+use Rattle.fleet_laws.proofs.Matched.{guest_matches, total_matches}
 
 module _ {S : Type 0} (pages : S → List (List ℕ)) where
-  module _ (known : List Content) (told : AreToldApart known) (fleet : List (List Row)) (all : List Content)
+  module _ (known : List Content) (apart : AreApart known) (fleet : List (List Row)) (all : List Content)
       (ka : All (Contains known) all) (of : (d : ℕ) → all_copies fleet d ≡ copies eqb d (map digest all)) where
-    each_told : (guests : List (Guest S)) (some : List (List Row)) → AreAllCounts pages guests some → All (Contains known) (contents pages guests)
-        → AllZip TellsGuest (map (merged.guest_numbers fleet) some) (map (λ (guest : Guest S). census.guest_numbers all (contents_of pages guest)) guests)
-    each_told [] [] each ks = tt
-    each_told [] (rows ∷ some) each ks = absurd each
-    each_told (guest ∷ guests) [] each ks = absurd each
-    each_told (guest ∷ guests) (rows ∷ some) each ks =
+    each_matches : (guests : List (Guest S)) (some : List (List Row)) → AreAllCounts pages guests some → All (Contains known) (contents pages guests)
+        → AllZip MatchesGuest (map (merged.guest_numbers fleet) some) (map (λ (guest : Guest S). census.guest_numbers all (contents_of pages guest)) guests)
+    each_matches [] [] each ks = tt
+    each_matches [] (rows ∷ some) each ks = absurd each
+    each_matches (guest ∷ guests) [] each ks = absurd each
+    each_matches (guest ∷ guests) (rows ∷ some) each ks =
         let own : List Content = contents_of pages guest in
         let rest : List Content = contents pages guests in
         let both = in_both (Contains known) own rest ks in
-        (tells_guest known told fleet rows all own ka both.0 of each.0, each_told guests some each.1 both.1)
+        (guest_matches known apart fleet rows all own ka both.0 of each.0, each_matches guests some each.1 both.1)
 
-  pub tells_census : DigestLaw pages
-  tells_census guests fleet is =
+  pub census_matches : DigestLaw pages
+  census_matches guests fleet is =
       let all : List Content = contents pages guests in
       let zero : List Content = zeros guests in
       let known : List Content = all ++ zero in
@@ -45,16 +45,16 @@ module _ {S : Type 0} (pages : S → List (List ℕ)) where
       let each : AreAllCounts pages guests fleet = each_counts pages known is.apart guests fleet is.rows ka kz in
       let of : (d : ℕ) → all_copies fleet d ≡ copies eqb d (map digest all) = all_copies_are pages guests fleet each in
       record {
-        guests_are = each_told known is.apart fleet all ka of guests fleet each ka;
-        total_is = tells_total known is.apart pages guests fleet each ka;
+        guests_are = each_matches known is.apart fleet all ka of guests fleet each ka;
+        total_is = total_matches known is.apart pages guests fleet each ka;
         copies_are = λ few. table_is known is.apart fleet all ka of few;
       }
 
-  -- rows of a whole digest tell its sample, if there is a row
+  -- rows of a whole digest have its sample, if there is a row
   own_sample : (guest : Guest S) (rows : List Row) → AreRowsOf pages guest rows → (sample_of rows ≡ 0) ⊎ (sample_of rows ≡ 1)
   own_sample guest rows are = rw are.are (of_lines are.lines)
     where
-      of_lines : (lines : List DigestLine) → let told : ℕ = sample_of (rows_of (head_by are.name (whole guest.salt) (pages guest.source)) lines) in (told ≡ 0) ⊎ (told ≡ 1)
+      of_lines : (lines : List DigestLine) → let sample : ℕ = sample_of (rows_of (head_by are.name (whole guest.salt) (pages guest.source)) lines) in (sample ≡ 0) ⊎ (sample ≡ 1)
       of_lines [] = inl refl
       of_lines (line ∷ lines) = inr refl
 
@@ -75,8 +75,8 @@ module _ {S : Type 0} (pages : S → List (List ℕ)) where
     ]
   ]
 
-  pub merge_tells_census : {A : Type 0} → MergeLaw A pages
-  merge_tells_census guests fleet pairs numbers is are = record {
-    told = rw (are.guests, are.total, are.copies) (tells_census guests fleet is);
+  pub merge_matches : {A : Type 0} → MergeLaw A pages
+  merge_matches guests fleet pairs numbers is are = record {
+    matches = rw (are.guests, are.total, are.copies) (census_matches guests fleet is);
     sample = sample_is guests fleet numbers.sample is.rows are.sample;
   }

@@ -19,12 +19,12 @@ use Rattle.fleet_census.specs.Classes.{has_contents, is_in_class}
 use Rattle.fleet_census.specs.Fleets as merged
 use Rattle.fleet_census.specs.Fleets.{all_copies, class_below, is_zeros}
 use Rattle.fleet_census.specs.declared.class.FleetClass.{FleetClass}
-use Rattle.fleet_laws.specs.Merges.{AreToldApart, as_counted, digest}
-use Rattle.fleet_laws.proofs.Contents.{copies_told, distinct_told}
+use Rattle.fleet_laws.specs.Merges.{AreApart, as_counted, digest}
+use Rattle.fleet_laws.proofs.Contents.{copies_by_digest, distinct_by_digest}
 use Rattle.fleet_laws.proofs.Fleets.{digests_low}
 use Rattle.fleet_laws.proofs.Keys.{filter_by, passing_by}
 use Rattle.fleet_laws.proofs.Sums.{estimate_is, once_passing, same_sum}
-use Rattle.fleet_laws.proofs.Told.{sum_passing}
+use Rattle.fleet_laws.proofs.Matched.{sum_passing}
 
 -- up to the greatest number of a census, the last numbers of a class are the same
 same_end : (c p : ℕ) → c < 2 ^ 32 → leb c (min p (2 ^ 64 - 1)) ≡ leb c (min p (2 ^ 32 - 1))
@@ -67,7 +67,7 @@ all_numbers = refl
 some_contents : (class : FleetClass) → has_contents class ≡ census.has_contents (as_counted class)
 some_contents class = let e : class.contents.zeros + class.contents.others ≡ estimate class.contents 1 = omega arith in ap (ltb 0) e
 
-module _ (known : List Content) (told : AreToldApart known) (fleet : List (List Row)) (all : List Content) (ka : All (Contains known) all)
+module _ (known : List Content) (apart : AreApart known) (fleet : List (List Row)) (all : List Content) (ka : All (Contains known) all)
     (of : (d : ℕ) → all_copies fleet d ≡ copies eqb d (map digest all)) (few : length all < 2 ^ 32) where
   abbrev is_in : ℕ → ℕ → Bool
   is_in number d = is_between (census.fewest number) (census.most number) (copies eqb d (map digest all))
@@ -88,12 +88,12 @@ module _ (known : List Content) (told : AreToldApart known) (fleet : List (List 
   class_is number =
       let passes : Content → Bool = has_copies all (census.fewest number) (census.most number) in
       let agree : All (λ c. passes c ≡ is_in number (digest c)) all = λ i d lt.
-      ap (is_between (census.fewest number) (census.most number)) (copies_told known told (get_or all i d) (ka i d lt) all ka) in
+      ap (is_between (census.fewest number) (census.most number)) (copies_by_digest known apart (get_or all i d) (ka i d lt) all ka) in
       let contents : estimate (class_below fleet all_digests number).contents 1 ≡ distinct is_same (filter passes all) =
       estimate_is (is_zeros fleet) (λ d. cond (is_in_class (all_copies fleet d) number) 1 0) all_digests
       ∙ same_sum (λ d. cond (is_in_class (all_copies fleet d) number) 1 0) (λ d. cond (is_in number d) 1 0) all_digests (λ d. ap (λ (t : Bool). cond t 1 0) (in_class number d))
       ∙ once_passing (map digest all) all_digests (digests_low all) (is_in number) (in_some number)
-      ∙ sym (distinct_told known told (filter passes all) (All-filter passes (Contains known) all ka) ∙ ap (distinct eqb) (filter_by digest passes (is_in number) all agree)) in
+      ∙ sym (distinct_by_digest known apart (filter passes all) (All-filter passes (Contains known) all ka) ∙ ap (distinct eqb) (filter_by digest passes (is_in number) all agree)) in
       let pages : estimate (class_below fleet all_digests number).pages 1 ≡ count_by passes all =
       estimate_is (is_zeros fleet) (λ d. cond (is_in_class (all_copies fleet d) number) (all_copies fleet d) 0) all_digests
       ∙ sum_passing all (is_in number) (λ d. is_in_class (all_copies fleet d) number) (all_copies fleet) (in_class number) of

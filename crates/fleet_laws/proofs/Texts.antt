@@ -24,10 +24,10 @@ use Rattle.fleet_census.specs.States.{Said}
 use Rattle.fleet_census.specs.declared.numbers.FleetNumbers.{FleetNumbers}
 use Rattle.fleet_census.specs.declared.pair.Pairs.{Pairs}
 use Rattle.fleet_laws.specs.Merges.{AreRowsOf, IsFleetOf, whole}
-use Rattle.fleet_laws.specs.Texts.{AreDigestsOf, IsTextOf, Named, TellCensus, TextLaw, reads_of, with_pages, written_rows}
+use Rattle.fleet_laws.specs.Texts.{AreDigestsOf, IsTextOf, Named, TextsMatchCensus, TextLaw, reads_of, with_pages, written_rows}
 use Rattle.fleet_laws.proofs.Digests.{digest_low}
 use Rattle.fleet_laws.proofs.Guests.{all_kept}
-use Rattle.fleet_laws.proofs.Merges.{merge_tells_census}
+use Rattle.fleet_laws.proofs.Merges.{merge_matches}
 
 one_sample : IsSample 1
 unfolding ones ones_in
@@ -50,10 +50,10 @@ lines_low salt pages lines c k d within =
     let ds : List ℕ = digests_of salt pages in
     let digest : ℕ = (get_or lines k d).digest in
     let low : All (λ k. k < 2 ^ 128) ds = All-map (λ (k : ℕ). k < 2 ^ 128) (content_digest salt) pages (λ i page lt. digest_low _ _) in
-    let told = get_or-le-sum_by (λ (line : DigestLine). cond (line.digest == digest) line.copies 0) lines k d within in
+    let listed = get_or-le-sum_by (λ (line : DigestLine). cond (line.digest == digest) line.copies 0) lines k d within in
     let own : cond (digest == digest) (get_or lines k d).copies 0 ≡ (get_or lines k d).copies = rw (eq-eqb digest digest refl) refl in
     let kept : count_of digest (kept_digests (whole salt) pages) ≡ count_of digest ds = ap (count_of digest) (all_kept salt ds) in
-    low_counted (2 ^ 128) digest ds low (omega (arith, told, own, c.some k d within, c.told digest, kept))
+    low_counted (2 ^ 128) digest ds low (omega (arith, listed, own, c.some k d within, c.copies digest, kept))
 
 module _ {S A : Type 0} (is_steady : S → Type 0) (pages : S → List (List ℕ)) where
   -- the head of the rows
@@ -126,7 +126,7 @@ merged_numbers files fleet pairs numbers said merged =
 -- of guests whose sources are steady
 steady_texts : {S A B : Type 0} (is_steady : S → Type 0) (pages : S → List (List ℕ)) (guests : List (Guest S)) (all : List (Named A))
     (texts : List (List ℕ)) → AreSteady is_steady guests → AllZip (AreDigestsOf is_steady pages) guests all → AllZip IsTextOf all texts
-    → TellCensus B pages guests all texts
+    → TextsMatchCensus B pages guests all texts
 steady_texts is_steady pages guests all texts steady are written =
     let fleet : List (List Row) = map written_rows all in
     let said = all_said is_steady pages guests all texts steady are written in
@@ -136,7 +136,7 @@ steady_texts is_steady pages guests all texts steady are written =
       rows = rows;
       merged = λ apart pairs numbers merged.
           let is : IsFleetOf pages guests fleet = record { rows = rows; apart = apart } in
-          merge_tells_census pages guests fleet pairs numbers is (merged_numbers (map digest_of texts) fleet pairs numbers said merged);
+          merge_matches pages guests fleet pairs numbers is (merged_numbers (map digest_of texts) fleet pairs numbers said merged);
     }
 
 -- what was read, as a source: each read of it returns the same
@@ -178,8 +178,8 @@ module _ {S A : Type 0} (is_steady : S → Type 0) (pages : S → List (List ℕ
       let P : Guest S → Type 0 = λ g. is_steady g.source in
       rw (are.0.lines.same (All-head P guest guests steady), pages_read guests all are.1 (All-tail P guest guests steady)) refl
 
-pub texts_tell_census : {S A B : Type 0} (is_steady : S → Type 0) (pages : S → List (List ℕ)) → TextLaw A B is_steady pages
-texts_tell_census is_steady pages guests all texts are =
+pub texts_match : {S A B : Type 0} (is_steady : S → Type 0) (pages : S → List (List ℕ)) → TextLaw A B is_steady pages
+texts_match is_steady pages guests all texts are =
     let reads : List (Guest (List (List ℕ))) = reads_of is_steady pages guests all are.digests in
     let digests = digests_read is_steady pages guests all are.digests in
     record {

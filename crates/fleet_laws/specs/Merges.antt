@@ -1,4 +1,4 @@
--- A merge of whole digests tells the numbers of a census of the pages.
+-- A merge of whole digests has the numbers of a census of the pages.
 use Rattle.std.specs.Prelude.{◌≡◌, ℕ, ◌-◌, ◌^◌, ◌<◌, min, List, ◌++◌, length, map}
 use Rattle.std.specs.List.{AllZip, Contains}
 use Rattle.page_model.specs.Pages.{blank}
@@ -29,7 +29,7 @@ abbrev pub digest : Content → ℕ
 digest content = content_digest content.0 content.1
 
 -- no two different ones of these contents have one digest
-pub record AreToldApart (all : List Content) : Type 0 where
+pub record AreApart (all : List Content) : Type 0 where
   pub each : (a b : Content) → Contains all a → Contains all b → digest a ≡ digest b → a ≡ b
 
 -- a sample of 1, which keeps each digest
@@ -53,10 +53,10 @@ module _ {S : Type 0} (pages : S → List (List ℕ)) where
   -- those of all pages, and that of a page of zeros under each guest's salt, whether or not the guest has one.
   pub record IsFleetOf (guests : List (Guest S)) (fleet : List (List Row)) : Type 0 where
     pub rows : AllZip AreRowsOf guests fleet
-    pub apart : AreToldApart (contents pages guests ++ zeros guests)
+    pub apart : AreApart (contents pages guests ++ zeros guests)
 
 -- the numbers of a guest are those of a census, which has `within`, too
-pub record TellsGuest (guest : FleetGuest) (numbers : GuestNumbers) : Type 0 where
+pub record MatchesGuest (guest : FleetGuest) (numbers : GuestNumbers) : Type 0 where
   pub pages : guest.pages ≡ numbers.pages
   pub zero : guest.zero ≡ numbers.zero
   pub distinct : estimate guest.distinct 1 ≡ numbers.distinct
@@ -64,7 +64,7 @@ pub record TellsGuest (guest : FleetGuest) (numbers : GuestNumbers) : Type 0 whe
   pub alone : estimate guest.alone 1 ≡ numbers.alone
 
 -- the numbers in total are those of a census
-pub record TellsTotal (total : FleetTotal) (numbers : TotalNumbers) : Type 0 where
+pub record MatchesTotal (total : FleetTotal) (numbers : TotalNumbers) : Type 0 where
   pub pages : total.pages ≡ numbers.pages
   pub zero : total.zero ≡ numbers.zero
   pub shared : estimate total.shared 1 ≡ numbers.shared
@@ -73,7 +73,7 @@ pub record TellsTotal (total : FleetTotal) (numbers : TotalNumbers) : Type 0 whe
   pub zero_reclaimed : total.zero_reclaimed ≡ numbers.zero_reclaimed
   pub between : estimate total.between 1 ≡ numbers.between
 
--- A class as a census tells it. A census has fewer than 2^32 pages, and so its last class ends there.
+-- A class as a census has it. A census has fewer than 2^32 pages, and so its last class ends there.
 abbrev pub as_counted : FleetClass → CopiesClass
 as_counted class = record {
   from = class.from;
@@ -85,20 +85,20 @@ as_counted class = record {
 module _ {S : Type 0} (pages : S → List (List ℕ)) where
   -- These numbers of a merge are those of a census of the guests' pages: of each guest, in total, and class for class, if there are as
   -- few pages as a census may have.
-  pub record TellsCensus (guests : List (Guest S)) (told : List FleetGuest) (total : FleetTotal) (copies : List FleetClass) : Type 0 where
-    pub guests_are : AllZip TellsGuest told (census.numbers_of pages guests)
-    pub total_is : TellsTotal total (census.total_numbers pages guests)
+  pub record MatchesCensus (guests : List (Guest S)) (counted : List FleetGuest) (total : FleetTotal) (copies : List FleetClass) : Type 0 where
+    pub guests_are : AllZip MatchesGuest counted (census.numbers_of pages guests)
+    pub total_is : MatchesTotal total (census.total_numbers pages guests)
     pub copies_are : length (contents pages guests) < 2 ^ 32 → map as_counted copies ≡ census.copies_table (contents pages guests)
 
   -- the numbers of a merge of whole digests
   abbrev pub DigestLaw : Type 0
   DigestLaw =
       (guests : List (Guest S)) (fleet : List (List Row)) → IsFleetOf pages guests fleet →
-      TellsCensus guests (map (merged.guest_numbers fleet) fleet) (merged.total_numbers fleet) (merged.copies_table fleet)
+      MatchesCensus guests (map (merged.guest_numbers fleet) fleet) (merged.total_numbers fleet) (merged.copies_table fleet)
 
 -- The numbers that a merge answers are those of a census, and their sample is 1.
 pub record IsCensus {S A : Type 0} (pages : S → List (List ℕ)) (guests : List (Guest S)) (numbers : FleetNumbers A) : Type 0 where
-  pub told : TellsCensus pages guests numbers.guests.items numbers.total numbers.copies.items
+  pub matches : MatchesCensus pages guests numbers.guests.items numbers.total numbers.copies.items
   pub sample : numbers.sample ≡ 1
 
 -- and those that `merge` answers, whether or not it counts pairs

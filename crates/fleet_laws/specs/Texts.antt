@@ -12,7 +12,7 @@ use Rattle.page_census.specs.declared.guest.Guest.{Guest}
 use Rattle.fleet_census.specs.Numbers.{IsMerged}
 use Rattle.fleet_census.specs.declared.numbers.FleetNumbers.{FleetNumbers}
 use Rattle.fleet_census.specs.declared.pair.Pairs.{Pairs}
-use Rattle.fleet_laws.specs.Merges.{AreRowsOf, AreToldApart, IsCensus, whole, zeros}
+use Rattle.fleet_laws.specs.Merges.{AreRowsOf, AreApart, IsCensus, whole, zeros}
 
 -- a guest's digests, and the name that they are written under
 pub record Named (A : Type 0) : Type 0 where
@@ -58,23 +58,23 @@ module _ {S : Type 0} (is_steady : S → Type 0) (pages : S → List (List ℕ))
 -- The texts say the rows that were written, which are those of whole digests of these guests' pages. And if different contents have
 -- different digests, as in `IsFleetOf`, the numbers that `merge` answers of the texts are those of a census of the pages, whether or not it
 -- counts pairs.
-pub record TellCensus {S A : Type 0} (B : Type 0) (pages : S → List (List ℕ)) (guests : List (Guest S)) (all : List (Named A))
+pub record TextsMatchCensus {S A : Type 0} (B : Type 0) (pages : S → List (List ℕ)) (guests : List (Guest S)) (all : List (Named A))
     (texts : List (List ℕ)) : Type 0 where
   pub said : map digest_of texts ≡ map Ok (map written_rows all)
   pub rows : AllZip (AreRowsOf pages) guests (map written_rows all)
-  pub merged : AreToldApart (contents pages guests ++ zeros guests) → (pairs : Pairs) (numbers : FleetNumbers B)
+  pub merged : AreApart (contents pages guests ++ zeros guests) → (pairs : Pairs) (numbers : FleetNumbers B)
       → IsMerged (map digest_of texts) pairs (Ok numbers) → IsCensus pages guests numbers
 
--- What the texts tell is a census of the pages that were read. Of steady sources these are the sources' pages, and what the texts tell is
+-- What the texts list is a census of the pages that were read. Of steady sources these are the sources' pages, and what the texts list is
 -- a census of these.
-pub record TellReads {S A : Type 0} (B : Type 0) (is_steady : S → Type 0) (pages : S → List (List ℕ)) (guests : List (Guest S))
+pub record TextsMatchReads {S A : Type 0} (B : Type 0) (is_steady : S → Type 0) (pages : S → List (List ℕ)) (guests : List (Guest S))
     (reads : List (Guest (List (List ℕ)))) (all : List (Named A)) (texts : List (List ℕ)) : Type 0 where
-  pub census : TellCensus B (λ read. read) reads all texts
+  pub census : TextsMatchCensus B (λ read. read) reads all texts
   pub same : AreSteady is_steady guests → reads ≡ map (with_pages pages) guests
-  pub steady : AreSteady is_steady guests → TellCensus B pages guests all texts
+  pub steady : AreSteady is_steady guests → TextsMatchCensus B pages guests all texts
 
 -- A: the allocator of the digests; B: that of the numbers
 abbrev pub TextLaw : {S : Type 0} → Type 0 → Type 0 → (S → Type 0) → (S → List (List ℕ)) → Type 0
 TextLaw {S} A B is_steady pages =
     (guests : List (Guest S)) (all : List (Named A)) (texts : List (List ℕ)) (are : AreTextsOf is_steady pages guests all texts)
-    → TellReads B is_steady pages guests (reads_of is_steady pages guests all are.digests) all texts
+    → TextsMatchReads B is_steady pages guests (reads_of is_steady pages guests all are.digests) all texts

@@ -1,4 +1,4 @@
-//! Laws of digests that are merged, about the definitions alone: what a merge tells of guests' pages is what a census tells of them.
+//! Laws of digests that are merged, about the definitions alone: what a merge counts of guests' pages is what a census counts of them.
 //!
 //! They hold for every source of pages. The functions' bodies are empty: the contract is all there is.
 #![tactic(auto)]

@@ -43,9 +43,9 @@ line_more digests done n d lines after so_far below some next e =
     rw (apart, e) (record {
       rising = rw (map-append (λ (l : DigestLine). l.digest) lines (line ∷ [])) (rising_push (map (λ (l : DigestLine). l.digest) lines) d so_far.rising (All-map (λ (x : ℕ). x < d) (λ (l : DigestLine). l.digest) lines below));
       some = All-push (λ (l : DigestLine). 1 ≤ l.copies) lines line so_far.some some;
-      told = λ x.
+      copies = λ x.
           sum_by-append (λ (l : DigestLine). cond (l.digest == x) l.copies 0) lines (line ∷ [])
-          ∙ rw (so_far.told x) (sym (sum_by-append (λ (other : ℕ). cond (other == x) 1 0) (take done digests) (replicate n d) ∙ rw (sum_by-replicate (λ (other : ℕ). cond (other == x) 1 0) n d) (ap (λ (m : ℕ). count_of x (take done digests) + m) (copies_add (d == x) n))));
+          ∙ rw (so_far.copies x) (sym (sum_by-append (λ (other : ℕ). cond (other == x) 1 0) (take done digests) (replicate n d) ∙ rw (sum_by-replicate (λ (other : ℕ). cond (other == x) 1 0) n d) (ap (λ (m : ℕ). count_of x (take done digests) + m) (copies_add (d == x) n))));
       total = omega (arith, sum_by-append (λ (l : DigestLine). l.copies) lines (line ∷ []), so_far.total, length-append (take done digests) (replicate n d), length-replicate n d);
     })
 
@@ -59,7 +59,7 @@ digested steady pages by digests sorted lines read same counted = record {
   counted = record {
     rising = counted.rising;
     some = counted.some;
-    told = λ x. counted.told x ∙ sum_by-IsPermutation (λ (other : ℕ). cond (other == x) 1 0) digests sorted same ∙ ap (count_of x) (read.added ∙ all_given by read.read);
+    copies = λ x. counted.copies x ∙ sum_by-IsPermutation (λ (other : ℕ). cond (other == x) 1 0) digests sorted same ∙ ap (count_of x) (read.added ∙ all_given by read.read);
     total = counted.total ∙ length_permutation digests sorted same ∙ ap length (read.added ∙ all_given by read.read);
   };
 }

@@ -8,20 +8,20 @@ use Rattle.guest_digests.specs.declared.line.DigestLine.{DigestLine}
 abbrev pub count_of : ℕ → List ℕ → ℕ
 count_of digest digests = count_by (λ other. other == digest) digests
 
--- how many copies the lines tell of a digest
-abbrev pub told_copies : ℕ → List DigestLine → ℕ
-told_copies digest lines = sum_by (λ line. if line.digest == digest then line.copies else 0) lines
+-- how many copies the lines list of a digest
+abbrev pub listed_copies : ℕ → List DigestLine → ℕ
+listed_copies digest lines = sum_by (λ line. if line.digest == digest then line.copies else 0) lines
 
--- all copies that the lines tell of
+-- all copies that the lines list
 abbrev pub all_copies : List DigestLine → ℕ
 all_copies lines = sum_by (λ line. line.copies) lines
 
--- These lines count these digests: they rise, each tells of a copy at least, and of each digest they tell as many copies as
+-- These lines count these digests: they rise, each lists a copy at least, and of each digest they list as many copies as
 -- there are.
 pub record AreCounted (digests : List ℕ) (lines : List DigestLine) : Type 0 where
   pub rising : IsStrictlyIncreasing (map (λ line. line.digest) lines)
   pub some : All (λ line. 1 ≤ line.copies) lines
-  pub told : (digest : ℕ) → told_copies digest lines ≡ count_of digest digests
+  pub copies : (digest : ℕ) → listed_copies digest lines ≡ count_of digest digests
   pub total : all_copies lines ≡ length digests
 
 -- These lines count the digests of pages that are kept, by one read of each page; a steady source returns these very pages.

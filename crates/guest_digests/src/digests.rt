@@ -3,8 +3,8 @@ ghost use Rattle.std.specs.Prelude.{◌≡◌, ◌≤◌, IfOk, length};
 ghost use Rattle.guest_digests.specs.Counted.{AreDigests};
 
 use crate::count::count_digests;
-use crate::{DigestFault, DigestLine, Sampling};
-use memory_pages::{PageSource, Progress, Workers, push_all};
+use crate::{DigestLine, Sampling};
+use memory_pages::{PageSource, Progress, ReadFault, Workers, push_all};
 use std::alloc::Allocator;
 use std::thread::Threads;
 
@@ -34,7 +34,7 @@ pub fn digest_pages<
     sampling: Sampling,
     source: &S,
     progress: &P,
-) -> Result<GuestDigests<A>, DigestFault<S::Fault>>
+) -> Result<GuestDigests<A>, ReadFault<S::Fault>>
     requires { 1 ≤ workers }
     ensures sampling { IfOk result (λ digests. digests.sampling ≡ sampling) }
     ensures pages { IfOk result (λ digests. digests.pages ≡ length (S.pages source.now)) }

@@ -12,6 +12,5 @@ mod sampling;
 
 pub use digests::{GuestDigests, digest_pages};
 pub use line::DigestLine;
-pub use memory_pages::ReadFault as DigestFault;
 pub use sample::Sample;
 pub use sampling::Sampling;

@@ -2,7 +2,6 @@
 use command_terms::{CommandEnd, DigestSource, EstimateWords, FleetWords, ImageCause};
 use digest_text::{LineFault, ReadFault, WriteFault};
 use fleet_census::FleetFault;
-use guest_digests::DigestFault;
 use live_memory::LiveFault;
 use memory_images::{FormFault, ImageFault};
 use report_text::PlainName;
@@ -197,11 +196,11 @@ impl From<LiveFault> for Cause {
     }
 }
 
-impl From<DigestFault<io::Error>> for Cause {
-    fn from(fault: DigestFault<io::Error>) -> Cause {
+impl From<memory_pages::ReadFault<io::Error>> for Cause {
+    fn from(fault: memory_pages::ReadFault<io::Error>) -> Cause {
         match fault {
-            DigestFault::OutOfMemory => Cause::from(AllocError),
-            DigestFault::Read(error) => Cause::from(error),
+            memory_pages::ReadFault::OutOfMemory => Cause::from(AllocError),
+            memory_pages::ReadFault::Read(error) => Cause::from(error),
         }
     }
 }

@@ -15,7 +15,7 @@ const EMPTY: &[u8] = b"guest,salt,pages,sample,digest,copies\n";
 const SAMPLED: &[u8] = b"guest,salt,pages,sample,digest,copies
 db,0,3,16,00e10000000000000000000000000010,3
 ";
-// It tells of less than its pages, which is known at its end.
+// It lists less than its pages, which is known at its end.
 const CUT: &[u8] = b"guest,salt,pages,sample,digest,copies
 db,0,4,1,00e1000000000000000000000000000a,3
 ";
@@ -33,7 +33,7 @@ fn refusal(rt: &impl Abort, alloc: Global, texts: &[&[u8]]) -> Option<Refusal> {
 }
 
 #[test]
-fn told(rt: HostRuntime) -> Result<(), Fail> {
+fn reported(rt: HostRuntime) -> Result<(), Fail> {
     let of = |texts: &[&[u8]]| refusal(&rt, rt.alloc(), texts);
     assert!(rt; of(&[EMPTY]).is_none());
     assert!(rt; of(&[WEB, CUT]) == Some(Refusal::Line(1, 2, Cause::Total)));

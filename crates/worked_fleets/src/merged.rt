@@ -63,6 +63,6 @@ pub fn pair_of(
     guest: usize,
     other: usize,
 ) -> Option<FleetPair> {
-    let told = merge_texts(rt, alloc, alloc, texts, Pairs::Counted).ok()?;
-    told.pairs.get(guest)?.get(other).copied()
+    let found = merge_texts(rt, alloc, alloc, texts, Pairs::Counted).ok()?;
+    found.pairs.get(guest)?.get(other).copied()
 }

@@ -33,7 +33,7 @@ fn amount(zeros: u64, others: u64, squares: u128) -> Amount {
 // The guests share a content of five copies, and zeros; each has a content of its own.
 #[test]
 fn guests(rt: HostRuntime) -> Result<(), Fail> {
-    let told = merge_texts(
+    let found = merge_texts(
         &rt,
         rt.alloc(),
         rt.alloc(),
@@ -42,7 +42,7 @@ fn guests(rt: HostRuntime) -> Result<(), Fail> {
     )
     .ok()
     .expect(&rt, "numbers");
-    assert!(rt; told.sample == 1);
+    assert!(rt; found.sample == 1);
     let web = FleetGuest {
         pages: 7,
         zero: 3,
@@ -64,13 +64,13 @@ fn guests(rt: HostRuntime) -> Result<(), Fail> {
         shared: amount(3, 2, 4),
         alone: amount(2, 1, 1),
     };
-    assert!(rt; told.guests.as_slice() == [web, empty, database].as_slice());
+    assert!(rt; found.guests.as_slice() == [web, empty, database].as_slice());
     Ok(())
 }
 
 #[test]
 fn total(rt: HostRuntime) -> Result<(), Fail> {
-    let told = merge_texts(
+    let found = merge_texts(
         &rt,
         rt.alloc(),
         rt.alloc(),
@@ -88,7 +88,7 @@ fn total(rt: HostRuntime) -> Result<(), Fail> {
         zero_reclaimed: 5,
         between: amount(1, 1, 1),
     };
-    assert!(rt; told.total == total);
+    assert!(rt; found.total == total);
     let once = FleetClass {
         from: 1,
         to: 1,
@@ -101,8 +101,8 @@ fn total(rt: HostRuntime) -> Result<(), Fail> {
         contents: amount(1, 1, 1),
         pages: amount(6, 5, 25),
     };
-    assert!(rt; told.copies.as_slice() == [once, five_to_eight].as_slice());
-    assert!(rt; told.pairs.is_empty());
+    assert!(rt; found.copies.as_slice() == [once, five_to_eight].as_slice());
+    assert!(rt; found.pairs.is_empty());
     Ok(())
 }
 
@@ -147,10 +147,10 @@ fn other_salts(rt: HostRuntime) -> Result<(), Fail> {
     let salted = b"guest,salt,pages,sample,digest,copies
 db,7,3,1,ad7facb2586fc6e966c004d7d1d16b02,3
 ";
-    let told = merge_texts(&rt, rt.alloc(), rt.alloc(), &[WEB, salted], Pairs::Omitted)
+    let found = merge_texts(&rt, rt.alloc(), rt.alloc(), &[WEB, salted], Pairs::Omitted)
         .ok()
         .expect(&rt, "numbers");
-    assert!(rt; told.total.zero == 3);
-    assert!(rt; matches!(told.guests.get(1), Some(guest) if guest.zero == 0));
+    assert!(rt; found.total.zero == 3);
+    assert!(rt; matches!(found.guests.get(1), Some(guest) if guest.zero == 0));
     Ok(())
 }

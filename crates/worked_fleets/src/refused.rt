@@ -15,8 +15,8 @@ fn each_request(rt: HostRuntime) -> Result<(), Fail> {
     for (pairs, requests) in [(Pairs::Omitted, 8), (Pairs::Counted, 10)] {
         for first in 0..requests {
             let heap = Refusing::new(rt.alloc(), first, 0);
-            let told = merge_texts(&rt, &heap, rt.alloc(), &[WEB, WEB], pairs).err();
-            assert!(rt; told == Some(Refusal::OutOfMemory), "{first}");
+            let found = merge_texts(&rt, &heap, rt.alloc(), &[WEB, WEB], pairs).err();
+            assert!(rt; found == Some(Refusal::OutOfMemory), "{first}");
             assert!(rt; heap.holds_nothing());
         }
         let heap = Refusing::new(rt.alloc(), requests, 0);

@@ -1,5 +1,5 @@
-use Rattle.fleet_laws.proofs.Merges.{tells_census}
+use Rattle.fleet_laws.proofs.Merges.{census_matches}
 use Rattle.fleet_laws.proofs.digest_law.Goals as goal
 
 pub returns : goal.returns
-returns g c = tells_census g.S.PageSource.pages
+returns g c = census_matches g.S.PageSource.pages

@@ -40,10 +40,10 @@ impl PageSource for Changing {
 fn copies<R: Threads + Abort + Sync>(rt: &R, alloc: Global) -> ([u64; 3], u64) {
     let reads = AtomicU64::new(0);
     let source = Changing { reads };
-    let told = digests_of(rt, alloc, 1, sampling_of(rt, 0, 1), &source)
+    let found = digests_of(rt, alloc, 1, sampling_of(rt, 0, 1), &source)
         .ok()
         .expect(rt, "digests");
-    let lines = told.lines.as_slice();
+    let lines = found.lines.as_slice();
     assert!(rt; lines.len() == 3);
     let mut copies = [lines[0].copies, lines[1].copies, lines[2].copies];
     copies.sort_unstable();

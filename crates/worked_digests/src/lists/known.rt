@@ -1,6 +1,7 @@
 //! The digests of a few pages. sha256sum computed them.
 use crate::lists::pages::{Memory, digests_of, memory_of, sampling_of};
-use guest_digests::{DigestFault, DigestLine};
+use guest_digests::DigestLine;
+use memory_pages::ReadFault;
 use refusing::Refusing;
 use std::alloc::{AllocError, Global};
 use std::process::Abort;
@@ -54,13 +55,13 @@ fn are_lines<R: Threads + Abort + Sync>(
 ) -> Result<bool, AllocError> {
     let memory = nine_pages(rt, alloc, 9)?;
     let sampling = sampling_of(rt, salt, every);
-    let told = digests_of(rt, alloc, 2, sampling, &memory)
+    let found = digests_of(rt, alloc, 2, sampling, &memory)
         .ok()
         .expect(rt, "digests");
-    assert_eq!(rt; told.pages, 9);
-    assert_eq!(rt; told.sampling, sampling);
+    assert_eq!(rt; found.pages, 9);
+    assert_eq!(rt; found.sampling, sampling);
     assert_eq!(rt; memory.reads.load(Ordering::SeqCst), 9);
-    Ok(told.lines.as_slice() == lines)
+    Ok(found.lines.as_slice() == lines)
 }
 
 #[test]
@@ -104,8 +105,8 @@ fn sampled(rt: HostRuntime) -> Result<(), Fail> {
 #[test]
 fn unreadable(rt: HostRuntime) -> Result<(), Fail> {
     let memory = nine_pages(&rt, rt.alloc(), 8)?;
-    let told = digests_of(&rt, rt.alloc(), 2, sampling_of(&rt, 0, 1), &memory);
-    assert!(rt; matches!(told, Err(DigestFault::Read(_))));
+    let found = digests_of(&rt, rt.alloc(), 2, sampling_of(&rt, 0, 1), &memory);
+    assert!(rt; matches!(found, Err(ReadFault::Read(_))));
     Ok(())
 }
 
@@ -116,9 +117,9 @@ fn count_by<R: Threads + Abort + Sync>(
     memory: &Memory,
 ) -> Option<usize> {
     match digests_of(rt, heap, 2, sampling_of(rt, 0, 1), memory) {
-        Ok(told) => Some(told.lines.len()),
-        Err(DigestFault::OutOfMemory) => None,
-        Err(DigestFault::Read(_)) => panic!(rt; "another fault"),
+        Ok(found) => Some(found.lines.len()),
+        Err(ReadFault::OutOfMemory) => None,
+        Err(ReadFault::Read(_)) => panic!(rt; "another fault"),
     }
 }
 

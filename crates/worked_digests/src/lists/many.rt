@@ -45,10 +45,10 @@ impl PageSource for Numbered {
 fn line_count<R: Threads + Abort + Sync>(rt: &R, alloc: Global, count: u32, workers: u32) -> usize {
     assert!(rt; workers >= 1);
     let source = Numbered { count };
-    let told = digests_of(rt, alloc, workers, sampling_of(rt, 0, 1), &source)
+    let found = digests_of(rt, alloc, workers, sampling_of(rt, 0, 1), &source)
         .ok()
         .expect(rt, "digests");
-    told.lines.len()
+    found.lines.len()
 }
 
 #[test]

@@ -1,8 +1,8 @@
 //! Pages in memory, and how often they are read.
 ghost use Rattle.std.specs.Prelude.{◌<◌, ◌^◌, vec_len};
 
-use guest_digests::{DigestFault, GuestDigests, Sample, Sampling, digest_pages};
-use memory_pages::{PageSource, Progress};
+use guest_digests::{GuestDigests, Sample, Sampling, digest_pages};
+use memory_pages::{PageSource, Progress, ReadFault};
 use page_model::Page;
 use std::alloc::{AllocError, Allocator, Global};
 use std::process::Abort;
@@ -100,13 +100,13 @@ pub fn digests_of<R: Threads + Abort + Sync, S: PageSource, A: Allocator + Clone
     workers: u32,
     sampling: Sampling,
     source: &S,
-) -> Result<GuestDigests<A>, DigestFault<S::Fault>> {
+) -> Result<GuestDigests<A>, ReadFault<S::Fault>> {
     assert!(rt; workers >= 1);
     let pages = AtomicU64::new(0);
     let progress = ReadSoFar { pages };
-    let told = digest_pages(rt, alloc, workers, sampling, source, &progress);
-    if let Ok(told) = &told {
-        assert_eq!(rt; progress.pages.load(Ordering::SeqCst), told.pages);
+    let found = digest_pages(rt, alloc, workers, sampling, source, &progress);
+    if let Ok(found) = &found {
+        assert_eq!(rt; progress.pages.load(Ordering::SeqCst), found.pages);
     }
-    told
+    found
 }

@@ -50,7 +50,7 @@ impl PageSource for Awaited {
     }
 }
 
-/// Whether two workers read at the same time, and how many pages all lines tell of.
+/// Whether two workers read at the same time, and how many pages all lines list.
 fn are_read_together<R: Threads + Abort + Sync>(
     rt: &R,
     alloc: Global,
@@ -61,10 +61,10 @@ fn are_read_together<R: Threads + Abort + Sync>(
         came: AtomicU64::new(0),
         missed: AtomicBool::new(false),
     };
-    let told = digests_of(rt, alloc, 2, sampling_of(rt, 0, 1), &source)
+    let found = digests_of(rt, alloc, 2, sampling_of(rt, 0, 1), &source)
         .ok()
         .expect(rt, "digests");
-    let lines = told.lines.as_slice();
+    let lines = found.lines.as_slice();
     assert!(rt; lines.len() == 1);
     Ok((!source.missed.load(Ordering::SeqCst), lines[0].copies))
 }

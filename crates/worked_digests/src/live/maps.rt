@@ -33,7 +33,7 @@ ffffffffff600000-ffffffffff601000 --xp 00000000 00:00 0                  [vsysca
 
 #[test]
 fn keeps_what_is_no_files(rt: HostRuntime) -> Result<(), Fail> {
-    let told = kept(&rt, rt.alloc(), MAPS).ok().expect(&rt, "segments");
+    let found = kept(&rt, rt.alloc(), MAPS).ok().expect(&rt, "segments");
     let due = [
         (0x559363eb7000, 0x21000),
         (0x7f8ee23d2000, 0x22000),
@@ -43,11 +43,11 @@ fn keeps_what_is_no_files(rt: HostRuntime) -> Result<(), Fail> {
         (0x7f8ee2b00000, 0x4000),
         (0x7ffc47500000, 0x21000),
     ];
-    assert_eq!(rt; told.len(), due.len());
-    for (segment, (offset, len)) in told.iter().zip(due) {
+    assert_eq!(rt; found.len(), due.len());
+    for (segment, (offset, len)) in found.iter().zip(due) {
         assert_eq!(rt; *segment, Segment { offset, len });
     }
-    assert!(rt; kept(&rt, rt.alloc(), b"").is_ok_and(|told| told.is_empty()));
+    assert!(rt; kept(&rt, rt.alloc(), b"").is_ok_and(|found| found.is_empty()));
     Ok(())
 }
 

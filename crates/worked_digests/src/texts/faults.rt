@@ -53,8 +53,8 @@ fn of_another_form(rt: HostRuntime) -> Result<(), Fail> {
         "web,0,4,1,00e1000000000000000000000000000a,3",
         "\n",
     ] {
-        let told = said(&rt, rt.alloc(), line.as_bytes());
-        assert!(rt; told == (0, 0, Some((2, Cause::Form))), "{line}");
+        let found = said(&rt, rt.alloc(), line.as_bytes());
+        assert!(rt; found == (0, 0, Some((2, Cause::Form))), "{line}");
     }
     Ok(())
 }
@@ -132,9 +132,9 @@ fn out_of_order(rt: HostRuntime) -> Result<(), Fail> {
         let mut text = Vec::new(rt.alloc());
         text.extend_from_slice(b"web,0,4,1,00e1000000000000000000000000000a,3\n")?;
         text.extend_from_slice(line.as_bytes())?;
-        let told = said(&rt, rt.alloc(), &text);
-        assert!(rt; told.1 == copies, "{line}");
-        assert!(rt; told.2 == Some((number, cause)), "{line}");
+        let found = said(&rt, rt.alloc(), &text);
+        assert!(rt; found.1 == copies, "{line}");
+        assert!(rt; found.2 == Some((number, cause)), "{line}");
     }
     Ok(())
 }

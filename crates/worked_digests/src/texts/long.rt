@@ -49,7 +49,7 @@ fn long_text(rt: &impl Abort, alloc: Global) -> Result<Vec<u8>, AllocError> {
     Ok(writer.taken)
 }
 
-// How many lines and copies a text tells of; none if it's at fault.
+// How many lines and copies a text has; none if it's at fault.
 fn counts(rt: &impl Abort, alloc: Global, text: &[u8]) -> Option<(u64, u64)> {
     let mut reader = DigestReader::new(alloc, text).ok().expect(rt, "a reader");
     let mut copies = 0u64;

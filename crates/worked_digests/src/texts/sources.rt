@@ -30,10 +30,10 @@ impl Read for Pieces<'_> {
     }
 }
 
-// What was told of a text: how many lines and how many copies, and the fault.
-type Told = (u64, u64, Option<ReadFault>);
+// What was read of a text: how many lines and how many copies, and the fault.
+type Found = (u64, u64, Option<ReadFault>);
 
-fn tell<A: Allocator>(rt: &impl Abort, alloc: A, source: Pieces<'_>) -> Told {
+fn read_all<A: Allocator>(rt: &impl Abort, alloc: A, source: Pieces<'_>) -> Found {
     let mut reader = match DigestReader::new(alloc, source) {
         Ok(reader) => reader,
         Err(fault) => return (0, 0, Some(fault)),
@@ -49,7 +49,7 @@ fn tell<A: Allocator>(rt: &impl Abort, alloc: A, source: Pieces<'_>) -> Told {
     panic!(rt; "too many lines")
 }
 
-/// Reads a text in pieces: how many lines and copies were told, and the line at fault.
+/// Reads a text in pieces: how many lines and copies it has, and the line at fault.
 pub fn read_text(
     rt: &impl Abort,
     alloc: Global,
@@ -57,7 +57,7 @@ pub fn read_text(
     most: usize,
 ) -> (u64, u64, Option<(u64, Cause)>) {
     let fails = false;
-    let (lines, copies, fault) = tell(rt, alloc, Pieces { text, most, fails });
+    let (lines, copies, fault) = read_all(rt, alloc, Pieces { text, most, fails });
     match fault {
         None => (lines, copies, None),
         Some(ReadFault::Line(fault)) => (lines, copies, Some((fault.line, fault.cause))),
@@ -74,9 +74,9 @@ fn failing_reads(rt: HostRuntime) -> Result<(), Fail> {
     let most = 5;
     for (end, lines) in [(20, 0), (60, 0), (100, 1), (128, 2)] {
         let text = &TEXT[..end];
-        let told = tell(&rt, rt.alloc(), Pieces { text, most, fails });
-        assert!(rt; told.0 == lines, "at {end}");
-        assert!(rt; matches!(told.2, Some(ReadFault::Read(_))), "at {end}");
+        let found = read_all(&rt, rt.alloc(), Pieces { text, most, fails });
+        assert!(rt; found.0 == lines, "at {end}");
+        assert!(rt; matches!(found.2, Some(ReadFault::Read(_))), "at {end}");
     }
     Ok(())
 }
@@ -85,7 +85,7 @@ fn failing_reads(rt: HostRuntime) -> Result<(), Fail> {
 fn refused(rt: HostRuntime) -> Result<(), Fail> {
     let heap = Refusing::new(rt.alloc(), 0, 0);
     let (most, fails) = (5, false);
-    let told = tell(
+    let found = read_all(
         &rt,
         &heap,
         Pieces {
@@ -94,7 +94,7 @@ fn refused(rt: HostRuntime) -> Result<(), Fail> {
             fails,
         },
     );
-    assert!(rt; matches!(told.2, Some(ReadFault::OutOfMemory)));
+    assert!(rt; matches!(found.2, Some(ReadFault::OutOfMemory)));
     assert!(rt; heap.holds_nothing());
     Ok(())
 }
@@ -140,8 +140,8 @@ fn long_lines(rt: HostRuntime) -> Result<(), Fail> {
             text.push(b'a')?;
         }
         text.push(b'\n')?;
-        let told = read_text(&rt, rt.alloc(), &text, 1_000);
-        assert!(rt; told == (0, 0, Some((2, Cause::Form))), "at {len}");
+        let found = read_text(&rt, rt.alloc(), &text, 1_000);
+        assert!(rt; found == (0, 0, Some((2, Cause::Form))), "at {len}");
     }
     Ok(())
 }

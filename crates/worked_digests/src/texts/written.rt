@@ -64,8 +64,8 @@ fn write_to<A: Allocator + Clone>(
         taken: Vec::new(alloc),
         room,
     };
-    let told = digests(rt, alloc)?;
-    let done = write_digests(memory, &name, &told, &mut writer);
+    let found = digests(rt, alloc)?;
+    let done = write_digests(memory, &name, &found, &mut writer);
     Ok((writer.taken, done))
 }
 

@@ -52,8 +52,8 @@ fn four_guests(rt: &impl Abort, alloc: Global) -> Result<Vec<Guest<Memory>>, All
 #[test]
 fn three_to_five_copies(rt: HostRuntime) -> Result<(), Fail> {
     let guests = four_guests(&rt, rt.alloc())?;
-    let told = counted(&rt, rt.alloc(), 3, &FirstByteHash, &guests);
-    assert_eq!(rt; told.total, TOTAL);
-    assert_eq!(rt; told.copies.as_slice(), COPIES.as_slice());
+    let found = counted(&rt, rt.alloc(), 3, &FirstByteHash, &guests);
+    assert_eq!(rt; found.total, TOTAL);
+    assert_eq!(rt; found.copies.as_slice(), COPIES.as_slice());
     Ok(())
 }

@@ -91,10 +91,10 @@ fn counts<R: Threads + Abort + Sync, H: PageHash>(
     workers: u32,
 ) -> Result<(), Fail> {
     let guests = three_guests(rt, alloc, 4)?;
-    let told = counted(rt, alloc, workers, hash, &guests);
-    assert_eq!(rt; told.guests.as_slice(), GUESTS.as_slice());
-    assert_eq!(rt; told.total, TOTAL);
-    assert_eq!(rt; told.copies.as_slice(), COPIES.as_slice());
+    let found = counted(rt, alloc, workers, hash, &guests);
+    assert_eq!(rt; found.guests.as_slice(), GUESTS.as_slice());
+    assert_eq!(rt; found.total, TOTAL);
+    assert_eq!(rt; found.copies.as_slice(), COPIES.as_slice());
     Ok(())
 }
 
@@ -121,8 +121,8 @@ fn by_no_hash(rt: HostRuntime) -> Result<(), Fail> {
 #[test]
 fn unreadable(rt: HostRuntime) -> Result<(), Fail> {
     let guests = three_guests(&rt, rt.alloc(), 3)?;
-    let told = census_of(&rt, rt.alloc(), 4, &Sha256Hash, &guests);
-    assert!(rt; matches!(told, Err(CensusFault::Read(1, _))));
+    let found = census_of(&rt, rt.alloc(), 4, &Sha256Hash, &guests);
+    assert!(rt; matches!(found, Err(CensusFault::Read(1, _))));
     Ok(())
 }
 
@@ -134,7 +134,7 @@ fn total_by<R: Threads + Abort + Sync, H: PageHash>(
     guests: &[Guest<Memory>],
 ) -> Option<TotalNumbers> {
     match census_of(rt, heap, 4, hash, guests) {
-        Ok(told) => Some(told.total),
+        Ok(found) => Some(found.total),
         Err(CensusFault::OutOfMemory) => None,
         Err(_) => panic!(rt; "another fault"),
     }

@@ -60,15 +60,15 @@ fn two_guests(rt: &impl Abort, alloc: Global) -> Result<Vec<Guest<Memory>>, Allo
 fn in_parts(rt: HostRuntime) -> Result<(), Fail> {
     let guests = two_guests(&rt, rt.alloc())?;
     for workers in 1..6 {
-        let told = counted(&rt, rt.alloc(), workers, &Sha256Hash, &guests);
+        let found = counted(&rt, rt.alloc(), workers, &Sha256Hash, &guests);
         assert_eq!(rt;
-            told.guests.as_slice(),
+            found.guests.as_slice(),
             [EACH, EACH].as_slice(),
             "by {workers}"
         );
-        assert_eq!(rt; told.total, BOTH, "by {workers}");
+        assert_eq!(rt; found.total, BOTH, "by {workers}");
         assert_eq!(rt;
-            told.copies.as_slice(),
+            found.copies.as_slice(),
             [FOUR_TIMES].as_slice(),
             "by {workers}"
         );
@@ -78,8 +78,8 @@ fn in_parts(rt: HostRuntime) -> Result<(), Fail> {
 
 #[test]
 fn none(rt: HostRuntime) {
-    let told = counted(&rt, rt.alloc(), 4, &Sha256Hash, &[]);
-    assert_eq!(rt; told.guests.len(), 0);
-    assert_eq!(rt; told.total, NONE);
-    assert_eq!(rt; told.copies.len(), 0);
+    let found = counted(&rt, rt.alloc(), 4, &Sha256Hash, &[]);
+    assert_eq!(rt; found.guests.len(), 0);
+    assert_eq!(rt; found.total, NONE);
+    assert_eq!(rt; found.copies.len(), 0);
 }

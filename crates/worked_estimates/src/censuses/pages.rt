@@ -114,14 +114,14 @@ pub fn census_of<
     assert!(rt; workers >= 1);
     let pages = AtomicU64::new(0);
     let progress = ReadSoFar { pages };
-    let told = census(rt, alloc, workers, hash, guests, &progress);
-    if let Ok(told) = &told {
+    let found = census(rt, alloc, workers, hash, guests, &progress);
+    if let Ok(found) = &found {
         assert_eq!(rt;
             progress.pages.load(Ordering::SeqCst),
-            u64::from(told.total.pages)
+            u64::from(found.total.pages)
         );
     }
-    told
+    found
 }
 
 /// Returns what a census of these guests counts, by this many workers.

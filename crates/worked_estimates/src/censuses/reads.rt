@@ -97,8 +97,8 @@ fn fail_in_turn<R: Threads + Abort + Sync, H: PageHash>(
         for most in 0..all[guest] {
             let mut each = [u64::MAX; 3];
             each[guest] = most;
-            let told = read_up_to(rt, alloc, hash, each)?;
-            assert_eq!(rt; told.failed, Some(guest), "after {most}");
+            let found = read_up_to(rt, alloc, hash, each)?;
+            assert_eq!(rt; found.failed, Some(guest), "after {most}");
         }
     }
     Ok(())

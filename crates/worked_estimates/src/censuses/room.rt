@@ -23,8 +23,8 @@ fn asked<R: Threads + Abort + Sync>(
 ) -> Result<u64, AllocError> {
     let guests = [guest_of(rt, alloc, 0, &[None; 200], u32::MAX)?];
     let heap = Refusing::new(alloc, u64::MAX, 0);
-    let told = census_of(rt, &heap, workers, &FoldHash, &guests);
-    assert!(rt; told.is_ok());
+    let found = census_of(rt, &heap, workers, &FoldHash, &guests);
+    assert!(rt; found.is_ok());
     Ok(heap.bytes_asked())
 }
 

@@ -77,8 +77,8 @@ fn are_read_together<R: Threads + Abort + Sync>(
         salt: guest.salt,
         source: Watched { memory, watch },
     }];
-    let told = census_of(rt, alloc, 2, &FoldHash, &guests);
-    assert!(rt; told.is_ok());
+    let found = census_of(rt, alloc, 2, &FoldHash, &guests);
+    assert!(rt; found.is_ok());
     let gates = &guests[0].source.watch;
     Ok((
         gates.runs.was_passed_by_two(),

@@ -134,12 +134,12 @@ fn put_program_header(bytes: &mut [u8], at: usize, header: &ProgramHeader) {
 /// Whether a page is `len` bytes of the file from a place on, and zeros behind them.
 pub fn is_page(page: &Page, from: usize, len: usize) -> bool {
     for i in 0..PAGE_BYTES {
-        let told = if i < len {
+        let found = if i < len {
             byte_at(from.wrapping_add(i))
         } else {
             0
         };
-        if page[i] != told {
+        if page[i] != found {
             return false;
         }
     }

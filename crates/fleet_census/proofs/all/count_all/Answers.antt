@@ -1,5 +1,5 @@
 use Rattle.std.proofs.Common.{◌≡◌, ◌≤◌, length, map, length-drop, arith, ◌∙◌}
-use Rattle.digest_text.specs.Told.{told}
+use Rattle.digest_text.specs.Unread.{rows_left}
 use Rattle.fleet_census.specs.Tournaments.{leaves}
 use Rattle.fleet_census.proofs.Raised.{at_full, at_last, at_more, content_fault, high, low, none_up_to, one_copy, too_many_pages, up_to}
 use Rattle.fleet_census.proofs.Takes.{all_ended, all_sound}
@@ -17,8 +17,8 @@ returns-then-first-clause-counted g c fleet long zeros behind tallied =
     let turn = c.loop-turn._turn in
     at_last fleet every turn entries _ c.loop-turn.tally at c.first-first.result c.first-first.ensures so_far.own len few c.if-first.true
 
-pub returns-then-first-clause-told : goal.returns-then-first-clause-told
-returns-then-first-clause-told g c files long chained =
+pub returns-then-first-clause-read : goal.returns-then-first-clause-read
+returns-then-first-clause-read g c files long chained =
     let so_far = c.loop-turn.invariant in
     let t = c.loop-turn.tournament in
     let entries = leaves t.files t.entries.items in
@@ -26,8 +26,8 @@ returns-then-first-clause-told g c files long chained =
     all_sound files entries _ (so_far.chained files long chained) (λ file lt.
     all_ended entries c.first-first.result c.first-first.ensures so_far.own (omega (arith, len, long, c.requires.few)) c.if-first.true file (omega (arith, lt, len)))
 
-pub returns-then-last-clause-told : goal.returns-then-last-clause-told
-returns-then-last-clause-told g c files long chained =
+pub returns-then-last-clause-read : goal.returns-then-last-clause-read
+returns-then-last-clause-read g c files long chained =
     let so_far = c.loop-turn.invariant in
     let t = c.loop-turn.tournament in
     let entries = leaves t.files t.entries.items in
@@ -58,10 +58,10 @@ returns-then-not-count-clause-counted g c fleet long zeros behind tallied =
     (rw c.deref.ensures.value gathered.rising) (rw c.deref.ensures.value gathered.known) in
     too_many_pages fleet every first.digest (high fleet every turn entries _ c.loop-turn.tally at c.first-first.result c.first-first.ensures so_far.own len few c.if-first.false) counted
 
-pub returns-in-Err-clause-told : goal.returns-in-Err-clause-told
-returns-in-Err-clause-told g c files long chained =
+pub returns-in-Err-clause-read : goal.returns-in-Err-clause-read
+returns-in-Err-clause-read g c files long chained =
     let so_far = c.loop-turn.invariant in
-    (c.in-Err.ensures {u = tt}).told files (omega (arith, long, so_far.readers)) (so_far.chained files long chained)
+    (c.in-Err.ensures {u = tt}).read files (omega (arith, long, so_far.readers)) (so_far.chained files long chained)
 
 pub returns-in-Err-clause-counted : goal.returns-in-Err-clause-counted
 returns-in-Err-clause-counted g c fleet long zeros behind tallied =
@@ -75,7 +75,7 @@ returns-in-Err-clause-counted g c fleet long zeros behind tallied =
     let turn = c.loop-turn._turn in
     let gathered = (c.in-Err.ensures {u = tt}).gathered fleet (omega (arith, long, so_far.readers)) zeros (up_to fleet every turn entries _ c.loop-turn.tally at c.first-first.result c.first-first.ensures so_far.own len few c.if-first.false) in
     content_fault fleet every turn entries _ c.loop-turn.tally at c.first-first.result c.first-first.ensures so_far.own len few c.if-first.false (leaves c.gather.new.tournament.files c.gather.new.tournament.entries.items) (map
-    (told {A = g.row.A.Denot} g.R.Read.remaining) c.gather.new.readers) c.gather.new.holders.items c.loop-turn.tally c.in-Err.fault c.requires.every gathered
+    (rows_left {A = g.row.A.Denot} g.R.Read.remaining) c.gather.new.readers) c.gather.new.holders.items c.loop-turn.tally c.in-Err.fault c.requires.every gathered
 
 pub returns-then-last-clause-counted : goal.returns-then-last-clause-counted
 returns-then-last-clause-counted g c fleet long zeros behind tallied =
@@ -113,7 +113,7 @@ loop-turn-preserved g c =
       guests = (c.if-not-count.ensures {u = tt}).guests ∙ so_far.guests;
       classes = (c.if-not-count.ensures {u = tt}).classes;
       lengths = (c.if-not-count.ensures {u = tt}).lengths ∙ so_far.lengths;
-      chained = λ files long chained. next.told files (omega (arith, long, so_far.readers)) (so_far.chained files long chained);
+      chained = λ files long chained. next.read files (omega (arith, long, so_far.readers)) (so_far.chained files long chained);
       counted = λ fleet long zeros behind tallied.
           let t = c.loop-turn.tournament in
           let entries = leaves t.files t.entries.items in
@@ -129,5 +129,5 @@ loop-turn-preserved g c =
           (none_up_to fleet every turn entries _ c.loop-turn.tally at c.first-first.result c.first-first.ensures so_far.own len few c.if-first.false) gathered.is some
           (rw c.deref.ensures.value gathered.rising) (rw c.deref.ensures.value gathered.known) in
           at_more fleet every turn entries _ c.loop-turn.tally at c.first-first.result c.first-first.ensures so_far.own len few c.if-first.false (leaves c.gather.new.tournament.files c.gather.new.tournament.entries.items) (map
-          (told {A = g.row.A.Denot} g.R.Read.remaining) c.gather.new.readers) c.count.new.self c.requires.every gathered.behind counted;
+          (rows_left {A = g.row.A.Denot} g.R.Read.remaining) c.gather.new.readers) c.count.new.self c.requires.every gathered.behind counted;
     }

@@ -1,6 +1,6 @@
 use Rattle.std.proofs.Common.{◌≡◌, ◌≤◌, List, length, map, vec_capacity, vec_len}
 use Rattle.digest_text.specs.Fields.{Row}
-use Rattle.digest_text.specs.Told.{told}
+use Rattle.digest_text.specs.Unread.{rows_left}
 use Rattle.fleet_census.specs.Gathers.{AreZeros}
 use Rattle.fleet_census.specs.Merged.{IsAt}
 use Rattle.fleet_census.specs.Pairs.{row_lengths, rows_of}
@@ -19,10 +19,10 @@ invariant-loop-turn g l = record {
   classes : vec_len l.tally.classes ≡ 65;
   lengths : row_lengths (rows_of l.tally.pairs.items) ≡ row_lengths (rows_of l.fn.tally.pairs.items);
   chained : (files : List Said) → length files ≡ length l.fn.readers → AreChained files (length files) (leaves l.fn.tournament.files l.fn.tournament.entries.items)
-      (map (told {A = g.row.A.Denot} g.R.Read.remaining) l.fn.readers)
-      → AreChained files (length files) (leaves l.tournament.files l.tournament.entries.items) (map (told {A = g.row.A.Denot} g.R.Read.remaining) l.readers);
+      (map (rows_left {A = g.row.A.Denot} g.R.Read.remaining) l.fn.readers)
+      → AreChained files (length files) (leaves l.tournament.files l.tournament.entries.items) (map (rows_left {A = g.row.A.Denot} g.R.Read.remaining) l.readers);
   counted : (fleet : List (List Row)) → length fleet ≡ length l.fn.readers → AreZeros fleet l.zeros
-      → AreBehind fleet (λ file. 0) (leaves l.fn.tournament.files l.fn.tournament.entries.items) (map (told {A = g.row.A.Denot} g.R.Read.remaining) l.fn.readers)
+      → AreBehind fleet (λ file. 0) (leaves l.fn.tournament.files l.fn.tournament.entries.items) (map (rows_left {A = g.row.A.Denot} g.R.Read.remaining) l.fn.readers)
       → AreTallied fleet l.every 0 l.fn.tally
-      → IsAt fleet l.every l._turn (leaves l.tournament.files l.tournament.entries.items) (map (told {A = g.row.A.Denot} g.R.Read.remaining) l.readers) l.tally;
+      → IsAt fleet l.every l._turn (leaves l.tournament.files l.tournament.entries.items) (map (rows_left {A = g.row.A.Denot} g.R.Read.remaining) l.readers) l.tally;
 }

@@ -1,4 +1,4 @@
-use Rattle.digest_text.specs.Told.{head_of}
+use Rattle.digest_text.specs.Unread.{head_of}
 use Rattle.fleet_census.proofs.Firsts.{first_end, first_fault, first_line, says_head}
 use Rattle.fleet_census.proofs.Failed.{noted}
 use Rattle.fleet_census.proofs.first.read_first.Goals as goal

@@ -1,7 +1,7 @@
 use Rattle.std.proofs.Common.{◌≡◌, ◌<◌, ◌≤◌, List, length, map, vec_capacity, vec_len}
 use Rattle.std.specs.Prelude.{All}
 use Rattle.digest_text.specs.Fields.{Row}
-use Rattle.digest_text.specs.Told.{told}
+use Rattle.digest_text.specs.Unread.{rows_left}
 use Rattle.fleet_census.specs.Gathers.{AreZeros, IsSoFar}
 use Rattle.fleet_census.specs.States.{AreBehind, AreChained, AreOwn, Said}
 use Rattle.fleet_census.specs.Tournaments.{leaves}
@@ -18,9 +18,9 @@ invariant-loop-turn g l = record {
   zero : l.content.zero ≤ l.content.copies;
   few : l.content.holders ≤ l.turn;
   chained : (files : List Said) → length files ≡ length l.fn.readers → AreChained files (length files) (leaves l.fn.tournament.files l.fn.tournament.entries.items)
-      (map (told {A = g.row.A.Denot} g.R.Read.remaining) l.fn.readers)
-      → AreChained files (length files) (leaves l.tournament.files l.tournament.entries.items) (map (told {A = g.row.A.Denot} g.R.Read.remaining) l.readers);
+      (map (rows_left {A = g.row.A.Denot} g.R.Read.remaining) l.fn.readers)
+      → AreChained files (length files) (leaves l.tournament.files l.tournament.entries.items) (map (rows_left {A = g.row.A.Denot} g.R.Read.remaining) l.readers);
   gathered : (fleet : List (List Row)) → length fleet ≡ length l.fn.readers → AreZeros fleet l.zeros
-      → AreBehind fleet (λ file. l.digest) (leaves l.fn.tournament.files l.fn.tournament.entries.items) (map (told {A = g.row.A.Denot} g.R.Read.remaining) l.fn.readers)
-      → IsSoFar fleet l.digest l.turn (leaves l.tournament.files l.tournament.entries.items) (map (told {A = g.row.A.Denot} g.R.Read.remaining) l.readers) l.holders.items l.content;
+      → AreBehind fleet (λ file. l.digest) (leaves l.fn.tournament.files l.fn.tournament.entries.items) (map (rows_left {A = g.row.A.Denot} g.R.Read.remaining) l.fn.readers)
+      → IsSoFar fleet l.digest l.turn (leaves l.tournament.files l.tournament.entries.items) (map (rows_left {A = g.row.A.Denot} g.R.Read.remaining) l.readers) l.holders.items l.content;
 }

@@ -1,18 +1,18 @@
 use Rattle.std.proofs.Common.{◌≡◌, length, refl, ap, arith}
-use Rattle.digest_text.specs.Told.{told}
+use Rattle.digest_text.specs.Unread.{rows_left}
 use Rattle.fleet_census.specs.declared.total.FleetTotal.{FleetTotal}
-use Rattle.fleet_census.proofs.Settled.{count_told, opened_behind, opened_pages, opened_sample, opened_tallied, opened_zeros, same_length, unread_chained}
+use Rattle.fleet_census.proofs.Settled.{count_read, opened_behind, opened_pages, opened_sample, opened_tallied, opened_zeros, same_length, unread_chained}
 use Rattle.fleet_census.proofs.merging.count_files.Goals as goal
 
-pub returns-in-Err-clause-told : goal.returns-in-Err-clause-told
-returns-in-Err-clause-told g c files is =
-    let long : length files ≡ length c.args.readers.now = same_length (told {A = g.row.A.Denot} g.R.Read.remaining) c.args.readers.now files is in
-    (c.in-Err.ensures {u = tt}).told files long (unread_chained files _ _ is)
+pub returns-in-Err-clause-read : goal.returns-in-Err-clause-read
+returns-in-Err-clause-read g c files is =
+    let long : length files ≡ length c.args.readers.now = same_length (rows_left {A = g.row.A.Denot} g.R.Read.remaining) c.args.readers.now files is in
+    (c.in-Err.ensures {u = tt}).read files long (unread_chained files _ _ is)
 
-pub returns-in-Ok-count_all-clause-told : goal.returns-in-Ok-count_all-clause-told
-returns-in-Ok-count_all-clause-told g c files is =
-    let long : length files ≡ length c.args.readers.now = same_length (told {A = g.row.A.Denot} g.R.Read.remaining) c.args.readers.now files is in
-    (c.in-Ok-count_all.ensures {u = tt}).told files (omega (arith, long, c.open.auto.readers)) ((c.in-Ok.ensures {u = tt}).told files long (unread_chained files _ _ is))
+pub returns-in-Ok-count_all-clause-read : goal.returns-in-Ok-count_all-clause-read
+returns-in-Ok-count_all-clause-read g c files is =
+    let long : length files ≡ length c.args.readers.now = same_length (rows_left {A = g.row.A.Denot} g.R.Read.remaining) c.args.readers.now files is in
+    (c.in-Ok-count_all.ensures {u = tt}).read files (omega (arith, long, c.open.auto.readers)) ((c.in-Ok.ensures {u = tt}).read files long (unread_chained files _ _ is))
 
 pub returns-in-Ok-count_all-clause-counted : goal.returns-in-Ok-count_all-clause-counted
 returns-in-Ok-count_all-clause-counted g c fleet long whole =
@@ -38,10 +38,10 @@ returns-in-Ok-count_all-clause-counted g c fleet long whole =
       tallied = counted;
     }
 
-pub returns-clause-told : goal.returns-clause-told
-returns-clause-told g c files is =
-    let long : length files ≡ length c.args.readers.now = same_length (told {A = g.row.A.Denot} g.R.Read.remaining) c.args.readers.now files is in
-    (c.in-Err-count_all.ensures {u = tt}).told files (omega (arith, long, c.open.auto.readers)) ((c.in-Ok.ensures {u = tt}).told files long (unread_chained files _ _ is))
+pub returns-clause-read : goal.returns-clause-read
+returns-clause-read g c files is =
+    let long : length files ≡ length c.args.readers.now = same_length (rows_left {A = g.row.A.Denot} g.R.Read.remaining) c.args.readers.now files is in
+    (c.in-Err-count_all.ensures {u = tt}).read files (omega (arith, long, c.open.auto.readers)) ((c.in-Ok.ensures {u = tt}).read files long (unread_chained files _ _ is))
 
 pub returns-clause-counted : goal.returns-clause-counted
 returns-clause-counted g c fleet long whole =
@@ -59,6 +59,6 @@ returns-clause-counted g c fleet long whole =
       between = total.between;
     }) new.total in
     let tallied = opened_tallied fleet _ _ c.open.new.zeros.items c.open.new.guests.items c.in-Ok.opening opened c.sample-sample.result _ refl total new.classes new.pairless new.weightless in
-    count_told fleet c.sample-sample.result c.count_all.new.tally c.in-Err-count_all.fault
+    count_read fleet c.sample-sample.result c.count_all.new.tally c.in-Err-count_all.fault
     (opened_sample fleet _ _ c.open.new.zeros.items c.open.new.guests.items c.in-Ok.opening opened c.sample-sample.result c.sample-sample.ensures)
     ((c.in-Err-count_all.ensures {u = tt}).counted fleet (omega (arith, long, c.open.auto.readers)) (rw c.deref.ensures.value zeros) behind tallied)

@@ -1,6 +1,6 @@
 use Rattle.std.proofs.Common.{◌≡◌, ◌∙◌, ℕ, length, ap, sym, arith}
 use Rattle.std.proofs.lemmas.List.{length-map}
-use Rattle.digest_text.specs.Told.{told}
+use Rattle.digest_text.specs.Unread.{rows_left}
 use Rattle.fleet_census.specs.Numbers.{fleet_of, rows_in}
 use Rattle.fleet_census.specs.Pairs.{row_lengths, rows_for}
 use Rattle.fleet_census.proofs.Settled.{classes_are, fault_merged, guests_are, pairs_are, same_length, whole}
@@ -14,11 +14,11 @@ push_classes-requires-clause-room g c =
 pub returns-in-Ok-clause-merged : goal.returns-in-Ok-clause-merged
 returns-in-Ok-clause-merged g c files is =
     let readers = c.args.readers.now in
-    let say = told {A = g.row.A.Denot} g.R.Read.remaining in
+    let say = rows_left {A = g.row.A.Denot} g.R.Read.remaining in
     let fleet = fleet_of files in
     let long : length fleet ≡ length readers = length-map files rows_in ∙ same_length say readers files is in
     let done = c.in-Ok.ensures {u = tt} in
-    let sound = done.told files is in
+    let sound = done.read files is in
     let counted = done.counted fleet long (whole g.R.Read.remaining readers files is sound) in
     let tally = c.count_files.new.tally in (
       sound,
@@ -37,7 +37,7 @@ returns-in-Ok-clause-merged g c files is =
 pub returns-in-Err-clause-merged : goal.returns-in-Err-clause-merged
 returns-in-Err-clause-merged g c files is =
     let readers = c.args.readers.now in
-    let say = told {A = g.row.A.Denot} g.R.Read.remaining in
+    let say = rows_left {A = g.row.A.Denot} g.R.Read.remaining in
     let long : length (fleet_of files) ≡ length readers = length-map files rows_in ∙ same_length say readers files is in
     let done = c.in-Err.ensures {u = tt} in
-    fault_merged files c.args.pairs c.count_files.new.tally c.in-Err.fault (done.told files is) (λ sound. done.counted (fleet_of files) long (whole g.R.Read.remaining readers files is sound))
+    fault_merged files c.args.pairs c.count_files.new.tally c.in-Err.fault (done.read files is) (λ sound. done.counted (fleet_of files) long (whole g.R.Read.remaining readers files is sound))

@@ -1,6 +1,6 @@
 use Rattle.std.proofs.Common.{◌≡◌, List, length, map, vec_capacity, vec_len}
 use Rattle.digest_text.specs.Fields.{Row}
-use Rattle.digest_text.specs.Told.{told}
+use Rattle.digest_text.specs.Unread.{rows_left}
 use Rattle.fleet_census.specs.Openings.{AreWhole, IsOpenTo}
 use Rattle.fleet_census.specs.States.{AreChained, AreOwn, Said}
 use Rattle.fleet_census.specs.Tournaments.{leaves}
@@ -16,8 +16,8 @@ invariant-loop-file g l = record {
   zeros_room : vec_capacity l.zeros ≡ vec_capacity l.fn.zeros;
   guests_room : vec_capacity l.guests ≡ vec_capacity l.fn.guests;
   chained : (files : List Said) → length files ≡ length l.fn.readers → AreChained files 0 (leaves l.fn.tournament.files l.fn.tournament.entries.items)
-      (map (told {A = g.row.A.Denot} g.R.Read.remaining) l.fn.readers)
-      → AreChained files l.file (leaves l.tournament.files l.tournament.entries.items) (map (told {A = g.row.A.Denot} g.R.Read.remaining) l.readers);
-  opened : (fleet : List (List Row)) → length fleet ≡ length l.fn.readers → AreWhole fleet (map (told {A = g.row.A.Denot} g.R.Read.remaining) l.fn.readers)
-      → IsOpenTo fleet l.file (leaves l.tournament.files l.tournament.entries.items) (map (told {A = g.row.A.Denot} g.R.Read.remaining) l.readers) l.zeros.items l.guests.items l.opening;
+      (map (rows_left {A = g.row.A.Denot} g.R.Read.remaining) l.fn.readers)
+      → AreChained files l.file (leaves l.tournament.files l.tournament.entries.items) (map (rows_left {A = g.row.A.Denot} g.R.Read.remaining) l.readers);
+  opened : (fleet : List (List Row)) → length fleet ≡ length l.fn.readers → AreWhole fleet (map (rows_left {A = g.row.A.Denot} g.R.Read.remaining) l.fn.readers)
+      → IsOpenTo fleet l.file (leaves l.tournament.files l.tournament.entries.items) (map (rows_left {A = g.row.A.Denot} g.R.Read.remaining) l.readers) l.zeros.items l.guests.items l.opening;
 }

@@ -1,11 +1,11 @@
 use Rattle.std.proofs.Common.{◌+◌, ◌<◌, length, map, set, length-drop, refl, sym, arith, ◌∙◌}
 use Rattle.std.proofs.lemmas.List.{get_or-map, length-map}
 use Rattle.std.specs.Prelude.{None, Ok, Err}
-use Rattle.digest_text.specs.Told.{failure_of, told}
+use Rattle.digest_text.specs.Unread.{failure_of, rows_left}
 use Rattle.fleet_census.specs.Tournaments.{leaves}
-use Rattle.fleet_census.proofs.Opened.{first_on, first_opened, if_ok, joined_told, open_joined, open_read_fault}
+use Rattle.fleet_census.proofs.Opened.{first_on, first_opened, if_ok, joined_read, open_joined, open_read_fault}
 use Rattle.fleet_census.proofs.ReadOn.{on}
-use Rattle.fleet_census.proofs.Takes.{chained_more, fault_told, no_other, own_put}
+use Rattle.fleet_census.proofs.Takes.{chained_more, read_fault, no_other, own_put}
 use Rattle.fleet_census.proofs.Failed.{failed_on, joined_failed}
 use Rattle.fleet_census.proofs.open.open_next.Goals as goal
 
@@ -17,13 +17,13 @@ returns-in-Ok-clause-own g c =
 pub returns-in-Ok-clause-lens : goal.returns-in-Ok-clause-lens
 returns-in-Ok-clause-lens g c = if_ok c.with.result _ (omega (arith, c.push_reserved.ensures.len, c.requires.lens.0), omega (arith, c.push_reserved-in-Ok.ensures.len, c.requires.lens.1))
 
-pub returns-in-Ok-clause-told : goal.returns-in-Ok-clause-told
-returns-in-Ok-clause-told g c files long chained =
+pub returns-in-Ok-clause-read : goal.returns-in-Ok-clause-read
+returns-in-Ok-clause-read g c files long chained =
     let readers = c.args.readers.now in
-    let say = told {A = g.row.A.Denot} g.R.Read.remaining in
+    let say = rows_left {A = g.row.A.Denot} g.R.Read.remaining in
     let read = first_on say readers c.args.file c.requires.within c.index-readers-file.result c.read_first.new.reader c.in-Ok.first (c.in-Ok.ensures {u = tt}).read in
     let t = c.args.tournament.now in
-    rw c.put.ensures.leaves (joined_told files (c.args.file + 1) _ _ c.args.opening c.in-Ok.first c.args.file c.with.result c.with.ensures
+    rw c.put.ensures.leaves (joined_read files (c.args.file + 1) _ _ c.args.opening c.in-Ok.first c.args.file c.with.result c.with.ensures
     (chained_more files c.args.file (leaves t.files t.entries.items) (map say readers) _ c.args.file (omega (arith, long, c.requires.within)) chained (c.args.file + 1) (λ other lt ne. omega arith) c.in-Ok.first.entry
     (omega (arith, length-map readers say, long)) (omega (arith, length-drop t.files t.entries.items, t.len, c.requires.files, long)) (omega (arith, c.requires.within, c.requires.few)) read))
 
@@ -31,7 +31,7 @@ pub returns-in-Ok-clause-opened : goal.returns-in-Ok-clause-opened
 returns-in-Ok-clause-opened g c fleet long rise so_far =
     let t = c.args.tournament.now in
     let readers = c.args.readers.now in
-    let say = told {A = g.row.A.Denot} g.R.Read.remaining in
+    let say = rows_left {A = g.row.A.Denot} g.R.Read.remaining in
     let within : c.args.file < length fleet = omega (arith, long, c.requires.within) in
     let first = c.in-Ok.first in
     let reads = (c.in-Ok.ensures {u = tt}).read in
@@ -42,18 +42,18 @@ returns-in-Ok-clause-opened g c fleet long rise so_far =
     (omega (arith, length-drop t.files t.entries.items, t.len, c.requires.files, long)) (omega (arith, length-map readers say, long)) (omega (arith, c.requires.lens.0, c.args.zeros.now.ok.0)) (omega (arith, c.requires.lens.1, c.args.guests.now.ok.0))
     c.zeros_digest.result _ c.with.result c.zeros_digest.ensures refl c.with.ensures)
 
-pub returns-in-Err-clause-told : goal.returns-in-Err-clause-told
-returns-in-Err-clause-told g c files long chained =
+pub returns-in-Err-clause-read : goal.returns-in-Err-clause-read
+returns-in-Err-clause-read g c files long chained =
     let readers = c.args.readers.now in
-    let say = told {A = g.row.A.Denot} g.R.Read.remaining in
+    let say = rows_left {A = g.row.A.Denot} g.R.Read.remaining in
     let read = on say readers c.args.file c.requires.within c.index-readers-file.result c.read_first.new.reader (Err c.in-Err.fault) (c.in-Err.ensures {u = tt}).read in
-    fault_told files c.args.file _ (map say readers) _ c.args.file (omega (arith, long, c.requires.within)) chained c.in-Err.fault read
+    read_fault files c.args.file _ (map say readers) _ c.args.file (omega (arith, long, c.requires.within)) chained c.in-Err.fault read
 
 pub returns-in-Err-clause-opened : goal.returns-in-Err-clause-opened
 returns-in-Err-clause-opened g c fleet long rise so_far =
     let t = c.args.tournament.now in
     let readers = c.args.readers.now in
-    let say = told {A = g.row.A.Denot} g.R.Read.remaining in
+    let say = rows_left {A = g.row.A.Denot} g.R.Read.remaining in
     let read = on say readers c.args.file c.requires.within c.index-readers-file.result c.read_first.new.reader (Err c.in-Err.fault) (c.in-Err.ensures {u = tt}).read in
     open_read_fault fleet (c.args.file + 1) (leaves t.files t.entries.items) (map say (set readers c.args.file c.read_first.new.reader)) c.args.zeros.now.items c.args.guests.now.items c.in-Err.fault
     (no_other c.args.file (map say readers) _ c.in-Err.fault (Ok _) (so_far.unread c.args.file (omega arith) (omega (arith, long, c.requires.within))) read)

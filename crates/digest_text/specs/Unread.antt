@@ -1,4 +1,4 @@
--- What a reader of a digest's text has yet to tell.
+-- What a reader of a digest's text has yet to read.
 use Rattle.std.specs.Prelude.{◌≡◌, ℕ, List, [], ◌∷◌, Option, Some, None, Result, Ok, Err}
 use Rattle.std.specs.Option.{option_map}
 use Rattle.std.specs.declared.io.Error.{Error}
@@ -13,9 +13,9 @@ use Rattle.digest_text.specs.declared.read_fault.ReadFault.TheVariants.{OutOfMem
 use Rattle.digest_text.specs.declared.head.DigestHead.{DigestHead}
 
 module _ {R A : Type 0} where
-  -- what the lines that are left say, or the first fault among them, where the source's bytes are known
-  abbrev pub told : (R → Option (List ℕ)) → DigestReader R A → Option (Result (List Row) LineFault)
-  told remaining reader = option_map (rows_after reader.line reader.so_far) (left remaining reader.lines)
+  -- the rows of the lines that are left, or the first fault among them, where the source's bytes are known
+  abbrev pub rows_left : (R → Option (List ℕ)) → DigestReader R A → Option (Result (List Row) LineFault)
+  rows_left remaining reader = option_map (rows_after reader.line reader.so_far) (left remaining reader.lines)
 
   -- what all lines begin with, once a line was read
   abbrev pub head_of : DigestReader R A → Option DigestHead
@@ -32,21 +32,21 @@ failure_after failure (Err (Read error)) = Some error
 failure_after failure (Err OutOfMemory) = failure
 failure_after failure (Err (Line fault)) = failure
 
--- a reader of a whole text has yet to tell all that the text says, or the text's first line is at fault
+-- a reader of a whole text has yet to read all rows of the text, or the text's first line is at fault
 abbrev pub IsFirst : {T : Type 0} → (T → Option (Result (List Row) LineFault)) → List ℕ → Result T ReadFault → Type 0
-IsFirst told text (Ok reader) = told reader ≡ Some (digest_of text)
-IsFirst told text (Err (Line fault)) = digest_of text ≡ Err fault
-IsFirst told text (Err (Read error)) = Unit {0}
-IsFirst told text (Err OutOfMemory) = Unit {0}
+IsFirst rows_left text (Ok reader) = rows_left reader ≡ Some (digest_of text)
+IsFirst rows_left text (Err (Line fault)) = digest_of text ≡ Err fault
+IsFirst rows_left text (Err (Read error)) = Unit {0}
+IsFirst rows_left text (Err OutOfMemory) = Unit {0}
 
--- the first row that was to be told has this head and this line, and these are left
+-- the first row that was to be read has this head and this line, and these are left
 pub record IsFirstRow (rows left : Result (List Row) LineFault) (head : Option DigestHead) (line : DigestLine) : Type 0 where
   pub of : DigestHead
   pub known : head ≡ Some of
-  pub told : rows ≡ (left >>= λ more. Ok (record { head = of; line = line } ∷ more))
+  pub rows_are : rows ≡ (left >>= λ more. Ok (record { head = of; line = line } ∷ more))
 
--- A line that is told is the first that was to be told. At the end there was none, and at a fault it was the first one; then, and
--- where a read fails, what is to be told stays.
+-- A line that is read is the first that was to be read. At the end there was none, and at a fault it was the first one; then, and
+-- where a read fails, what is to be read stays.
 abbrev pub IsNext : Result (List Row) LineFault → Option (Result (List Row) LineFault) → Option DigestHead
     → Result (Option DigestLine) ReadFault → Type 0
 IsNext rows None head result = ⊥

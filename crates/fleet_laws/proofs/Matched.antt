@@ -12,8 +12,8 @@ use Rattle.page_census.specs.declared.guest.Guest.{Guest}
 use Rattle.fleet_census.specs.Amounts.{all_digests, sum_below}
 use Rattle.fleet_census.specs.Fleets as merged
 use Rattle.fleet_census.specs.Fleets.{all_copies, all_holders, all_zero, copies_of, is_zeros, zero_of}
-use Rattle.fleet_laws.specs.Merges.{AreToldApart, TellsGuest, TellsTotal, digest}
-use Rattle.fleet_laws.proofs.Contents.{distinct_told, salts_apart, shared_told}
+use Rattle.fleet_laws.specs.Merges.{AreApart, MatchesGuest, MatchesTotal, digest}
+use Rattle.fleet_laws.proofs.Contents.{distinct_by_digest, salts_apart, shared_by_digest}
 use Rattle.fleet_laws.proofs.Fleets.{AreAllCounts, all_copies_are, all_pages_are, all_zero_are, digests_low, holders_some, holders_sum, sum_alone_is}
 use Rattle.fleet_laws.proofs.Guests.{AreCounts}
 use Rattle.fleet_laws.proofs.Sums.{all_counted, but_one_counted, estimate_is, less_one, once_counted, passing, same_sum}
@@ -39,22 +39,22 @@ module _ (own : List Content) where
   sum_passing q p f agree e =
       same_sum (λ d. cond (p d) (f d) 0) (λ d. cond (q d) (copies eqb d ds) 0) all_digests (λ d. rw (agree d, e d) refl) ∙ passing ds all_digests (digests_low own) q
 
-module _ (known : List Content) (told : AreToldApart known) where
+module _ (known : List Content) (apart : AreApart known) where
   -- a guest
-  pub tells_guest : (fleet : List (List Row)) (rows : List Row) (all own : List Content) → All (Contains known) all → All (Contains known) own
-      → ((d : ℕ) → all_copies fleet d ≡ copies eqb d (map digest all)) → AreCounts own rows → TellsGuest (merged.guest_numbers fleet rows) (guest_numbers all own)
-  tells_guest fleet rows all own ka ko total counts = record {
+  pub guest_matches : (fleet : List (List Row)) (rows : List Row) (all own : List Content) → All (Contains known) all → All (Contains known) own
+      → ((d : ℕ) → all_copies fleet d ≡ copies eqb d (map digest all)) → AreCounts own rows → MatchesGuest (merged.guest_numbers fleet rows) (guest_numbers all own)
+  guest_matches fleet rows all own ka ko total counts = record {
     pages = counts.pages_are;
     zero = sum_copies (filter is_zero own) (λ d. zero_of d rows) counts.zero_are ∙ length-filter is_zero own;
-    distinct = estimate_is (is_zeros fleet) (λ d. min (copies_of d rows) 1) all_digests ∙ sum_once own (λ d. copies_of d rows) counts.copies_are ∙ sym (distinct_told known told own ko);
+    distinct = estimate_is (is_zeros fleet) (λ d. min (copies_of d rows) 1) all_digests ∙ sum_once own (λ d. copies_of d rows) counts.copies_are ∙ sym (distinct_by_digest known apart own ko);
     shared =
         estimate_is (is_zeros fleet) (λ d. cond (ltb 1 (all_copies fleet d)) (copies_of d rows) 0) all_digests
         ∙ sum_passing own (λ d. ltb 1 (copies eqb d (map digest all))) (λ d. ltb 1 (all_copies fleet d)) (λ d. copies_of d rows) (λ d. ap (ltb 1) (total d)) counts.copies_are
-        ∙ sym (shared_told known told all own ka ko);
+        ∙ sym (shared_by_digest known apart all own ka ko);
     alone =
         estimate_is (is_zeros fleet) (λ d. copies_of d rows - 1) all_digests
         ∙ sum_but_one own (λ d. copies_of d rows) counts.copies_are
-        ∙ ap (λ (m : ℕ). length own - m) (sym (distinct_told known told own ko));
+        ∙ ap (λ (m : ℕ). length own - m) (sym (distinct_by_digest known apart own ko));
   }
 
   -- all guests
@@ -71,7 +71,7 @@ module _ (known : List Content) (told : AreToldApart known) where
     zeros_saved =
         let kz : All (Contains known) (filter is_zero all) = All-filter is_zero (Contains known) all ka in
         sum_but_one (filter is_zero all) (all_zero fleet) (all_zero_are pages guests fleet each)
-        ∙ rw (length-filter is_zero all, ← (distinct_told known told (filter is_zero all) kz), salts_apart (filter is_zero all) (filter_passes is_zero all)) refl
+        ∙ rw (length-filter is_zero all, ← (distinct_by_digest known apart (filter is_zero all) kz), salts_apart (filter is_zero all) (filter_passes is_zero all)) refl
 
     -- and how often only sharing between guests does
     between_saved : sum_below (λ d. all_holders fleet d - 1) all_digests ≡ length all - distinct is_same all
@@ -80,23 +80,23 @@ module _ (known : List Content) (told : AreToldApart known) where
         let whole = less_one (all_holders fleet) all_digests in
         let once = same_sum (λ d. min (all_holders fleet d) 1) (λ d. min (all_copies fleet d) 1) all_digests (holders_some fleet) ∙ sum_once all (all_copies fleet) of in
         let held = holders_sum pages guests fleet each in
-        let alone = sum_alone_is pages known told all guests ka in
-        let same = distinct_told known told all ka in
+        let alone = sum_alone_is pages known apart all guests ka in
+        let same = distinct_by_digest known apart all ka in
         omega (arith, whole, once, held, alone, same)
 
-    pub tells_total : TellsTotal (merged.total_numbers fleet) (total_numbers pages guests)
-    tells_total = record {
+    pub total_matches : MatchesTotal (merged.total_numbers fleet) (total_numbers pages guests)
+    total_matches = record {
       pages = all_pages_are pages guests fleet each;
       zero = sum_copies (filter is_zero all) (all_zero fleet) (all_zero_are pages guests fleet each) ∙ length-filter is_zero all;
       shared =
           estimate_is (is_zeros fleet) (λ d. cond (ltb 1 (all_copies fleet d)) (all_copies fleet d) 0) all_digests
           ∙ sum_passing all (λ d. ltb 1 (copies eqb d (map digest all))) (λ d. ltb 1 (all_copies fleet d)) (all_copies fleet) (λ d. ap (ltb 1) (of d)) of
-          ∙ sym (shared_told known told all all ka ka);
-      frames = estimate_is (is_zeros fleet) (λ d. min (all_copies fleet d) 1) all_digests ∙ sum_once all (all_copies fleet) of ∙ sym (distinct_told known told all ka);
+          ∙ sym (shared_by_digest known apart all all ka ka);
+      frames = estimate_is (is_zeros fleet) (λ d. min (all_copies fleet d) 1) all_digests ∙ sum_once all (all_copies fleet) of ∙ sym (distinct_by_digest known apart all ka);
       reclaimed =
           estimate_is (is_zeros fleet) (λ d. all_copies fleet d - 1) all_digests
           ∙ sum_but_one all (all_copies fleet) of
-          ∙ ap (λ (m : ℕ). length all - m) (sym (distinct_told known told all ka));
+          ∙ ap (λ (m : ℕ). length all - m) (sym (distinct_by_digest known apart all ka));
       zero_reclaimed = zeros_saved;
       between = estimate_is (is_zeros fleet) (λ d. all_holders fleet d - 1) all_digests ∙ between_saved;
     }
