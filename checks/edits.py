@@ -19,8 +19,8 @@ nobody edited is refused by itself, the edits of that check are tried again in t
 bring that about has a line 'alone: WHY', and is tried alone. Of an edit that is tried alone it is enough that any function is
 refused by itself, as the kit's own gate has it.
 
-A crate's first check is of the whole crate. Later ones (of a function's second edit, and of edits that are tried alone) are of the
-edited functions and what they call, over what earlier checks kept; nobody is told NOT REFUSED by them, but only by a whole check.
+A check is of the edited functions and what they call, over what earlier checks of the crate kept. Where the checker knows a function
+by another path than this script guesses, it is of the whole crate; nobody is told NOT REFUSED by them, but only by a whole check.
 """
 import dataclasses
 import hashlib
@@ -76,6 +76,10 @@ class Function:
     argument: str = ""
     # how the checker may also spell the owner
     spelled: str = ""
+
+    def guess(self):
+        """The path by which the checker most likely knows the function."""
+        return (*self.module, *filter(None, [self.owner]), self.name)
 
     def is_named(self, path):
         """Whether the checker means this function, or a closure in it, by these words of a path."""
@@ -222,8 +226,8 @@ class Trial:
         self.kit, self.crate, self.told, self.lines, self.plain = kit, crate, {}, [], {}
         self.earlier, self.folder, self.old = earlier, f"{crate.folder}/edits", 0
         self.waiting, self.alone, self.homes = [], [], homes_of(crate)
-        # the functions that a whole check has named
-        self.paths = []
+        # the functions that checks have named
+        self.paths = set()
         for name in sorted(os.listdir(self.folder)):
             said = earlier.find(crate, f"{self.folder}/{name}") if name.endswith(".edit") else None
             if said:
@@ -276,19 +280,24 @@ class Trial:
     def check(self, texts, what, only=()):
         """What the prover says of the crate with these texts: of all of it, or of these functions and what they call."""
         begun = time.time()
-        flags = [*FLAGS, *(word for path in only for word in ("--only", "::".join(path)))]
-        ran = self.kit.checked(self.crate, texts, flags, self.kept)
+        ran = self.run_check(texts, only)
+        if only and ran.returncode == 2:
+            # (a path fits no function)
+            ran = self.run_check(texts, ())
         self.lines.append(f"{self.crate.name}: {what}, {time.time() - begun:.0f} s")
         if self.kit.rtlib.STALE.search(ran.stdout):
             raise RuntimeError(f"{self.crate.name}: the libraries in out/ can't be used: run make test first")
         said = Said(self.kit, ran, texts)
-        self.paths = self.paths or said.paths
+        self.paths.update(said.paths)
         return said
 
+    def run_check(self, texts, only):
+        return self.kit.checked(self.crate, texts, [*FLAGS, *(word for path in only for word in ("--only", "::".join(path)))], self.kept)
+
     def paths_of(self, functions):
-        """These functions by their paths; none where a path isn't known."""
-        found = [next(iter(sorted((it for it in self.paths if function and function.is_named(it)), key=len)), ()) for function in functions]
-        return found if all(found) else []
+        """These functions by their paths, which are guessed where no check has named them; none where one is no function."""
+        named = lambda function: sorted((it for it in self.paths if function.is_named(it)), key=lambda it: (len(it), it))
+        return [] if None in functions else [(named(it) or [it.guess()])[0] for it in functions]
 
     def merged(self, batch):
         """The texts with all changes of the batch, each put in at its place in the unedited text."""
