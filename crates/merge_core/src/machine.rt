@@ -156,27 +156,10 @@ impl<H: PageHash, A: Allocator> Core<H, A> {
 
     /// Lends a page: stores it whole as [`store_page`](Core::store_page) does, and then proposes it, unless its stores were
     /// refused. If the page has no frame and joins others, no frame is written for it. No memory is allocated.
-    pub fn lend(&mut self, guest: u8, ppn: u32, page: &Page) -> Lent
-        requires guest { guest < length (state_of self.old).guests }
-        requires room { self.old.entries + STORES_A_PAGE < MAX_REQUESTS }
-        ensures { Lends H.hash_of guest ppn page.now result self.old self.new }
-    {
-        self.lend_known(guest, ppn, page, None)
-    }
-
-    /// Lends a page as [`lend`](Core::lend) does, for a caller who knows the hash of its bytes under a salt (see
-    /// [`hash_four`](Core::hash_four)). If that is the guest's salt, the page isn't hashed; otherwise the hash is ignored.
-    pub fn lend_hashed(&mut self, guest: u8, ppn: u32, page: &Page, known: SaltedHash) -> Lent
-        requires guest { guest < length (state_of self.old).guests }
-        requires room { self.old.entries + STORES_A_PAGE < MAX_REQUESTS }
-        requires hash { known.hash ≡ H.hash_of known.salt page.now }
-        ensures { Lends H.hash_of guest ppn page.now result self.old self.new }
-    {
-        self.lend_known(guest, ppn, page, Some(known))
-    }
-
-    /// Lends a page, whose hash under a salt may be known.
-    fn lend_known(&mut self, guest: u8, ppn: u32, page: &Page, known: Option<SaltedHash>) -> Lent
+    ///
+    /// A caller may know the hash of the page's bytes under a salt (see [`hash_four`](Core::hash_four)). If that is the guest's
+    /// salt, the page isn't hashed; otherwise the hash is ignored.
+    pub fn lend(&mut self, guest: u8, ppn: u32, page: &Page, known: Option<SaltedHash>) -> Lent
         requires guest { guest < length (state_of self.old).guests }
         requires room { self.old.entries + STORES_A_PAGE < MAX_REQUESTS }
         requires known { IfSome known (λ k. k.hash ≡ H.hash_of k.salt page.now) }
@@ -272,7 +255,7 @@ impl<H: PageHash, A: Allocator> Core<H, A> {
     }
 
     /// Returns the hashes of four pages' bytes, each under the salt at its place: four at once, if the hash can. Pages that are
-    /// to be lent are hashed where they are, for [`lend_hashed`](Core::lend_hashed).
+    /// to be lent are hashed where they are, for [`lend`](Core::lend).
     pub fn hash_four(&self, salts: [u32; 4], a: &Page, b: &Page, c: &Page, d: &Page) -> [u64; 4]
         ensures { result ≡ four_hashes H.hash_of salts a.now b.now c.now d.now }
     {
