@@ -33,7 +33,7 @@ fn put<H: PageHash, A: Allocator>(
     lend_keeps_bytes_law();
     core.restart_count();
     core.frames();
-    core.lend_hashed(0, ppn, page, known);
+    core.lend(0, ppn, page, Some(known));
     core.frames();
     match core.frame(0, ppn) {
         Some(mpn) => mpn,

@@ -13,12 +13,9 @@ use crate::held::Held;
 use crate::look::{bytes_at, find, frame_of};
 use arrayvec::ArrayVec;
 use page_digest::PageHash;
-use page_forecasts::{FORECASTS, Forecasts, is_changed, is_proposed};
-use page_model::{Entry, Page, Request};
+use page_forecasts::{FORECASTS, Forecasts, REACH, Upcoming, is_proposed, upcoming};
+use page_model::{Entry, Page};
 use std::alloc::Allocator;
-
-/// How many of the next requests are considered: where one in 16 is a proposal, as many as show seven.
-const REACH: usize = 128;
 
 /// The fewest foreseen pages for which hashing by eights pays: five beside the proposed one would else take two fours.
 const WORTH_EIGHT_LANES: usize = 5;
@@ -136,12 +133,13 @@ fn at_rest<H: PageHash, A: Allocator>(
         if pairs.is_full() || changing >= FORECASTS {
             return pairs;
         }
-        let guest = next[i].guest;
-        if let Some(ppn) = proposed_anew(first, &next[..i], &next[i]) {
-            if is_changed(&next[..i], guest, ppn) {
-                changing += 1;
-            } else if let Some(pair) = unhashed(held, guest as usize, ppn as usize) {
-                pairs.push(pair);
+        match upcoming_anew(first, &next[..i], &next[i]) {
+            None => {}
+            Some(Upcoming::Changing(_)) => changing += 1,
+            Some(Upcoming::AtRest(ppn)) => {
+                if let Some(pair) = unhashed(held, next[i].guest as usize, ppn as usize) {
+                    pairs.push(pair);
+                }
             }
         }
     }
@@ -162,8 +160,8 @@ fn gather<H: PageHash, A: Allocator>(
         if count >= FORECASTS {
             return count;
         }
-        if let Some(ppn) = proposed_anew(first, &next[..i], &next[i]) {
-            if foresee_page(held, forecasts, count, &next[..i], next[i].guest, ppn) {
+        if let Some(page) = upcoming_anew(first, &next[..i], &next[i]) {
+            if foresee_page(held, forecasts, count, &next[..i], next[i].guest, page) {
                 count += 1;
             }
         }
@@ -179,13 +177,16 @@ fn foresee_page<H: PageHash, A: Allocator>(
     place: usize,
     before: &[Entry],
     guest: u8,
-    ppn: u32,
+    page: Upcoming,
 ) -> bool
     requires whole { Whole H.hash_of held.now }
     requires place { place < FORECASTS }
 {
-    if !is_changed(before, guest, ppn) && unhashed(held, guest as usize, ppn as usize).is_none() {
-        return false;
+    let ppn = number_of(page);
+    if let Upcoming::AtRest(_) = page {
+        if unhashed(held, guest as usize, ppn as usize).is_none() {
+            return false;
+        }
     }
     let Some((salt, _)) = find(held, guest as usize, ppn as usize) else {
         return false;
@@ -208,17 +209,23 @@ fn paged_bytes<H: PageHash, A: Allocator>(held: &Held<H, A>, _salt: u32, mpn: u3
     bytes_at(&held.frames, mpn)
 }
 
-/// Returns the number of the page that a request proposes, if it isn't the first page and isn't proposed before.
-fn proposed_anew(first: Proposal, before: &[Entry], entry: &Entry) -> Option<u32> {
-    let ppn = match entry.request {
-        Request::Propose(ppn) => ppn,
-        _ => return None,
-    };
+/// Returns the page that a request proposes after others, if it isn't the first page and they don't propose it.
+fn upcoming_anew(first: Proposal, before: &[Entry], entry: &Entry) -> Option<Upcoming> {
+    let page = upcoming(before, entry)?;
+    let ppn = number_of(page);
     if first.guest == entry.guest && first.ppn == ppn {
         return None;
     }
     if is_proposed(before, entry.guest, ppn) {
         return None;
     }
-    Some(ppn)
+    Some(page)
+}
+
+/// Returns the number of a page that is proposed.
+fn number_of(page: Upcoming) -> u32 {
+    match page {
+        Upcoming::AtRest(ppn) => ppn,
+        Upcoming::Changing(ppn) => ppn,
+    }
 }

@@ -10,7 +10,7 @@ pub struct Lent {
     pub freed: Option<u32>,
 }
 
-/// The hash of a page's bytes under a salt, for a page that is to be lent ([`Core::lend_hashed`](crate::Core::lend_hashed)).
+/// The hash of a page's bytes under a salt, for a page that is to be lent ([`Core::lend`](crate::Core::lend)).
 #[derive(Clone, Copy, Debug, PartialEq, Eq)]
 pub struct SaltedHash {
     pub salt: u32,

@@ -6,10 +6,12 @@
 
 mod ahead;
 mod by_workers;
+mod counting;
 mod fault;
 mod forecast;
 mod hashing;
 mod held;
+pub mod laws;
 mod lending;
 mod lent;
 mod look;
@@ -21,6 +23,7 @@ mod offer;
 mod serve;
 mod tally;
 
+pub use counting::MAX_REQUESTS;
 pub use fault::CoreFault;
 pub use lent::{Lent, Returned, SaltedHash};
 pub use machine::{Core, PAGES_A_WORKER};

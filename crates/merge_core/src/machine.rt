@@ -17,6 +17,7 @@ ghost use Rattle.merge_core.specs.Refusals.{AreLimits, NoCoreFor};
 ghost use Rattle.merge_core.specs.Made.{IsNew};
 ghost use Rattle.merge_core.specs.Shown.{state_of, FramesOfPages, TableOfPages};
 ghost use Rattle.merge_core.specs.Stays.{frame_at};
+ghost use Rattle.merge_core.specs.declared.counting.TheConstants.{MAX_REQUESTS};
 
 use crate::ahead::note_hashes;
 use crate::by_workers::{note_by_workers, note_page, push_hashes};
@@ -126,7 +127,7 @@ impl<H: PageHash, A: Allocator> Core<H, A> {
     #[tactic(auto, unfolding(page_model::specs::Steps::step, page_model::specs::Steps::answered))]
     pub fn apply(&mut self, guest: u8, request: &Request) -> Verdict
         requires guest { guest < length (state_of self.old).guests }
-        requires room { self.old.entries < 4294967295 }
+        requires room { self.old.entries < MAX_REQUESTS }
         ensures { Applies H.hash_of guest request.now result self.old self.new }
     {
         self.entries += 1;
@@ -146,7 +147,7 @@ impl<H: PageHash, A: Allocator> Core<H, A> {
     /// `Stored`. The bytes are copied once, and no memory is allocated.
     pub fn store_page(&mut self, guest: u8, ppn: u32, page: &Page) -> Verdict
         requires guest { guest < length (state_of self.old).guests }
-        requires room { self.old.entries + STORES_A_PAGE ≤ 4294967295 }
+        requires room { self.old.entries + STORES_A_PAGE ≤ MAX_REQUESTS }
         ensures { StoresPage H.hash_of guest ppn page.now result self.old self.new }
     {
         self.entries += STORES_A_PAGE;
@@ -155,29 +156,12 @@ impl<H: PageHash, A: Allocator> Core<H, A> {
 
     /// Lends a page: stores it whole as [`store_page`](Core::store_page) does, and then proposes it, unless its stores were
     /// refused. If the page has no frame and joins others, no frame is written for it. No memory is allocated.
-    pub fn lend(&mut self, guest: u8, ppn: u32, page: &Page) -> Lent
+    ///
+    /// A caller may know the hash of the page's bytes under a salt (see [`hash_four`](Core::hash_four)). If that is the guest's
+    /// salt, the page isn't hashed; otherwise the hash is ignored.
+    pub fn lend(&mut self, guest: u8, ppn: u32, page: &Page, known: Option<SaltedHash>) -> Lent
         requires guest { guest < length (state_of self.old).guests }
-        requires room { self.old.entries + STORES_A_PAGE < 4294967295 }
-        ensures { Lends H.hash_of guest ppn page.now result self.old self.new }
-    {
-        self.lend_known(guest, ppn, page, None)
-    }
-
-    /// Lends a page as [`lend`](Core::lend) does, for a caller who knows the hash of its bytes under a salt (see
-    /// [`hash_four`](Core::hash_four)). If that is the guest's salt, the page isn't hashed; otherwise the hash is ignored.
-    pub fn lend_hashed(&mut self, guest: u8, ppn: u32, page: &Page, known: SaltedHash) -> Lent
-        requires guest { guest < length (state_of self.old).guests }
-        requires room { self.old.entries + STORES_A_PAGE < 4294967295 }
-        requires hash { known.hash ≡ H.hash_of known.salt page.now }
-        ensures { Lends H.hash_of guest ppn page.now result self.old self.new }
-    {
-        self.lend_known(guest, ppn, page, Some(known))
-    }
-
-    /// Lends a page, whose hash under a salt may be known.
-    fn lend_known(&mut self, guest: u8, ppn: u32, page: &Page, known: Option<SaltedHash>) -> Lent
-        requires guest { guest < length (state_of self.old).guests }
-        requires room { self.old.entries + STORES_A_PAGE < 4294967295 }
+        requires room { self.old.entries + STORES_A_PAGE < MAX_REQUESTS }
         requires known { IfSome known (λ k. k.hash ≡ H.hash_of k.salt page.now) }
         ensures { Lends H.hash_of guest ppn page.now result self.old self.new }
     {
@@ -198,7 +182,7 @@ impl<H: PageHash, A: Allocator> Core<H, A> {
     /// is the one request that counts. The room stays as it is unless the answer is `Released`. No memory is allocated.
     pub fn take_back(&mut self, guest: u8, ppn: u32, room: &mut Page) -> Returned
         requires guest { guest < length (state_of self.old).guests }
-        requires room { self.old.entries < 4294967295 }
+        requires room { self.old.entries < MAX_REQUESTS }
         ensures { TakesBack H.hash_of guest ppn result room.old room.new self.old self.new }
     {
         self.entries += 1; // the release alone
@@ -212,7 +196,7 @@ impl<H: PageHash, A: Allocator> Core<H, A> {
     /// at once. If other requests come instead, the answers are the same.
     pub fn apply_ahead(&mut self, guest: u8, request: &Request, next: &[Entry]) -> Verdict
         requires guest { guest < length (state_of self.old).guests }
-        requires room { self.old.entries < 4294967295 }
+        requires room { self.old.entries < MAX_REQUESTS }
         ensures { Applies H.hash_of guest request.now result self.old self.new }
     {
         self.foresee(guest, request, next);
@@ -234,7 +218,7 @@ impl<H: PageHash, A: Allocator> Core<H, A> {
     /// If the request doesn't propose a mapped page, the hash is ignored.
     pub fn apply_hashed(&mut self, guest: u8, request: &Request, hash: u64) -> Verdict
         requires guest { guest < length (state_of self.old).guests }
-        requires room { self.old.entries < 4294967295 }
+        requires room { self.old.entries < MAX_REQUESTS }
         requires hash { IsHashFor H.hash_of (state_of self.old).guests guest request.now hash }
         ensures { Applies H.hash_of guest request.now result self.old self.new }
     {
@@ -271,7 +255,7 @@ impl<H: PageHash, A: Allocator> Core<H, A> {
     }
 
     /// Returns the hashes of four pages' bytes, each under the salt at its place: four at once, if the hash can. Pages that are
-    /// to be lent are hashed where they are, for [`lend_hashed`](Core::lend_hashed).
+    /// to be lent are hashed where they are, for [`lend`](Core::lend).
     pub fn hash_four(&self, salts: [u32; 4], a: &Page, b: &Page, c: &Page, d: &Page) -> [u64; 4]
         ensures { result ≡ four_hashes H.hash_of salts a.now b.now c.now d.now }
     {

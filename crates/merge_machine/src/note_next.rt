@@ -1,22 +1,21 @@
 //! Hashing the pages that a round's requests propose, with several workers.
 ghost use Rattle.std.specs.Prelude.{◌≡◌, ◌<◌, ◌≤◌, length};
 ghost use Rattle.merge_core.specs.Hashing.{AreWorkers};
+ghost use Rattle.page_forecasts.specs.declared.forecasts.TheConstants.{REACH};
 
 use crate::workers::Workers;
 use arrayvec::ArrayVec;
 use merge_core::{Core, PAGES_A_WORKER};
 use page_digest::PageHash;
-use page_forecasts::is_changed;
-use page_model::{Entry, Request};
+use page_forecasts::{REACH, Upcoming, upcoming};
+use page_model::Entry;
 use std::alloc::Allocator;
 use std::sync::Wait;
 use std::thread::Threads;
 
-/// How many requests are considered together.
-const WINDOW: usize = 64;
-
-/// At each 64th of these requests, the first included, notes the hashes of the pages that it and the next 63 propose, if
-/// they are enough for two workers: fewer are hashed as they are proposed. It changes nothing that the core shows.
+/// At each [`REACH`]th of these requests, the first included, notes the hashes of the pages that it and those after it up to
+/// the next such propose, if they are enough for two workers: fewer are hashed as they are proposed. It changes nothing that
+/// the core shows.
 pub(crate) fn note_ahead<
     R: Threads + Wait + Sync,
     H: PageHash,
@@ -27,10 +26,10 @@ pub(crate) fn note_ahead<
     requires at { at < length entries.now }
     ensures { core.new ≡ core.old }
 {
-    if at % WINDOW != 0 {
+    if at % REACH != 0 {
         return;
     }
-    let count = (entries.len() - at).min(WINDOW);
+    let count = (entries.len() - at).min(REACH);
     let pages = proposed(&entries[at..at + count]);
     if pages.len() < 2 * PAGES_A_WORKER {
         return;
@@ -43,15 +42,13 @@ pub(crate) fn note_ahead<
 
 /// Returns the pages that these requests propose, except those that they store to or release before: their bytes may be
 /// different by then.
-fn proposed(window: &[Entry]) -> ArrayVec<(u8, u32), WINDOW>
-    requires { length window.now ≤ 64 }
+fn proposed(window: &[Entry]) -> ArrayVec<(u8, u32), REACH>
+    requires { length window.now ≤ REACH }
 {
     let mut pages = ArrayVec::new();
     for i in 0..window.len() {
-        if let Request::Propose(ppn) = window[i].request {
-            if !is_changed(&window[..i], window[i].guest, ppn) {
-                pages.push((window[i].guest, ppn));
-            }
+        if let Some(Upcoming::AtRest(ppn)) = upcoming(&window[..i], &window[i]) {
+            pages.push((window[i].guest, ppn));
         }
     }
     pages

@@ -7,6 +7,10 @@ use std::marker::Model;
 /// The most pages that are foreseen: together with the proposed one, as many as are hashed at once.
 pub const FORECASTS: usize = 7;
 
+/// How many of the next requests are considered: where one in 16 is a proposal, as many as show a proposal and the seven pages
+/// that are foreseen beside it.
+pub const REACH: usize = 16 * (FORECASTS + 1);
+
 /// Pages that are foreseen, at most seven. Earlier ones stay until others replace them.
 ///
 /// A contract sees a list of seven `Foreseen`.

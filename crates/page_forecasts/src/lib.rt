@@ -7,7 +7,10 @@
 
 mod forecast;
 mod forecasts;
+pub mod laws;
+mod proposal;
 mod requests;
 
-pub use forecasts::{FORECASTS, Forecasts};
-pub use requests::{is_changed, is_proposed};
+pub use forecasts::{FORECASTS, Forecasts, REACH};
+pub use proposal::Upcoming;
+pub use requests::{is_proposed, upcoming};

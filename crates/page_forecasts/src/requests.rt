@@ -2,10 +2,36 @@
 ghost use Rattle.std.specs.Prelude.{◌≡◌};
 ghost use Rattle.page_forecasts.specs.Requests as requests;
 
+use crate::proposal::Upcoming;
 use page_model::{Entry, Request};
 
+/// Returns the page that a request proposes, and whether the requests `before` it change that page; `None` if it proposes none.
+pub fn upcoming(before: &[Entry], entry: &Entry) -> Option<Upcoming>
+    ensures { result ≡ requests.upcoming before.now entry.now }
+{
+    match &entry.request {
+        Request::Propose(ppn) => Some(as_left(before, entry.guest, *ppn)),
+        Request::Store(_) => None,
+        Request::Load(_) => None,
+        Request::Release(_) => None,
+        Request::Count => None,
+        Request::Close => None,
+    }
+}
+
+/// Returns a page that is proposed after these requests.
+fn as_left(before: &[Entry], guest: u8, ppn: u32) -> Upcoming
+    ensures { result ≡ requests.as_left before.now guest ppn }
+{
+    if is_changed(before, guest, ppn) {
+        Upcoming::Changing(ppn)
+    } else {
+        Upcoming::AtRest(ppn)
+    }
+}
+
 /// Whether one of these requests stores to the page or releases it.
-pub fn is_changed(entries: &[Entry], guest: u8, ppn: u32) -> bool
+fn is_changed(entries: &[Entry], guest: u8, ppn: u32) -> bool
     ensures { result ≡ requests.is_changed entries.now guest ppn }
 {
     entries.iter().any(|entry| entry.guest == guest && changes(&entry.request, ppn))

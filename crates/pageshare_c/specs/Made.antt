@@ -1,10 +1,9 @@
 -- Why a machine is made or not, and what the handle holds afterwards.
 use Rattle.std.specs.Prelude.{◌≡◌, ◌≢◌, ◌≤◌, ◌<◌, ◌⊎◌, ℕ, List, Option, Some, None, IsSome}
 use Rattle.std.specs.Option.{option_map}
-use Rattle.page_model.specs.Limits.{shapes}
+use Rattle.page_model.specs.Limits.{shapes, AreLimits, NoShapeFor}
 use Rattle.page_model.specs.Replay.{empty_state}
-use Rattle.merge_core.specs.Refusals.{AreLimits, NoCoreFor}
-use Rattle.merge_core.specs.declared.CoreFault.TheVariants.{Frames, Guests, Pages}
+use Rattle.page_model.specs.declared.machine_shape.ShapeFault.TheVariants.{Frames, Guests, Pages}
 use Rattle.pageshare_c.specs.Hashed.{hash_number}
 use Rattle.pageshare_c.specs.Outcomes.{seen}
 use Rattle.pageshare_c.specs.declared.hashed_core.HashedCore.{HashedCore}
@@ -22,9 +21,9 @@ pub record Makes (frames : ℕ) (pages salts : List ℕ) (hash : ℕ) (region : 
   pub empty : status ≡ 0 → seen new ≡ Some (empty_state frames (shapes salts pages))
   pub named : status ≡ 0 → option_map hash_number new ≡ Some hash
   pub kept : status ≢ 0 → new ≡ old
-  pub frames_fault : status ≡ 1 → NoCoreFor frames pages salts Frames
-  pub guests_fault : status ≡ 2 → NoCoreFor frames pages salts Guests
-  pub pages_fault : status ≡ 3 → NoCoreFor frames pages salts Pages
+  pub frames_fault : status ≡ 1 → NoShapeFor frames pages salts Frames
+  pub guests_fault : status ≡ 2 → NoShapeFor frames pages salts Guests
+  pub pages_fault : status ≡ 3 → NoShapeFor frames pages salts Pages
   pub memory_fault : status ≡ 4 → AreLimits frames pages salts × ¬ IsUnfit region frames
   pub in_use : IsSome old → status ≡ 5
   pub unused : status ≡ 5 → IsSome old

@@ -10,6 +10,7 @@ use Rattle.page_model.specs.declared.request.RequestFault.{RequestFault}
 use Rattle.page_model.specs.declared.request.RequestFault.TheVariants.{Length, Crosses}
 use Rattle.page_model.specs.declared.verdict.Verdict.{Verdict}
 use Rattle.merge_core.specs.Shown.{state_of}
+use Rattle.merge_core.specs.declared.counting.TheConstants.{MAX_REQUESTS}
 use Rattle.pageshare_c.specs.Hashed.{shown_in, hash_in}
 use Rattle.pageshare_c.specs.declared.hashed_core.HashedCore.{HashedCore}
 use Rattle.pageshare_c.specs.declared.answer.Refusal.{Refusal}
@@ -31,7 +32,7 @@ abbrev pub refusal_for : ℕ → State → ℕ → Option Refusal
 refusal_for requests s guest =
     if nat_le (length s.guests) guest
     then Some r.NoGuest
-    else if nat_lt 4294967295 (s.entries + requests)
+    else if nat_lt MAX_REQUESTS (s.entries + requests)
     then Some r.Full
     else None
 

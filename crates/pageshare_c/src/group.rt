@@ -125,12 +125,13 @@ fn lend_hashed(core: &mut HashedCore, page: &Lending<'_>, salt: u32, hash: u64) 
     ensures lends { LendsOne page.now.guest page.now.ppn page.now.page.now result (Some core.old) (Some core.new) }
     ensures hash { hash_in core.new ≡ hash_in core.old }
 {
-    core.lend_hashed(page.guest, page.ppn, page.page, SaltedHash { salt, hash })
+    let known = Some(SaltedHash { salt, hash });
+    core.lend(page.guest, page.ppn, page.page, known)
 }
 
 /// Lends a page.
 fn lend_one(core: &mut HashedCore, page: &Lending<'_>) -> Answer
     ensures { LendsOne page.now.guest page.now.ppn page.now.page.now result (Some core.old) (Some core.new) }
 {
-    core.lend(page.guest, page.ppn, page.page)
+    core.lend(page.guest, page.ppn, page.page, None)
 }

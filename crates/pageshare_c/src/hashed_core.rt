@@ -1,5 +1,5 @@
 //! A core, by the hash that its machine was made with.
-ghost use Rattle.std.specs.Prelude.{◌≡◌, map, Some, IsSome, Ok, IfOk, IfErr, IsTrue, ◌↔◌};
+ghost use Rattle.std.specs.Prelude.{◌≡◌, map, Some, IsSome, Ok, IfOk, IfErr, IfSome, IsTrue, ◌↔◌};
 ghost use Rattle.page_digest.specs.Hashes.{four_hashes, eight_hashes};
 ghost use Rattle.page_model.specs.Pages.{page_at};
 ghost use Rattle.page_model.specs.Stored.{text_at};
@@ -9,7 +9,7 @@ ghost use Rattle.merge_core.specs.Shown.{state_of};
 ghost use Rattle.pageshare_c.specs.Found.{found_in, text_in, text_of};
 ghost use Rattle.pageshare_c.specs.Framed.{frame_freed, frame_left, LeftFree};
 ghost use Rattle.pageshare_c.specs.Hashed.{shown_in, hash_in};
-ghost use Rattle.pageshare_c.specs.InTurn.{LendsOne, LendInTurn};
+ghost use Rattle.pageshare_c.specs.InTurn.{LendInTurn};
 ghost use Rattle.pageshare_c.specs.Kept.{FramesKept, StoreKept, LendKept, restarted_core};
 ghost use Rattle.pageshare_c.specs.Outcomes.{outcome, state_after, store_outcome, state_stored, lend_outcome, state_lent, seen};
 ghost use Rattle.pageshare_c.specs.Told.{answer_to, store_answer, lend_answer, loaded, counted, counts, taken, value_or};
@@ -19,7 +19,7 @@ use crate::answer::{Answer, Refusal, Totals, totals_of};
 use crate::find::{copy_page, find_frame, put_address};
 use crate::group::{Lending, lend_each, lend_eight, lend_together};
 use crate::serve::{answer, answer_count, answer_load};
-use crate::whole::{lend, lend_hashed, salt_of, store_page, take_back};
+use crate::whole::{lend, salt_of, store_page, take_back};
 use merge_core::{Core, SaltedHash};
 use page_digest::{FoldHash, Sha256Hash, WideSha256Hash};
 use page_model::{Page, Request, RequestFault};
@@ -97,36 +97,25 @@ impl HashedCore {
         }
     }
 
-    /// Lends a page.
-    pub(crate) fn lend(&mut self, guest: u32, ppn: u32, page: &Page) -> Answer
-        ensures answer { result ≡ lend_answer (Some self.old) (Some self.new) guest ppn page.now }
-        ensures state { seen (Some self.new) ≡ state_lent (Some self.old) guest ppn page.now }
-        ensures frames { LendKept guest ppn page.now (lend_outcome (Some self.old) guest ppn page.now) (Some self.old) (Some self.new) }
-        ensures free { LeftFree (frame_left (Some self.old) guest ppn page.now) (Some self.new) }
-    {
-        match self {
-            HashedCore::Sha256(core) => lend(core, guest, ppn, page),
-            HashedCore::Fold(core) => lend(core, guest, ppn, page),
-            HashedCore::WideSha256(core) => lend(core, guest, ppn, page),
-        }
-    }
-
-    /// Lends a page, of which a hash is known.
-    pub(crate) fn lend_hashed(
+    /// Lends a page, whose hash under a salt may be known.
+    pub(crate) fn lend(
         &mut self,
         guest: u32,
         ppn: u32,
         page: &Page,
-        known: SaltedHash,
+        known: Option<SaltedHash>,
     ) -> Answer
-        requires hash { known.hash ≡ hash_in self.old known.salt page.now }
-        ensures lends { LendsOne guest ppn page.now result (Some self.old) (Some self.new) }
+        requires known { IfSome known (λ k. k.hash ≡ hash_in self.old k.salt page.now) }
+        ensures answer { result ≡ lend_answer (Some self.old) (Some self.new) guest ppn page.now }
+        ensures state { seen (Some self.new) ≡ state_lent (Some self.old) guest ppn page.now }
+        ensures frames { LendKept guest ppn page.now (lend_outcome (Some self.old) guest ppn page.now) (Some self.old) (Some self.new) }
+        ensures free { LeftFree (frame_left (Some self.old) guest ppn page.now) (Some self.new) }
         ensures hash { hash_in self.new ≡ hash_in self.old }
     {
         match self {
-            HashedCore::Sha256(core) => lend_hashed(core, guest, ppn, page, known),
-            HashedCore::Fold(core) => lend_hashed(core, guest, ppn, page, known),
-            HashedCore::WideSha256(core) => lend_hashed(core, guest, ppn, page, known),
+            HashedCore::Sha256(core) => lend(core, guest, ppn, page, known),
+            HashedCore::Fold(core) => lend(core, guest, ppn, page, known),
+            HashedCore::WideSha256(core) => lend(core, guest, ppn, page, known),
         }
     }
 

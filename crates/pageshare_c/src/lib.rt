@@ -270,7 +270,7 @@ pub extern "C" fn pageshare_lend(
     match machine.take(alloc) {
         None => refuse(Refusal::NoMachine),
         Some(mut core) => {
-            let answer = core.lend(guest, ppn, page);
+            let answer = core.lend(guest, ppn, page, None);
             machine.put(core);
             answer
         }

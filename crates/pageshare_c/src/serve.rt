@@ -2,6 +2,7 @@
 ghost use Rattle.std.specs.Prelude.{◌≡◌, ◌+◌, ◌<◌, ◌≤◌, length, None, Ok, Err, IfOk, MatchResult};
 ghost use Rattle.merge_core.specs.Applying.{Applies};
 ghost use Rattle.merge_core.specs.Shown.{state_of};
+ghost use Rattle.merge_core.specs.declared.counting.TheConstants.{MAX_REQUESTS};
 ghost use Rattle.pageshare_c.specs.Access.{store_of, load_of};
 ghost use Rattle.pageshare_c.specs.Framed.{named_frame, own_frame, asked_frame, freed_at, freed_by};
 ghost use Rattle.pageshare_c.specs.Kept.{CoreKeeps, FramesKept};
@@ -11,13 +12,10 @@ ghost use Rattle.pageshare_c.specs.Told.{told, answer_to, counted, loaded, overl
 use crate::answer::{Answer, Refusal, Totals, answer_of, refuse, totals_of};
 use crate::framed::{find_named, find_own, freed_at};
 use crate::machine::Machine;
-use merge_core::Core;
+use merge_core::{Core, MAX_REQUESTS};
 use page_digest::PageHash;
 use page_model::{Request, RequestFault, Verdict};
 use std::alloc::Global;
-
-/// How many requests a machine counts.
-const MOST_REQUESTS: u32 = 4_294_967_295;
 
 /// Makes a store's request.
 #[tactic(auto, using(crate::proofs::Accesses::access_is))]
@@ -43,12 +41,12 @@ pub(crate) fn refusal_for<H: PageHash>(core: &Core<H>, guest: u32, requests: u32
     ensures refusal { result ≡ refusal_for requests (state_of core.now) guest }
     ensures guest { result ≡ None → guest < length (state_of core.now).guests }
     ensures few { result ≡ None → guest < 256 }
-    ensures room { result ≡ None → core.now.entries + requests ≤ 4294967295 }
+    ensures room { result ≡ None → core.now.entries + requests ≤ MAX_REQUESTS }
 {
     if guest >= u32::from(core.guests()) {
         return Some(Refusal::NoGuest);
     }
-    if core.entries() > MOST_REQUESTS - requests {
+    if core.entries() > MAX_REQUESTS - requests {
         return Some(Refusal::Full);
     }
     None
@@ -65,7 +63,7 @@ fn accept<'a, H: PageHash>(
     ensures asked { IfOk result (λ request. asked.now ≡ Ok request.now) }
     ensures guest { IfOk result (λ _. guest < length (state_of core.now).guests) }
     ensures few { IfOk result (λ _. guest < 256) }
-    ensures room { IfOk result (λ _. core.now.entries < 4294967295) }
+    ensures room { IfOk result (λ _. core.now.entries < MAX_REQUESTS) }
 {
     if let Some(refusal) = refusal_for(core, guest, 1) {
         return Err(refusal);
@@ -81,7 +79,7 @@ fn accept<'a, H: PageHash>(
 fn apply<H: PageHash>(core: &mut Core<H>, guest: u32, request: &Request) -> (Verdict, Answer)
     requires guest { guest < length (state_of core.old).guests }
     requires few { guest < 256 }
-    requires room { core.old.entries < 4294967295 }
+    requires room { core.old.entries < MAX_REQUESTS }
     ensures applies { Applies H.hash_of guest request.now result.0 core.old core.new }
     ensures answer { result.1 ≡ told (Ok result.0) (named_frame core.new.pmap guest request.now)
         (freed_at result.0 (own_frame core.old.pmap guest request.now)) }

@@ -1,5 +1,5 @@
 //! Whole pages, stored, lent and taken back.
-ghost use Rattle.std.specs.Prelude.{◌≡◌, None, Ok};
+ghost use Rattle.std.specs.Prelude.{◌≡◌, None, Ok, IfSome};
 ghost use Rattle.page_model.specs.Pages.{State};
 ghost use Rattle.page_model.specs.declared.request.Request.TheVariants.{Release};
 ghost use Rattle.merge_core.specs.Lending.{release_verdict};
@@ -39,33 +39,16 @@ pub(crate) fn store_page<H: PageHash>(
     answer_of(&verdict, frame_of(core, guest, ppn), None)
 }
 
-/// Lends a page.
+/// Lends a page, whose hash under a salt may be known.
 #[tactic(auto, using(crate::proofs::Tellings::no_steps))]
-pub(crate) fn lend<H: PageHash>(core: &mut Core<H>, guest: u32, ppn: u32, page: &Page) -> Answer
-    ensures answer { result ≡ told (verdict_in (lend_steps H.hash_of (state_of core.old) guest ppn page.now))
-        (frame_at core.new.pmap guest ppn) (left_in H.hash_of core.old guest ppn page.now) }
-    ensures state { state_of core.new ≡ state_in (state_of core.old) (lend_steps H.hash_of (state_of core.old) guest ppn page.now) }
-    ensures frames { CoreLends H.hash_of guest ppn page.now
-        (verdict_in (lend_steps H.hash_of (state_of core.old) guest ppn page.now)) core.old core.new }
-    ensures free { IsFree (left_in H.hash_of core.old guest ppn page.now) core.new }
-{
-    if let Some(refusal) = refusal_for(core, guest, STORES_A_PAGE + 1) {
-        return refuse(refusal);
-    }
-    let lent = core.lend(guest as u8, ppn, page);
-    answer_of(&lent.verdict, frame_of(core, guest, ppn), lent.freed)
-}
-
-/// Lends a page, of which a hash is known.
-#[tactic(auto, using(crate::proofs::Tellings::no_steps))]
-pub(crate) fn lend_hashed<H: PageHash>(
+pub(crate) fn lend<H: PageHash>(
     core: &mut Core<H>,
     guest: u32,
     ppn: u32,
     page: &Page,
-    known: SaltedHash,
+    known: Option<SaltedHash>,
 ) -> Answer
-    requires hash { known.hash ≡ H.hash_of known.salt page.now }
+    requires known { IfSome known (λ k. k.hash ≡ H.hash_of k.salt page.now) }
     ensures answer { result ≡ told (verdict_in (lend_steps H.hash_of (state_of core.old) guest ppn page.now))
         (frame_at core.new.pmap guest ppn) (left_in H.hash_of core.old guest ppn page.now) }
     ensures state { state_of core.new ≡ state_in (state_of core.old) (lend_steps H.hash_of (state_of core.old) guest ppn page.now) }
@@ -76,7 +59,7 @@ pub(crate) fn lend_hashed<H: PageHash>(
     if let Some(refusal) = refusal_for(core, guest, STORES_A_PAGE + 1) {
         return refuse(refusal);
     }
-    let lent = core.lend_hashed(guest as u8, ppn, page, known);
+    let lent = core.lend(guest as u8, ppn, page, known);
     answer_of(&lent.verdict, frame_of(core, guest, ppn), lent.freed)
 }
 

@@ -19,12 +19,14 @@ use journal_replay::output::{LINE_BYTES, buffer};
 use journal_replay::{Sink, Source};
 use merge_core::Core;
 use page_digest::PageHash;
+use page_forecasts::REACH;
 use page_model::{Entry, MAX_GUESTS, Request};
 use std::alloc::Allocator;
 use text_words::TextFault;
 
 /// At least this many entries are served together: each of them sees those after it, whose pages may be hashed with its own.
-const WINDOW: usize = 256;
+/// Of twice as many as are considered, the first half sees them all.
+const WINDOW: usize = 2 * REACH;
 
 /// Room for the entries that are served together: turns are added until there are `WINDOW` entries or more, and a turn has at
 /// most one entry of each guest.

@@ -3,6 +3,7 @@ ghost use Rattle.std.specs.Prelude.{◌≡◌, ◌<◌, ◌≤◌, length};
 ghost use Rattle.page_digest.specs.Hashes.{sha256_hash};
 ghost use Rattle.merge_core.specs.Hashing.{AreWorkers, page_hash};
 ghost use Rattle.merge_core.specs.Shown.{state_of};
+ghost use Rattle.merge_core.specs.declared.counting.TheConstants.{MAX_REQUESTS};
 
 use crate::asks::{Ask, core_of, first_pages, numbers, serve, store_each};
 use merge_core::Core;
@@ -30,7 +31,7 @@ fn propose_ahead<R: Threads + Wait + Sync, B: Allocator + Clone + Send>(
 ) -> Result<(bool, Answer), HashFault>
     requires workers { AreWorkers workers }
     requires guest { 0 < length (state_of core.old).guests }
-    requires room { core.old.entries < 4294967295 }
+    requires room { core.old.entries < MAX_REQUESTS }
 {
     let hashes = core.hash_ahead(rt, alloc, workers, &[(0, 0), (0, 1), (0, 2)])?;
     let are_right = hashes.as_slice() == [Some(LETTER), None, None].as_slice();
@@ -40,7 +41,7 @@ fn propose_ahead<R: Threads + Wait + Sync, B: Allocator + Clone + Send>(
 /// Proposes page 0, with its known hash if it is mapped.
 fn propose_hashed(core: &mut Core<Sha256Hash>, hash: Option<u64>) -> Answer
     requires guest { 0 < length (state_of core.old).guests }
-    requires room { core.old.entries < 4294967295 }
+    requires room { core.old.entries < MAX_REQUESTS }
     requires hash { hash ≡ page_hash sha256_hash (state_of core.old).guests 0 0 }
 {
     let verdict = match hash {

@@ -3,6 +3,7 @@ use crate::asks::{Ask, Line, core_of, request_of, store_all};
 use crate::hashes::{Calls, Lanes};
 use merge_core::Core;
 use page_digest::PageHash;
+use page_forecasts::{Upcoming, upcoming};
 use page_model::Entry;
 use std::alloc::{Allocator, Global};
 use std::process::Abort;
@@ -76,6 +77,17 @@ fn hashed(rt: &impl Abort, alloc: Global, lines: &[Line]) -> (u32, u32, u32) {
     let mut core = core_of(rt, alloc, 16, &[8, 8], Lanes(&calls));
     serve_ahead(rt, alloc, &mut core, lines);
     calls.counts()
+}
+
+/// Returns the page that each of these eight lines proposes, after those before it.
+fn upcoming_of(rt: &impl Abort, alloc: Global, lines: &[Line; 8]) -> [Option<Upcoming>; 8] {
+    let entries = entries_of(rt, alloc, lines);
+    assert!(rt; entries.len() == 8);
+    let mut pages = [None; 8];
+    for at in 0..8 {
+        pages[at] = upcoming(&entries[..at], &entries[at]);
+    }
+    pages
 }
 
 /// Each page is stored to and then proposed, with two guests in turn: four are hashed at once, then the last one alone.
@@ -235,4 +247,30 @@ fn other_requests_come(rt: HostRuntime) {
     ];
     let counts = hashed_otherwise(&rt, rt.alloc(), &sight, &came);
     assert_eq!(rt; counts, [(0, 4, 0), (0, 8, 0)]);
+}
+
+/// A page changes before its proposal only by its own guest's stores and releases, and only by earlier ones.
+#[test]
+fn upcoming_pages(rt: HostRuntime) {
+    let lines = [
+        (0, Ask::Propose(0), Answer::Unmapped),
+        (0, Ask::Store(0, b'A'), Answer::Mapped),
+        (0, Ask::Propose(0), Answer::Hinted),
+        (1, Ask::Propose(0), Answer::Unmapped),
+        (0, Ask::Propose(1), Answer::Unmapped),
+        (0, Ask::Release(1), Answer::Unmapped),
+        (0, Ask::Propose(1), Answer::Unmapped),
+        (0, Ask::Count, Answer::Closed),
+    ];
+    let expected = [
+        Some(Upcoming::AtRest(0)),
+        None,
+        Some(Upcoming::Changing(0)),
+        Some(Upcoming::AtRest(0)),
+        Some(Upcoming::AtRest(1)),
+        None,
+        Some(Upcoming::Changing(1)),
+        None,
+    ];
+    assert!(rt; upcoming_of(&rt, rt.alloc(), &lines) == expected);
 }

@@ -62,7 +62,7 @@ fn lend<H: PageHash, A: Allocator>(
     assert!(rt; guest < core.guests());
     assert!(rt; core.entries() < 1_000_000);
     let own = frame_of(core, guest, ppn);
-    let lent = core.lend(guest, ppn, &page_of(byte));
+    let lent = core.lend(guest, ppn, &page_of(byte), None);
     (
         answer_of(&lent.verdict),
         is_own(rt, lent.freed, own),
@@ -87,7 +87,7 @@ fn lend_hashed<H: PageHash, A: Allocator>(
         salt,
         hash: hashes[0],
     };
-    let lent = core.lend_hashed(guest, ppn, &page, known);
+    let lent = core.lend(guest, ppn, &page, Some(known));
     (
         answer_of(&lent.verdict),
         is_own(rt, lent.freed, own),

@@ -2,11 +2,17 @@
 use crate::asks::{Ask, Line, core_of, frame, numbers, serve, store_all};
 use merge_core::{Core, CoreFault};
 use page_digest::FirstByteHash;
-use page_model::{MAX_FRAMES, MAX_GUESTS, MAX_PAGES, MachineShape};
+use page_model::{MAX_FRAMES, MAX_GUESTS, MAX_PAGES, MachineShape, ShapeFault};
 use std::alloc::Global;
 use std::process::Abort;
 use std::test::Fail;
 use worked_answers::Answer;
+
+const FRAMES: Option<CoreFault> = Some(CoreFault::Shape(ShapeFault::Frames));
+
+const GUESTS: Option<CoreFault> = Some(CoreFault::Shape(ShapeFault::Guests));
+
+const PAGES: Option<CoreFault> = Some(CoreFault::Shape(ShapeFault::Pages));
 
 /// Returns why there is no such machine.
 fn fault_of(alloc: Global, frames: u32, pages: &[u32], salts: &[u32]) -> Option<CoreFault> {
@@ -17,15 +23,15 @@ fn fault_of(alloc: Global, frames: u32, pages: &[u32], salts: &[u32]) -> Option<
 fn core_limits(rt: HostRuntime) {
     let pages = [1; 65];
     let limits: [(u32, &[u32], &[u32], Option<CoreFault>); 10] = [
-        (0, &[], &[], Some(CoreFault::Frames)),
-        (0, &[1], &[], Some(CoreFault::Frames)),
-        (MAX_FRAMES + 1, &[1], &[0], Some(CoreFault::Frames)),
-        (1, &[], &[], Some(CoreFault::Guests)),
-        (1, &pages, &pages, Some(CoreFault::Guests)),
-        (1, &[1], &[], Some(CoreFault::Guests)),
-        (1, &[0], &[], Some(CoreFault::Guests)),
-        (1, &[1, 0], &[0, 0], Some(CoreFault::Pages)),
-        (1, &[MAX_PAGES, 1], &[0, 0], Some(CoreFault::Pages)),
+        (0, &[], &[], FRAMES),
+        (0, &[1], &[], FRAMES),
+        (MAX_FRAMES + 1, &[1], &[0], FRAMES),
+        (1, &[], &[], GUESTS),
+        (1, &pages, &pages, GUESTS),
+        (1, &[1], &[], GUESTS),
+        (1, &[0], &[], GUESTS),
+        (1, &[1, 0], &[0, 0], PAGES),
+        (1, &[MAX_PAGES, 1], &[0, 0], PAGES),
         (1, &[1], &[0], None),
     ];
     for (frames, pages, salts, fault) in limits {

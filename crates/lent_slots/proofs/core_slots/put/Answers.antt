@@ -4,38 +4,38 @@ use Rattle.lent_slots.proofs.Lent.{put_is, put_from, exists_put, framed, fits_re
 use Rattle.lent_slots.proofs.Moves.{none_some}
 use Rattle.lent_slots.proofs.core_slots.put.Goals as goal
 
-pub lend_hashed-requires-clause-guest : goal.lend_hashed-requires-clause-guest
-lend_hashed-requires-clause-guest g c =
+pub lend-requires-clause-guest : goal.lend-requires-clause-guest
+lend-requires-clause-guest g c =
     let fits = fits_restarted c.args.slots.now c.args.core.now c.restart_count.new.self c.restart_count.ensures c.requires.fits in
     omega (arith, fits.one)
 
-pub lend_hashed-requires-clause-room : goal.lend_hashed-requires-clause-room
-lend_hashed-requires-clause-room g c = omega (arith, ap (λ (x : Shown). x.entries) c.restart_count.ensures)
+pub lend-requires-clause-room : goal.lend-requires-clause-room
+lend-requires-clause-room g c = omega (arith, ap (λ (x : Shown). x.entries) c.restart_count.ensures)
 
 pub frame-requires : goal.frame-requires
 frame-requires g c = (
   search rules,
-  exists_put c.lend_keeps_bytes_law.ensures g.H.HashFunction.hash_of c.args.client c.args.ppn c.args.page.now c.args.slots.now c.lend_hashed.result c.restart_count.new.self c.lend_hashed.new.self c.told-page
+  exists_put c.lend_keeps_bytes_law.ensures g.H.HashFunction.hash_of c.args.client c.args.ppn c.args.page.now c.args.slots.now c.lend.result c.restart_count.new.self c.lend.new.self c.told-page
       (fits_restarted c.args.slots.now c.args.core.now c.restart_count.new.self c.restart_count.ensures c.requires.fits)
-      c.frames.ensures.pages c.frames-2.ensures.pages c.lend_hashed.ensures c.requires.free
+      c.frames.ensures.pages c.frames-2.ensures.pages c.lend.ensures c.requires.free
       (room_restarted c.args.core.now c.restart_count.new.self c.restart_count.ensures c.requires.room),
 )
 
 pub returns : goal.returns
 returns g c =
     let p =
-    put_from c.args.client c.args.ppn c.in-Some.mpn c.args.page.now c.args.slots.now c.args.core.now c.restart_count.new.self c.lend_hashed.new.self c.restart_count.ensures
-    (put_is c.lend_keeps_bytes_law.ensures g.H.HashFunction.hash_of c.args.client c.args.ppn c.args.page.now c.args.slots.now c.lend_hashed.result c.restart_count.new.self c.lend_hashed.new.self c.told-page
+    put_from c.args.client c.args.ppn c.in-Some.mpn c.args.page.now c.args.slots.now c.args.core.now c.restart_count.new.self c.lend.new.self c.restart_count.ensures
+    (put_is c.lend_keeps_bytes_law.ensures g.H.HashFunction.hash_of c.args.client c.args.ppn c.args.page.now c.args.slots.now c.lend.result c.restart_count.new.self c.lend.new.self c.told-page
     (fits_restarted c.args.slots.now c.args.core.now c.restart_count.new.self c.restart_count.ensures c.requires.fits)
-    c.frames.ensures.pages c.frames-2.ensures.pages c.lend_hashed.ensures c.requires.free
+    c.frames.ensures.pages c.frames-2.ensures.pages c.lend.ensures c.requires.free
     (room_restarted c.args.core.now c.restart_count.new.self c.restart_count.ensures c.requires.room) c.in-Some.mpn (sym c.in-Some.ensures.pmap) c.in-Some.ensures.bytes) in
     record { fits = p.fits; within = p.within; held = p.held; frames = p.frames; alone = p.alone }
 
 pub unreachable-requires : goal.unreachable-requires
 unreachable-requires g c =
     let framed =
-    framed c.lend_keeps_bytes_law.ensures g.H.HashFunction.hash_of c.args.client c.args.ppn c.args.page.now c.args.slots.now c.lend_hashed.result c.restart_count.new.self c.lend_hashed.new.self c.told-page
+    framed c.lend_keeps_bytes_law.ensures g.H.HashFunction.hash_of c.args.client c.args.ppn c.args.page.now c.args.slots.now c.lend.result c.restart_count.new.self c.lend.new.self c.told-page
     (fits_restarted c.args.slots.now c.args.core.now c.restart_count.new.self c.restart_count.ensures c.requires.fits)
-    c.frames.ensures.pages c.frames-2.ensures.pages c.lend_hashed.ensures c.requires.free
+    c.frames.ensures.pages c.frames-2.ensures.pages c.lend.ensures c.requires.free
     (room_restarted c.args.core.now c.restart_count.new.self c.restart_count.ensures c.requires.room) in
     none_some framed.mpn (c.in-None.ensures.pmap ∙ framed.has)

@@ -1,5 +1,5 @@
 use Rattle.merge_core.proofs.PageApplied.{lent_applied, refused_applied}
-use Rattle.merge_core.proofs.machine.Core.lend_known.Goals as goal
+use Rattle.merge_core.proofs.machine.Core.lend.Goals as goal
 
 pub returns-in-Ok : goal.returns-in-Ok
 returns-in-Ok g c =
