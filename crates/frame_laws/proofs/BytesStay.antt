@@ -2,6 +2,7 @@
 use Rattle.std.proofs.Common.{◌≡◌, ◌≢◌, ℕ, zero, suc, ◌+◌, true, false, List, take, drop, Option, Some, None, IsSome, refl, ap, sym, subst, ◌∙◌, ◌⊎◌, inl, inr}
 use Rattle.std.specs.Option.{option_map, option_and_then}
 use Rattle.std.proofs.lemmas.Bool.{cases_eq, false≢true}
+use Rattle.std.proofs.lemmas.Option.{same_Some}
 use Rattle.page_model.specs.Pages.{SlotOf, Slot, Unmapped, Private, Shared, Guest, State, bytes_of, written, with_slot, page_at}
 use Rattle.page_model.specs.Steps.{Outcome, Step, stays, proposed, released, on_page, at_page, answered, step}
 use Rattle.page_model.specs.Replay.{state_after, verdicts_of}
@@ -37,16 +38,10 @@ text_by frames m (Some (salt, Shared n)) e = ap (option_map (bytes_in frames)) e
 text_is : (frames : FrameMap) (pmap : Pmap) (a b m : ℕ) → frame_at pmap a b ≡ Some m → text_at (guests_in frames pmap) a b ≡ Some (bytes_in frames m)
 text_is frames pmap a b m e = ap (option_map (λ (x : ℕ × Slot). bytes_of x.1)) (page_in frames pmap a b) ∙ text_by frames m (page_at pmap a b) e
 
-some_bytes : (x y : List ℕ) → Some x ≡ Some y → x ≡ y
-some_bytes x y e = cc
-
-some_mpn : (x y : ℕ) → Some x ≡ Some y → x ≡ y
-some_mpn x y e = cc
-
 -- a page with a frame before and after, and with the same text
 same_frame : (old new : Shown) (x y m : ℕ) → frame_at old.pmap x y ≡ Some m → frame_at new.pmap x y ≡ Some m → IsTaken old.frames m → IsTaken new.frames m → text_at (state_of new).guests x y ≡ text_at (state_of old).guests x y → frame new.frames m ≡ frame old.frames m
 same_frame old new x y m was is taken still text =
-    let bytes : bytes_in new.frames m ≡ bytes_in old.frames m = some_bytes _ _ (sym (text_is new.frames new.pmap x y m is) ∙ text ∙ text_is old.frames old.pmap x y m was) in
+    let bytes : bytes_in new.frames m ≡ bytes_in old.frames m = same_Some _ _ (sym (text_is new.frames new.pmap x y m is) ∙ text ∙ text_is old.frames old.pmap x y m was) in
     bytes_are new.frames m still ∙ ap (λ (l : List ℕ). Some l) bytes ∙ sym (bytes_are old.frames m taken)
 
 -- what becomes of the texts of pages: those of all pages but one stay
@@ -74,7 +69,7 @@ module _ (written : Option ℕ) (old new : Shown) (a b : ℕ) (whole : FramesOfP
   named_same : (change : Change) → NamedFrame change old.frames a b old.pmap new.pmap → (change ≡ Keeps → OwnText) → (m : ℕ) → frame_at new.pmap a b ≡ Some m → IsTaken old.frames m → IsTaken new.frames m → written ≢ Some m → frame new.frames m ≡ frame old.frames m
   named_same Keeps named own m is taken still apart = same_frame old new a b m (sym named ∙ is) is taken still (own refl m is apart)
   named_same TakesFree named own m is taken still apart =
-      let free : frame old.frames m ≡ None = ap (frame old.frames) (some_mpn _ _ (sym is ∙ named.has)) ∙ named.was_free in
+      let free : frame old.frames m ≡ None = ap (frame old.frames) (same_Some _ _ (sym is ∙ named.has)) ∙ named.was_free in
       absurd (false≢true (let P : Option (List ℕ) → Type 0 = λ o. IsSome o in subst P free taken))
   named_same JoinsAnother named own m is taken still apart =
       let theirs : frame_at new.pmap named.other named.place ≡ Some m = others named.other named.place named.apart ∙ named.theirs ∙ sym named.has ∙ is in

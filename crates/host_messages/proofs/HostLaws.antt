@@ -3,7 +3,7 @@ use Rattle.std.proofs.Common.{◌≡◌, ◌⊎◌, ℕ, zero, suc, ◌+◌, ◌
 use Rattle.std.specs.Prelude.{IfOk}
 use Rattle.std.specs.Int.{w32, w64, from_le_bytes, to_le_bytes}
 use Rattle.std.specs.List.{flat_map, AllByRecursion, list_any}
-use Rattle.std.proofs.lemmas.Bool.{ltb-false, le-ltb, eqb-true, eq-eqb}
+use Rattle.std.proofs.lemmas.Bool.{ltb-false, le-ltb, eqb-true, eq-eqb, not-false}
 use Rattle.std.proofs.lemmas.List.{length-append, length-drop, length-take, length-map, take-append-drop, append-nil, nil_from_length, take_at, drop_at}
 use Rattle.std.proofs.lemmas.Nat.{from_le_bytes-to_le_bytes_4, from_le_bytes-to_le_bytes_8}
 use Rattle.host_messages.specs.declared.limits.TheConstants.{VERSION, MAX_IN_MESSAGE, HEAD_BYTES, NAME_BYTES, WELCOME, SEEN, LOANS}
@@ -146,18 +146,14 @@ pub record SpelledBy (m : HostMessage) (bytes : List ℕ) : Type 0 where
   pub fits : HostFits m
   pub same : host_bytes m ≡ bytes
 
-not_false : (b : Bool) → not b ≡ false → b ≡ true
-not_false true e = refl
-not_false false e = absurd cc
-
 welcome_back : (version : ℕ) (rest : List ℕ) (m : HostMessage) → IsBytes rest → welcome_of version rest ≡ done m → SpelledBy m (head WELCOME version ++ rest)
 unfolding welcome_of
 welcome_back version rest m are e =
     let w : Welcome = welcome (take 16 rest) (u32_at 16 rest) (u32_at 20 rest) (u32_at 24 rest) in
     let a = passed (not (eqb version VERSION)) fault.Version (cond (not (eqb (length rest) 28)) (Err fault.Length) (Ok (host.Welcome w))) m e in
     let b = passed (not (eqb (length rest) 28)) fault.Length (Ok (host.Welcome w)) m a.1 in
-    let v : version ≡ VERSION = eqb-true version VERSION (not_false (eqb version VERSION) a.0) in
-    let len : length rest ≡ 28 = eqb-true (length rest) 28 (not_false (eqb (length rest) 28) b.0) in
+    let v : version ≡ VERSION = eqb-true version VERSION (not-false (eqb version VERSION) a.0) in
+    let len : length rest ≡ 28 = eqb-true (length rest) 28 (not-false (eqb (length rest) 28) b.0) in
     subst (λ (x : HostMessage). SpelledBy x (head WELCOME version ++ rest)) (ok_is (host.Welcome w) m b.1) (record {
       fits = record {
         name = omega (arith, length-take 16 rest, len);

@@ -5,6 +5,7 @@ use Rattle.std.proofs.lemmas.Bool.{cases_eq, cases_lt, eq-eqb, ne_eqb, lt-ltb, l
 use Rattle.std.specs.Option.{option_map}
 use Rattle.std.proofs.lemmas.List.{length-replicate}
 use Rattle.std.proofs.lemmas.List.Folds.{sum_by-replicate}
+use Rattle.std.proofs.lemmas.Option.{none-some}
 use Rattle.page_model.specs.Pages.{Slot, Unmapped, State, page_at}
 use Rattle.page_model.specs.Limits.{shapes}
 use Rattle.page_model.specs.Replay.{empty_state}
@@ -15,7 +16,7 @@ use Rattle.lent_slots.specs.declared.holding.Holding.{Holding}
 use Rattle.lent_slots.specs.Fits.{Fits, ListsFree, Counts, Sound, times_free}
 use Rattle.lent_slots.proofs.Sounds.{bit, times, times_push}
 use Rattle.lent_slots.specs.Slots.{holding, has_frame, sharers}
-use Rattle.lent_slots.proofs.Moves.{none_some, taken_at, not_taken}
+use Rattle.lent_slots.proofs.Moves.{taken_at, not_taken}
 
 -- no slot is held
 pub none_held : (n k : ℕ) → holding (replicate n None) k ≡ None
@@ -69,7 +70,7 @@ pub counts_new : (count total : ℕ) → Counts (replicate count None) total (re
 counts_new count total = record { size = length-replicate total 0; each = λ m less. zeros total m ∙ sym (none_shared count m) }
 
 none_within : (count total k : ℕ) (h : Holding) → holding (replicate count None) k ≡ Some h → h.frame < total
-none_within count total k h e = absurd (none_some h (sym (none_held count k) ∙ e))
+none_within count total k h e = absurd (none-some h (sym (none_held count k) ∙ e))
 
 pub sound_new : (c : Shown) (free : List ℕ) (total count : ℕ) → Fits (replicate count None) c → ListsFree (replicate count None) free → c.frames ≡ no_frames total
     → 2 ≤ total → total ≤ 1048576 → count ≤ 1048576 → Sound c (replicate count None) free (replicate total 0)

@@ -4,6 +4,7 @@ use Rattle.std.specs.Prelude.{slice_set, ◌==◌}
 use Rattle.std.specs.Option.{option_map}
 use Rattle.std.proofs.lemmas.Bool.{cases_eq, eqb-true, eqb-false}
 use Rattle.std.proofs.lemmas.List.{length-set}
+use Rattle.std.proofs.lemmas.Option.{same_Some, none-some}
 use Rattle.page_model.specs.Pages.{SlotOf, Slot, Unmapped, Private, Shared, Guest, bytes_of, blank, page_at, with_slot}
 use Rattle.page_model.specs.Steps.{Outcome, Step, released, on_page, answered, step}
 use Rattle.page_model.specs.Stored.{text_at}
@@ -25,7 +26,7 @@ use Rattle.lent_slots.specs.Fits.{Fits}
 use Rattle.lent_slots.specs.Slots.{holding, sharers, left_free, with_free}
 use Rattle.lent_slots.proofs.SlotLists.{frames_same, held_within, set_same, set_other, unshared, Sharer, some_sharer}
 use Rattle.lent_slots.proofs.Lent.{restarted}
-use Rattle.lent_slots.proofs.Moves.{none_some, some_same, IsFrame, is_free, is_taken, frame_case, elsewhere, taken_at, only_guest, exists_by, exists_as, PageOf, page_of}
+use Rattle.lent_slots.proofs.Moves.{IsFrame, is_free, is_taken, frame_case, elsewhere, taken_at, only_guest, exists_by, exists_as, PageOf, page_of}
 
 -- a release of a mapped page
 record IsGiven (gs : List Guest) (ppn : ℕ) (o : Outcome) : Type 0 where
@@ -35,7 +36,7 @@ record IsGiven (gs : List Guest) (ppn : ℕ) (o : Outcome) : Type 0 where
 
 released_is : (frames : FrameMap) (gs : List Guest) (ppn salt m : ℕ) (slot : SlotOf ℕ) → frame_of slot ≡ Some m → IsGiven gs ppn (released gs 0 ppn salt (slot_in frames slot))
 unfolding released
-released_is frames gs ppn salt m Unmapped e = absurd (none_some m e)
+released_is frames gs ppn salt m Unmapped e = absurd (none-some m e)
 released_is frames gs ppn salt m (Private n hint) e = record { is_free = true; guests = refl; verdict = refl }
 released_is frames gs ppn salt m (Shared n) e = record { is_free = _; guests = refl; verdict = refl }
 
@@ -96,7 +97,7 @@ module _ (law : RequestKeepsBytes) (hash : ℕ → List ℕ → ℕ) (ppn : ℕ)
   stay = law hash 0 (Release ppn) verdict old new after applies
 
   keeps : (k : ℕ) → IsTaken old.frames k → IsTaken new.frames k → frame new.frames k ≡ frame old.frames k
-  keeps k taken still = stay.same k taken still (none_some k)
+  keeps k taken still = stay.same k taken still (none-some k)
 
   others : (x y : ℕ) → (x ≡ 0 → y ≡ ppn → ⊥) → frame_at new.pmap x y ≡ frame_at old.pmap x y
   others = applies.stay.others
@@ -125,7 +126,7 @@ module _ (law : RequestKeepsBytes) (hash : ℕ → List ℕ → ℕ) (ppn : ℕ)
 
   -- each other frame stays as it was
   elsewhere_same : (k : ℕ) → (k ≡ h.frame → ⊥) → frame new.frames k ≡ frame old.frames k
-  elsewhere_same k n = elsewhere old new ppn before after others keeps k (λ e. n (some_same k h.frame (sym e ∙ own))) (λ e. none_some k (sym gone ∙ e))
+  elsewhere_same k n = elsewhere old new ppn before after others keeps k (λ e. n (same_Some k h.frame (sym e ∙ own))) (λ e. none-some k (sym gone ∙ e))
 
   own_taken : IsTaken old.frames h.frame
   own_taken = taken_at old 0 ppn h.frame before own
@@ -147,8 +148,8 @@ module _ (law : RequestKeepsBytes) (hash : ℕ → List ℕ → ℕ) (ppn : ℕ)
         let has : frame_at new.pmap 0 o.ppn ≡ Some h.frame = ap (λ (i : ℕ). frame_at new.pmap i o.ppn) (sym first) ∙ frame_is new.pmap o.guest o.ppn o.salt o.slot o.at ∙ o.frame in
         absurd (owned_by (holding slots' o.ppn) refl (sym (frame_after o.ppn (cases_eq o.ppn ppn)) ∙ has)) where
           owned_by : (x : Option Holding) → holding slots' (after.owned h.frame t).ppn ≡ x → option_map (λ (y : Holding). y.frame) x ≡ Some h.frame → ⊥
-          owned_by None e f = none_some h.frame f
-          owned_by (Some y) e f = unshared h.frame slots' (after.owned h.frame t).ppn y none e (some_same y.frame h.frame f)
+          owned_by None e f = none-some h.frame f
+          owned_by (Some y) e f = unshared h.frame slots' (after.owned h.frame t).ppn y none e (same_Some y.frame h.frame f)
 
   frames_at : (b : Bool) → (sharers h.frame slots' == 0) ≡ b → (k : ℕ) → ((k ≡ h.frame) ⊎ (k ≡ h.frame → ⊥)) → frame new.frames k ≡ frame (with_free old.frames (cond b (Some h.frame) None)) k
   frames_at true is k (inl e) =

@@ -4,6 +4,7 @@ use Rattle.std.specs.Prelude.{slice_get, slice_set}
 use Rattle.std.specs.Option.{option_map}
 use Rattle.std.proofs.lemmas.Bool.{cases_eq, ne_eqb}
 use Rattle.std.proofs.lemmas.List.{length-set}
+use Rattle.std.proofs.lemmas.Option.{same_Some, none-some}
 use Rattle.page_model.specs.Pages.{Slot, Unmapped, Private, Guest, State, bytes_of, used as pages_used, page_at, with_slot}
 use Rattle.page_model.specs.Steps.{Outcome, Step, stays, stored, proposed, on_page, answered, step}
 use Rattle.page_model.specs.Stored.{is_done, text_at}
@@ -30,7 +31,7 @@ use Rattle.lent_slots.specs.Fits.{Fits}
 use Rattle.lent_slots.specs.Slots.{holding, lent_slots, sharers}
 use Rattle.lent_slots.proofs.Owned.{shared_taken}
 use Rattle.lent_slots.proofs.SlotLists.{frames_same, got_within, got_holding, set_same, set_other}
-use Rattle.lent_slots.proofs.Moves.{none_some, some_same, IsFrame, is_free, is_taken, frame_case, not_taken, elsewhere, exists_by, exists_as, IsUnmapped, unmapped_page}
+use Rattle.lent_slots.proofs.Moves.{IsFrame, is_free, is_taken, frame_case, not_taken, elsewhere, exists_by, exists_as, IsUnmapped, unmapped_page}
 
 -- the steps of a page that has no frame, where one is free
 module _ (hash : ℕ → List ℕ → ℕ) (s : State) (ppn salt : ℕ) (page : List ℕ) (size : length page ≡ 4096)
@@ -178,7 +179,7 @@ module _ (law : LendKeepsBytes) (hash : ℕ → List ℕ → ℕ) (client ppn : 
       subst P (ap (λ (x : Verdict). written_by_lend x lent.verdict (frame_at new.pmap 0 ppn)) first_is ∙ written_none lent.verdict (frame_at new.pmap 0 ppn)) (law hash 0 ppn page lent old new after lends)
 
   keeps : (k : ℕ) → IsTaken old.frames k → IsTaken new.frames k → frame new.frames k ≡ frame old.frames k
-  keeps k taken still = stay.same k taken still (none_some k)
+  keeps k taken still = stay.same k taken still (none-some k)
 
   others : (x y : ℕ) → (x ≡ 0 → y ≡ ppn → ⊥) → frame_at new.pmap x y ≡ frame_at old.pmap x y
   others = lends.stay.others
@@ -210,7 +211,7 @@ module _ (law : LendKeepsBytes) (hash : ℕ → List ℕ → ℕ) (client ppn : 
     frames_at : (k : ℕ) → ((k ≡ mpn) ⊎ (k ≡ mpn → ⊥)) → frame new.frames k ≡ frame (slice_set old.frames mpn (Some page)) k
     frames_at k (inl e) = ap (frame new.frames) e ∙ new_bytes ∙ sym (ap (frame (slice_set old.frames mpn (Some page))) e ∙ frame_same old.frames mpn (Some page) is_within)
     frames_at k (inr n) =
-        elsewhere old new ppn before after others keeps k (λ e. none_some k (sym no_frame ∙ e)) (λ e. n (some_same k mpn (sym e ∙ is)))
+        elsewhere old new ppn before after others keeps k (λ e. none-some k (sym no_frame ∙ e)) (λ e. n (same_Some k mpn (sym e ∙ is)))
         ∙ sym (frame_other old.frames mpn k (Some page) n)
 
     unshared_then : ((sharers mpn slots ≡ 0) ⊎ (sharers mpn slots ≡ 0 → ⊥)) → frame old.frames mpn ≡ None → sharers mpn slots ≡ 0

@@ -3,6 +3,7 @@ use Rattle.std.proofs.Common.{◌≡◌, ℕ, ◌<◌, zero, suc, List, [], ◌�
 use Rattle.std.specs.Option.{option_map, option_and_then}
 use Rattle.std.proofs.lemmas.Bool.{false≢true}
 use Rattle.std.proofs.lemmas.List.{length-map}
+use Rattle.std.proofs.lemmas.Option.{none-some}
 use Rattle.page_model.specs.Pages.{SlotOf, Slot, Unmapped, Private, Shared, Guest, page_at, bytes_of}
 use Rattle.page_model.specs.Stored.{text_at}
 use Rattle.machine_frames.specs.FrameMap.{FrameMap, frame, IsTaken}
@@ -11,12 +12,6 @@ use Rattle.merge_core.specs.Shown.{Shown, state_of, FramesOfPages}
 use Rattle.merge_core.specs.Stays.{frame_at}
 use Rattle.merge_core.proofs.Staying.{frame_is}
 use Rattle.merge_core.proofs.Views.{page_in}
-
-pub none_some : {X : Type 0} (x : X) → None ≡ Some x → ⊥
-none_some x e = cc
-
-pub some_same : {X : Type 0} (x y : X) → Some x ≡ Some y → x ≡ y
-some_same x y e = cc
 
 -- a frame is free or holds bytes
 pub data IsFrame (o : Option (List ℕ)) : Type 0 where
@@ -38,7 +33,7 @@ pub record PageOf (o : Option (ℕ × SlotOf ℕ)) (m : ℕ) : Type 0 where
   pub frame : frame_of slot ≡ Some m
 
 pub page_of : (o : Option (ℕ × SlotOf ℕ)) (m : ℕ) → option_and_then (λ x. frame_of x.1) o ≡ Some m → PageOf o m
-page_of None m e = absurd (none_some m e)
+page_of None m e = absurd (none-some m e)
 page_of (Some (salt, slot)) m e = record { salt = salt; slot = slot; at = refl; frame = e }
 
 -- the frame of a page is taken
@@ -47,7 +42,7 @@ taken_at c a b m whole is = let p = page_of (page_at c.pmap a b) m is in whole.t
 
 -- a page of a guest is a page of one of the guests
 guest_within : (pmap : Pmap) (a b : ℕ) (x : ℕ × SlotOf ℕ) → page_at pmap a b ≡ Some x → a < length pmap
-guest_within [] a b x e = absurd (none_some x e)
+guest_within [] a b x e = absurd (none-some x e)
 guest_within (g ∷ gs) zero b x e = omega arith
 guest_within (g ∷ gs) (suc a) b x e = omega (arith, guest_within gs a b x e)
 
@@ -101,8 +96,8 @@ pub record IsUnmapped (o : Option (ℕ × SlotOf ℕ)) : Type 0 where
 unmapped_by : (frames : FrameMap) (o : Option (ℕ × SlotOf ℕ)) → IsSome (option_map (λ (x : ℕ × SlotOf ℕ). let p : ℕ × Slot = (x.0, slot_in frames x.1) in p) o) → option_and_then (λ x. frame_of x.1) o ≡ None → IsUnmapped o
 unmapped_by frames None some e = absurd (false≢true some)
 unmapped_by frames (Some (salt, Unmapped)) some e = record { salt = salt; at = refl }
-unmapped_by frames (Some (salt, Private m hint)) some e = absurd (none_some m (sym e))
-unmapped_by frames (Some (salt, Shared m)) some e = absurd (none_some m (sym e))
+unmapped_by frames (Some (salt, Private m hint)) some e = absurd (none-some m (sym e))
+unmapped_by frames (Some (salt, Shared m)) some e = absurd (none-some m (sym e))
 
 pub unmapped_page : (c : Shown) (ppn : ℕ) → IsSome (page_at (state_of c).guests 0 ppn) → frame_at c.pmap 0 ppn ≡ None → IsUnmapped (page_at c.pmap 0 ppn)
 unmapped_page c ppn some none = unmapped_by c.frames (page_at c.pmap 0 ppn) (sym (ap is_some (page_in c.frames c.pmap 0 ppn)) ∙ some) none

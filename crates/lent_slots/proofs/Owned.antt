@@ -2,6 +2,7 @@
 use Rattle.std.proofs.Common.{◌≡◌, ℕ, ◌≤◌, List, Option, Some, None, refl, ap, sym, ◌∙◌, ◌⊎◌, inl, inr, arith}
 use Rattle.std.specs.Option.{option_map}
 use Rattle.std.proofs.lemmas.Bool.{cases_eq}
+use Rattle.std.proofs.lemmas.Option.{same_Some, none-some}
 use Rattle.machine_frames.specs.FrameMap.{IsTaken}
 use Rattle.merge_core.specs.Shown.{Shown, FramesOfPages}
 use Rattle.merge_core.specs.Stays.{frame_at}
@@ -10,11 +11,11 @@ use Rattle.lent_slots.specs.declared.holding.Holding.{Holding}
 use Rattle.lent_slots.specs.Fits.{Fits}
 use Rattle.lent_slots.specs.Slots.{holding, sharers}
 use Rattle.lent_slots.proofs.SlotLists.{unshared, some_sharer}
-use Rattle.lent_slots.proofs.Moves.{none_some, some_same, taken_at, only_guest}
+use Rattle.lent_slots.proofs.Moves.{taken_at, only_guest}
 
 owned_by : (slots : List (Option Holding)) (n m : ℕ) (x : Option Holding) → holding slots n ≡ x → option_map (λ (y : Holding). y.frame) x ≡ Some m → sharers m slots ≡ 0 → ⊥
-owned_by slots n m None e f none = none_some m f
-owned_by slots n m (Some y) e f none = unshared m slots n y none e (some_same y.frame m f)
+owned_by slots n m None e f none = none-some m f
+owned_by slots n m (Some y) e f none = unshared m slots n y none e (same_Some y.frame m f)
 
 pub taken_shared : (c : Shown) (slots : List (Option Holding)) (m : ℕ) → Fits slots c → FramesOfPages c → IsTaken c.frames m → 1 ≤ sharers m slots
 taken_shared c slots m fits whole taken =

@@ -13,7 +13,7 @@ use Rattle.std.proofs.lemmas.Bool.{cases_eq}
 use Rattle.merge_core.proofs.Views.{page_in_is}
 use Rattle.merge_core.proofs.Fill.{Lone, lone_free, lone_private, fill_placed, fill_noted, fill_guests, fill_shares, less_placed, less_noted, less_guests, less_shares}
 use Rattle.merge_core.proofs.Remaps.{re_guests, rehint_placed, rehint_noted, rehint_shares, dropped, put}
-use Rattle.merge_core.proofs.Maps.{len_new, len_gone}
+use Rattle.share_table.proofs.Maps.{len_new, len_gone}
 use Rattle.merge_core.proofs.Numbers.{shift, hinted_calm}
 use Rattle.merge_core.proofs.Owners.{same_owned, fill_owned, write_owned, less_owned}
 

@@ -8,7 +8,7 @@ use Rattle.page_model.proofs.Places.{at_changed, here, elsewhere, Changed, same_
 use Rattle.page_model.proofs.Anys.{any_is_count, AnyIsCount, none_passes}
 use Rattle.machine_frames.specs.FrameMap.{FrameMap}
 use Rattle.share_table.specs.TableMaps.{SharedMap, SharedFrame}
-use Rattle.merge_core.proofs.Maps.{got_same, got_other}
+use Rattle.share_table.proofs.Maps.{got_same, got_other}
 use Rattle.merge_core.specs.Pmap.{Pmap, bytes_in, slot_in, guests_in, Known, known_at}
 use Rattle.merge_core.specs.Ties.{Placed, Noted, Listed, Shares}
 use Rattle.merge_core.proofs.Views.{page_in}

@@ -8,7 +8,7 @@ use Rattle.page_model.proofs.Used.{pages_counted, one}
 use Rattle.machine_frames.specs.FrameMap.{FrameMap, IsTaken}
 use Rattle.share_table.specs.TableMaps.{SharedMap, SharedFrame, HintMap}
 use Rattle.share_table.specs.declared.entries.HintFrame.{HintFrame}
-use Rattle.merge_core.proofs.Maps.{got_same, got_other, gone_same, gone_other}
+use Rattle.share_table.proofs.Maps.{got_same, got_other, gone_same, gone_other}
 use Rattle.merge_core.specs.Pmap.{Pmap, bytes_in, slot_in, guests_in, frame_of, Known, known_at}
 use Rattle.merge_core.specs.Ties.{Placed, Noted, Listed, Shares, HintWell, Hinted}
 use Rattle.merge_core.proofs.Views.{guests_but, page_in_is}

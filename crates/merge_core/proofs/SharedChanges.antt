@@ -9,7 +9,7 @@ use Rattle.page_model.proofs.Used.{pages_counted, cleared, once}
 use Rattle.page_model.proofs.Anys.{any_is_count, AnyIsCount}
 use Rattle.machine_frames.specs.FrameMap.{FrameMap}
 use Rattle.share_table.specs.TableMaps.{TableMaps, SharedMap, SharedFrame, shared_at, with_shared, with_count, with_one_less}
-use Rattle.merge_core.proofs.Maps.{len_new, len_old, len_gone, sum_new, sum_old, sum_gone, got_same, twice_inserted}
+use Rattle.share_table.proofs.Maps.{len_new, len_old, len_gone, sum_new, sum_old, sum_gone, got_same, twice_inserted}
 use Rattle.merge_core.specs.Pmap.{Pmap, bytes_in, guests_in, frame_of, Known, known_at}
 use Rattle.merge_core.specs.Ties.{Counted, Ties, Owner}
 use Rattle.merge_core.proofs.Views.{page_in_is}

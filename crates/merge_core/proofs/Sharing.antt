@@ -10,7 +10,7 @@ use Rattle.page_model.proofs.Places.{at_changed, here, elsewhere, Changed, at_ot
 use Rattle.page_model.proofs.Used.{pages_counted}
 use Rattle.machine_frames.specs.FrameMap.{FrameMap, IsTaken}
 use Rattle.share_table.specs.TableMaps.{SharedMap, SharedFrame}
-use Rattle.merge_core.proofs.Maps.{got_same, got_other, gone_same, gone_other}
+use Rattle.share_table.proofs.Maps.{got_same, got_other, gone_same, gone_other}
 use Rattle.merge_core.specs.Pmap.{Pmap, bytes_in, slot_in, guests_in, frame_of, Known, known_at}
 use Rattle.merge_core.specs.Ties.{Placed, Noted, SharedWell, Listed, Shares}
 use Rattle.merge_core.proofs.Views.{page_in_is}

@@ -3,8 +3,9 @@ use Rattle.std.proofs.Common.{◌≡◌, ℕ, ◌+◌, ◌-◌, ◌<◌, ◌≤�
 use Prim.Native.Nat.{zero, suc}
 use Rattle.std.proofs.Math.ListN.{set}
 use Rattle.std.specs.Option.{option_map}
-use Rattle.std.proofs.lemmas.Bool.Decides.{nat_tests}
 use Rattle.std.proofs.lemmas.List.{get_or-set_same, get_or-set_other, set-get_or, length-map, length-set, length-replicate}
+use Rattle.std.proofs.lemmas.Bool.{eqb-true, eqb-false, ne_eqb}
+use Rattle.std.proofs.lemmas.Option.{same_Some}
 use Rattle.packed_entries.specs.declared.entry.Entry.{Entry}
 use Rattle.packed_entries.specs.declared.key.Key.{Key}
 use Rattle.packed_entries.specs.Places.{no_entry}
@@ -12,7 +13,7 @@ use Rattle.packed_entries.specs.Keys.{has_key, first_with, with_other, without_f
 use Rattle.packed_entries.specs.Linked.{times, times_in, lengths, without, first_of, Chained, entry_at, chain_at, with_place, without_place, with_entry_at, no_chains, used}
 use Rattle.packed_entries.specs.declared.entry.Entry.TheVariants.{Shared}
 use Rattle.packed_entries.specs.Entries.{EntryChains, entries_in, entry_count, empty_chains, filed, chain_of, with_chain, counted_up, counted_down}
-use Rattle.packed_entries.proofs.Threaded.{times_head, times_more, times_in-set, times_at, same_tells, other_tells, first_there}
+use Rattle.packed_entries.proofs.Threaded.{times_head, times_more, times_in-set, times_at, first_there}
 
 -- ---- one chain
 pub map_kept : (f g : ℕ → Entry) (ps : List ℕ) → ((q : ℕ) → 1 ≤ times q ps → g q ≡ f q) → map g ps ≡ map f ps
@@ -29,9 +30,6 @@ pub first_entry : (k : Key) (f : ℕ → Entry) (ps : List ℕ) → first_with k
 first_entry k f [] = refl
 first_entry k f (p ∷ ps) = first_step f p (has_key k (f p)) (first_with k (map f ps)) (first_of (λ p. has_key k (f p)) ps) (first_entry k f ps)
 
-some_same : (p q : ℕ) → Some p ≡ Some q → p ≡ q
-some_same p q h = cc
-
 not_there : (p q r : ℕ) (qs : List ℕ) → times p (q ∷ qs) ≤ 1 → q ≡ p → 1 ≤ times r qs → r ≡ p → ⊥
 not_there p q r qs once is m i =
     let here : 1 ≤ times p qs = subst (λ x. 1 ≤ times x qs) i m in
@@ -46,7 +44,7 @@ other_step : (k : Key) (f g : ℕ → Entry) (p q : ℕ) (e : Entry) (qs : List 
     → (first_of (λ r. has_key k (f r)) qs ≡ Some p → map g qs ≡ with_other k e (map f qs))
     → g q ∷ map g qs ≡ cond b (e ∷ map f qs) (f q ∷ with_other k e (map f qs))
 other_step k f g p q e qs true at same once t h ih =
-    let is : q ≡ p = some_same q p h in
+    let is : q ≡ p = same_Some q p h in
     let rest : map g qs ≡ map f qs = map_kept f g qs (λ r m. same r (λ i. not_there p q r qs once is m i)) in
     rw (is, at, rest) refl
 other_step k f g p q e qs false at same once t h ih =
@@ -67,12 +65,12 @@ gone_step : (k : Key) (f : ℕ → Entry) (p q : ℕ) (qs : List ℕ) (b c : Boo
     → (first_of (λ r. has_key k (f r)) qs ≡ Some p → map f (without p qs) ≡ without_first k (map f qs))
     → map f (cond c qs (q ∷ without p qs)) ≡ cond b (map f qs) (f q ∷ without_first k (map f qs))
 gone_step k f p q qs true true e t all h ih = refl
-gone_step k f p q qs true false e t all h ih = absurd (other_tells p q e (sym (some_same q p h)))
-gone_step k f p q qs false true e t all h ih = absurd (true_is_false (sym (all (sym (same_tells p q e)))))
+gone_step k f p q qs true false e t all h ih = absurd (eqb-false p q e (sym (same_Some q p h)))
+gone_step k f p q qs false true e t all h ih = absurd (true_is_false (sym (all (sym (eqb-true p q e)))))
 gone_step k f p q qs false false e t all h ih = ap (λ es. f q ∷ es) (ih h)
 
 found_tells_step : (test : ℕ → Bool) (p q : ℕ) (qs : List ℕ) (b : Bool) → test q ≡ b → cond b (Some q) (first_of test qs) ≡ Some p → (first_of test qs ≡ Some p → test p ≡ true) → test p ≡ true
-found_tells_step test p q qs true e h ih = ap test (sym (some_same q p h)) ∙ e
+found_tells_step test p q qs true e h ih = ap test (sym (same_Some q p h)) ∙ e
 found_tells_step test p q qs false e h ih = ih h
 
 found_tells : (test : ℕ → Bool) (p : ℕ) (ps : List ℕ) → first_of test ps ≡ Some p → test p ≡ true
@@ -186,15 +184,13 @@ pub none_filed : (buckets capacity : ℕ) → filed (no_chains buckets capacity)
 none_filed buckets capacity = same_chains _ _ _ _ (length-replicate capacity no_entry) (none_map (entry_at (no_chains buckets capacity)) buckets)
 
 -- ---- one page more or less
-other_eq : (n k : ℕ) → n ≢ k → eqb n k ≡ false
-other_eq n k ne = grind (arith, nat_tests)
 
 module _ (t : EntryChains) (key : Key) (h m n : ℕ) where
   pub up_is : n ≢ 0 → n ≢ 65535 → counted_up t key (Some (Shared h m n)) ≡ with_chain t key (with_other key (Shared h m (n + 1)) (chain_of t key))
-  up_is some room = rw (other_eq n 0 some, other_eq n 65535 room) refl
+  up_is some room = rw (ne_eqb n 0 some, ne_eqb n 65535 room) refl
 
   pub up_stays : n ≡ 65535 → counted_up t key (Some (Shared h m n)) ≡ t
   up_stays full = rw full refl
 
   pub down_is : n ≢ 0 → n ≢ 1 → counted_down t key (Some (Shared h m n)) ≡ with_chain t key (with_other key (Shared h m (n - 1)) (chain_of t key))
-  down_is some more = rw (other_eq n 0 some, other_eq n 1 more) refl
+  down_is some more = rw (ne_eqb n 0 some, ne_eqb n 1 more) refl

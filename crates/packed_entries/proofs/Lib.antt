@@ -1,3 +1,3 @@
-mod Filed
+pub mod Filed
 mod Threaded
 mod Words

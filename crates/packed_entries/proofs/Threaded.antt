@@ -7,23 +7,17 @@ use Rattle.std.proofs.lemmas.Bool.Decides.{nat_tests}
 use Rattle.std.proofs.lemmas.List.{set-get_or, length-set, get_or-set_same, get_or-set_other, length-map, map-set, get_or-map, map_push, length_push, get_or_push, get_or_append_left, replicate-append-replicate}
 use borrow.Author.Count.{below_more}
 use Rattle.std.proofs.Math.Seq.{map-set_same}
+use Rattle.std.proofs.lemmas.Option.{same_Some}
+use Rattle.std.proofs.lemmas.Bool.{ne_eqb, eqb-true, eqb-false}
 use Rattle.packed_entries.specs.declared.entry.Entry.{Entry}
 use Rattle.packed_entries.specs.declared.packed.Packed.{Packed}
 use Rattle.packed_entries.specs.Places.{link_of, entry_of, no_entry, with_link, with_entry}
 use Rattle.packed_entries.specs.Linked.{times, times_in, lengths, without, link_before, first_of, walk, Follows, FollowAll, Linked, link_in, chains_from, IsKept, IsSearch}
 
 -- ---- tests
-pub same_tells : (p q : ℕ) → eqb p q ≡ true → p ≡ q
-same_tells p q e = grind (arith, nat_tests)
-
-pub other_tells : (p q : ℕ) → eqb p q ≡ false → p ≢ q
-other_tells p q e h = grind (arith, nat_tests)
 
 pub same_is : (p : ℕ) → eqb p p ≡ true
 same_is p = grind (arith, nat_tests)
-
-pub other_is : (p q : ℕ) → p ≢ q → eqb p q ≡ false
-other_is p q ne = grind (arith, nat_tests)
 
 below_tells : (p n k : ℕ) (b : Bool) → nat_lt p n ≡ b → k ≡ cond b 1 0 → 1 ≤ k → p < n
 below_tells p n k true e h l = grind (arith, nat_tests)
@@ -41,7 +35,7 @@ pub times_more : (p q : ℕ) (qs : List ℕ) → times p qs ≤ times p (q ∷ q
 times_more p q qs = elim (eqb p q) as (λ b. times p qs ≤ cond b 1 0 + times p qs) [ true ↦ omega arith | false ↦ omega arith ]
 
 times_rest : (p q : ℕ) (qs : List ℕ) → 1 ≤ times p (q ∷ qs) → p ≢ q → 1 ≤ times p qs
-times_rest p q qs h ne = let r = rw (other_is p q ne) at h in omega arith
+times_rest p q qs h ne = let r = rw (ne_eqb p q ne) at h in omega arith
 
 times_length : (p : ℕ) (qs : List ℕ) → times p qs ≤ length qs
 times_length p [] = omega arith
@@ -55,8 +49,8 @@ not_head p q qs once h e =
     omega (arith, times_head q qs)
 
 without_step : (p r q : ℕ) (qs : List ℕ) (b : Bool) → eqb p q ≡ b → (p ≢ q → cond (eqb r p) 1 0 + times r (without p qs) ≡ times r qs) → cond (eqb r p) 1 0 + times r (cond b qs (q ∷ without p qs)) ≡ cond (eqb r q) 1 0 + times r qs
-without_step p r q qs true e ih = ap (λ x. cond (eqb r x) 1 0 + times r qs) (same_tells p q e)
-without_step p r q qs false e ih = omega (arith, ih (other_tells p q e))
+without_step p r q qs true e ih = ap (λ x. cond (eqb r x) 1 0 + times r qs) (eqb-true p q e)
+without_step p r q qs false e ih = omega (arith, ih (eqb-false p q e))
 
 pub times_without : (p r : ℕ) (qs : List ℕ) → 1 ≤ times p qs → cond (eqb r p) 1 0 + times r (without p qs) ≡ times r qs
 times_without p r [] h = absurd (omega arith)
@@ -64,7 +58,7 @@ times_without p r (q ∷ qs) h = without_step p r q qs (eqb p q) refl (λ ne. ti
 
 length_step : (p q : ℕ) (qs : List ℕ) (b : Bool) → eqb p q ≡ b → (p ≢ q → length (without p qs) + 1 ≡ length qs) → length (cond b qs (q ∷ without p qs)) + 1 ≡ length (q ∷ qs)
 length_step p q qs true e ih = omega arith
-length_step p q qs false e ih = omega (arith, ih (other_tells p q e))
+length_step p q qs false e ih = omega (arith, ih (eqb-false p q e))
 
 pub length_without : (p : ℕ) (qs : List ℕ) → 1 ≤ times p qs → length (without p qs) + 1 ≡ length qs
 length_without p [] h = absurd (omega arith)
@@ -84,7 +78,7 @@ code_of_before p q [] = refl
 code_of_before p q (r ∷ rs) = code_step q (link_before p (r + 1) rs) (before p r rs) (eqb p r) (code_of_before p r rs)
 
 no_code_step : (p q : ℕ) (rs : List ℕ) (b : Bool) → eqb p q ≡ b → cond b 0 (link_before p (q + 1) rs) ≡ 0 → p ≡ q
-no_code_step p q rs true e h = same_tells p q e
+no_code_step p q rs true e h = eqb-true p q e
 no_code_step p q rs false e h = absurd (omega (arith, code_of_before p q rs))
 
 -- nothing stands before the head of a list alone
@@ -93,14 +87,14 @@ no_code p q rs h = no_code_step p q rs (eqb p q) refl h
 
 some_code_step : (p q : ℕ) (rs : List ℕ) (b : Bool) → eqb p q ≡ b → cond b 0 (link_before p (q + 1) rs) ≢ 0 → (p ≢ q) × (cond b 0 (link_before p (q + 1) rs) ≡ before p q rs + 1)
 some_code_step p q rs true e h = absurd (h refl)
-some_code_step p q rs false e h = (other_tells p q e, code_of_before p q rs)
+some_code_step p q rs false e h = (eqb-false p q e, code_of_before p q rs)
 
 some_code : (p q : ℕ) (rs : List ℕ) → link_before p 0 (q ∷ rs) ≢ 0 → (p ≢ q) × (link_before p 0 (q ∷ rs) ≡ before p q rs + 1)
 some_code p q rs h = some_code_step p q rs (eqb p q) refl h
 
 before_step : (p q r : ℕ) (rs : List ℕ) (b : Bool) → eqb p r ≡ b → (p ≢ r → 1 ≤ times (before p r rs) (r ∷ rs)) → 1 ≤ times (cond b q (before p r rs)) (q ∷ (r ∷ rs))
 before_step p q r rs true e ih = omega (arith, times_head q (r ∷ rs))
-before_step p q r rs false e ih = omega (arith, times_more (before p r rs) q (r ∷ rs), ih (other_tells p r e))
+before_step p q r rs false e ih = omega (arith, times_more (before p r rs) q (r ∷ rs), ih (eqb-false p r e))
 
 -- the place before p stands in the list
 pub times_before : (p q : ℕ) (rs : List ℕ) → 1 ≤ times (before p q rs) (q ∷ rs)
@@ -109,7 +103,7 @@ times_before p q (r ∷ rs) = before_step p q r rs (eqb p r) refl (λ _. times_b
 
 before_other_step : (p q r : ℕ) (rs : List ℕ) (b : Bool) → eqb p r ≡ b → p ≢ q → (p ≢ r → before p r rs ≢ p) → cond b q (before p r rs) ≢ p
 before_other_step p q r rs true e ne ih = λ h. ne (sym h)
-before_other_step p q r rs false e ne ih = ih (other_tells p r e)
+before_other_step p q r rs false e ne ih = ih (eqb-false p r e)
 
 -- the place before p isn't p
 before_other : (p q : ℕ) (rs : List ℕ) → p ≢ q → before p q rs ≢ p
@@ -166,18 +160,18 @@ cut_step : (next next' : ℕ → ℕ) (p q r : ℕ) (rs : List ℕ) (b : Bool) �
     → (p ≢ r → next' (before p r rs) ≡ next p → ((s : ℕ) → s ≢ p → s ≢ before p r rs → next' s ≡ next s)
     → Follows next' (next q) (without p (r ∷ rs))) → Follows next' (next' q) (cond b rs (r ∷ without p rs))
 cut_step next next' p q r rs true e f once ne at same ih =
-    let is : p ≡ r = same_tells p r e in
+    let is : p ≡ r = eqb-true p r e in
     let kept : Follows next' (next r) rs = Follows-kept next next' (next r) rs (λ s h. same s (rw is (not_head s r rs (omega (arith, once r, times_more r q (r ∷ rs))) h)) (not_head s q (r ∷ rs) (once q) (omega (arith, times_more s r rs)))) f.1 in
     rw (at, is) kept
 cut_step next next' p q r rs false e f once ne at same ih =
     let is : next' q ≡ next q = same q (λ h. ne (sym h)) (λ h. not_head (before p r rs) q (r ∷ rs) (once q) (times_before p r rs) (sym h)) in
-    rw is (rw e at (ih (other_tells p r e) at same))
+    rw is (rw e at (ih (eqb-false p r e) at same))
 
 -- a list without p, which isn't its first place: the place before p has the link of p
 pub Follows-cut : (next next' : ℕ → ℕ) (p link q : ℕ) (qs : List ℕ) → Follows next link (q ∷ qs) → p ≢ q → 1 ≤ times p qs → ((s : ℕ) → times s (q ∷ qs) ≤ 1) → next' (before p q qs) ≡ next p → ((s : ℕ) → s ≢ p → s ≢ before p q qs → next' s ≡ next s) → Follows next' link (without p (q ∷ qs))
 Follows-cut next next' p link q [] f ne h once at same = absurd (omega arith)
 Follows-cut next next' p link q (r ∷ rs) f ne h once at same =
-    rw (other_is p q ne) (f.0, cut_step next next' p q r rs (eqb p r) refl f.1 once ne at same (λ ner at' same'. Follows-cut next next' p (next q) r rs f.1 ner (times_rest p r rs h ner) (λ s. omega (arith, once s, times_more s q (r ∷ rs))) at' same'))
+    rw (ne_eqb p q ne) (f.0, cut_step next next' p q r rs (eqb p r) refl f.1 once ne at same (λ ner at' same'. Follows-cut next next' p (next q) r rs f.1 ner (times_rest p r rs h ner) (λ s. omega (arith, once s, times_more s q (r ∷ rs))) at' same'))
 
 -- ---- all lists
 pub FollowAll-kept : (next next' : ℕ → ℕ) (heads : List ℕ) (chains : List (List ℕ)) → ((q : ℕ) → 1 ≤ times_in q chains → next' q ≡ next q) → FollowAll next heads chains → FollowAll next' heads chains
@@ -569,7 +563,7 @@ looks_into links before_it link test chain ne I =
         behind = λ q tq.
             let apart : q ≢ p = λ h. true_is_false (sym tq ∙ ap test h ∙ t) in
             let old : link_before q before_it (p ∷ rest) ≡ link_before q 0 chain = rw S.is at (I.behind q tq) in
-            let skip : link_before q before_it (p ∷ rest) ≡ link_before q (p + 1) rest = rw (other_is q p apart) refl in
+            let skip : link_before q before_it (p ∷ rest) ≡ link_before q (p + 1) rest = rw (ne_eqb q p apart) refl in
             ap (λ x. link_before q x rest) code_is ∙ sym skip ∙ old;
       };
     }
@@ -595,12 +589,10 @@ looks_from heads links free used K b first l fe test =
     }
 
 -- ---- what a search found
-some_is : (q p : ℕ) → Some q ≡ Some p → q ≡ p
-some_is q p h = cc
 
 first_there_step : (test : ℕ → Bool) (p q : ℕ) (qs : List ℕ) (b : Bool) → test q ≡ b → cond b (Some q) (first_of test qs) ≡ Some p → (first_of test qs ≡ Some p → 1 ≤ times p qs) → 1 ≤ times p (q ∷ qs)
 first_there_step test p q qs true e h ih =
-    let is : q ≡ p = some_is q p h in
+    let is : q ≡ p = same_Some q p h in
     rw is (omega (arith, times_head p qs))
 first_there_step test p q qs false e h ih = omega (arith, ih h, times_more p q qs)
 

@@ -11,7 +11,8 @@ use Rattle.page_model.specs.Stored.{is_done, text_at}
 use Rattle.page_model.specs.declared.request.Entry.{Entry}
 use Rattle.page_model.specs.declared.request.Request.{Request}
 use Rattle.page_model.specs.declared.request.Request.TheVariants.{Propose, Store, Load, Release, Count, Close}
-use Rattle.page_model.proofs.Texts.{Keeps, changed, other, at_page_keeps, proposed_keeps}
+use Rattle.page_model.proofs.Texts.{changed, other}
+use Rattle.page_model.proofs.Alone.{proposal_kept}
 use Rattle.page_lending.specs.Lending.{page_stored, page_lent}
 use Rattle.page_lending.specs.Laws.{IsWhole, at_once, writes_page, LeavesPage, LentIsTakenBack}
 use Rattle.page_lending.proofs.Written.{all_written}
@@ -49,13 +50,9 @@ on_page_stays gs guest ppn f (Some (salt, slot)) h = h salt slot
 not_both : (a g b p : ℕ) → (nat_eq a g && nat_eq b p) ≡ false → a ≡ g → b ≡ p → ⊥
 not_both a g b p h e f = false≢true (sym h ∙ rw (eq-eqb a g e, eq-eqb b p f) refl)
 
-proposal_keeps : (hash : ℕ → List ℕ → ℕ) (s : State) (asker page : ℕ) → Keeps s.guests (answered hash s asker (Propose page))
-unfolding answered
-proposal_keeps hash s asker page = at_page_keeps s.guests asker page _ (λ salt slot h. proposed_keeps hash s.guests asker page salt slot h)
-
 entry_stays : (hash : ℕ → List ℕ → ℕ) (s : State) (guest ppn asker : ℕ) (request : Request) → (nat_eq asker guest && writes_page ppn request) ≡ false → text_at (step hash s asker request).state.guests guest ppn ≡ text_at s.guests guest ppn
 unfolding step answered
-entry_stays hash s guest ppn asker (Propose page) apart = (proposal_keeps hash (counted s) asker page).same guest ppn
+entry_stays hash s guest ppn asker (Propose page) apart = (proposal_kept hash (counted s) asker page).same guest ppn
 entry_stays hash s guest ppn asker (Store r) apart =
     (on_page_stays s.guests guest ppn _ (page_at s.guests asker r.ppn) (λ salt slot. stored_elsewhere s.guests guest ppn asker r.ppn (not_both asker guest r.ppn ppn apart) s.total r.at r.bytes salt slot)).text
 entry_stays hash s guest ppn asker (Load r) apart = (on_page_stays s.guests guest ppn _ (page_at s.guests asker r.ppn) (λ salt slot. record { text = refl })).text

@@ -270,7 +270,7 @@ pages_as_alone es i hash total shapes shape here h p k =
     ap (byte_in k) ((run_alike hash (empty_state total shapes) i (lone shape) es (start total shapes shape i here) h).texts p)
 
 -- a proposal changes no text
-proposal_kept : (hash : ℕ → List ℕ → ℕ) (s : State) (a page : ℕ) → Keeps s.guests (answered hash s a (Propose page))
+pub proposal_kept : (hash : ℕ → List ℕ → ℕ) (s : State) (a page : ℕ) → Keeps s.guests (answered hash s a (Propose page))
 unfolding answered
 proposal_kept hash s a page = at_page_keeps s.guests a page _ (λ salt slot h. proposed_keeps hash s.guests a page salt slot h)
 

@@ -3,7 +3,7 @@ use Rattle.std.proofs.Common.{◌≡◌, ℕ, ◌+◌, ◌-◌, ◌*◌, ◌%◌
 use Prim.Native.Nat.{zero, suc}
 use Rattle.std.specs.List.{list_any}
 use Rattle.std.proofs.lemmas.Bool.Decides.{eqb_tells}
-use Rattle.std.proofs.lemmas.Bool.{false≢true, eqb-true, eq-eqb, cases_lt}
+use Rattle.std.proofs.lemmas.Bool.{false≢true, eqb-true, eq-eqb, cases_lt, ne_eqb}
 use Rattle.std.proofs.lemmas.List.{length-take, drop_min, drop_more, drop_all, drop-drop, take-map, length-drop, length-set, get_or-set_same, get_or-set_other}
 use Rattle.std.proofs.Math.Seq.{drop-nil}
 use Rattle.std.proofs.Math.Nat.{div-lt_iff_lt-mul}
@@ -301,9 +301,6 @@ head-new f s b p rest number here n = record {
   first = new-first f s b p rest here ∙ sym (new-age f s b p rest here) ∙ ap (age_in f s b (p ∷ rest)) (sym (newest-age number n));
 }
 
-not-equal : (a b : ℕ) → a ≢ b → eqb a b ≡ false
-not-equal a b h = ⊎_elim (λ e. absurd (h e.1)) (λ e. e.0) (eqb_tells a b)
-
 pub kept-more : (ring : List Place) (heads : List ℕ) (f s places newest room bucket : ℕ) (p : Place) → AreKept ring heads f s places newest room → bucket ≡ bucket_of f s p.note.fingerprint → p.between ≡ first_where (comes_next f s p.note) ring → AreKept (p ∷ take (places - 1) ring) (set heads bucket ((newest + 1) % 2 ^ 32)) f s places ((newest + 1) % 2 ^ 32) room
 kept-more ring heads f s places newest room bucket p h own link =
     let l = length-take (places - 1) ring in
@@ -323,7 +320,7 @@ kept-more ring heads f s places newest room bucket p h own link =
           let inside : b < length heads = omega (arith, lt, sets) in
           ⊎_elim
           (λ e. subst (IsHead f s b (p ∷ take (places - 1) ring) ((newest + 1) % 2 ^ 32)) (sym (ap (λ i. get_or (set heads i ((newest + 1) % 2 ^ 32)) b 0) (sym e.1) ∙ get_or-set_same heads b ((newest + 1) % 2 ^ 32) 0 inside)) (head-new f s b p (take (places - 1) ring) ((newest + 1) % 2 ^ 32) (eq-eqb _ _ (sym own ∙ sym e.1)) number))
-          (λ e. subst (IsHead f s b (p ∷ take (places - 1) ring) ((newest + 1) % 2 ^ 32)) (sym (get_or-set_other heads bucket b ((newest + 1) % 2 ^ 32) 0 e.1)) (head-stays f s b (places - 1) p ring newest (get_or heads b 0) (not-equal (bucket_of f s p.note.fingerprint) b (λ q. e.1 (sym q ∙ sym own))) h.fits (let a = h.few in let c = h.limit in omega (arith, a, c)) (h.headed b inside)))
+          (λ e. subst (IsHead f s b (p ∷ take (places - 1) ring) ((newest + 1) % 2 ^ 32)) (sym (get_or-set_other heads bucket b ((newest + 1) % 2 ^ 32) 0 e.1)) (head-stays f s b (places - 1) p ring newest (get_or heads b 0) (ne_eqb (bucket_of f s p.note.fingerprint) b (λ q. e.1 (sym q ∙ sym own))) h.fits (let a = h.few in let c = h.limit in omega (arith, a, c)) (h.headed b inside)))
           (eqb_tells b bucket);
     }
 

@@ -1,7 +1,7 @@
 use Rattle.std.proofs.Common.{rules, ap, sym, ◌∙◌, arith}
+use Rattle.std.proofs.lemmas.Option.{none-some}
 use Rattle.merge_core.specs.Shown.{Shown}
 use Rattle.lent_slots.proofs.Lent.{put_is, put_from, exists_put, framed, fits_restarted, room_restarted}
-use Rattle.lent_slots.proofs.Moves.{none_some}
 use Rattle.lent_slots.proofs.core_slots.put.Goals as goal
 
 pub lend-requires-clause-guest : goal.lend-requires-clause-guest
@@ -38,4 +38,4 @@ unreachable-requires g c =
     (fits_restarted c.args.slots.now c.args.core.now c.restart_count.new.self c.restart_count.ensures c.requires.fits)
     c.frames.ensures.pages c.frames-2.ensures.pages c.lend.ensures c.requires.free
     (room_restarted c.args.core.now c.restart_count.new.self c.restart_count.ensures c.requires.room) in
-    none_some framed.mpn (c.in-None.ensures.pmap ∙ framed.has)
+    none-some framed.mpn (c.in-None.ensures.pmap ∙ framed.has)

@@ -3,7 +3,7 @@ use Rattle.page_model.proofs.Places.{at_same}
 use Rattle.merge_core.specs.View.{pmap_of, notes_of}
 use Rattle.merge_core.proofs.Changes.{dropped_ties, dropped_guests}
 use Rattle.merge_core.proofs.Limits.{few_after}
-use Rattle.merge_core.proofs.Maps.{len_gone}
+use Rattle.share_table.proofs.Maps.{len_gone}
 use Rattle.merge_core.proofs.moves.drop_hint.Goals as goal
 
 pub drop_hint-requires : goal.drop_hint-requires

@@ -7,7 +7,7 @@ use Rattle.merge_core.proofs.FrameLemmas.{taken_within}
 use Rattle.merge_core.proofs.Holders.{room_for}
 use Rattle.merge_core.proofs.Changes.{put_ties, put_guests}
 use Rattle.merge_core.proofs.Limits.{few_after, place_few, hints_few}
-use Rattle.merge_core.proofs.Maps.{len_new}
+use Rattle.share_table.proofs.Maps.{len_new}
 use Rattle.merge_core.proofs.moves.put_hint.Goals as goal
 
 pub put_hint-requires-clause-room : goal.put_hint-requires-clause-room

@@ -6,7 +6,7 @@ use Rattle.page_model.specs.Pages.{Private, page_at, with_slot}
 use Rattle.page_model.specs.Steps.{key_of}
 use Rattle.page_model.specs.declared.verdict.Verdict.TheVariants as v
 use Rattle.page_model.proofs.Places.{at_other}
-use Rattle.merge_core.proofs.Maps.{gone_same}
+use Rattle.share_table.proofs.Maps.{gone_same}
 use Rattle.merge_core.specs.Pmap.{bytes_in, slot_in, Pmap}
 use Rattle.merge_core.specs.View.{pmap_of, guests_of, notes_of}
 use Rattle.merge_core.proofs.Views.{page_in_is}
