@@ -5,6 +5,7 @@ use Rattle.std.specs.Option.{option_map_or}
 use Rattle.std.proofs.lemmas.Bool.{cases_eq, eqb-true, eqb-false, false≢true}
 use Rattle.std.proofs.lemmas.List.Sums.{sum_by-cons, count_by-le-length}
 use Rattle.std.proofs.lemmas.List.Elements.{filter_map-append}
+use Rattle.std.proofs.lemmas.Option.{same_Some}
 use Rattle.window_events.specs.declared.event.Event.{Event}
 use Rattle.window_events.specs.Windows.{Mappings, step, run, shown}
 use Rattle.window_events.specs.Played.{refused_from}
@@ -16,9 +17,6 @@ use Rattle.trace_text.specs.Plays.{event_of, events_of, before, AreRight, EndsAs
 
 none_some : (x : ℕ) → None ≡ Some x → ⊥
 none_some x e = cc
-
-some_same : (x y : ℕ) → Some x ≡ Some y → x ≡ y
-some_same x y e = cc
 
 -- one event more
 run_more : (w : Mappings) (es : List Event) (e : Event) → run step w (es ++ e ∷ []) ≡ unwrap_or (step (run step w es) e) (run step w es)
@@ -132,7 +130,7 @@ ends w steps i now (Shows page content ∷ rest) e all s =
       pick (Some seen) f later = split (nat_eq seen content) refl where
         split : (b : Bool) → nat_eq seen content ≡ b → Ends w steps (or_later (cond b None (Some (Differs i page seen content))) (first_wrong (i + 1) now rest))
         split true t = later (look_more w steps i now page content s is (f ∙ ap (λ k. Some k) (eqb-true seen content t)))
-        split false t = (s.right, record { is = is; shows = ap (λ v. shown v page) (sym s.mappings) ∙ f; differs = λ g. eqb-false seen content t (some_same seen content g) })
+        split false t = (s.right, record { is = is; shows = ap (λ v. shown v page) (sym s.mappings) ∙ f; differs = λ g. eqb-false seen content t (same_Some seen content g) })
 
 count_is : (steps : List Step) → count_by is_event steps ≡ length (events_of steps)
 count_is [] = refl
