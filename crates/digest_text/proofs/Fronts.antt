@@ -4,6 +4,7 @@ use Rattle.std.specs.List.{list_all, position_or_len, before_first, after_first}
 use Rattle.std.proofs.lemmas.Bool.{cases_Bool, cases_lt, eqb-true, le-ltb, lt-ltb}
 use Rattle.std.proofs.lemmas.List.Sums.{passes_at_first, split_at_first}
 use Rattle.std.proofs.Math.Seq.{take-append_seam}
+use Rattle.std.proofs.lemmas.Option.{same_Some}
 use Rattle.text_words.proofs.Spelled.{after_at, before_at, within_at}
 use Rattle.digest_text.specs.Fields.{field_in, head_in, is_comma, number_in, sample_in, ◌>>=◌}
 use Rattle.digest_text.specs.Names.{name_in}
@@ -14,9 +15,6 @@ use Rattle.digest_text.specs.declared.head.DigestHead.{DigestHead}
 pub found_first : {A B : Type 0} (o : Option A) (f : A → Option B) (y : B) → (o >>= f) ≡ Some y → (x : A) × (o ≡ Some x) × (f x ≡ Some y)
 found_first None f y h = cc h
 found_first (Some x) f y h = (x, refl, h)
-
-pub some_same : {A : Type 0} (x y : A) → Some x ≡ Some y → x ≡ y
-some_same x y h = cc h
 
 -- no element before the first that passes does
 pub none_before : (p : ℕ → Bool) (xs : List ℕ) → list_all (λ b. not (p b)) (before_first p xs) ≡ true
@@ -41,7 +39,7 @@ pub is_field : (bytes word rest : List ℕ) → field_in bytes ≡ Some (word, r
 unfolding field_in
 is_field bytes word rest h = elim (cases_lt (position_or_len is_comma bytes) (length bytes)) [
   | inl within ↦
-      let parts = some_same (before_first is_comma bytes, after_first is_comma bytes) (word, rest) (rw (lt-ltb _ _ within) at h) in
+      let parts = same_Some (before_first is_comma bytes, after_first is_comma bytes) (word, rest) (rw (lt-ltb _ _ within) at h) in
       let comma : get_or bytes (position_or_len is_comma bytes) 0 ≡ 44 = eqb-true _ 44 (passes_at_first is_comma bytes 0 within) in
       let free : list_all (λ b. not (is_comma b)) word ≡ true = ap (λ (xs : List ℕ). list_all (λ b. not (is_comma b)) xs) (sym (ap (λ (x : List ℕ × List ℕ). x.0) parts)) ∙ none_before is_comma bytes in
       record {
@@ -100,7 +98,7 @@ is_head bytes head rest h =
     let pages = found_first (number_in (2 ^ 64 - 1) third.0.0) _ (head, rest) third.2 in
     let fourth = found_first (field_in third.0.1) _ (head, rest) pages.2 in
     let sample = found_first (sample_in fourth.0.0) _ (head, rest) fourth.2 in
-    let same = some_same _ (head, rest) sample.2 in
+    let same = same_Some _ (head, rest) sample.2 in
     let a = is_field bytes first.0.0 first.0.1 first.1 in
     let b = is_field first.0.1 second.0.0 second.0.1 second.1 in
     let c = is_field second.0.1 third.0.0 third.0.1 third.1 in

@@ -3,12 +3,8 @@ use Rattle.std.proofs.Common.{◌≡◌, ◌≢◌, ℕ, ◌≤◌, ◌^◌, ◌
 use Rattle.std.proofs.lemmas.Bool.{eqb-false}
 use Rattle.std.specs.Prelude.{Option, Some, None, length, nat_lt}
 use Rattle.digest_text.specs.Fields.{◌>>=◌, Row, copies_in, counted_in, digest_in, field_in, head_in, number_in, row_in}
+use Rattle.digest_text.proofs.Fronts.{found_first}
 use Rattle.guest_digests.specs.declared.line.DigestLine.{DigestLine}
-
--- an answer that was passed on came from one
-found : {A B : Type 0} (r : Option A) (f : A → Option B) (y : B) → (r >>= f) ≡ Some y → (x : A) × (r ≡ Some x) × (f x ≡ Some y)
-found (Some x) f y e = (x, refl, e)
-found None f y e = absurd cc
 
 some_unless : (none : Bool) (n copies : ℕ) → eqb n 0 ≡ none → cond none None (Some n) ≡ Some copies → 1 ≤ copies
 some_unless true n copies zero e = absurd cc
@@ -17,15 +13,15 @@ some_unless false n copies zero e = let same : n ≡ copies = cc in let some : n
 some_copies : (word : List ℕ) (copies : ℕ) → copies_in word ≡ Some copies → 1 ≤ copies
 unfolding copies_in
 some_copies word copies e =
-    let read = found (number_in (2 ^ 64 - 1) word) (λ n. cond (eqb n 0) None (Some n)) copies e in
+    let read = found_first (number_in (2 ^ 64 - 1) word) (λ n. cond (eqb n 0) None (Some n)) copies e in
     some_unless (eqb read.0 0) read.0 copies refl read.2
 
 some_counted : (bytes : List ℕ) (line : DigestLine) → counted_in bytes ≡ Some line → 1 ≤ line.copies
 unfolding counted_in
 some_counted bytes line e =
-    let field = found (field_in bytes) _ line e in
-    let digest = found (digest_in field.0.0) _ line field.2 in
-    let copies = found (copies_in field.0.1) _ line digest.2 in
+    let field = found_first (field_in bytes) _ line e in
+    let digest = found_first (digest_in field.0.0) _ line field.2 in
+    let copies = found_first (copies_in field.0.1) _ line digest.2 in
     let same : copies.0 ≡ line.copies = let h = copies.2 in cc in
     omega (arith, same, some_copies field.0.1 copies.0 copies.1)
 
@@ -35,8 +31,8 @@ short_row false r row e = e
 
 from_parts : (bytes : List ℕ) (row : Row) → (head_in bytes >>= λ head. counted_in head.1 >>= λ line. Some (record { head = head.0; line = line })) ≡ Some row → 1 ≤ row.line.copies
 from_parts bytes row e =
-    let head = found (head_in bytes) _ row e in
-    let line = found (counted_in head.0.1) _ row head.2 in
+    let head = found_first (head_in bytes) _ row e in
+    let line = found_first (counted_in head.0.1) _ row head.2 in
     let same : line.0.copies ≡ row.line.copies = let h = line.2 in cc in
     omega (arith, same, some_counted head.0.1 line.0 line.1)
 

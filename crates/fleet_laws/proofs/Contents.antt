@@ -51,6 +51,3 @@ zeros_same a b za zb =
     and_true : (t : Bool) → (t && true) ≡ t
     and_true true = refl
     and_true false = refl
-
-pub salts_apart : (xs : List Content) → All (λ c. is_zero c ≡ true) xs → distinct is_same xs ≡ distinct eqb (map (λ (c : Content). c.0) xs)
-salts_apart = distinct_by (λ (c : Content). is_zero c ≡ true) is_same (λ (c : Content). c.0) zeros_same

@@ -9,11 +9,12 @@ use Rattle.digest_text.specs.Fields.{Row}
 use Rattle.page_census.specs.Contents.{Content, contents, contents_of, is_same}
 use Rattle.page_census.specs.Numbers.{copies, distinct, guest_numbers, is_zero, sum_alone, total_numbers, zero_salts}
 use Rattle.page_census.specs.declared.guest.Guest.{Guest}
+use Rattle.page_census.proofs.Totals.{salts_apart}
 use Rattle.fleet_census.specs.Amounts.{all_digests, sum_below}
 use Rattle.fleet_census.specs.Fleets as merged
 use Rattle.fleet_census.specs.Fleets.{all_copies, all_holders, all_zero, copies_of, is_zeros, zero_of}
 use Rattle.fleet_laws.specs.Merges.{AreApart, MatchesGuest, MatchesTotal, digest}
-use Rattle.fleet_laws.proofs.Contents.{distinct_by_digest, salts_apart, shared_by_digest}
+use Rattle.fleet_laws.proofs.Contents.{distinct_by_digest, shared_by_digest}
 use Rattle.fleet_laws.proofs.Fleets.{AreAllCounts, all_copies_are, all_pages_are, all_zero_are, digests_low, holders_some, holders_sum, sum_alone_is}
 use Rattle.fleet_laws.proofs.Guests.{AreCounts}
 use Rattle.fleet_laws.proofs.Sums.{all_counted, but_one_counted, estimate_is, less_one, once_counted, passing, same_sum}

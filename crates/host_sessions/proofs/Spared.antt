@@ -7,6 +7,7 @@ use Rattle.std.proofs.lemmas.Option.{unwrap_or-slice_get}
 use Rattle.host_messages.specs.declared.item.Lent.{Lent}
 use Rattle.lent_slots.specs.declared.holding.Holding.{Holding}
 use Rattle.lent_slots.specs.Slots.{MachineView, holding, is_of, lent_slots, released, released_by}
+use Rattle.lent_slots.proofs.SlotLists.{set_other}
 use Rattle.share_domain.specs.declared.holding.Slot.{Slot}
 use Rattle.share_domain.specs.declared.holding.Loan.{Loan}
 use Rattle.share_domain.specs.declared.fault.LendFault.{LendFault}
@@ -21,10 +22,6 @@ is_anothers client (Some h) is e = absurd cc
 not_of : (client : ℕ) (held : Option Holding) → IsAnothers client held → is_of client held ≡ false
 not_of client None is = absurd is
 not_of client (Some h) is = is
-
--- a slot's holder, after a slot of its machine changed
-held_other : (slots : List (Option Holding)) (ppn other : ℕ) (x : Option Holding) → other ≢ ppn → holding (slice_set slots ppn x) other ≡ holding slots other
-held_other slots ppn other x apart = get_or-set_other slots ppn other x None apart
 
 -- a slot of another machine
 machine_other : (machines : List MachineView) (m other : ℕ) (x : MachineView) → other ≢ m → machine_at (slice_set machines m x) other ≡ machine_at machines other
@@ -42,7 +39,7 @@ lends_spares m client page loan old new lends slot is =
           let apart : slot.ppn ≢ loan.slot.ppn = λ e. is_anothers client (holding (machine_at old.machines m).slots slot.ppn) here (ap (λ (k : ℕ). holding (machine_at old.machines m).slots k) e ∙ free_held (machine_at old.machines m).slots loan.slot.ppn lends.lends.was_free) in
           ap (λ (k : ℕ). holding (machine_at new.machines k).slots slot.ppn) same
           ∙ ap (λ (l : List (Option Holding)). holding l slot.ppn) now
-          ∙ held_other (machine_at old.machines m).slots loan.slot.ppn slot.ppn _ apart
+          ∙ set_other (machine_at old.machines m).slots loan.slot.ppn slot.ppn _ apart
           ∙ ap (λ (k : ℕ). holding (machine_at old.machines k).slots slot.ppn) (sym same)
       | inr other ↦
           ap (λ (d : DomainView). holding (machine_at d.machines slot.machine).slots slot.ppn) lends.rest
@@ -51,7 +48,7 @@ lends_spares m client page loan old new lends slot is =
 
 released_other : (v : MachineView) (ppn other : ℕ) (held : Option Holding) → other ≢ ppn → holding (released_by v ppn held).slots other ≡ holding v.slots other
 released_other v ppn other None apart = refl
-released_other v ppn other (Some h) apart = held_other v.slots ppn other None apart
+released_other v ppn other (Some h) apart = set_other v.slots ppn other None apart
 
 at_freed : (ms : List MachineView) (freed : Slot) (ppn : ℕ) → ppn ≢ freed.ppn → holding (machine_at (with_released freed ms) freed.machine).slots ppn ≡ holding (machine_at ms freed.machine).slots ppn
 at_freed ms freed ppn apart =

@@ -1,8 +1,8 @@
 -- A written journal, read back.
-use Rattle.std.proofs.Common.{◌≡◌, ℕ, ◌≤◌, ◌^◌, ◌==◌, Bool, true, false, not, if◌then◌else◌, List, [], ◌∷◌, ◌++◌, length, Some, Ok, refl, sym, ap, ◌∙◌, arith, nat_lt, decimal, append-nil, append_assoc, replicate}
+use Rattle.std.proofs.Common.{◌≡◌, ℕ, ◌≤◌, ◌^◌, ◌==◌, Bool, true, false, if◌then◌else◌, List, [], ◌∷◌, ◌++◌, length, Some, Ok, refl, sym, ap, ◌∙◌, arith, nat_lt, decimal, append-nil, append_assoc, replicate}
 use Rattle.std.specs.Prelude.{codes}
 use Rattle.std.specs.List.{list_all}
-use Rattle.std.proofs.lemmas.Bool.{and_parts, eqb-true, le-ltb}
+use Rattle.std.proofs.lemmas.Bool.{and_parts, eqb-true, le-ltb, not-false}
 use Rattle.std.proofs.lemmas.List.{get_or-replicate, length-replicate}
 use Rattle.std.proofs.lemmas.Option.{slice_get-get_or}
 use Rattle.text_words.specs.Lines.{line_at}
@@ -20,10 +20,6 @@ zeros (s ∷ ss) h =
     let parts = and_parts (s == 0) (list_all (λ salt. salt == 0) ss) h in
     let first : s ≡ 0 = eqb-true s 0 parts.0 in
     rw (first, zeros ss parts.1) refl
-
-not_false : (b : Bool) → not b ≡ false → b ≡ true
-not_false true h = refl
-not_false false h = sym h
 
 -- the lines of the entries
 body : (j : Journal) → CanBeRead j → (n : ℕ) → entries_in (replicate (length j.pages) false) n 0 (entries_lines j.entries) ≡ Ok j.entries
@@ -56,7 +52,7 @@ without_salts j h none =
     ap (line_at 2) (frames_at j.frames guests) ∙ line_back_at 2 (codes "frames " ++ decimal j.frames) guests (decimal_line j.frames (omega (arith, h.frames.1))) in
     let third : line_at 3 guests ≡ Ok (codes "pages" ++ number_words j.pages, text) =
     ap (line_at 3) (pages_at j.pages j.salts text) ∙ line_back_at 3 (codes "pages" ++ number_words j.pages) text (numbers_above j.pages h.pages_fit) in
-    let salts : replicate (length j.pages) 0 ≡ j.salts = ap (λ (n : ℕ). replicate n 0) (sym h.guests.2) ∙ zeros j.salts (not_false _ none) in
+    let salts : replicate (length j.pages) 0 ≡ j.salts = ap (λ (n : ℕ). replicate n 0) (sym h.guests.2) ∙ zeros j.salts (not-false _ none) in
     rw (first, second, frames_back j.frames h.frames.0 h.frames.1, third, pages_back j.pages h.guests.0 h.guests.1 h.pages h.pages_fit, body j h 4, salts) refl
 
 -- a journal of version 2

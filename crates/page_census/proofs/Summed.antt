@@ -15,7 +15,7 @@ pub same_below : (f g : ℕ → ℕ) (n : ℕ) → ((k : ℕ) → k < n → f k 
 same_below f g zero e = refl
 same_below f g (suc n) e = let rest = same_below f g n (λ k lt. e k (omega arith)) in let here = e n (omega arith) in omega (arith, rest, here)
 
-both_below : (f g : ℕ → ℕ) (n : ℕ) → sum_below (λ k. f k + g k) n ≡ sum_below f n + sum_below g n
+pub both_below : (f g : ℕ → ℕ) (n : ℕ) → sum_below (λ k. f k + g k) n ≡ sum_below f n + sum_below g n
 both_below f g zero = refl
 both_below f g (suc n) = let rest = both_below f g n in omega (arith, rest)
 

@@ -35,7 +35,7 @@ any_salt x zx (y ∷ ys) zs =
     rw (both_blank x y zx here, any_salt x zx ys (All-tail (λ (c : Content). is_zero c ≡ true) y ys zs), ← (and_true (eqb x.0 y.0))) refl
 
 -- pages of zeros are different where their salts are
-salts_apart : (xs : List Content) → All (λ c. is_zero c ≡ true) xs → distinct is_same xs ≡ distinct eqb (map (λ (c : Content). c.0) xs)
+pub salts_apart : (xs : List Content) → All (λ c. is_zero c ≡ true) xs → distinct is_same xs ≡ distinct eqb (map (λ (c : Content). c.0) xs)
 salts_apart [] zs = refl
 salts_apart (x ∷ xs) zs =
     let here : is_zero x ≡ true = All-head (λ (c : Content). is_zero c ≡ true) x xs zs in

@@ -1,11 +1,9 @@
 -- More frames are hashed, and more parts.
-use Rattle.std.proofs.Common.{◌≡◌, ℕ, zero, suc, ◌+◌, ◌≤◌, ◌<◌, List, [], ◌∷◌, ◌++◌, length, map, take, drop, slice_index_or, refl, sym, ap, ◌∙◌, arith, length-append}
+use Rattle.std.proofs.Common.{◌≡◌, ℕ, ◌+◌, ◌≤◌, List, [], ◌∷◌, ◌++◌, length, map, take, drop, refl, sym, ap, ◌∙◌, arith, length-append}
 use Rattle.std.proofs.lemmas.List.{append_assoc, append-nil, map-append, take-append-drop}
-use Rattle.std.proofs.lemmas.List.Elements.{All-append}
 use Rattle.std.proofs.lemmas.List.Folds.{concat-append}
 use Rattle.std.proofs.Math.Seq.{take-add}
 use Rattle.std.specs.List.{concat}
-use Rattle.std.specs.Prelude.{All}
 use Rattle.std.specs.declared.vec.Vec.{Vec}
 use Rattle.std.specs.declared.thread.PromisedHandle.{PromisedHandle}
 use Rattle.machine_frames.specs.FrameMap.{FrameMap}
@@ -63,14 +61,6 @@ module _ {H A B : Type 0} where
       ∙ ap (λ (k : ℕ). length (hashes_of_parts hash (parts_of handles)) + k) (length-append (hashes_of_part hash handle.promise) (hashes_of_parts hash (parts_of rest))) in
       let same = ap (λ (hs : List (PromisedHandle (Vec ℕ A) (Part H B))). length (hashes_of_parts hash (parts_of hs))) e in
       omega (arith, sizes, same)
-
--- what holds of a list and of one element more
-pub all_and : {X : Type 0} (P : X → Type 0) (xs : List X) (x : X) → All P xs → P x → All P (xs ++ x ∷ [])
-all_and {X = X} P xs x before here = All-append P xs (x ∷ []) before of_one
-  where
-    of_one : (i : ℕ) (d : X) → i < length (x ∷ []) → P (slice_index_or (x ∷ []) i d)
-    of_one zero d lt = here
-    of_one (suc i) d lt = absurd (omega arith)
 
 module _ {H A B : Type 0} where
   -- one task more, with the part that follows

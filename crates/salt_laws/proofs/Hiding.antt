@@ -6,6 +6,7 @@ use Rattle.std.specs.Option.{option_map}
 use Rattle.std.proofs.lemmas.Bool.{eqb-true}
 use Rattle.std.proofs.lemmas.List.Sums.{sum_by-cons}
 use Rattle.page_model.specs.Pages.{Slot, Unmapped, Private, Shared, Guest, is_private, is_shared_as, count_pages, any_page, peers, distinct_in, distinct, used, slot_from, or_else, page_from, find_page, page_at, with_slot}
+use Rattle.page_model.proofs.Used.{own_slot}
 
 -- as many pages, all unmapped
 abbrev pub emptied : List Slot → List Slot
@@ -27,15 +28,6 @@ abbrev pub owns : ℕ → List Guest → ℕ → Bool
 owns salt [] a = false
 owns salt (g ∷ gs) zero = nat_eq g.salt salt
 owns salt (g ∷ gs) (suc a) = owns salt gs a
-
--- a slot that was found is the guest's, with its salt
-pub own_slot : (own salt : ℕ) (o : Option Slot) (x : Slot) → option_map {U = ℕ × Slot} (λ slot. (own, slot)) o ≡ Some (salt, x) → (own ≡ salt) × (o ≡ Some x)
-own_slot own salt None x h = absurd (cc)
-own_slot own salt (Some y) x h =
-    let pair : ℕ × Slot = (own, y) in
-    let given : ℕ × Slot = (salt, x) in
-    let e : pair ≡ given = cc in
-    (ap (λ (z : ℕ × Slot). z.0) e, ap (λ (z : ℕ × Slot). Some z.1) e)
 
 -- a change of a page leaves the salts
 pub owns_with : (salt : ℕ) (gs : List Guest) (a b : ℕ) (x : Slot) (c : ℕ) → owns salt (with_slot gs a b x) c ≡ owns salt gs c

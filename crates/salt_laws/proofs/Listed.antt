@@ -10,8 +10,9 @@ use Rattle.page_model.specs.declared.request.Request.{Request}
 use Rattle.page_model.specs.declared.request.Request.TheVariants.{Propose, Store, Load, Release, Count, Close}
 use Rattle.page_model.proofs.Places.{at_same, at_other, Changed, here, elsewhere, at_changed}
 use Rattle.page_model.proofs.Matching.{key_for, Holder, Ends, joins, clashes_shared, hints, keeps, replaces, pairs, clashes_hint, unhinted, proposed_ends}
+use Rattle.page_model.proofs.Used.{own_slot}
 use Rattle.salt_laws.specs.Apart.{SaltedKey, key_of_page, key_proposed}
-use Rattle.salt_laws.proofs.Hiding.{only, owns, owns_with, owns_page, only_other, own_slot}
+use Rattle.salt_laws.proofs.Hiding.{only, owns, owns_with, owns_page, only_other}
 
 -- each of these keys is listed: P says of a salt and a key whether it is
 pub record KeysListed (P : ℕ → ℕ → Type 0) (keys : List SaltedKey) : Type 0 where

@@ -19,10 +19,6 @@ module _ {X : Type 0} (before rest : List X) (x : X) (n : ℕ) (v : X) (e : befo
   pub element_is : x ≡ v
   element_is = sym (get_or_at before x rest x (length before) refl) ∙ ap (λ (l : List X). get_or l (length before) x) e ∙ get_or-replicate n (length before) v x place_within
 
-pub nothing_in : {X : Type 0} (xs : List X) → length xs ≡ 0 → xs ≡ []
-nothing_in [] e = refl
-nothing_in (x ∷ xs) e = absurd (omega (arith, e))
-
 -- the frames of one machine may be those of its slots
 pub frames_fit : (n most : ℕ) (own : FrameMap) → own ≡ no_frames n → 2 ≤ n → n ≤ most → (2 ≤ length own) × (length own ≤ most) × (own ≡ no_frames (length own))
 frames_fit n most own e few many =

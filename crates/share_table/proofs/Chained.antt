@@ -5,6 +5,8 @@ use Rattle.std.proofs.Math.ListN.{set}
 use Rattle.std.specs.Cmp.{unsigned_tied}
 use Rattle.std.proofs.lemmas.Bool.Decides.{nat_tests}
 use Rattle.std.proofs.lemmas.List.{get_or-set_same, get_or-set_other}
+use Rattle.std.proofs.lemmas.Option.{same_Some}
+use Rattle.std.proofs.lemmas.Bool.{eqb-true, eqb-false}
 use Rattle.packed_entries.specs.declared.entry.Entry.{Entry}
 use Rattle.packed_entries.specs.declared.entry.Entry.TheVariants.{Shared, Hint}
 use Rattle.packed_entries.specs.declared.key.Key.{Key}
@@ -15,12 +17,6 @@ use Rattle.share_table.specs.TableMaps.{HintFrame}
 use Rattle.share_table.specs.declared.entries.SharedEntry.{SharedEntry}
 use Rattle.share_table.specs.Stored.{shared_of, hint_of, before_pairs, pairs, all_pairs, second_of, value_of, BelongInto, HasEachOnce}
 use Rattle.share_table.proofs.Maps.{tied, found, tied_same, true_not_false, under}
-
-equal_tells : (i b : ℕ) → eqb i b ≡ true → i ≡ b
-equal_tells i b e = grind (arith, nat_tests)
-
-differ_tells : (i b : ℕ) → eqb i b ≡ false → i ≢ b
-differ_tells i b e h = grind (arith, nat_tests)
 
 -- ---- keys
 abbrev pub tells : {X : Type 0} → Option (ℕ × X) → ℕ → Bool
@@ -39,11 +35,8 @@ alike_step q h false e = grind (arith, nat_tests, unsigned_tied q h)
 alike : (q h : ℕ) → eqb q h ≡ tied q h
 alike q h = sym (alike_step q h (eqb q h) refl)
 
-some_same : {X : Type 0} (x y : X) → Some x ≡ Some y → x ≡ y
-some_same x y h = cc
-
 shared_keyed : (e : Entry) (p : ℕ × SharedEntry) → shared_of e ≡ Some p → key_of e ≡ keys.Shared p.0
-shared_keyed (Shared h m c) p e = ap (λ (x : ℕ × SharedEntry). keys.Shared x.0) (some_same _ p e)
+shared_keyed (Shared h m c) p e = ap (λ (x : ℕ × SharedEntry). keys.Shared x.0) (same_Some _ p e)
 shared_keyed (Hint k g n m) p e = absurd (cc)
 
 shared_finds : (q : ℕ) (e : Entry) → has_key (keys.Shared q) e ≡ tells (shared_of e) q
@@ -52,7 +45,7 @@ shared_finds q (Hint k g n m) = refl
 
 hint_keyed : (e : Entry) (p : ℕ × HintFrame) → hint_of e ≡ Some p → key_of e ≡ keys.Hint p.0
 hint_keyed (Shared h m c) p e = absurd (cc)
-hint_keyed (Hint k g n m) p e = ap (λ (x : ℕ × HintFrame). keys.Hint x.0) (some_same _ p e)
+hint_keyed (Hint k g n m) p e = ap (λ (x : ℕ × HintFrame). keys.Hint x.0) (same_Some _ p e)
 
 hint_finds : (q : ℕ) (e : Entry) → has_key (keys.Hint q) e ≡ tells (hint_of e) q
 hint_finds q (Shared h m c) = refl
@@ -289,16 +282,16 @@ module _ {X : Type 0} (kind : Entry → Option (ℕ × X)) (key : ℕ → Key) (
       → found q (pairs kind es) ≡ cond (tied q k) v (found q (pairs kind (get_or cs b []))) → (t s : Bool) → eqb (home n (key q)) b ≡ t → tied q k ≡ s
       → found q (pairs kind (get_or (set cs b es) (home n (key q)) [])) ≡ cond s v (found q (pairs kind (get_or cs (home n (key q)) [])))
   changed_step n b k q cs es v l at h true s e f =
-      let is : home n (key q) ≡ b = equal_tells _ _ e in
+      let is : home n (key q) ≡ b = eqb-true _ _ e in
       ap (λ i. found q (pairs kind (get_or (set cs b es) i []))) is
       ∙ ap (λ c. found q (pairs kind c)) (get_or-set_same cs b es [] l)
       ∙ h
       ∙ ap (λ x. cond x v (found q (pairs kind (get_or cs b [])))) f
       ∙ ap (λ i. cond s v (found q (pairs kind (get_or cs i [])))) (sym is)
   changed_step n b k q cs es v l at h false true e f =
-      absurd (differ_tells _ _ e (ap (λ x. home n (key x)) (tied_same q k f) ∙ at))
+      absurd (eqb-false _ _ e (ap (λ x. home n (key x)) (tied_same q k f) ∙ at))
   changed_step n b k q cs es v l at h false false e f =
-      ap (λ c. found q (pairs kind c)) (get_or-set_other cs b (home n (key q)) es [] (differ_tells _ _ e))
+      ap (λ c. found q (pairs kind c)) (get_or-set_other cs b (home n (key q)) es [] (eqb-false _ _ e))
 
   pub changed : (n b k : ℕ) (cs : List (List Entry)) (es : List Entry) (v : Option X) → ((i : ℕ) → BelongInto n i (get_or cs i []))
       → ((i : ℕ) → BelongInto n i (get_or (set cs b es) i [])) → b < length cs → home n (key k) ≡ b
@@ -397,9 +390,9 @@ all_stay kind (c ∷ cs) (suc b) es h = ap (λ ps. pairs kind c ++ ps) (all_stay
 -- ---- what holds of each chain
 each_step : (P : ℕ → List Entry → Type 0) (cs : List (List Entry)) (b : ℕ) (es : List Entry) → ((i : ℕ) → P i (get_or cs i [])) → P b es → b < length cs → (i : ℕ) (t : Bool) → eqb i b ≡ t → P i (get_or (set cs b es) i [])
 each_step P cs b es all new l i true e =
-    let is : i ≡ b = equal_tells i b e in
+    let is : i ≡ b = eqb-true i b e in
     subst (λ x. P x (get_or (set cs b es) x [])) (sym is) (subst (P b) (sym (get_or-set_same cs b es [] l)) new)
-each_step P cs b es all new l i false e = subst (P i) (sym (get_or-set_other cs b i es [] (differ_tells i b e))) (all i)
+each_step P cs b es all new l i false e = subst (P i) (sym (get_or-set_other cs b i es [] (eqb-false i b e))) (all i)
 
 pub each_set : (P : ℕ → List Entry → Type 0) (cs : List (List Entry)) (b : ℕ) (es : List Entry) → ((i : ℕ) → P i (get_or cs i [])) → P b es → b < length cs → (i : ℕ) → P i (get_or (set cs b es) i [])
 each_set P cs b es all new l i = each_step P cs b es all new l i (eqb i b) refl
@@ -410,7 +403,7 @@ value_of_head : (h : ℕ) (e : Entry) (r : Option Entry) (m f : ℕ) (b : Bool) 
     → (shared_parts r ≡ Some (m, f) → Some (record { hash = h; mpn = m; field = f }) ≡ value_of shared_of r)
     → Some (record { hash = h; mpn = m; field = f }) ≡ value_of shared_of (cond b (Some e) r)
 value_of_head h (Shared x n c) r m f true t is ih =
-    let parts : (n, c) ≡ (m, f) = some_same _ _ is in
+    let parts : (n, c) ≡ (m, f) = same_Some _ _ is in
     rw (same_number h x t, ← ap (λ (p : ℕ × ℕ). p.0) parts, ← ap (λ (p : ℕ × ℕ). p.1) parts) refl
 value_of_head h (Hint k g n p) r m f true t is ih = absurd (cc)
 value_of_head h e r m f false t is ih = ih is

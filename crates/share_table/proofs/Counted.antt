@@ -2,6 +2,7 @@
 use Rattle.std.proofs.Common.{◌≡◌, ℕ, ◌+◌, ◌-◌, ◌≤◌, ◌≢◌, Bool, true, false, cond, eqb, nat_le, List, [], ◌∷◌, Option, Some, None, IsSome, sym, refl, ap, ◌∙◌, arith, rules}
 use Rattle.std.proofs.lemmas.Bool.Decides.{nat_tests}
 use Rattle.std.specs.FinMap.{get}
+use Rattle.std.proofs.lemmas.Bool.{ne_eqb, eqb-true, eqb-false}
 use Rattle.packed_entries.specs.declared.entry.Entry.{Entry}
 use Rattle.packed_entries.specs.declared.entry.Entry.TheVariants.{Shared, Hint}
 use Rattle.packed_entries.specs.declared.key.Key.{Key}
@@ -15,14 +16,6 @@ use Rattle.share_table.proofs.Chained.{same_number}
 use Rattle.share_table.proofs.Kept.{shared_found, some_frame, entry_agrees, entry_most, entry_counts, counts_as, one_less, one_less_of_more, count_changed, count_kept, frame_gone, gone_kept}
 
 -- ---- tests
-other_eq : (n k : ℕ) → n ≢ k → eqb n k ≡ false
-other_eq n k ne = grind (arith, nat_tests)
-
-same_tells : (n k : ℕ) → eqb n k ≡ true → n ≡ k
-same_tells n k e = grind (arith, nat_tests)
-
-other_tells : (n k : ℕ) → eqb n k ≡ false → n ≢ k
-other_tells n k e h = grind (arith, nat_tests)
 
 fits_field : (n : ℕ) → n ≤ 65535 → nat_le n 65535 ≡ true
 fits_field n l = grind (arith, nat_tests)
@@ -43,7 +36,7 @@ wide_least e None z a = absurd (omega (arith, a.0))
 wide_least e (Some c) z a = a.1
 
 stays : (wide : WideMap) (hash field count : ℕ) → field ≢ 0 → count ≤ 65535 → rewidened wide hash field count ≡ wide
-stays wide hash field count some fits = rw (fits_field count fits, other_eq field 0 some) refl
+stays wide hash field count some fits = rw (fits_field count fits, ne_eqb field 0 some) refl
 
 -- ---- what a search finds has the key
 first_has_step : (k : Key) (x e : Entry) (es : List Entry) (b : Bool) → has_key k x ≡ b → cond b (Some x) (first_with k es) ≡ Some e → (first_with k es ≡ Some e → has_key k e ≡ true) → has_key k e ≡ true
@@ -139,7 +132,7 @@ module _ (total : ℕ) (T : EntryChains) (wide : WideMap) (k : IsKept total T wi
       -- one page more
       module _ (room : e.field ≢ 65535) where
         up : counted_up T key (first_with key (chain_of T key)) ≡ with_chain T key (with_other key (Shared e.hash e.mpn (e.field + 1)) (chain_of T key))
-        up = rw (first_is, other_eq e.field 0 some, other_eq e.field 65535 room) refl
+        up = rw (first_is, ne_eqb e.field 0 some, ne_eqb e.field 65535 room) refl
 
         fits_more : e.field + 1 ≤ 65535
         fits_more = omega (arith, most_at)
@@ -159,7 +152,7 @@ module _ (total : ℕ) (T : EntryChains) (wide : WideMap) (k : IsKept total T wi
       -- one page less, and another is left
       module _ (more : e.field ≢ 1) where
         down : counted_down T key (first_with key (chain_of T key)) ≡ with_chain T key (with_other key (Shared e.hash e.mpn (e.field - 1)) (chain_of T key))
-        down = rw (first_is, other_eq e.field 0 some, other_eq e.field 1 more) refl
+        down = rw (first_is, ne_eqb e.field 0 some, ne_eqb e.field 1 more) refl
 
         some_left : 1 ≤ e.field - 1
         some_left = omega arith
@@ -198,15 +191,15 @@ module _ (total : ℕ) (T : EntryChains) (wide : WideMap) (k : IsKept total T wi
         last_kept = rw (← hash_is, gone) (gone_kept total T wide k e there entry_is one (total - 1) (omega (arith, field_within)))
 
       left_maps_step : (b : Bool) → eqb e.field 1 ≡ b → maps_of (counted_down T (keys.Shared h) (first_with (keys.Shared h) (chain_of T (keys.Shared h)))) wide ≡ with_one_less (maps_of T wide) h
-      left_maps_step true t = gone_maps (same_tells e.field 1 t)
-      left_maps_step false t = down_maps (other_tells e.field 1 t)
+      left_maps_step true t = gone_maps (eqb-true e.field 1 t)
+      left_maps_step false t = down_maps (eqb-false e.field 1 t)
 
       pub left_maps : maps_of (counted_down T (keys.Shared h) (first_with (keys.Shared h) (chain_of T (keys.Shared h)))) wide ≡ with_one_less (maps_of T wide) h
       left_maps = left_maps_step (eqb e.field 1) refl
 
       left_kept_step : (b : Bool) → eqb e.field 1 ≡ b → IsKept (total - 1) (counted_down T (keys.Shared h) (first_with (keys.Shared h) (chain_of T (keys.Shared h)))) wide
-      left_kept_step true t = last_kept (same_tells e.field 1 t)
-      left_kept_step false t = down_kept (other_tells e.field 1 t)
+      left_kept_step true t = last_kept (eqb-true e.field 1 t)
+      left_kept_step false t = down_kept (eqb-false e.field 1 t)
 
       pub left_kept : IsKept (total - 1) (counted_down T (keys.Shared h) (first_with (keys.Shared h) (chain_of T (keys.Shared h)))) wide
       left_kept = left_kept_step (eqb e.field 1) refl

@@ -16,6 +16,7 @@ use Rattle.packed_entries.specs.declared.key.Key.{Key}
 use Rattle.packed_entries.specs.declared.key.Key.TheVariants as keys
 use Rattle.packed_entries.specs.Keys.{truncated, first_with, with_other, without_first}
 use Rattle.packed_entries.specs.Entries.{EntryChains, home, entries_in, chain_of, with_chain, empty_chains, entry_count as chained}
+use Rattle.packed_entries.proofs.Filed.{some_of}
 use Rattle.share_table.specs.TableMaps.{SharedFrame, HintFrame, SharedMap, HintMap, TableMaps, shared_at, hint_at, entry_count, empty_table, with_shared, with_hint, without_hint, with_count, with_one_less, count_at, field_of}
 use Rattle.share_table.specs.declared.entries.SharedEntry.{SharedEntry}
 use Rattle.share_table.specs.Buckets.{IsGreatestPower}
@@ -23,7 +24,7 @@ use Rattle.share_table.specs.Stored.{WideMap, widened, frame_of, Agrees, shared_
 use Rattle.share_table.proofs.Maps.{true_not_false, tied, found, len_new, len_gone}
 use Rattle.share_table.proofs.Chained.{shared_kind, hint_kind, found_value, found_there, absent_first, changed, found_other, found_without, all_stay, stay_other, stay_without}
 use Rattle.share_table.proofs.Chained.{no_hint, no_shared, each_set, once_without, once_other, belong_without, belong_other, length_other, length_without, entries_in_set}
-use Rattle.share_table.proofs.Tables.{frames, frame_got, frame_is, agrees_entry, count_most, count_least, none_of_map, some_of_map, nothing_counted, added_frames, added_counted, len_added, recounted_frames, recounted, len_recounted, removed_frames, removed_counted, len_removed}
+use Rattle.share_table.proofs.Tables.{frames, frame_got, frame_is, agrees_entry, count_most, count_least, none_of_map, nothing_counted, added_frames, added_counted, len_added, recounted_frames, recounted, len_recounted, removed_frames, removed_counted, len_removed}
 
 same_maps : (capacity : ℕ) (a b : SharedMap) (c d : HintMap) → a ≡ b → c ≡ d → ◌≡◌ {A = TableMaps} (record { capacity = capacity; shared = a; hints = c }) (record { capacity = capacity; shared = b; hints = d })
 same_maps capacity a b c d e f = rw (e, f) refl
@@ -77,7 +78,7 @@ module _ (total : ℕ) (T : EntryChains) (wide : WideMap) (k : IsKept total T wi
     frame_at = frame_got wide shared_pairs h ∙ ap (option_map (frame_of (get wide h))) (shared_found h ∙ sym is)
 
     pub some_frame : IsSome (shared_at (maps_of T wide) h) → IsSome o
-    some_frame present = some_of_map (frame_of (get wide h)) o (rw frame_at at present)
+    some_frame present = some_of (frame_of (get wide h)) o (rw frame_at at present)
 
     pub none_at : o ≡ None → shared_at (maps_of T wide) h ≡ None
     none_at none = frame_at ∙ ap (option_map (frame_of (get wide h))) none

@@ -1,5 +1,5 @@
 -- What each change of the shared frames does to their map and their counts.
-use Rattle.std.proofs.Common.{◌≡◌, ℕ, ◌+◌, ◌*◌, ◌≤◌, Bool, true, false, cond, nat_lt, nat_le, nat_eq, List, [], ◌∷◌, map, Option, Some, None, IsSome, sym, refl, ap, ◌∙◌, arith, rules, subst}
+use Rattle.std.proofs.Common.{◌≡◌, ℕ, ◌+◌, ◌*◌, ◌≤◌, Bool, true, false, cond, nat_lt, nat_le, nat_eq, List, [], ◌∷◌, map, Option, Some, None, IsSome, sym, refl, ap, ◌∙◌, arith, subst}
 use Rattle.std.specs.List.{sum_by}
 use Rattle.std.specs.Option.{option_map}
 use Rattle.std.specs.Ordering.{nat_cmp}
@@ -11,6 +11,7 @@ use Rattle.share_table.specs.TableMaps.{SharedFrame, SharedMap, field_of}
 use Rattle.share_table.specs.declared.entries.SharedEntry.{SharedEntry}
 use Rattle.share_table.specs.Stored.{WideMap, widened, frame_of, frame_pair, shared_in, Agrees, rewidened, IsCounted}
 use Rattle.share_table.proofs.Maps.{tied, found, tied_same, len_new, len_old, len_gone, sum_empty, sum_new, sum_old, sum_gone}
+use Rattle.packed_entries.proofs.Filed.{some_of}
 
 -- the map of a table's shared frames
 abbrev pub frames : WideMap → List (ℕ × SharedEntry) → SharedMap
@@ -43,13 +44,9 @@ pub none_of_map : {A B : Type 0} (f : A → B) (o : Option A) → option_map f o
 none_of_map f None e = refl
 none_of_map f (Some x) e = absurd (cc)
 
-pub some_of_map : {A B : Type 0} (f : A → B) (o : Option A) → IsSome (option_map f o) → IsSome o
-some_of_map f None h = h
-some_of_map f (Some x) h = search rules
-
 -- a hash with a shared frame has an entry
 pub entry_of_frame : (wide : WideMap) (es : List (ℕ × SharedEntry)) (q : ℕ) → IsSome (get (frames wide es) q) → IsSome (shared_in es q)
-entry_of_frame wide es q h = some_of_map (frame_of (get wide q)) (shared_in es q) (rw (← frame_got wide es q) h)
+entry_of_frame wide es q h = some_of (frame_of (get wide q)) (shared_in es q) (rw (← frame_got wide es q) h)
 
 -- ---- a field and a wide count that agree
 wide_of_absent : (o : Option SharedEntry) (w : Option ℕ) → Agrees o w → o ≡ None → w ≡ None

@@ -2,6 +2,7 @@
 use Rattle.std.proofs.Common.{◌≡◌, ℕ, zero, suc, ◌*◌, ◌<◌, List, [], ◌∷◌, length, map, replicate, get_or, Option, None, refl, ap, sym, ◌∙◌, arith}
 use Rattle.std.proofs.lemmas.List.{length-replicate}
 use Rattle.std.proofs.lemmas.List.Elements.{All-replicate}
+use Rattle.std.proofs.lemmas.Option.{none-some}
 use Rattle.machine_frames.specs.FrameMap.{frame}
 use Rattle.lent_slots.specs.declared.holding.Holding.{Holding}
 use Rattle.lent_slots.specs.Slots.{MachineView, holding}
@@ -12,7 +13,6 @@ use Rattle.share_domain.specs.Made.{empty_domain}
 use Rattle.window_events.specs.declared.page.Page.{Page}
 use Rattle.window_events.specs.Windows.{start, fresh}
 use Rattle.window_domains.specs.Agreement.{frame_by, HasHeld, Agrees}
-use Rattle.window_domains.proofs.Frames.{none_some}
 
 no_frame : (n i : ℕ) → get_or (let l : List (Option (List ℕ)) = replicate n None in l) i None ≡ None
 no_frame zero i = refl
@@ -50,8 +50,8 @@ begins number config contents frames e =
     record {
       holds = hold_none d contents;
       are_held = All-replicate (HasHeld d) (length contents) None tt;
-      contains = λ m mpn bytes is. absurd (none_some bytes (sym (free_at config.machines config.slots config.frames m mpn) ∙ is));
-      in_use = λ slot h is. absurd (none_some h (sym (unheld_at config.machines config.slots config.frames slot.machine slot.ppn) ∙ is));
+      contains = λ m mpn bytes is. absurd (none-some bytes (sym (free_at config.machines config.slots config.frames m mpn) ∙ is));
+      in_use = λ slot h is. absurd (none-some h (sym (unheld_at config.machines config.slots config.frames slot.machine slot.ppn) ∙ is));
       count = e ∙ ap (λ k. k * config.frames) (sym (length-replicate config.machines (empty_machine config.slots config.frames)));
       sizes = λ m l. size_at config.machines config.slots config.frames m (subst_len config.machines (empty_machine config.slots config.frames) m l);
     } where

@@ -6,12 +6,6 @@ use Rattle.std.proofs.lemmas.Nat.{div-mul-add, mod-mul-add, mul-add-lt}
 use Rattle.lent_slots.specs.Slots.{MachineView}
 use Rattle.share_domain.specs.Domains.{machine_at, region_frame}
 
-pub none_some : {X : Type 0} (x : X) → None ≡ Some x → ⊥
-none_some x e = cc
-
-pub some_same : {X : Type 0} (x y : X) → Some x ≡ Some y → x ≡ y
-some_same x y e = cc
-
 -- what there is
 pub the : {X : Type 0} (o : Option X) → IsSome o → (x : X) × (o ≡ Some x)
 the None h = absurd (false≢true h)

@@ -4,7 +4,7 @@ use Rattle.std.specs.Prelude.{slice_get, slice_set, unwrap_or}
 use Rattle.std.specs.Option.{option_map, option_and_then}
 use Rattle.std.proofs.lemmas.Bool.{false≢true}
 use Rattle.std.proofs.lemmas.List.{length-set}
-use Rattle.std.proofs.lemmas.Option.{get_or_from_slice_get}
+use Rattle.std.proofs.lemmas.Option.{get_or_from_slice_get, same_Some, none-some}
 use Rattle.std.proofs.Math.Seq.{map-set_same}
 use Rattle.machine_frames.proofs.Used.{taken_within}
 use Rattle.lent_slots.specs.declared.holding.Holding.{Holding}
@@ -20,7 +20,7 @@ use Rattle.window_events.proofs.Whole.{holds_shown, shows_last}
 use Rattle.window_domains.specs.Agreement.{bytes_at, frame_by, Agrees, Plays}
 use Rattle.window_domains.specs.Calls.{is_own, ShowsFrameOf}
 use Rattle.window_domains.proofs.Frames as frames
-use Rattle.window_domains.proofs.Frames.{none_some, some_same, the, is_there, same_machine, same_frame, frame_within, machine_within}
+use Rattle.window_domains.proofs.Frames.{the, is_there, same_machine, same_frame, frame_within, machine_within}
 use Rattle.window_domains.proofs.Pages.{one_plays, page_holds, holder, trim_possible}
 
 pub enters : (number : List ℕ → ℕ) (d : DomainView) (slots : List (Option Slot)) (w : Mappings) (client : Option ℕ) → Agrees number d slots w → Agrees number (entered d client) slots w
@@ -120,7 +120,7 @@ trims number d slots w m mpn x agrees lm lf free =
           let small : a < d.frames = frame_small number d slots w k a b agrees is in
           let f : k ≡ m = same_machine d.frames k a m mpn small lf e in
           let g : a ≡ mpn = same_frame d.frames k a m mpn small lf e in
-          none_some b (sym free ∙ ap (λ i. bytes_at d i mpn) (sym f) ∙ ap (λ i. bytes_at d k i) (sym g) ∙ is)
+          none-some b (sym free ∙ ap (λ i. bytes_at d i mpn) (sym f) ∙ ap (λ i. bytes_at d k i) (sym g) ∙ is)
 
       unheld : (b : Bool) → is_held (region_frame d.frames m mpn) w.pages ≡ b → is_held (region_frame d.frames m mpn) w.pages ≡ false
       unheld false e = e
@@ -138,13 +138,13 @@ record HoldsBy (d : DomainView) (o : Option (Option Slot)) (n : ℕ) : Type 0 wh
   frame : n ≡ region_frame d.frames slot.machine h.frame
 
 held_by_slot : (d : DomainView) (slot : Slot) (n : ℕ) (o : Option Holding) → held_in d.machines slot ≡ o → Some n ≡ option_map (λ h. region_frame d.frames slot.machine h.frame) o → HoldsBy d (Some (Some slot)) n
-held_by_slot d slot n None is e = absurd (none_some n (sym e))
-held_by_slot d slot n (Some h) is e = record { slot = slot; at = refl; h = h; held = is; frame = some_same n (region_frame d.frames slot.machine h.frame) e }
+held_by_slot d slot n None is e = absurd (none-some n (sym e))
+held_by_slot d slot n (Some h) is e = record { slot = slot; at = refl; h = h; held = is; frame = same_Some n (region_frame d.frames slot.machine h.frame) e }
 
 holds_by : (d : DomainView) (o : Option (Option Slot)) (n : ℕ) → Some (Some n) ≡ option_map (frame_by d) o → HoldsBy d o n
-holds_by d None n e = absurd (none_some (let x : Option ℕ = Some n in x) (sym e))
-holds_by d (Some None) n e = absurd (none_some n (sym (some_same (let x : Option ℕ = Some n in x) None e)))
-holds_by d (Some (Some slot)) n e = held_by_slot d slot n (held_in d.machines slot) refl (some_same (let x : Option ℕ = Some n in x) (frame_by d (Some slot)) e)
+holds_by d None n e = absurd (none-some (let x : Option ℕ = Some n in x) (sym e))
+holds_by d (Some None) n e = absurd (none-some n (sym (same_Some (let x : Option ℕ = Some n in x) None e)))
+holds_by d (Some (Some slot)) n e = held_by_slot d slot n (held_in d.machines slot) refl (same_Some (let x : Option ℕ = Some n in x) (frame_by d (Some slot)) e)
 
 shows_by : (number : List ℕ → ℕ) (d : DomainView) (slots : List (Option Slot)) (w : Mappings) (p n : ℕ) (page : Page) → Agrees number d slots w → slice_get w.pages p ≡ Some page → page.held ≡ Some n → page.view ≡ Over n None
     → shown w p ≡ last w p → ShowsFrameOf number d slots (last w p) p n
@@ -163,7 +163,7 @@ shows_by number d slots w p n page agrees at held view is =
       bytes = b.0;
       frame_has = b.1;
       last = wrote;
-      same = λ own e apart. apart (some_same (number b.0) (number own) (sym wrote ∙ e));
+      same = λ own e apart. apart (same_Some (number b.0) (number own) (sym wrote ∙ e));
     }
 
 pub shows_bytes : (number : List ℕ → ℕ) (d : DomainView) (slots : List (Option Slot)) (contents fs : List ℕ) (es : List Event) (p n : ℕ) → let w = run step (start contents fs) es in
@@ -172,5 +172,5 @@ shows_bytes number d slots contents fs es p n agrees view = pick (run step (star
   pick : (w : Mappings) → Agrees number d slots w → view_of w p ≡ Some (Over n None) → option_and_then (λ (x : Page). x.held) (slice_get w.pages p) ≡ Some n → shown w p ≡ last w p → ShowsFrameOf number d slots (last w p) p n
   pick w agrees view held is = made (slice_get w.pages p) refl view held where
     made : (o : Option Page) → slice_get w.pages p ≡ o → option_map (λ (x : Page). x.view) o ≡ Some (Over n None) → option_and_then (λ (x : Page). x.held) o ≡ Some n → ShowsFrameOf number d slots (last w p) p n
-    made None e v h = absurd (none_some n h)
-    made (Some page) e v h = shows_by number d slots w p n page agrees e h (some_same page.view (Over n None) v) is
+    made None e v h = absurd (none-some n h)
+    made (Some page) e v h = shows_by number d slots w p n page agrees e h (same_Some page.view (Over n None) v) is

@@ -5,6 +5,7 @@ use Rattle.std.specs.Option.{option_map}
 use Rattle.std.proofs.lemmas.Bool.{cases_eq, cases_Bool}
 use Rattle.std.proofs.lemmas.List.{length-set, map-set, get_or-set_same, get_or-set_other}
 use Rattle.std.proofs.lemmas.List.Elements.{All-set, All-weaker, All-head, All-tail}
+use Rattle.std.proofs.lemmas.Option.{same_Some, none-some}
 use Rattle.machine_frames.specs.FrameMap.{frame, IsTaken}
 use Rattle.machine_frames.proofs.Used.{taken_within}
 use Rattle.lent_slots.specs.declared.holding.Holding.{Holding}
@@ -20,7 +21,7 @@ use Rattle.window_events.specs.Windows.{Mappings, is_held, run, step}
 use Rattle.window_domains.specs.Agreement.{bytes_at, frame_by, HasHeld, Agrees, Plays}
 use Rattle.window_domains.specs.Calls.{IsToBeLent, filled}
 use Rattle.window_domains.proofs.Frames as frames
-use Rattle.window_domains.proofs.Frames.{none_some, some_same, the, is_there, same_machine, same_frame, frame_within, machine_within}
+use Rattle.window_domains.proofs.Frames.{the, is_there, same_machine, same_frame, frame_within, machine_within}
 use Rattle.window_domains.proofs.Pages.{one_plays, none_plays, holds_none, holder, lend_possible, trim_possible}
 
 -- A page was lent in machine m: its slot was free, and its frame was free or had these bytes.
@@ -72,7 +73,7 @@ module _ (number : List ℕ → ℕ) (d : DomainView) (slots : List (Option Slot
 
   -- a slot that was held isn't this one
   is_other : (k q : ℕ) (h : Holding) → holding (machine_at d.machines k).slots q ≡ Some h → k ≡ m → q ≡ ppn → ⊥
-  is_other k q h held e f = none_some h (sym was_free ∙ ap (λ i. holding before.slots i) (sym f) ∙ ap (λ i. holding (machine_at d.machines i).slots q) (sym e) ∙ held)
+  is_other k q h held e f = none-some h (sym was_free ∙ ap (λ i. holding before.slots i) (sym f) ∙ ap (λ i. holding (machine_at d.machines i).slots q) (sym e) ∙ held)
 
   still : (slot : Slot) (h : Holding) → held_in d.machines slot ≡ Some h → held_in machines slot ≡ held_in d.machines slot
   still slot h held = other_slot slot.machine slot.ppn (is_other slot.machine slot.ppn h held)
@@ -144,7 +145,7 @@ module _ (number : List ℕ → ℕ) (d : DomainView) (slots : List (Option Slot
     contained : (k a : ℕ) (b : List ℕ) → bytes_at after k a ≡ Some b → (((k ≡ m) × (a ≡ mpn)) ⊎ (k ≡ m → a ≡ mpn → ⊥))
         → slice_get (slice_set w.frames number_there (number bytes)) (region_frame d.frames k a) ≡ Some (number b)
     contained k a b is (inl e) =
-        let same : bytes ≡ b = some_same bytes b (sym own_frame ∙ ap (λ i. frame (machine_at machines i).frames mpn) (sym e.0) ∙ ap (λ i. frame (machine_at machines k).frames i) (sym e.1) ∙ is) in
+        let same : bytes ≡ b = same_Some bytes b (sym own_frame ∙ ap (λ i. frame (machine_at machines i).frames mpn) (sym e.0) ∙ ap (λ i. frame (machine_at machines k).frames i) (sym e.1) ∙ is) in
         let x = frames.got_within w.frames number_there number_fits in
         ap (λ i. slice_get (slice_set w.frames number_there (number bytes)) (region_frame d.frames i a)) e.0
         ∙ ap (λ i. slice_get (slice_set w.frames number_there (number bytes)) (region_frame d.frames m i)) e.1
@@ -155,7 +156,7 @@ module _ (number : List ℕ → ℕ) (d : DomainView) (slots : List (Option Slot
 
     used : (slot : Slot) (h : Holding) → held_in machines slot ≡ Some h → (((slot.machine ≡ m) × (slot.ppn ≡ ppn)) ⊎ (slot.machine ≡ m → slot.ppn ≡ ppn → ⊥)) → IsTaken (machine_at machines slot.machine).frames h.frame
     used slot h held (inl e) =
-        let same : record { client = client; frame = mpn } ≡ h = some_same (record { client = client; frame = mpn }) h
+        let same : record { client = client; frame = mpn } ≡ h = same_Some (record { client = client; frame = mpn }) h
         (sym own_slot ∙ ap (λ i. holding (machine_at machines i).slots ppn) (sym e.0) ∙ ap (λ i. holding (machine_at machines slot.machine).slots i) (sym e.1) ∙ held) in
         is_there (frame (machine_at machines slot.machine).frames h.frame) bytes
         (ap (λ i. frame (machine_at machines i).frames h.frame) e.0 ∙ ap (λ (x : Holding). frame (machine_at machines m).frames x.frame) (sym same) ∙ own_frame)
@@ -178,7 +179,7 @@ module _ (number : List ℕ → ℕ) (d : DomainView) (slots : List (Option Slot
       let fits : x.h.frame < d.frames = omega (arith, agrees.sizes x.slot.machine (machine_within d.machines x.slot.machine x.h.frame inside), inside) in
       let e : x.slot.machine ≡ m = same_machine d.frames x.slot.machine x.h.frame m mpn fits small x.frame in
       let f : x.h.frame ≡ mpn = same_frame d.frames x.slot.machine x.h.frame m mpn fits small x.frame in
-      absurd (none_some b.0 (sym none ∙ ap (λ i. frame before.frames i) (sym f) ∙ ap (λ i. frame (machine_at d.machines i).frames x.h.frame) (sym e) ∙ b.1))
+      absurd (none-some b.0 (sym none ∙ ap (λ i. frame before.frames i) (sym f) ∙ ap (λ i. frame (machine_at d.machines i).frames x.h.frame) (sym e) ∙ b.1))
 
   -- that number is among those of all frames
   pub has_any : (y : ℕ) × (slice_get w.frames number_there ≡ Some y)
@@ -243,7 +244,7 @@ lends number d new slots w m client p bytes loan agrees l to = made (is_lent d n
       (subst (λ (x : DomainView). Agrees number x (slice_set slots p (Some loan.slot)) (record { pages = slice_set w.pages p (windows.holding n to.page); frames = slice_set w.frames n (number bytes) })) (sym i.now) then)) where
         choose : (n y : ℕ) → slice_get w.frames n ≡ Some y → ((is_held n w.pages ≡ true) ⊎ (is_held n w.pages ≡ false)) → (is_held n w.pages ≡ true → slice_get w.frames n ≡ Some (number bytes))
             → (is_held n w.pages ≡ false) ⊎ (y ≡ number bytes)
-        choose n y is (inl held) has = inr (some_same y (number bytes) (sym is ∙ has held))
+        choose n y is (inl held) has = inr (same_Some y (number bytes) (sym is ∙ has held))
         choose n y is (inr free) has = inl free
 
 pub lends_early : (number : List ℕ → ℕ) (d new : DomainView) (slots : List (Option Slot)) (w : Mappings) (m client : ℕ) (bytes : List ℕ) (loan : Loan)

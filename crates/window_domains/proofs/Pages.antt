@@ -4,7 +4,7 @@ use Rattle.std.specs.Prelude.{slice_get, slice_set, nat_eq, unwrap_or, is_some, 
 use Rattle.std.specs.Option.{option_map}
 use Rattle.std.specs.List.{list_any}
 use Rattle.std.proofs.lemmas.Bool.{false≢true, eqb-true, eq-eqb, lt-ltb}
-use Rattle.std.proofs.lemmas.Option.{slice_get-map}
+use Rattle.std.proofs.lemmas.Option.{slice_get-map, same_Some, none-some}
 use Rattle.lent_slots.specs.declared.holding.Holding.{Holding}
 use Rattle.share_domain.specs.declared.holding.Slot.{Slot}
 use Rattle.share_domain.specs.Domains.{DomainView, held_in, region_frame}
@@ -14,7 +14,6 @@ use Rattle.window_events.specs.declared.page.Page.{Page}
 use Rattle.window_events.specs.Windows.{Mappings, is_frame, is_held, holding, step}
 use Rattle.window_events.proofs.Played.{refused_on}
 use Rattle.window_domains.specs.Agreement.{frame_by, Plays}
-use Rattle.window_domains.proofs.Frames.{none_some, some_same}
 
 -- one event that is possible
 pub one_plays : (w v : Mappings) (e : Event) (P : Mappings → Type 0) → step w e ≡ Some v → P v → Plays w (e ∷ []) P
@@ -35,7 +34,7 @@ page_holds d pages slots p page e at =
 -- a page with no slot holds none
 pub holds_none : (d : DomainView) (pages : List Page) (slots : List (Option Slot)) (p : ℕ) (page : Page) → map (λ x. x.held) pages ≡ map (frame_by d) slots
     → slice_get pages p ≡ Some page → slice_get slots p ≡ Some None → page.held ≡ None
-holds_none d pages slots p page e at none = some_same page.held None (page_holds d pages slots p page e at ∙ ap (option_map (frame_by d)) none)
+holds_none d pages slots p page e at none = same_Some page.held None (page_holds d pages slots p page e at ∙ ap (option_map (frame_by d)) none)
 
 -- a slot that has a frame
 pub record Holder (d : DomainView) (n : ℕ) : Type 0 where
@@ -75,7 +74,7 @@ lend_possible w p n x y page at copy none is may =
       choose (inr e) = inr (eq-eqb y x e)
 
       test : (v : Mappings) (o : Option ℕ) (b t : Bool) → o ≡ None → ((b ≡ false) ⊎ (t ≡ true)) → cond (is_none o && (not b || t)) (Some v) None ≡ Some v
-      test v (Some m) b t e m' = absurd (none_some m (sym e))
+      test v (Some m) b t e m' = absurd (none-some m (sym e))
       test v None false t e m' = refl
       test v None true true e m' = refl
       test v None true false e (inl f) = absurd (false≢true (sym f))

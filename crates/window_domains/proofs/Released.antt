@@ -4,6 +4,7 @@ use Rattle.std.specs.Prelude.{slice_get, unwrap_or, is_some, is_none}
 use Rattle.std.specs.Option.{option_map}
 use Rattle.std.proofs.lemmas.List.{length-map, set_at, length_push}
 use Rattle.std.proofs.lemmas.List.Elements.{All-map}
+use Rattle.std.proofs.lemmas.Option.{none-some}
 use Rattle.lent_slots.specs.declared.holding.Holding.{Holding}
 use Rattle.lent_slots.specs.Slots.{MachineView}
 use Rattle.share_domain.specs.declared.holding.Slot.{Slot}
@@ -17,7 +18,7 @@ use Rattle.window_events.specs.Played.{refused_from}
 use Rattle.window_events.proofs.Played.{refused_on}
 use Rattle.window_domains.specs.Agreement.{frame_by, HasHeld, Agrees, Plays}
 use Rattle.window_domains.specs.Calls.{is_lost, left, releases, NoneShown}
-use Rattle.window_domains.proofs.Frames.{none_some, is_there}
+use Rattle.window_domains.proofs.Frames.{is_there}
 use Rattle.window_domains.proofs.Shrinks.{Shrinks, release_shrinks, release_frames, leave_shrinks}
 
 -- a page that holds nothing
@@ -93,7 +94,7 @@ left_holds d new (Some slot) page s same e = pick (held_in new.machines slot) re
   pick : (o : Option Holding) → held_in new.machines slot ≡ o → ((held_in new.machines slot ≡ None) ⊎ (held_in new.machines slot ≡ held_in d.machines slot))
       → (cond (is_none o) (given_up page) page).held ≡ frame_by new (cond (is_none o) None (Some slot))
   pick None is was = refl
-  pick (Some h) is (inl none) = absurd (none_some h (sym none ∙ is))
+  pick (Some h) is (inl none) = absurd (none-some h (sym none ∙ is))
   pick (Some h) is (inr was) =
       e ∙ ap (option_map (λ (x : Holding). region_frame d.frames slot.machine x.frame)) (sym was)
       ∙ ap (λ k. option_map (λ (x : Holding). region_frame k slot.machine x.frame) (held_in new.machines slot)) (sym same)

@@ -3,6 +3,7 @@ use Rattle.std.proofs.Common.{◌≡◌, ℕ, zero, suc, ◌<◌, ◌≤◌, ◌
 use Rattle.std.specs.Prelude.{slice_set}
 use Rattle.std.proofs.lemmas.Bool.{cases_eq, cases_lt, eqb-true}
 use Rattle.std.proofs.lemmas.List.{length-set, get_or-set_same, get_or-set_other, set_past}
+use Rattle.std.proofs.lemmas.Option.{none-some}
 use Rattle.machine_frames.specs.FrameMap.{FrameMap, frame, IsTaken}
 use Rattle.lent_slots.specs.declared.holding.Holding.{Holding}
 use Rattle.lent_slots.specs.Slots.{MachineView, holding, is_of, sharers, left_free, with_free, without, released_by, released}
@@ -10,7 +11,7 @@ use Rattle.lent_slots.proofs.SlotLists.{held_within, set_same, set_other, unshar
 use Rattle.share_domain.specs.declared.holding.Slot.{Slot}
 use Rattle.share_domain.specs.Domains.{DomainView, with_machines, with_released, freed_in, machine_at, no_machine, held_in, after_release}
 use Rattle.share_domain.specs.Leaving.{at_first, first_slot, left_by, told}
-use Rattle.window_domains.proofs.Frames.{none_some, the, is_there}
+use Rattle.window_domains.proofs.Frames.{the, is_there}
 
 -- the frame of each slot that is held is in use
 pub record AreInUse (machines : List MachineView) : Type 0 where
@@ -55,7 +56,7 @@ freed_bytes frames None a b e = e
 freed_bytes frames (Some mpn) a b e = pick (cases_eq a mpn) (cases_lt mpn (length frames)) where
   pick : ((a ≡ mpn) ⊎ (a ≡ mpn → ⊥)) → ((mpn < length frames) ⊎ (length frames ≤ mpn)) → frame frames a ≡ Some b
   pick (inr ne) l = sym (get_or-set_other frames mpn a None None ne) ∙ e
-  pick (inl is) (inl l) = absurd (none_some b (sym (get_or-set_same frames mpn None None l) ∙ ap (λ i. frame (slice_set frames mpn None) i) (sym is) ∙ e))
+  pick (inl is) (inl l) = absurd (none-some b (sym (get_or-set_same frames mpn None None l) ∙ ap (λ i. frame (slice_set frames mpn None) i) (sym is) ∙ e))
   pick (inl is) (inr l) = ap (λ (fs : FrameMap). frame fs a) (sym (set_past frames mpn None l)) ∙ e
 
 freed_size : (frames : FrameMap) (o : Option ℕ) → length (with_free frames o) ≡ length frames
@@ -83,7 +84,7 @@ one_without v ppn h held = record {
   slot q (inr ne) = inr (set_other v.slots ppn q None ne)
 
   was : (q : ℕ) (x : Holding) → ((q ≡ ppn) ⊎ (q ≡ ppn → ⊥)) → holding (slice_set v.slots ppn None) q ≡ Some x → holding v.slots q ≡ Some x
-  was q x (inl e) is = absurd (none_some x (sym (ap (holding (slice_set v.slots ppn None)) e ∙ set_same v.slots ppn None (held_within v.slots ppn h held)) ∙ is))
+  was q x (inl e) is = absurd (none-some x (sym (ap (holding (slice_set v.slots ppn None)) e ∙ set_same v.slots ppn None (held_within v.slots ppn h held)) ∙ is))
   was q x (inr ne) is = sym (set_other v.slots ppn q None ne) ∙ is
 
 one_released : (v : MachineView) (ppn : ℕ) → ShrinksOne v (released ppn v)

@@ -1,11 +1,11 @@
 use Rattle.std.proofs.Common.{◌≡◌, ◌++◌, ◌∷◌, [], ap, sym, length, replicate, arith, append_assoc, rules, ◌∙◌, List, None}
 use Rattle.std.proofs.lemmas.Grind.{common_steps}
-use Rattle.std.proofs.lemmas.List.{append-nil, length_push, length-replicate}
+use Rattle.std.proofs.lemmas.List.{append-nil, length_push, length-replicate, nil_from_length}
 use Rattle.std.specs.Vec.Iter.{into_iter_items}
 use Rattle.page_model.specs.declared.limits.TheConstants.{MAX_FRAMES}
 use Rattle.machine_frames.specs.FrameMap.{FrameMap, no_frames}
 use Rattle.lent_slots.specs.Totals.{empty_machine}
-use Rattle.share_domain.proofs.Made.{place_within, element_is, frames_fit, more_made, nothing_in}
+use Rattle.share_domain.proofs.Made.{place_within, element_is, frames_fit, more_made}
 use Rattle.share_domain.proofs.make.new_machines.Goals as goal
 
 pub loop-own-init : goal.loop-own-init
@@ -48,7 +48,7 @@ loop-own-preserved g c =
 pub returns : goal.returns
 returns g c =
     let free : FrameMap = no_frames c.args.config.now.frames in
-    let none : into_iter_items c.loop-own.own-iterator ≡ [] = nothing_in _ (omega (arith, c.in-None.ensures.steps, c.loop-own.own-iterator.rest.ok.0)) in
+    let none : into_iter_items c.loop-own.own-iterator ≡ [] = nil_from_length _ (omega (arith, c.in-None.ensures.steps, c.loop-own.own-iterator.rest.ok.0)) in
     let all = sym (append-nil c.loop-own.yielded) ∙ ap (λ (l : List FrameMap). c.loop-own.yielded ++ l) (sym none) ∙ c.loop-own.invariant.whole in
     let size = ap (λ (l : List FrameMap). length l) all ∙ length-replicate c.args.config.now.machines free in
     c.loop-own.invariant.made ∙ ap (λ n. replicate n (empty_machine c.args.config.now.slots c.args.config.now.frames)) size
