@@ -1,9 +1,10 @@
 -- How an engine ends, whatever it does with its input.
-use Rattle.std.proofs.Common.{◌≡◌, inl, inr, ◌<◌, ◌^◌, ◌++◌, ℕ, List, length, Option, Some, None, Result, Ok, Err, true, refl, ap, sym, subst, nat_lt}
+use Rattle.std.proofs.Common.{◌≡◌, inl, inr, ◌<◌, ◌++◌, ℕ, List, length, Option, Some, None, Result, Ok, Err, true, refl, ap, sym, subst, nat_lt}
 use Rattle.std.specs.Prelude.{IfSome, IfErr, OnOk, IsOk, IsErr, codes}
 use Rattle.std.specs.Io.KnownBytes.{Appends}
 use Rattle.std.proofs.KnownBytes.{Keeps-refl}
 use Rattle.std.proofs.lemmas.Bool.{lt-ltb}
+use Rattle.page_model.specs.declared.limits.TheConstants.{MAX_TEXT_BYTES}
 use Rattle.text_words.specs.declared.fault.TextFault.{TextFault}
 use Rattle.text_words.specs.declared.fault.TextFault.TheVariants as faults
 use Rattle.journal_text.specs.Texts.{Journal, journal_of}
@@ -15,12 +16,12 @@ use Rattle.journal_replay.specs.Replayed.{answer_of, printed, written_for, Write
 
 -- an input that is too long has that fault
 abbrev pub KnowsLong : (List ℕ → Result (List ℕ) TextFault) → Type 0
-KnowsLong answer = (text : List ℕ) → 2 ^ 26 < length text → answer text ≡ Err faults.Long
+KnowsLong answer = (text : List ℕ) → MAX_TEXT_BYTES < length text → answer text ≡ Err faults.Long
 
 -- a replay's answer to too long a text
 pub too_long : (hash : ℕ → List ℕ → ℕ) → KnowsLong (answer_of hash)
 unfolding answer_of journal_of
-too_long hash text h = let test : nat_lt (2 ^ 26) (length text) ≡ true = lt-ltb (2 ^ 26) (length text) h in rw test refl
+too_long hash text h = let test : nat_lt MAX_TEXT_BYTES (length text) ≡ true = lt-ltb MAX_TEXT_BYTES (length text) h in rw test refl
 
 -- what a text's journal prints is the text's answer
 pub answer_ok : (hash : ℕ → List ℕ → ℕ) (text : List ℕ) (j : Journal) → journal_of text ≡ Ok j → answer_of hash text ≡ Ok (printed hash j)
@@ -33,7 +34,7 @@ unfolding answer_of
 answer_err hash text fault h = let f : Result Journal TextFault → Result (List ℕ) TextFault = λ r. r >>= λ x. Ok (printed hash x) in ap f h
 
 -- what holds of long texts holds where the input is long
-longer : (input : Option (List ℕ)) (P : List ℕ → Type 0) → ((text : List ℕ) → 2 ^ 26 < length text → P text) → IfSome input (λ text. 2 ^ 26 < length text) → IfSome input P
+longer : (input : Option (List ℕ)) (P : List ℕ → Type 0) → ((text : List ℕ) → MAX_TEXT_BYTES < length text → P text) → IfSome input (λ text. MAX_TEXT_BYTES < length text) → IfSome input P
 longer None P f h = tt
 longer (Some text) P f h = f text h
 

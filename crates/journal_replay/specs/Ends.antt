@@ -1,7 +1,8 @@
 -- Readers and writers: when a call on one failed, and what reading all and writing all do to their bytes.
-use Rattle.std.specs.Prelude.{ℕ, ◌<◌, ◌≤◌, ◌^◌, ◌==◌, ◌&&◌, ◌++◌, ◌≡◌, nat_lt, is_some, Bool, true, false, List, length, take}
+use Rattle.std.specs.Prelude.{ℕ, ◌<◌, ◌≤◌, ◌==◌, ◌&&◌, ◌++◌, ◌≡◌, nat_lt, is_some, Bool, true, false, List, length, take}
 use Rattle.std.specs.Prelude.{Option, Result, Ok, Err, IfSome, IfErr, OnOk, OnErr}
 use Rattle.std.specs.Io.KnownBytes.{Appends, Consumes}
+use Rattle.page_model.specs.declared.limits.TheConstants.{MAX_TEXT_BYTES}
 use Rattle.journal_replay.specs.declared.ends.Noted.{Noted}
 use Rattle.text_words.specs.declared.fault.TextFault.{TextFault}
 use Rattle.text_words.specs.declared.fault.TextFault.TheVariants as faults
@@ -88,7 +89,7 @@ tells_write (Err fault) = is_write_fault fault
 abbrev pub NotRead : Option (List ℕ) → TextFault → Type 0
 NotRead known faults.OutOfMemory = Unit {0}
 NotRead known faults.Read = Unit {0}
-NotRead known faults.Long = IfSome known (λ text. 2 ^ 26 < length text)
+NotRead known faults.Long = IfSome known (λ text. MAX_TEXT_BYTES < length text)
 NotRead known (faults.Line n cause) = ⊥
 NotRead known (faults.Truncated n) = ⊥
 NotRead known faults.Count = ⊥

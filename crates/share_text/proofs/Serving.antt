@@ -1,11 +1,12 @@
 -- How the work on a script ends, and on a text.
-use Rattle.std.proofs.Common.{◌≡◌, ◌≤◌, ◌^◌, ℕ, List, length, Option, Some, None, Result, Ok, Err, true, false, refl, ap, sym, subst, nat_lt, arith}
+use Rattle.std.proofs.Common.{◌≡◌, ◌≤◌, ℕ, List, length, Option, Some, None, Result, Ok, Err, true, false, refl, ap, sym, subst, nat_lt, arith}
 use Rattle.std.specs.Prelude.{IfSome, IfOk, IfErr, OnOk, IsErr}
 use Rattle.std.specs.Io.KnownBytes.{Appends}
 use Rattle.std.specs.declared.vec.Vec.{Vec}
 use Rattle.std.proofs.lemmas.Bool.{lt-ltb}
 use Rattle.page_model.specs.declared.request.Entry.{Entry}
 use Rattle.page_model.specs.declared.request.Request.{Request}
+use Rattle.page_model.specs.declared.limits.TheConstants.{MAX_TEXT_BYTES}
 use Rattle.merge_machine.specs.Limits.{IsMachine}
 use Rattle.merge_machine.specs.declared.config.Config.{Config}
 use Rattle.merge_run.specs.Runs.{NotRunFor}
@@ -59,7 +60,7 @@ may_end (Some text) = let P : (said : Result Script TextFault) → IfOk said (λ
 -- the answer to too long a text
 too_long : (hash : ℕ → List ℕ → ℕ) (form : Output) (outcome : Outcome) → KnowsLong (run_answer hash form outcome)
 unfolding run_answer script_of
-too_long hash form outcome text h = let test : nat_lt (2 ^ 26) (length text) ≡ true = lt-ltb (2 ^ 26) (length text) h in rw test refl
+too_long hash form outcome text h = let test : nat_lt MAX_TEXT_BYTES (length text) ≡ true = lt-ltb MAX_TEXT_BYTES (length text) h in rw test refl
 
 -- a script's run gives the text's answer
 answer_ok : (hash : ℕ → List ℕ → ℕ) (form : Output) (outcome : Outcome) (text : List ℕ) (s : Script) → script_of text ≡ Ok s → run_answer hash form outcome text ≡ Ok (outcome_text hash form s outcome)
