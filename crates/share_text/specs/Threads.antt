@@ -92,9 +92,7 @@ pub record RunsText (hash : ℕ → List ℕ → ℕ) (form : Output) (input old
 abbrev pub IsLeft : RunFault → Type 0
 IsLeft runs.OutOfMemory = Unit {0}
 IsLeft runs.NoThread = Unit {0}
-IsLeft runs.Frames = ⊥
-IsLeft runs.Guests = ⊥
-IsLeft runs.Pages = ⊥
+IsLeft (runs.Shape fault) = ⊥
 IsLeft runs.Ring = ⊥
 IsLeft runs.Journal = ⊥
 IsLeft (runs.Stopped full) = ⊥

@@ -58,9 +58,7 @@ fn tell_refused<W: Sink>(writer: &mut W, fault: RunFault) -> Result<(), Threaded
     match fault {
         RunFault::NoThread => tell_no_thread(writer),
         RunFault::OutOfMemory => Err(ThreadedFault::Text(TextFault::OutOfMemory)),
-        RunFault::Frames => unreachable!(),
-        RunFault::Guests => unreachable!(),
-        RunFault::Pages => unreachable!(),
+        RunFault::Shape(_) => unreachable!(),
         RunFault::Ring => unreachable!(),
         RunFault::Journal => unreachable!(),
         RunFault::Stopped(_) => unreachable!(),
