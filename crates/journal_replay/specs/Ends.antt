@@ -77,13 +77,13 @@ is_write_fault faults.OutOfMemory = false
 is_write_fault faults.Long = false
 
 -- the answer is that a read failed, and that a write did
-abbrev pub tells_read : {X : Type 0} → Result X TextFault → Bool
-tells_read (Ok x) = false
-tells_read (Err fault) = is_read_fault fault
+abbrev pub has_read_fault : {X : Type 0} → Result X TextFault → Bool
+has_read_fault (Ok x) = false
+has_read_fault (Err fault) = is_read_fault fault
 
-abbrev pub tells_write : {X : Type 0} → Result X TextFault → Bool
-tells_write (Ok x) = false
-tells_write (Err fault) = is_write_fault fault
+abbrev pub has_write_fault : {X : Type 0} → Result X TextFault → Bool
+has_write_fault (Ok x) = false
+has_write_fault (Err fault) = is_write_fault fault
 
 -- Why reading all failed. known: what the reader had.
 abbrev pub NotRead : Option (List ℕ) → TextFault → Type 0

@@ -28,13 +28,13 @@ use Rattle.share_text.specs.declared.fault.ThreadedFault.{ThreadedFault}
 use Rattle.share_text.specs.declared.fault.ThreadedFault.TheVariants as threaded
 use Rattle.share_text.specs.declared.form.Output.{Output}
 
--- what is due for a run that has ended was written, or why it wasn't is told
+-- what is due for a run that has ended was written, or the answer says why it wasn't
 pub wrote : (hash : ℕ → List ℕ → ℕ) (form : Output) (s : Script) (es : List Entry) (old new : Option (List ℕ)) (r : Result (Unit {0}) TextFault)
     → IsRunOf s es → OnOk r (Appends old new (run_text hash form s es)) → IfErr r (λ e. NotPrinted old new (run_text hash form s es) e) → Serves hash form s old new (of_text r)
 wrote hash form s es old new (Ok done) is ok err = record { outcome = Ran es; can_end = is; ends = record { answers = tt; ok = ok; err = tt } }
 wrote hash form s es old new (Err e) is ok err = record { outcome = Ran es; can_end = is; ends = record { answers = tt; ok = tt; err = err } }
 
--- a script's run was refused, and that is told
+-- a script's run was refused, and the answer says so
 pub not_run : (hash : ℕ → List ℕ → ℕ) (form : Output) (s : Script) (old new : Option (List ℕ)) (r : Result (Unit {0}) ThreadedFault) → EndsAs NoThread no_thread_text old new r → Serves hash form s old new r
 not_run hash form s old new r ends = record { outcome = NoThread; can_end = tt; ends = ends }
 
@@ -110,12 +110,12 @@ fault_written : (hash : ℕ → List ℕ → ℕ) (form : Output) (input old new
 fault_written hash form input old new (Ok done) is h = cc
 fault_written hash form input old new (Err e) is h = record { outcome = NoThread; can_end = may_end input; answers = tt; writes = h }
 
--- where the text is at fault, that is told
+-- where the text is at fault, the answer says so
 pub threads_refused : (hash : ℕ → List ℕ → ℕ) (form : Output) (input old new : Option (List ℕ)) (text : List ℕ) (fault : TextFault) (r : Result (Unit {0}) TextFault)
     → IfSome input (λ bytes. text ≡ bytes) → Fails fault (script_of text) → Refused fault old new r → Threads hash form input old new (of_text r)
-threads_refused hash form input old new text fault r same fails told =
-    fault_written hash form input old new r (refused_err fault old new r told)
-    (refused (run_answer hash form NoThread) input old new text (script_of text) fault r (λ e h. answer_err hash form NoThread text e h) same fails told)
+threads_refused hash form input old new text fault r same fails refuses =
+    fault_written hash form input old new r (refused_err fault old new r refuses)
+    (refused (run_answer hash form NoThread) input old new text (script_of text) fault r (λ e h. answer_err hash form NoThread text e h) same fails refuses)
 
 -- where a script was read, its run is written
 pub threads_served : (hash : ℕ → List ℕ → ℕ) (form : Output) (s : Script) (input old new : Option (List ℕ)) (text : List ℕ) (r : Result (Unit {0}) ThreadedFault)

@@ -143,7 +143,7 @@ fn fault_without_memory<R: Threads + Wait + Abort + Sync>(
 
 // The two scripts need five entries.
 #[test]
-fn want_of_memory_is_told_last(rt: HostRuntime) {
+fn out_of_memory_is_reported_last(rt: HostRuntime) {
     let cases = [
         ((0, 1, 5), RunFault::Shape(ShapeFault::Frames)),
         ((2, 0, 5), RunFault::Ring),
