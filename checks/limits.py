@@ -25,16 +25,16 @@ page_model/src/limits.rt MAX_ACCESS_BYTES page_model/README.md page_model/src/re
     command_terms/src/script_faults.rt command_terms/specs/Scripts.antt pageshare_c/src/lib.rt pageshare_c/src/answer.rt
     include/pageshare.h bindings/rust/src/machine.rs bindings/rust/src/error.rs docs/MODEL.md docs/FORMATS.md
 page_model/src/limits.rt MAX_GUESTS page_model/README.md page_model/src/machine_shape.rt
-    merge_machine/src/config.rt merge_run/src/run_fault.rt text_words/src/fault.rt text_words/src/expect.rt
+    merge_machine/src/config.rt text_words/src/fault.rt text_words/src/expect.rt
     text_words/specs/Expected.antt journal_text/specs/Headers.antt pageshare_c/src/lib.rt include/pageshare.h
     bindings/rust/src/error.rs docs/MODEL.md docs/FORMATS.md
 page_model/src/limits.rt MAX_PAGES page_model/README.md page_model/src/machine_shape.rt
-    merge_machine/src/config.rt merge_run/src/run_fault.rt text_words/src/fault.rt text_words/src/expect.rt
+    merge_machine/src/config.rt text_words/src/fault.rt text_words/src/expect.rt
     text_words/specs/Expected.antt journal_text/specs/Headers.antt share_table/README.md share_table/src/lib.rt page_bench/README.md
     pageshare_c/src/lib.rt include/pageshare.h bindings/rust/src/error.rs docs/MODEL.md docs/FORMATS.md
     checks/common/faults.py checks/fuzz.py
 page_model/src/limits.rt MAX_FRAMES page_model/README.md page_model/src/machine_shape.rt machine_frames/README.md
-    machine_frames/src/lib.rt merge_machine/src/config.rt merge_run/src/run_fault.rt text_words/src/fault.rt
+    machine_frames/src/lib.rt merge_machine/src/config.rt text_words/src/fault.rt
     text_words/src/expect.rt text_words/specs/Expected.antt journal_text/specs/Headers.antt lent_slots/src/machine.rt
     share_domain/src/config.rt share_domain/src/fault.rt page_bench/README.md worked_cores/README.md worked_stores/src/frames.rt
     pageshare_c/src/lib.rt include/pageshare.h include/pageshare_host.h host/domain.c bindings/rust/src/domain.rs

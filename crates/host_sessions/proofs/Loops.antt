@@ -5,7 +5,8 @@ use Rattle.host_messages.specs.declared.item.Question.{Question}
 use Rattle.host_messages.specs.declared.item.Lent.{Lent}
 use Rattle.recent_fingerprints.specs.Notes.{Recent, was_noted, with_note}
 use Rattle.share_domain.specs.Domains.{DomainView, release_answer, after_release}
-use Rattle.host_sessions.specs.Turns.{page_of, answers_to, asked, told_of, slots_left, slot_of, freed_by, after_releases, left_after, LendsOne, LendsInTurn}
+use Rattle.share_domain.specs.Numbers.{slot_by}
+use Rattle.host_sessions.specs.Turns.{page_of, answers_to, asked, told_of, slots_left, freed_by, after_releases, left_after, LendsOne, LendsInTurn}
 
 -- what is left at an item
 pub left_at : {X : Type 0} (xs : List X) (i : ℕ) (x d : X) → i < length xs → x ≡ get_or xs i d → drop i xs ≡ x ∷ drop (i + 1) xs
@@ -42,28 +43,28 @@ module _ (client : ℕ) (qs : List Question) (i : ℕ) where
 
 module _ (client : ℕ) (ss : List ℕ) (i : ℕ) where
   pub freed_more : (s e : ℕ) (front : List ℕ) (told : ℕ) (d after : DomainView) (total : List ℕ) → i < length ss → s ≡ get_or ss i e
-      → told ≡ told_of (release_answer client (slot_of s) d) → after ≡ after_release client (slot_of s) d
+      → told ≡ told_of (release_answer client (slot_by s) d) → after ≡ after_release client (slot_by s) d
       → front ++ freed_by client (drop i ss) d ≡ total → (front ++ told ∷ []) ++ freed_by client (drop (i + 1) ss) after ≡ total
   unfolding freed_by
   freed_more s e front told d after total lt is told-is after-is so_far =
       append_assoc front (told ∷ []) (freed_by client (drop (i + 1) ss) after)
       ∙ ap (λ (x : ℕ). front ++ x ∷ freed_by client (drop (i + 1) ss) after) told-is
-      ∙ ap (λ (x : DomainView). front ++ told_of (release_answer client (slot_of s) d) ∷ freed_by client (drop (i + 1) ss) x) after-is
+      ∙ ap (λ (x : DomainView). front ++ told_of (release_answer client (slot_by s) d) ∷ freed_by client (drop (i + 1) ss) x) after-is
       ∙ sym (ap (λ (l : List ℕ). front ++ freed_by client l d) (left_at ss i s e lt is)) ∙ so_far
 
-  pub released_more : (s e : ℕ) (d after total : DomainView) → i < length ss → s ≡ get_or ss i e → after ≡ after_release client (slot_of s) d
+  pub released_more : (s e : ℕ) (d after total : DomainView) → i < length ss → s ≡ get_or ss i e → after ≡ after_release client (slot_by s) d
       → after_releases client (drop i ss) d ≡ total → after_releases client (drop (i + 1) ss) after ≡ total
   unfolding after_releases
   released_more s e d after total lt is after-is so_far =
       ap (λ (x : DomainView). after_releases client (drop (i + 1) ss) x) after-is ∙ sym (ap (λ (l : List ℕ). after_releases client l d) (left_at ss i s e lt is)) ∙ so_far
 
   pub left_more : (s e slots left : ℕ) (d after : DomainView) (total : ℕ) → i < length ss → s ≡ get_or ss i e
-      → left ≡ slots_left slots (release_answer client (slot_of s) d) → after ≡ after_release client (slot_of s) d
+      → left ≡ slots_left slots (release_answer client (slot_by s) d) → after ≡ after_release client (slot_by s) d
       → left_after client slots (drop i ss) d ≡ total → left_after client left (drop (i + 1) ss) after ≡ total
   unfolding left_after
   left_more s e slots left d after total lt is left-is after-is so_far =
       ap (λ (x : ℕ). left_after client x (drop (i + 1) ss) after) left-is
-      ∙ ap (λ (x : DomainView). left_after client (slots_left slots (release_answer client (slot_of s) d)) (drop (i + 1) ss) x) after-is
+      ∙ ap (λ (x : DomainView). left_after client (slots_left slots (release_answer client (slot_by s) d)) (drop (i + 1) ss) x) after-is
       ∙ sym (ap (λ (l : List ℕ). left_after client slots l d) (left_at ss i s e lt is)) ∙ so_far
 
   pub all_freed : (front : List ℕ) (d : DomainView) (total : List ℕ) → length ss ≤ i → front ++ freed_by client (drop i ss) d ≡ total → front ≡ total

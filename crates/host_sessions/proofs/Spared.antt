@@ -13,7 +13,8 @@ use Rattle.share_domain.specs.declared.holding.Loan.{Loan}
 use Rattle.share_domain.specs.declared.fault.LendFault.{LendFault}
 use Rattle.share_domain.specs.Domains.{DomainView, with_machines, machine_at, no_machine, held_in, with_released, after_release, page_machine, LendsIn}
 use Rattle.host_sessions.specs.Others.{IsAnothers, Spares}
-use Rattle.host_sessions.specs.Turns.{slot_of, after_releases, Answers, LendsOne, LendsInTurn}
+use Rattle.share_domain.specs.Numbers.{slot_by}
+use Rattle.host_sessions.specs.Turns.{after_releases, Answers, LendsOne, LendsInTurn}
 
 is_anothers : (client : ℕ) (held : Option Holding) → IsAnothers client held → held ≡ None → ⊥
 is_anothers client None is e = is
@@ -87,7 +88,7 @@ pub releases_spare : (client : ℕ) (ss : List ℕ) (d : DomainView) → Spares 
 unfolding after_releases
 releases_spare client [] d = same_spares client d d refl
 releases_spare client (s ∷ ss) d =
-    spares_then client d (after_release client (slot_of s) d) (after_releases client ss (after_release client (slot_of s) d)) (release_spares client (slot_of s) d) (releases_spare client ss (after_release client (slot_of s) d))
+    spares_then client d (after_release client (slot_by s) d) (after_releases client ss (after_release client (slot_by s) d)) (release_spares client (slot_by s) d) (releases_spare client ss (after_release client (slot_by s) d))
 
 answer_spares : (hash : ℕ → List ℕ → ℕ) (client : ℕ) (page : List ℕ) (answer : Result Loan LendFault) (old new : DomainView) → Answers hash client page answer old new → Spares client old new
 answer_spares hash client page (Ok loan) old new a = lends_spares (page_machine hash old page) client page loan old new a

@@ -1,24 +1,16 @@
 -- What the pages, questions and slots of one message do, one after the other.
-use Rattle.std.specs.Prelude.{◌≡◌, ℕ, ◌+◌, ◌-◌, ◌*◌, ◌/◌, ◌%◌, ◌^◌, Bool, ◌<◌, ◌≤◌, List, [], ◌∷◌, Option, Result, Ok, Err, MatchResult}
+use Rattle.std.specs.Prelude.{◌≡◌, ℕ, ◌+◌, ◌-◌, Bool, ◌<◌, ◌≤◌, List, [], ◌∷◌, Option, Result, Ok, Err, MatchResult}
 use Rattle.host_messages.specs.declared.item.Question.{Question}
 use Rattle.host_messages.specs.declared.item.Lent.{Lent}
 use Rattle.host_messages.specs.declared.limits.TheConstants.{NO_FRAME}
 use Rattle.recent_fingerprints.specs.declared.note.PageName.{PageName}
 use Rattle.recent_fingerprints.specs.Notes.{Recent, was_noted, with_note}
-use Rattle.share_domain.specs.declared.holding.Slot.{Slot}
 use Rattle.share_domain.specs.declared.holding.Loan.{Loan}
 use Rattle.share_domain.specs.declared.fault.LendFault.{LendFault}
 use Rattle.share_domain.specs.declared.fault.NoSuchSlot.{NoSuchSlot}
 use Rattle.share_domain.specs.Domains.{DomainView, page_machine, LendsIn, RefusesIn, release_answer, after_release}
 use Rattle.share_domain.specs.Leaving.{told}
-
--- ---- slots as numbers
-
-abbrev pub slot_of : ℕ → Slot
-slot_of number = record { machine = number / 2 ^ 32; ppn = number % 2 ^ 32 }
-
-abbrev pub slot_number : Slot → ℕ
-slot_number slot = slot.machine * 2 ^ 32 + slot.ppn
+use Rattle.share_domain.specs.Numbers.{slot_by, slot_number}
 
 -- ---- questions
 
@@ -49,15 +41,15 @@ slots_left slots (Err fault) = slots
 -- what is told of a client's releases; the domain after them; and how many slots the client has then
 unfoldable pub freed_by : ℕ → List ℕ → DomainView → List ℕ
 freed_by client [] d = []
-freed_by client (s ∷ ss) d = told_of (release_answer client (slot_of s) d) ∷ freed_by client ss (after_release client (slot_of s) d)
+freed_by client (s ∷ ss) d = told_of (release_answer client (slot_by s) d) ∷ freed_by client ss (after_release client (slot_by s) d)
 
 unfoldable pub after_releases : ℕ → List ℕ → DomainView → DomainView
 after_releases client [] d = d
-after_releases client (s ∷ ss) d = after_releases client ss (after_release client (slot_of s) d)
+after_releases client (s ∷ ss) d = after_releases client ss (after_release client (slot_by s) d)
 
 unfoldable pub left_after : ℕ → ℕ → List ℕ → DomainView → ℕ
 left_after client slots [] d = slots
-left_after client slots (s ∷ ss) d = left_after client (slots_left slots (release_answer client (slot_of s) d)) ss (after_release client (slot_of s) d)
+left_after client slots (s ∷ ss) d = left_after client (slots_left slots (release_answer client (slot_by s) d)) ss (after_release client (slot_by s) d)
 
 -- ---- lends
 

@@ -1,6 +1,7 @@
 //! Sessions by what they are.
 ghost use Rattle.std.specs.Prelude.{◌≡◌, ◌≤◌, ◌<◌, length, position, IfSome};
 ghost use Rattle.host_sessions.specs.Table.{is_free, is_gone_as, next_number, wanted_in};
+ghost use Rattle.share_domain.specs.declared.config.TheConstants.{MAX_CLIENTS};
 
 use crate::session::Session;
 use host_messages::Name;
@@ -13,7 +14,7 @@ fn first_free(sessions: &[Session]) -> Option<usize>
 
 /// Returns the first number that no session has.
 pub(crate) fn find_free(sessions: &[Session]) -> Option<u32>
-    requires { length sessions.now ≤ 65536 }
+    requires { length sessions.now ≤ MAX_CLIENTS }
     ensures number { result ≡ next_number sessions.now }
     ensures within { IfSome result (λ n. n < length sessions.now) }
 {
@@ -31,7 +32,7 @@ fn first_gone(sessions: &[Session], name: &Name) -> Option<usize>
 
 /// Returns the number of the session with this name that can be taken up.
 fn find_gone(sessions: &[Session], name: &Name) -> Option<u32>
-    requires { length sessions.now ≤ 65536 }
+    requires { length sessions.now ≤ MAX_CLIENTS }
     ensures number { result ≡ position (is_gone_as name.now) sessions.now }
     ensures within { IfSome result (λ n. n < length sessions.now) }
 {
@@ -43,7 +44,7 @@ fn find_gone(sessions: &[Session], name: &Name) -> Option<u32>
 
 /// Returns the number of the session that a client wants to take up, if there is one.
 pub(crate) fn find_wanted(sessions: &[Session], wanted: &Option<Name>) -> Option<u32>
-    requires { length sessions.now ≤ 65536 }
+    requires { length sessions.now ≤ MAX_CLIENTS }
     ensures number { result ≡ wanted_in sessions.now wanted.now }
     ensures within { IfSome result (λ n. n < length sessions.now) }
 {

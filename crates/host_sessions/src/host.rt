@@ -8,6 +8,8 @@ ghost use Rattle.host_messages.specs.Reading.{client_at};
 ghost use Rattle.share_domain.specs.Domains.{next_client};
 ghost use Rattle.share_domain.specs.Made.{AreFree};
 ghost use Rattle.share_domain.specs.Totals.{domain_totals};
+ghost use Rattle.share_domain.specs.declared.config.TheConstants.{MAX_MACHINES};
+ghost use Rattle.page_model.specs.declared.limits.TheConstants.{MAX_FRAMES};
 ghost use Rattle.host_messages.specs.declared.limits.TheConstants.{MAX_IN_MESSAGE};
 
 use crate::answer::Received;
@@ -40,12 +42,13 @@ pub struct Host<H: PageHash, A: Allocator = Global> {
 impl<H: PageHash, A: Allocator> Model for Host<H, A> {
     ghost use Rattle.std.specs.Prelude.{◌≤◌, length};
     ghost use Rattle.host_sessions.specs.Steps.{HostView};
+    ghost use Rattle.share_domain.specs.declared.config.TheConstants.{MAX_CLIENTS};
 
     ghost Value = { HostView };
 
     ghost view = { λ h. record { frames = h.frames; salt = h.salt; quota = h.quota; domain = h.domain; recent = h.recent; sessions = h.sessions.items } };
 
-    ghost invariant = { λ h. length h.sessions.items ≤ 65536 };
+    ghost invariant = { λ h. length h.sessions.items ≤ MAX_CLIENTS };
 }
 
 impl<H: PageHash + Drop + Copy, A: Allocator + Clone> Host<H, A> {
@@ -79,8 +82,8 @@ impl<H: PageHash + Drop + Copy, A: Allocator + Clone> Host<H, A> {
 
 /// Returns how many frames so many machines have.
 fn total_frames(machines: u32, each: u32) -> u32
-    requires machines { machines ≤ 64 }
-    requires each { each ≤ 1048576 }
+    requires machines { machines ≤ MAX_MACHINES }
+    requires each { each ≤ MAX_FRAMES }
     ensures { result ≡ machines * each }
 {
     machines * each

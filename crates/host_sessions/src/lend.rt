@@ -1,13 +1,13 @@
 //! Pages that are lent one after the other.
 ghost use Rattle.std.specs.Prelude.{◌≡◌, ◌≤◌, ◌<◌, ◌+◌, ◌^◌, length};
-ghost use Rattle.host_sessions.specs.Turns.{LendsInTurn, LendsOne, Lends, lent_by, slots_with, slot_number, not_lent};
+ghost use Rattle.host_sessions.specs.Turns.{LendsInTurn, LendsOne, Lends, lent_by, slots_with, not_lent};
 ghost use Rattle.host_messages.specs.declared.limits.TheConstants.{MAX_IN_MESSAGE};
 
 use arrayvec::ArrayVec;
 use host_messages::{Lent, MAX_IN_MESSAGE, NO_FRAME};
 use page_digest::PageHash;
 use page_model::Page;
-use share_domain::{Domain, LendFault, Loan, Slot};
+use share_domain::{Domain, LendFault, Loan, slot_number};
 use std::alloc::Allocator;
 
 /// What became of a message's pages, and how many slots the session has since.
@@ -118,11 +118,4 @@ fn not_lent() -> Lent
         frame: NO_FRAME,
         sharers: 0,
     }
-}
-
-/// Returns a slot as a number.
-fn slot_number(slot: Slot) -> u64
-    ensures { result ≡ slot_number slot }
-{
-    u64::from(slot.machine) * 4_294_967_296 + u64::from(slot.ppn)
 }

@@ -1,13 +1,14 @@
 //! Slots that are released one after the other.
 ghost use Rattle.std.specs.Prelude.{◌≡◌, ◌≤◌, length};
-ghost use Rattle.host_sessions.specs.Turns.{freed_by, after_releases, left_after, told_of, slots_left, slot_of};
+ghost use Rattle.host_sessions.specs.Turns.{freed_by, after_releases, left_after, told_of, slots_left};
+ghost use Rattle.share_domain.specs.Numbers.{slot_by};
 ghost use Rattle.share_domain.specs.Domains.{release_answer, after_release};
 ghost use Rattle.host_messages.specs.declared.limits.TheConstants.{MAX_IN_MESSAGE};
 
 use arrayvec::ArrayVec;
 use host_messages::{MAX_IN_MESSAGE, NO_FRAME};
 use page_digest::PageHash;
-use share_domain::{Domain, NoSuchSlot, Slot};
+use share_domain::{Domain, NoSuchSlot, slot_by};
 use std::alloc::Allocator;
 
 /// What is told of a message's slots, and how many slots the session has since.
@@ -56,11 +57,11 @@ fn release_one<H: PageHash, A: Allocator>(
     slots: u32,
     number: &u64,
 ) -> ReleasedSlot
-    ensures told { result.told ≡ told_of (release_answer client (slot_of number.now) domain.old) }
-    ensures slots { result.slots ≡ slots_left slots (release_answer client (slot_of number.now) domain.old) }
-    ensures domain { domain.new ≡ after_release client (slot_of number.now) domain.old }
+    ensures told { result.told ≡ told_of (release_answer client (slot_by number.now) domain.old) }
+    ensures slots { result.slots ≡ slots_left slots (release_answer client (slot_by number.now) domain.old) }
+    ensures domain { domain.new ≡ after_release client (slot_by number.now) domain.old }
 {
-    let answer = domain.release(client, slot_of(*number));
+    let answer = domain.release(client, slot_by(*number));
     ReleasedSlot {
         told: told_of(&answer),
         slots: slots_left(slots, &answer),
@@ -85,15 +86,5 @@ fn slots_left(slots: u32, answer: &Result<Option<u32>, NoSuchSlot>) -> u32
     match answer {
         Err(_) => slots,
         Ok(_) => slots.saturating_sub(1),
-    }
-}
-
-/// Returns the slot with a number.
-fn slot_of(number: u64) -> Slot
-    ensures { result ≡ slot_of number }
-{
-    Slot {
-        machine: (number / 4_294_967_296) as u32,
-        ppn: (number % 4_294_967_296) as u32,
     }
 }

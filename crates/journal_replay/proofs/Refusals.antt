@@ -1,9 +1,10 @@
 -- How an engine ends, whatever it does with its input.
-use Rattle.std.proofs.Common.{◌≡◌, inl, inr, ◌<◌, ◌^◌, ◌++◌, ℕ, List, length, Option, Some, None, Result, Ok, Err, true, refl, ap, sym, subst, nat_lt}
+use Rattle.std.proofs.Common.{◌≡◌, inl, inr, ◌<◌, ◌++◌, ℕ, List, length, Option, Some, None, Result, Ok, Err, true, refl, ap, sym, subst, nat_lt}
 use Rattle.std.specs.Prelude.{IfSome, IfErr, OnOk, IsOk, IsErr, codes}
 use Rattle.std.specs.Io.KnownBytes.{Appends}
 use Rattle.std.proofs.KnownBytes.{Keeps-refl}
 use Rattle.std.proofs.lemmas.Bool.{lt-ltb}
+use Rattle.page_model.specs.declared.limits.TheConstants.{MAX_TEXT_BYTES}
 use Rattle.text_words.specs.declared.fault.TextFault.{TextFault}
 use Rattle.text_words.specs.declared.fault.TextFault.TheVariants as faults
 use Rattle.journal_text.specs.Texts.{Journal, journal_of}
@@ -15,12 +16,12 @@ use Rattle.journal_replay.specs.Replayed.{answer_of, printed, written_for, Write
 
 -- an input that is too long has that fault
 abbrev pub KnowsLong : (List ℕ → Result (List ℕ) TextFault) → Type 0
-KnowsLong answer = (text : List ℕ) → 2 ^ 26 < length text → answer text ≡ Err faults.Long
+KnowsLong answer = (text : List ℕ) → MAX_TEXT_BYTES < length text → answer text ≡ Err faults.Long
 
 -- a replay's answer to too long a text
 pub too_long : (hash : ℕ → List ℕ → ℕ) → KnowsLong (answer_of hash)
 unfolding answer_of journal_of
-too_long hash text h = let test : nat_lt (2 ^ 26) (length text) ≡ true = lt-ltb (2 ^ 26) (length text) h in rw test refl
+too_long hash text h = let test : nat_lt MAX_TEXT_BYTES (length text) ≡ true = lt-ltb MAX_TEXT_BYTES (length text) h in rw test refl
 
 -- what a text's journal prints is the text's answer
 pub answer_ok : (hash : ℕ → List ℕ → ℕ) (text : List ℕ) (j : Journal) → journal_of text ≡ Ok j → answer_of hash text ≡ Ok (printed hash j)
@@ -33,7 +34,7 @@ unfolding answer_of
 answer_err hash text fault h = let f : Result Journal TextFault → Result (List ℕ) TextFault = λ r. r >>= λ x. Ok (printed hash x) in ap f h
 
 -- what holds of long texts holds where the input is long
-longer : (input : Option (List ℕ)) (P : List ℕ → Type 0) → ((text : List ℕ) → 2 ^ 26 < length text → P text) → IfSome input (λ text. 2 ^ 26 < length text) → IfSome input P
+longer : (input : Option (List ℕ)) (P : List ℕ → Type 0) → ((text : List ℕ) → MAX_TEXT_BYTES < length text → P text) → IfSome input (λ text. MAX_TEXT_BYTES < length text) → IfSome input P
 longer None P f h = tt
 longer (Some text) P f h = f text h
 
@@ -52,7 +53,7 @@ pub on_input : (input : Option (List ℕ)) (text : List ℕ) (P : List ℕ → T
 on_input None text P same h = tt
 on_input (Some bytes) text P same h = subst P same h
 
--- where a text was read, its output went out, or why it didn't is told
+-- where a text was read, its output went out, or the answer says why it didn't
 pub prints : (answer : List ℕ → Result (List ℕ) TextFault) (input old new : Option (List ℕ)) (text out : List ℕ) (r : Result (Unit {0}) TextFault)
     → IfSome input (λ bytes. text ≡ bytes) → answer text ≡ Ok out → OnOk r (Appends old new out) → IfErr r (λ e. NotPrinted old new out e)
     → Writes answer input old new r
@@ -71,45 +72,45 @@ prints answer input old new text out (Err faults.Count) same read ok err = absur
 prints answer input old new text out (Err faults.Read) same read ok err = absurd err
 prints answer input old new text out (Err faults.Long) same read ok err = absurd err
 
--- a fault of the text, of which a line tells
-abbrev IsTold : TextFault → Type 0
-IsTold (faults.Line n cause) = Unit {0}
-IsTold (faults.Truncated n) = Unit {0}
-IsTold faults.Count = Unit {0}
-IsTold faults.OutOfMemory = ⊥
-IsTold faults.Read = ⊥
-IsTold faults.Write = ⊥
-IsTold faults.Long = ⊥
+-- a fault of the text, for which a line is printed
+abbrev HasLine : TextFault → Type 0
+HasLine (faults.Line n cause) = Unit {0}
+HasLine (faults.Truncated n) = Unit {0}
+HasLine faults.Count = Unit {0}
+HasLine faults.OutOfMemory = ⊥
+HasLine faults.Read = ⊥
+HasLine faults.Write = ⊥
+HasLine faults.Long = ⊥
 
-told_as : (old new : Option (List ℕ)) (fault : TextFault) (answer : Result (List ℕ) TextFault) → answer ≡ Err fault → Appends old new (fault_line fault ++ codes "\n") → WritesFault fault old new answer
-told_as old new fault answer e h = let P : Result (List ℕ) TextFault → Type 0 = λ a. Appends old new (written_for a) in (e, subst P (sym e) h)
+printed_as : (old new : Option (List ℕ)) (fault : TextFault) (answer : Result (List ℕ) TextFault) → answer ≡ Err fault → Appends old new (fault_line fault ++ codes "\n") → WritesFault fault old new answer
+printed_as old new fault answer e h = let P : Result (List ℕ) TextFault → Type 0 = λ a. Appends old new (written_for a) in (e, subst P (sym e) h)
 
-told_on : (answer : List ℕ → Result (List ℕ) TextFault) (input old new : Option (List ℕ)) (text : List ℕ) (fault : TextFault)
+printed_on : (answer : List ℕ → Result (List ℕ) TextFault) (input old new : Option (List ℕ)) (text : List ℕ) (fault : TextFault)
     → IfSome input (λ bytes. text ≡ bytes) → answer text ≡ Err fault → Appends old new (fault_line fault ++ codes "\n") → IfSome input (λ bytes. WritesFault fault old new (answer bytes))
-told_on answer input old new text fault same read h =
+printed_on answer input old new text fault same read h =
     let Q : List ℕ → Type 0 = λ bytes. WritesFault fault old new (answer bytes) in
-    on_input input text Q same (told_as old new fault (answer text) read h)
+    on_input input text Q same (printed_as old new fault (answer text) read h)
 
-tells : (answer : List ℕ → Result (List ℕ) TextFault) (input old new : Option (List ℕ)) (text : List ℕ) (fault : TextFault) → IsTold fault
+prints_line : (answer : List ℕ → Result (List ℕ) TextFault) (input old new : Option (List ℕ)) (text : List ℕ) (fault : TextFault) → HasLine fault
     → IfSome input (λ bytes. text ≡ bytes) → answer text ≡ Err fault → Appends old new (fault_line fault ++ codes "\n") → Writes answer input old new (Err fault)
-tells answer input old new text (faults.Line n cause) is same read h = told_on answer input old new text (faults.Line n cause) same read h
-tells answer input old new text (faults.Truncated n) is same read h = told_on answer input old new text (faults.Truncated n) same read h
-tells answer input old new text faults.Count is same read h = told_on answer input old new text faults.Count same read h
-tells answer input old new text faults.OutOfMemory is same read h = absurd is
-tells answer input old new text faults.Read is same read h = absurd is
-tells answer input old new text faults.Write is same read h = absurd is
-tells answer input old new text faults.Long is same read h = absurd is
+prints_line answer input old new text (faults.Line n cause) is same read h = printed_on answer input old new text (faults.Line n cause) same read h
+prints_line answer input old new text (faults.Truncated n) is same read h = printed_on answer input old new text (faults.Truncated n) same read h
+prints_line answer input old new text faults.Count is same read h = printed_on answer input old new text faults.Count same read h
+prints_line answer input old new text faults.OutOfMemory is same read h = absurd is
+prints_line answer input old new text faults.Read is same read h = absurd is
+prints_line answer input old new text faults.Write is same read h = absurd is
+prints_line answer input old new text faults.Long is same read h = absurd is
 
--- where the text is at fault, the fault's line was written, or why it wasn't is told
-refuses : (answer : List ℕ → Result (List ℕ) TextFault) (input old new : Option (List ℕ)) (text : List ℕ) (fault : TextFault) (r : Result (Unit {0}) TextFault) → IsTold fault
+-- where the text is at fault, the fault's line was written, or the answer says why it wasn't
+refuses : (answer : List ℕ → Result (List ℕ) TextFault) (input old new : Option (List ℕ)) (text : List ℕ) (fault : TextFault) (r : Result (Unit {0}) TextFault) → HasLine fault
     → IfSome input (λ bytes. text ≡ bytes) → answer text ≡ Err fault → IsErr r → IfErr r (λ e. Refuses fault old new e) → Writes answer input old new r
-refuses answer input old new text fault (Ok done) is same read err told = cc
-refuses answer input old new text fault (Err e) is same read err told =
+refuses answer input old new text fault (Ok done) is same read err why = cc
+refuses answer input old new text fault (Err e) is same read err why =
     let R : TextFault → Type 0 = λ x. Writes answer input old new (Err x) in
     let P : Result (List ℕ) TextFault → Type 0 = λ a. AppendsFront old new (written_for a) in
     let Q : List ℕ → Type 0 = λ bytes. AppendsFront old new (written_for (answer bytes)) in
-    elim told [
-      | inl line ↦ subst R (sym line.0) (tells answer input old new text fault is same read line.1)
+    elim why [
+      | inl line ↦ subst R (sym line.0) (prints_line answer input old new text fault is same read line.1)
       | inr other ↦ elim other [
         | inl front ↦ subst R (sym front.0) (on_input input text Q same (subst P (sym read) front.1))
         | inr memory ↦ subst R (sym memory.0) memory.1

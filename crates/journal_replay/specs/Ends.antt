@@ -1,7 +1,8 @@
 -- Readers and writers: when a call on one failed, and what reading all and writing all do to their bytes.
-use Rattle.std.specs.Prelude.{ℕ, ◌<◌, ◌≤◌, ◌^◌, ◌==◌, ◌&&◌, ◌++◌, ◌≡◌, nat_lt, is_some, Bool, true, false, List, length, take}
+use Rattle.std.specs.Prelude.{ℕ, ◌<◌, ◌≤◌, ◌==◌, ◌&&◌, ◌++◌, ◌≡◌, nat_lt, is_some, Bool, true, false, List, length, take}
 use Rattle.std.specs.Prelude.{Option, Result, Ok, Err, IfSome, IfErr, OnOk, OnErr}
 use Rattle.std.specs.Io.KnownBytes.{Appends, Consumes}
+use Rattle.page_model.specs.declared.limits.TheConstants.{MAX_TEXT_BYTES}
 use Rattle.journal_replay.specs.declared.ends.Noted.{Noted}
 use Rattle.text_words.specs.declared.fault.TextFault.{TextFault}
 use Rattle.text_words.specs.declared.fault.TextFault.TheVariants as faults
@@ -76,19 +77,19 @@ is_write_fault faults.OutOfMemory = false
 is_write_fault faults.Long = false
 
 -- the answer is that a read failed, and that a write did
-abbrev pub tells_read : {X : Type 0} → Result X TextFault → Bool
-tells_read (Ok x) = false
-tells_read (Err fault) = is_read_fault fault
+abbrev pub has_read_fault : {X : Type 0} → Result X TextFault → Bool
+has_read_fault (Ok x) = false
+has_read_fault (Err fault) = is_read_fault fault
 
-abbrev pub tells_write : {X : Type 0} → Result X TextFault → Bool
-tells_write (Ok x) = false
-tells_write (Err fault) = is_write_fault fault
+abbrev pub has_write_fault : {X : Type 0} → Result X TextFault → Bool
+has_write_fault (Ok x) = false
+has_write_fault (Err fault) = is_write_fault fault
 
 -- Why reading all failed. known: what the reader had.
 abbrev pub NotRead : Option (List ℕ) → TextFault → Type 0
 NotRead known faults.OutOfMemory = Unit {0}
 NotRead known faults.Read = Unit {0}
-NotRead known faults.Long = IfSome known (λ text. 2 ^ 26 < length text)
+NotRead known faults.Long = IfSome known (λ text. MAX_TEXT_BYTES < length text)
 NotRead known (faults.Line n cause) = ⊥
 NotRead known (faults.Truncated n) = ⊥
 NotRead known faults.Count = ⊥

@@ -12,7 +12,7 @@ use Rattle.journal_text.specs.Texts.{Journal, journal_of}
 use Rattle.text_words.specs.Printed.{fault_line}
 use Rattle.journal_text.specs.Printed.{verdict_line, report_line}
 use Rattle.text_words.specs.Words.{◌>>=◌}
-use Rattle.journal_replay.specs.Ends.{AppendsFront, tells_read, tells_write}
+use Rattle.journal_replay.specs.Ends.{AppendsFront, has_read_fault, has_write_fault}
 use Rattle.text_words.specs.declared.fault.TextFault.{TextFault}
 use Rattle.text_words.specs.declared.fault.TextFault.TheVariants as faults
 
@@ -67,8 +67,8 @@ pub record Prints
     : Type 0 where
   pub ok : OnOk r (Appends old new text)
   pub err : IfErr r (λ e. NotPrinted old new text e)
-  pub reader : tells_read r ≡ false
-  pub writer : has_failed ≡ tells_write r
+  pub reader : has_read_fault r ≡ false
+  pub writer : has_failed ≡ has_write_fault r
 
 -- a fault of the text, whose line was written
 abbrev pub WritesFault : TextFault → Option (List ℕ) → Option (List ℕ) → Result (List ℕ) TextFault → Type 0

@@ -1,9 +1,10 @@
 //! Readers and writers that remember whether they failed.
-ghost use Rattle.std.specs.Prelude.{◌≡◌, ◌≤◌, ◌^◌, ◌||◌, ℕ, List, Option, Bool, false, length, vec_len, is_err, is_some};
+ghost use Rattle.std.specs.Prelude.{◌≡◌, ◌≤◌, ◌||◌, ℕ, List, Option, Bool, false, length, vec_len, is_err, is_some};
 ghost use Rattle.std.specs.Prelude.{IfOk, IfErr, IfSome};
 ghost use Rattle.std.specs.Io.{ReadsAtMost, WritesAtMost};
 ghost use Rattle.std.specs.Io.KnownBytes.{ReadConsumes, WriteAppends};
-ghost use Rattle.journal_replay.specs.Ends.{inner_of, failed_of, write_failed, tells_read, NotRead, ReadsUpTo, WritesAll};
+ghost use Rattle.page_model.specs.declared.limits.TheConstants.{MAX_TEXT_BYTES};
+ghost use Rattle.journal_replay.specs.Ends.{inner_of, failed_of, write_failed, has_read_fault, NotRead, ReadsUpTo, WritesAll};
 
 use page_model::MAX_TEXT_BYTES;
 use std::alloc::Allocator;
@@ -140,10 +141,10 @@ pub fn read_all<R: Source, A: Allocator + Clone>(
 ) -> Result<Vec<u8, A>, TextFault>
     requires { R.has_failed reader.old ≡ false }
     ensures ok { IfOk result (λ text. IfSome (R.remaining reader.old) (λ bytes. text.items ≡ bytes)) }
-    ensures short { IfOk result (λ text. length text.items ≤ 2 ^ 26) }
-    ensures failed { R.has_failed reader.new ≡ tells_read result }
+    ensures short { IfOk result (λ text. length text.items ≤ MAX_TEXT_BYTES) }
+    ensures failed { R.has_failed reader.new ≡ has_read_fault result }
     ensures err { IfErr result (λ e. NotRead (R.remaining reader.old) e) }
-    ensures read { IfErr result (λ e. e ≡ TextFault.Read → ReadsUpTo (2 ^ 26) (R.remaining reader.old) (R.remaining reader.new)) }
+    ensures read { IfErr result (λ e. e ≡ TextFault.Read → ReadsUpTo MAX_TEXT_BYTES (R.remaining reader.old) (R.remaining reader.new)) }
 {
     let mut text = Vec::new(alloc.clone()?);
     let mut piece = room(alloc, PIECE_BYTES)?;

@@ -7,7 +7,7 @@ ghost use Rattle.page_model.specs.Steps.{step};
 ghost use Rattle.text_words.specs.declared.fault.TextFault.TheVariants.{OutOfMemory};
 ghost use Rattle.journal_text.specs.Texts.{AreBelow};
 ghost use Rattle.journal_text.specs.Views.{journal_seen};
-ghost use Rattle.journal_replay.specs.Ends.{is_read_fault, is_write_fault, tells_read, tells_write, Buffers, WritesAll};
+ghost use Rattle.journal_replay.specs.Ends.{is_read_fault, is_write_fault, has_read_fault, has_write_fault, Buffers, WritesAll};
 ghost use Rattle.journal_replay.specs.Replayed.{served_line, lines_from, report_text, printed_from, printed};
 ghost use Rattle.journal_replay.specs.Replayed.{Prints, Replays, Refuses, Refused};
 ghost use Rattle.page_model.specs.declared.limits.TheConstants.{MAX_ENTRIES};
@@ -166,9 +166,9 @@ fn refuse<W: Sink, A: Allocator>(
     requires read { is_read_fault fault ≡ false }
     requires written { is_write_fault fault ≡ false }
     ensures err { IsErr result }
-    ensures told { IfErr result (λ e. Refuses fault (W.contents writer.old) (W.contents writer.new) e) }
-    ensures reader { tells_read result ≡ false }
-    ensures writer { W.has_failed writer.new ≡ tells_write result }
+    ensures refuses { IfErr result (λ e. Refuses fault (W.contents writer.old) (W.contents writer.new) e) }
+    ensures reader { has_read_fault result ≡ false }
+    ensures writer { W.has_failed writer.new ≡ has_write_fault result }
 {
     let mut line = fault_line(alloc, &fault)?;
     line.push_str("\n")?;
@@ -178,7 +178,7 @@ fn refuse<W: Sink, A: Allocator>(
 
 /// Returns a fault that kept a text from being read or served. For `Line`, `Truncated` and `Count` the line of the fault is
 /// written; for the others nothing is.
-pub fn tell_fault<W: Sink, A: Allocator>(
+pub fn print_fault<W: Sink, A: Allocator>(
     alloc: A,
     writer: &mut W,
     fault: TextFault,
@@ -186,9 +186,9 @@ pub fn tell_fault<W: Sink, A: Allocator>(
     requires fine { W.has_failed writer.old ≡ false }
     requires read { is_read_fault fault ≡ false }
     requires written { is_write_fault fault ≡ false }
-    ensures told { Refused fault (W.contents writer.old) (W.contents writer.new) result }
-    ensures reader { tells_read result ≡ false }
-    ensures writer { W.has_failed writer.new ≡ tells_write result }
+    ensures refused { Refused fault (W.contents writer.old) (W.contents writer.new) result }
+    ensures reader { has_read_fault result ≡ false }
+    ensures writer { W.has_failed writer.new ≡ has_write_fault result }
 {
     match fault {
         TextFault::Line(n, cause) => refuse(alloc, writer, TextFault::Line(n, cause)),
@@ -215,8 +215,8 @@ pub fn replay<R: Source, W: Sink, H: PageHash + Drop, A: Allocator + Clone>(
     requires reader { R.has_failed reader.old ≡ false }
     requires writer { W.has_failed writer.old ≡ false }
     ensures bytes { Replays H.hash_of (R.remaining reader.old) (W.contents writer.old) (W.contents writer.new) result }
-    ensures reader { R.has_failed reader.new ≡ tells_read result }
-    ensures writer { W.has_failed writer.new ≡ tells_write result }
+    ensures reader { R.has_failed reader.new ≡ has_read_fault result }
+    ensures writer { W.has_failed writer.new ≡ has_write_fault result }
 {
     let text = match read_all(alloc.clone()?, reader) {
         Ok(text) => text,
@@ -224,6 +224,6 @@ pub fn replay<R: Source, W: Sink, H: PageHash + Drop, A: Allocator + Clone>(
     };
     match read_journal(alloc.clone()?, &text) {
         Ok(journal) => print_replay(alloc, &journal, writer, hash),
-        Err(fault) => tell_fault(alloc, writer, fault),
+        Err(fault) => print_fault(alloc, writer, fault),
     }
 }

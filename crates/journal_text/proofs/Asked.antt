@@ -12,6 +12,7 @@ use Rattle.page_model.specs.declared.request.Request.{Request}
 use Rattle.page_model.specs.declared.request.Request.TheVariants.{Propose, Store, Load, Release, Count, Close}
 use Rattle.page_model.specs.declared.request.Entry.{Entry}
 use Rattle.page_model.specs.Parts.{StoreParts, LoadParts}
+use Rattle.page_model.specs.declared.limits.TheConstants.{MAX_ACCESS_BYTES, PAGE_BYTES}
 use Rattle.journal_text.specs.declared.request.Line.TheVariants.{Enters, Ends}
 use Rattle.text_words.specs.Words.{bytes_in, is_lower_digit}
 use Rattle.journal_text.specs.Requests.{stored, loaded, propose_at, store_at, load_at, release_at, bare_at, named, asked_at, end_at, entry_at, line_of}
@@ -53,18 +54,18 @@ bytes_back xs some h =
     let d = decode_of-encode_lower xs h in
     rw (a, b, c, d) refl
 
-stored_back : (ppn at : ℕ) (bytes : List ℕ) → 1 ≤ length bytes → length bytes ≤ 64 → at + length bytes ≤ 4096 → stored ppn at bytes ≡ Ok (Store (record { ppn = ppn; at = at; bytes = bytes }))
+stored_back : (ppn at : ℕ) (bytes : List ℕ) → 1 ≤ length bytes → length bytes ≤ MAX_ACCESS_BYTES → at + length bytes ≤ PAGE_BYTES → stored ppn at bytes ≡ Ok (Store (record { ppn = ppn; at = at; bytes = bytes }))
 stored_back ppn at bytes some few fits =
     let a : (length bytes == 0) ≡ false = ne_eqb _ 0 (λ e. omega arith) in
-    let b : nat_lt 64 (length bytes) ≡ false = le-ltb 64 _ few in
-    let c : nat_lt 4096 (at + length bytes) ≡ false = le-ltb 4096 _ fits in
+    let b : nat_lt MAX_ACCESS_BYTES (length bytes) ≡ false = le-ltb MAX_ACCESS_BYTES _ few in
+    let c : nat_lt PAGE_BYTES (at + length bytes) ≡ false = le-ltb PAGE_BYTES _ fits in
     rw (a, b, c) refl
 
-loaded_back : (ppn at len : ℕ) → 1 ≤ len → len ≤ 64 → at + len ≤ 4096 → loaded ppn at len ≡ Ok (Load (record { ppn = ppn; at = at; len = len }))
+loaded_back : (ppn at len : ℕ) → 1 ≤ len → len ≤ MAX_ACCESS_BYTES → at + len ≤ PAGE_BYTES → loaded ppn at len ≡ Ok (Load (record { ppn = ppn; at = at; len = len }))
 loaded_back ppn at len some few fits =
     let a : (len == 0) ≡ false = ne_eqb _ 0 (λ e. omega arith) in
-    let b : nat_lt 64 len ≡ false = le-ltb 64 _ few in
-    let c : nat_lt 4096 (at + len) ≡ false = le-ltb 4096 _ fits in
+    let b : nat_lt MAX_ACCESS_BYTES len ≡ false = le-ltb MAX_ACCESS_BYTES _ few in
+    let c : nat_lt PAGE_BYTES (at + len) ≡ false = le-ltb PAGE_BYTES _ fits in
     rw (a, b, c) refl
 
 propose_back : (ppn : ℕ) → ppn < 2 ^ 32 → asked_at (Some (request_words (Propose ppn))) ≡ Ok (Ok (Propose ppn))
@@ -75,7 +76,7 @@ release_back : (ppn : ℕ) → ppn < 2 ^ 32 → asked_at (Some (request_words (R
 unfolding request_words asked_at named release_at
 release_back ppn h = rw (word_back (codes "release") (decimal ppn) refl, number_last ppn h) refl
 
-store_back : (r : StoreParts) → r.ppn < 2 ^ 32 → 1 ≤ length r.bytes → length r.bytes ≤ 64 → r.at + length r.bytes ≤ 4096 → IsBytes r.bytes
+store_back : (r : StoreParts) → r.ppn < 2 ^ 32 → 1 ≤ length r.bytes → length r.bytes ≤ MAX_ACCESS_BYTES → r.at + length r.bytes ≤ PAGE_BYTES → IsBytes r.bytes
     → asked_at (Some (request_words (Store r))) ≡ Ok (Ok (Store r))
 unfolding request_words asked_at named store_at
 store_back r h some few fits bytes =
@@ -83,7 +84,7 @@ store_back r h some few fits bytes =
     rw (word_back (codes "store") (decimal r.ppn ++ 32 ∷ (decimal r.at ++ 32 ∷ digits)) refl, number_next r.ppn (decimal r.at ++ 32 ∷ digits) h, number_next r.at digits (omega arith), last_back digits (encoded_above r.bytes bytes), bytes_back r.bytes some bytes)
     (ap (λ x. Ok x) (stored_back r.ppn r.at r.bytes some few fits))
 
-load_back : (r : LoadParts) → r.ppn < 2 ^ 32 → 1 ≤ r.len → r.len ≤ 64 → r.at + r.len ≤ 4096 → asked_at (Some (request_words (Load r))) ≡ Ok (Ok (Load r))
+load_back : (r : LoadParts) → r.ppn < 2 ^ 32 → 1 ≤ r.len → r.len ≤ MAX_ACCESS_BYTES → r.at + r.len ≤ PAGE_BYTES → asked_at (Some (request_words (Load r))) ≡ Ok (Ok (Load r))
 unfolding request_words asked_at named load_at
 load_back r h some few fits =
     rw (word_back (codes "load") (decimal r.ppn ++ 32 ∷ (decimal r.at ++ 32 ∷ decimal r.len)) refl, number_next r.ppn (decimal r.at ++ 32 ∷ decimal r.len) h, number_next r.at (decimal r.len) (omega arith), number_last r.len (omega arith))

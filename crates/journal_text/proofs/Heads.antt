@@ -9,6 +9,7 @@ use Rattle.std.proofs.lemmas.List.Sums.{AllPass-from_list_all, list_all-from_All
 use Rattle.page_model.specs.Limits.{ArePages}
 use Rattle.page_model.specs.Closing.{is_close}
 use Rattle.page_model.specs.declared.request.Entry.{Entry}
+use Rattle.page_model.specs.declared.limits.TheConstants.{MAX_FRAMES, MAX_PAGES, MAX_GUESTS}
 use Rattle.text_words.specs.declared.fault.TextFault.{TextFault}
 use Rattle.journal_text.specs.declared.request.Line.TheVariants.{Enters, Ends}
 use Rattle.text_words.specs.Words.{◌>>=◌, is_space}
@@ -35,11 +36,11 @@ line_back_at n line rest h =
     let free = feedless line h in
     rw (before_at is_feed line rest 10 free refl, within_at is_feed line rest 10 free refl, after_at is_feed line rest 10 free refl) refl
 
-pub frames_back : (n : ℕ) → 1 ≤ n → n ≤ 1048576 → frames_of (codes "frames " ++ decimal n) ≡ Ok n
+pub frames_back : (n : ℕ) → 1 ≤ n → n ≤ MAX_FRAMES → frames_of (codes "frames " ++ decimal n) ≡ Ok n
 unfolding frames_of
 frames_back n some few =
     let a : (n == 0) ≡ false = ne_eqb n 0 (λ e. omega arith) in
-    let b : nat_lt (2 ^ 20) n ≡ false = le-ltb (2 ^ 20) n few in
+    let b : nat_lt MAX_FRAMES n ≡ false = le-ltb MAX_FRAMES n few in
     rw (word_back (codes "frames") (decimal n) refl, number_last n (omega arith), a, b) refl
 
 spaceless : (n : ℕ) → n < 2 ^ 32 → All (λ b. is_space b ≡ false) (decimal n)
@@ -58,14 +59,14 @@ numbers_back n (m ∷ ns) h =
     rw (split, number_back (2 ^ 32 - 1) n (omega arith) (omega arith), numbers_back m ns (All-tail (λ m. m < 2 ^ 32) n (m ∷ ns) h)) refl
 
 are_pages_of : (pages : List ℕ) → ArePages pages → are_pages pages ≡ true
-are_pages_of pages h = and_from _ _ (list_all-from_AllPass (nat_lt 0) pages (λ k d l. lt-ltb 0 _ (h.0 k d l))) (le-leb (sum pages) (2 ^ 20) h.1)
+are_pages_of pages h = and_from _ _ (list_all-from_AllPass (nat_lt 0) pages (λ k d l. lt-ltb 0 _ (h.0 k d l))) (le-leb (sum pages) MAX_PAGES h.1)
 
-pub pages_back : (pages : List ℕ) → 1 ≤ length pages → length pages ≤ 64 → ArePages pages → All (λ n. n < 2 ^ 32) pages → pages_of (codes "pages" ++ number_words pages) ≡ Ok pages
+pub pages_back : (pages : List ℕ) → 1 ≤ length pages → length pages ≤ MAX_GUESTS → ArePages pages → All (λ n. n < 2 ^ 32) pages → pages_of (codes "pages" ++ number_words pages) ≡ Ok pages
 unfolding pages_of
 pages_back [] some few limits fit = absurd (omega arith)
 pages_back (n ∷ ns) some few limits fit =
     let a : (length (n ∷ ns) == 0) ≡ false = ne_eqb _ 0 (λ e. omega arith) in
-    let b : nat_lt 64 (length (n ∷ ns)) ≡ false = le-ltb 64 _ few in
+    let b : nat_lt MAX_GUESTS (length (n ∷ ns)) ≡ false = le-ltb MAX_GUESTS _ few in
     rw (word_back (codes "pages") (decimal n ++ number_words ns) refl, numbers_back n ns fit, a, b, are_pages_of (n ∷ ns) limits) refl
 
 pub salts_back : (salts : List ℕ) → 1 ≤ length salts → All (λ n. n < 2 ^ 32) salts → salts_of (length salts) (codes "salts" ++ number_words salts) ≡ Ok salts

@@ -1,10 +1,11 @@
 -- A written journal, read back.
-use Rattle.std.proofs.Common.{◌≡◌, ℕ, ◌≤◌, ◌^◌, ◌==◌, Bool, true, false, if◌then◌else◌, List, [], ◌∷◌, ◌++◌, length, Some, Ok, refl, sym, ap, ◌∙◌, arith, nat_lt, decimal, append-nil, append_assoc, replicate}
+use Rattle.std.proofs.Common.{◌≡◌, ℕ, ◌≤◌, ◌==◌, Bool, true, false, if◌then◌else◌, List, [], ◌∷◌, ◌++◌, length, Some, Ok, refl, sym, ap, ◌∙◌, arith, nat_lt, decimal, append-nil, append_assoc, replicate}
 use Rattle.std.specs.Prelude.{codes}
 use Rattle.std.specs.List.{list_all}
 use Rattle.std.proofs.lemmas.Bool.{and_parts, eqb-true, le-ltb, not-false}
 use Rattle.std.proofs.lemmas.List.{get_or-replicate, length-replicate}
 use Rattle.std.proofs.lemmas.Option.{slice_get-get_or}
+use Rattle.page_model.specs.declared.limits.TheConstants.{MAX_TEXT_BYTES}
 use Rattle.text_words.specs.Lines.{line_at}
 use Rattle.journal_text.specs.Headers.{salts_of}
 use Rattle.journal_text.specs.Texts.{Journal, header_of, salts_at, head_in, journal_in, journal_of, entries_in}
@@ -83,5 +84,5 @@ either j h true some = with_salts j h
 pub rereads : (j : Journal) → CanBeRead j → journal_of (journal_text j) ≡ Ok j
 unfolding journal_of journal_text
 rereads j h =
-    let short : nat_lt (2 ^ 26) (length (journal_text j)) ≡ false = le-ltb (2 ^ 26) (length (journal_text j)) h.short in
+    let short : nat_lt MAX_TEXT_BYTES (length (journal_text j)) ≡ false = le-ltb MAX_TEXT_BYTES (length (journal_text j)) h.short in
     rw short (either j h (needs_salts j.salts) refl)

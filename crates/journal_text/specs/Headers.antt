@@ -1,6 +1,7 @@
 -- The lines at the head of a text.
-use Rattle.std.specs.Prelude.{ℕ, ◌^◌, ◌==◌, ◌&&◌, ◌||◌, nat_le, nat_lt, Bool, if◌then◌else◌, List, [], ◌∷◌, length, sum, Option, Some, None, Result, Ok, Err, codes}
+use Rattle.std.specs.Prelude.{ℕ, ◌==◌, ◌&&◌, ◌||◌, nat_le, nat_lt, Bool, if◌then◌else◌, List, [], ◌∷◌, length, sum, Option, Some, None, Result, Ok, Err, codes}
 use Rattle.std.specs.List.{list_all, slice_split}
+use Rattle.page_model.specs.declared.limits.TheConstants.{MAX_FRAMES, MAX_PAGES, MAX_GUESTS}
 use Rattle.text_words.specs.declared.fault.Cause.{Cause}
 use Rattle.text_words.specs.declared.fault.Cause.TheVariants as causes
 use Rattle.text_words.specs.declared.fault.TextFault.TheVariants as faults
@@ -9,7 +10,7 @@ use Rattle.text_words.specs.Words.{◌>>=◌, is_space, word_at, nothing_at, num
 
 -- 1 to 1,048,576 frames
 abbrev pub frames_in_limits : ℕ → Result ℕ Cause
-frames_in_limits n = if n == 0 || nat_lt (2 ^ 20) n then Err causes.Frames else Ok n
+frames_in_limits n = if n == 0 || nat_lt MAX_FRAMES n then Err causes.Frames else Ok n
 
 -- frames NUMBER
 unfoldable pub frames_of : List ℕ → Result ℕ Cause
@@ -35,13 +36,13 @@ numbers (word ∷ words) = do
 
 -- each guest has a page, and all together at most 1,048,576
 abbrev pub are_pages : List ℕ → Bool
-are_pages pages = list_all (nat_lt 0) pages && nat_le (sum pages) (2 ^ 20)
+are_pages pages = list_all (nat_lt 0) pages && nat_le (sum pages) MAX_PAGES
 
 -- 1 to 64 guests with their pages. The form is checked first, then the number of guests, then the pages
 abbrev pub pages_in_limits : List ℕ → Result (List ℕ) Cause
 pages_in_limits pages =
     if length pages == 0 then Err causes.Form
-    else if nat_lt 64 (length pages) then Err causes.Guests
+    else if nat_lt MAX_GUESTS (length pages) then Err causes.Guests
     else if are_pages pages then Ok pages
     else Err causes.Pages
 

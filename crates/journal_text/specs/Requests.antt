@@ -5,6 +5,7 @@ use Rattle.page_model.specs.Closing.{is_close}
 use Rattle.page_model.specs.declared.request.Entry.{Entry}
 use Rattle.page_model.specs.declared.request.Request.{Request}
 use Rattle.page_model.specs.declared.request.Request.TheVariants.{Propose, Store, Load, Release, Count, Close}
+use Rattle.page_model.specs.declared.limits.TheConstants.{MAX_ACCESS_BYTES, PAGE_BYTES}
 use Rattle.text_words.specs.declared.fault.Cause.{Cause}
 use Rattle.text_words.specs.declared.fault.Cause.TheVariants.{Form, NoGuest, AfterClose, Length, Crosses}
 use Rattle.journal_text.specs.declared.request.Line.{Line}
@@ -14,15 +15,15 @@ use Rattle.text_words.specs.Words.{◌>>=◌, word_at, nothing_at, number, numbe
 -- a store of these bytes, or what is wrong with its numbers
 abbrev pub stored : ℕ → ℕ → List ℕ → Result Request Cause
 stored ppn at bytes =
-    if length bytes == 0 || nat_lt 64 (length bytes) then Err Length
-    else if nat_lt 4096 (at + length bytes) then Err Crosses
+    if length bytes == 0 || nat_lt MAX_ACCESS_BYTES (length bytes) then Err Length
+    else if nat_lt PAGE_BYTES (at + length bytes) then Err Crosses
     else Ok (Store (record { ppn = ppn; at = at; bytes = bytes }))
 
 -- a load of len bytes, or what is wrong with its numbers
 abbrev pub loaded : ℕ → ℕ → ℕ → Result Request Cause
 loaded ppn at len =
-    if len == 0 || nat_lt 64 len then Err Length
-    else if nat_lt 4096 (at + len) then Err Crosses
+    if len == 0 || nat_lt MAX_ACCESS_BYTES len then Err Length
+    else if nat_lt PAGE_BYTES (at + len) then Err Crosses
     else Ok (Load (record { ppn = ppn; at = at; len = len }))
 
 -- What comes after the word that names a request. The outer answer is about the form, which is checked before everything else;

@@ -1,10 +1,11 @@
 -- A journal's text, version 1 or 2: what it says, or its first fault. The lines are read in order, and the first faulty one
 -- decides; if no complete line is at fault and no end line has come, the text is cut off.
-use Rattle.std.specs.Prelude.{◌<◌, ℕ, ◌+◌, ◌^◌, ◌==◌, ◌&&◌, nat_lt, Bool, true, false, if◌then◌else◌, List, [], ◌∷◌, length, replicate, Result, Ok, Err, slice_set, codes}
+use Rattle.std.specs.Prelude.{◌<◌, ℕ, ◌+◌, ◌==◌, ◌&&◌, nat_lt, Bool, true, false, if◌then◌else◌, List, [], ◌∷◌, length, replicate, Result, Ok, Err, slice_set, codes}
 use Rattle.std.specs.List.{All}
 use Rattle.std.specs.Str.{bytes_eq}
 use Rattle.page_model.specs.Closing.{is_close}
 use Rattle.page_model.specs.declared.request.Entry.{Entry}
+use Rattle.page_model.specs.declared.limits.TheConstants.{MAX_TEXT_BYTES}
 use Rattle.text_words.specs.declared.fault.Cause.{Cause}
 use Rattle.text_words.specs.declared.fault.Cause.TheVariants as causes
 use Rattle.text_words.specs.declared.fault.TextFault.{TextFault}
@@ -112,7 +113,7 @@ journal_in text = do
 
 -- What a journal's text says: its one journal, or its first fault. A text has at most 67,108,864 bytes, which is checked first.
 unfoldable pub journal_of : List ℕ → Result Journal TextFault
-journal_of text = if nat_lt (2 ^ 26) (length text) then Err faults.Long else journal_in text
+journal_of text = if nat_lt MAX_TEXT_BYTES (length text) then Err faults.Long else journal_in text
 
 -- each entry's guest is one of the first n
 abbrev pub AreBelow : ℕ → List Entry → Type 0

@@ -9,7 +9,7 @@ use Rattle.page_model.specs.declared.request.Request.TheVariants.{Propose, Store
 use Rattle.text_words.specs.Printed.{counted}
 use Rattle.page_model.specs.Limits.{AreFrames, AreGuests, ArePages}
 use Rattle.journal_text.specs.Texts.{Journal, AreBelow, journal_of}
-use Rattle.page_model.specs.declared.limits.TheConstants.{MAX_ACCESS_BYTES, MAX_ENTRIES, PAGE_BYTES}
+use Rattle.page_model.specs.declared.limits.TheConstants.{MAX_ACCESS_BYTES, MAX_ENTRIES, PAGE_BYTES, MAX_TEXT_BYTES}
 use Rattle.journal_text.specs.declared.version.Version.{Version}
 use Rattle.journal_text.specs.declared.version.Version.TheVariants.{One, Two}
 
@@ -101,7 +101,7 @@ pub record CanBeRead (j : Journal) : Type 0 where
   pub requests : All (λ e. IsWritable e.request) j.entries
   pub closing : NoneAfterClose j.entries
   pub few : length j.entries < MAX_ENTRIES
-  pub short : length (journal_text j) ≤ 2 ^ 26
+  pub short : length (journal_text j) ≤ MAX_TEXT_BYTES
 
 -- what is written for a journal is read as that journal
 abbrev pub ReadsAsWritten : Type 0

@@ -7,7 +7,7 @@ ghost use Rattle.journal_text.specs.Texts.{journal_in, journal_of, closed_after,
 ghost use Rattle.journal_text.specs.Texts.{nothing_more, line_behind_head, entries_in, AreBelow};
 ghost use Rattle.text_words.specs.Views.{Gives};
 ghost use Rattle.journal_text.specs.Views.{journal_seen};
-ghost use Rattle.page_model.specs.declared.limits.TheConstants.{MAX_GUESTS};
+ghost use Rattle.page_model.specs.declared.limits.TheConstants.{MAX_GUESTS, MAX_TEXT_BYTES, MAX_ENTRIES};
 
 use crate::head::Head;
 use crate::head_reader::{line_behind_head, read_head};
@@ -54,10 +54,10 @@ fn entries<A: Allocator>(
 ) -> Result<Vec<Entry, A>, TextFault>
     requires first { first ≤ 5 }
     requires guests { length closed.old ≤ MAX_GUESTS }
-    requires short { length text.now ≤ 2 ^ 26 }
+    requires short { length text.now ≤ MAX_TEXT_BYTES }
     ensures value { Gives (λ v. v.items) result (entries_in closed.old first 0 text.now) }
     ensures guests { IfOk result (λ v. AreBelow (length closed.old) v.items) }
-    ensures few { IfOk result (λ v. length v.items < 2 ^ 24) }
+    ensures few { IfOk result (λ v. length v.items < MAX_ENTRIES) }
 {
     let mut found = Vec::with_capacity(alloc, count_lines(text))?;
     let mut rest = text;
@@ -89,10 +89,10 @@ fn first_entries<A: Allocator>(
 ) -> Result<Vec<Entry, A>, TextFault>
     requires first { first ≤ 5 }
     requires guests { guests ≤ MAX_GUESTS }
-    requires short { length text.now ≤ 2 ^ 26 }
+    requires short { length text.now ≤ MAX_TEXT_BYTES }
     ensures value { Gives (λ v. v.items) result (entries_in (replicate guests false) first 0 text.now) }
     ensures guests { IfOk result (λ v. AreBelow guests v.items) }
-    ensures few { IfOk result (λ v. length v.items < 2 ^ 24) }
+    ensures few { IfOk result (λ v. length v.items < MAX_ENTRIES) }
 {
     let mut closed = [false; MAX_GUESTS];
     entries(alloc, first, &mut closed[..guests], text)
@@ -106,10 +106,10 @@ fn entries_behind_head<A: Allocator>(
     text: &[u8],
 ) -> Result<Vec<Entry, A>, TextFault>
     requires guests { length pages.now ≤ MAX_GUESTS }
-    requires short { length text.now ≤ 2 ^ 26 }
+    requires short { length text.now ≤ MAX_TEXT_BYTES }
     ensures value { Gives (λ v. v.items) result (entries_in (replicate (length pages.now) false) (line_behind_head version) 0 text.now) }
     ensures guests { IfOk result (λ v. AreBelow (length pages.now) v.items) }
-    ensures few { IfOk result (λ v. length v.items < 2 ^ 24) }
+    ensures few { IfOk result (λ v. length v.items < MAX_ENTRIES) }
 {
     let first = line_behind_head(version);
     first_entries(alloc, first, pages.len(), text)
@@ -118,7 +118,7 @@ fn entries_behind_head<A: Allocator>(
 /// Reads the journal of a text that is not too long.
 #[tactic(auto, unfolding(crate::specs::Texts::journal_in))]
 fn journal_in<A: Allocator + Clone>(alloc: A, text: &[u8]) -> Result<Journal<A>, TextFault>
-    requires { length text.now ≤ 2 ^ 26 }
+    requires { length text.now ≤ MAX_TEXT_BYTES }
     ensures { Gives journal_seen result (journal_in text.now) }
 {
     let (head, rest) = read_head(

@@ -6,6 +6,7 @@ use Rattle.std.specs.Option.{option_map}
 use Rattle.std.proofs.lemmas.List.{length-replicate}
 use Rattle.std.proofs.lemmas.List.Folds.{sum_by-replicate}
 use Rattle.std.proofs.lemmas.Option.{none-some}
+use Rattle.page_model.specs.declared.limits.TheConstants.{MAX_FRAMES, MAX_PAGES}
 use Rattle.page_model.specs.Pages.{Slot, Unmapped, State, page_at}
 use Rattle.page_model.specs.Limits.{shapes}
 use Rattle.page_model.specs.Replay.{empty_state}
@@ -73,7 +74,7 @@ none_within : (count total k : ℕ) (h : Holding) → holding (replicate count N
 none_within count total k h e = absurd (none-some h (sym (none_held count k) ∙ e))
 
 pub sound_new : (c : Shown) (free : List ℕ) (total count : ℕ) → Fits (replicate count None) c → ListsFree (replicate count None) free → c.frames ≡ no_frames total
-    → 2 ≤ total → total ≤ 1048576 → count ≤ 1048576 → Sound c (replicate count None) free (replicate total 0)
+    → 2 ≤ total → total ≤ MAX_FRAMES → count ≤ MAX_PAGES → Sound c (replicate count None) free (replicate total 0)
 sound_new c free total count fits listed frames least most few =
     let size : length c.frames ≡ total = ap length frames ∙ length-replicate {A = Option (List ℕ)} total None in
     record {

@@ -4,6 +4,7 @@ use Rattle.std.specs.Prelude.{slice_get, slice_set, slice_index, slice_index_or,
 use Rattle.std.proofs.lemmas.Bool.{cases_eq, ne_eqb, eq-eqb}
 use Rattle.std.proofs.lemmas.List.{length-set, length-append, get_or-set_same, get_or-set_other}
 use Rattle.std.proofs.lemmas.List.Sums.{sum_by-set, sum_by_push, count_by-le-length}
+use Rattle.page_model.specs.declared.limits.TheConstants.{MAX_PAGES}
 use Rattle.machine_frames.specs.FrameMap.{FrameMap, used}
 use Rattle.merge_core.specs.Shown.{Shown}
 use Rattle.merge_core.proofs.FrameLemmas.{used_set}
@@ -121,7 +122,7 @@ module _ (slots : List (Option Holding)) (total : ℕ) (counts : List ℕ) (clie
     each m less (inr n) =
         get_or-set_other counts mpn m (slice_index counts mpn + 1) 0 n ∙ right.each m less ∙ omega (arith, more m, ap bit (ne_eqb mpn m (λ e. n (sym e))))
 
-pub count_fits : (slots : List (Option Holding)) (total : ℕ) (counts : List ℕ) (mpn : ℕ) → Counts slots total counts → mpn < total → length slots ≤ 1048576 → slice_index counts mpn ≤ 1048576
+pub count_fits : (slots : List (Option Holding)) (total : ℕ) (counts : List ℕ) (mpn : ℕ) → Counts slots total counts → mpn < total → length slots ≤ MAX_PAGES → slice_index counts mpn ≤ MAX_PAGES
 count_fits slots total counts mpn right within few = omega (arith, right.each mpn within, count_by-le-length (has_frame mpn) slots, few)
 
 -- counts after a slot was released

@@ -1,6 +1,7 @@
 -- How a machine's core, its slots, its free slots and its counts fit together.
 use Rattle.std.specs.Prelude.{◌≡◌, ℕ, ◌+◌, ◌<◌, ◌≤◌, ◌==◌, List, length, Option, Some, None, IsSome, is_some, slice_get, slice_index_or, count_by}
 use Rattle.std.specs.Option.{option_map}
+use Rattle.page_model.specs.declared.limits.TheConstants.{MAX_FRAMES, MAX_PAGES}
 use Rattle.page_model.specs.Pages.{page_at}
 use Rattle.machine_frames.specs.FrameMap.{used}
 use Rattle.merge_core.specs.Shown.{Shown, state_of}
@@ -37,4 +38,4 @@ pub record Sound (core : Shown) (slots : List (Option Holding)) (free counts : L
   pub counted : Counts slots (length core.frames) counts
   pub within : (ppn : ℕ) (h : Holding) → holding slots ppn ≡ Some h → h.frame < length core.frames
   pub spare : used core.frames < length core.frames
-  pub few : (length slots ≤ 1048576) × (length core.frames ≤ 1048576)
+  pub few : (length slots ≤ MAX_PAGES) × (length core.frames ≤ MAX_FRAMES)

@@ -1,5 +1,6 @@
 //! How many slots have each frame.
 ghost use Rattle.std.specs.Prelude.{◌≡◌, ◌+◌, ◌-◌, ◌<◌, ◌≤◌, ℕ, Some, length, slice_set, slice_index, count_by};
+ghost use Rattle.page_model.specs.declared.limits.TheConstants.{MAX_PAGES};
 ghost use Rattle.lent_slots.specs.Fits.{Counts};
 ghost use Rattle.lent_slots.specs.declared.holding.Holding.{Holding};
 ghost use Rattle.lent_slots.specs.Slots.{holding};
@@ -11,7 +12,7 @@ use std::alloc::Allocator;
 /// Counts one more slot of a frame, and returns how many there are now.
 pub fn add_sharer<A: Allocator>(counts: &mut Vec<u32, A>, frame: u32) -> u32
     requires within { frame < length counts.old.items }
-    requires room { slice_index counts.old.items frame < 4294967295 }
+    requires room { slice_index counts.old.items frame ≤ MAX_PAGES }
     ensures count { result ≡ slice_index counts.old.items frame + 1 }
     ensures counts { counts.new.items ≡ slice_set counts.old.items frame (slice_index counts.old.items frame + 1) }
 {
@@ -34,11 +35,11 @@ pub fn drop_sharer<A: Allocator>(counts: &mut Vec<u32, A>, frame: u32) -> u32
 
 /// Counts the slots that have a frame that another slot has, too.
 pub fn count_shared(slots: &[Option<Holding>], counts: &[u32]) -> u32
-    requires few { length slots.now ≤ 1048576 }
+    requires few { length slots.now ≤ MAX_PAGES }
     requires within { (ppn : ℕ) (h : Holding) → holding slots.now ppn ≡ Some h → h.frame < length counts.now }
     requires each { Counts slots.now (length counts.now) counts.now }
     ensures count { result ≡ count_by (is_shared slots.now) slots.now }
-    ensures few { result ≤ 1048576 }
+    ensures few { result ≤ MAX_PAGES }
 {
     let mut shared = 0;
     for slot in slots {

@@ -155,7 +155,7 @@ impl<H: PageHash, A: Allocator> LentSlots<H, A> {
     /// Returns how many slots are held.
     pub fn held(&self) -> u32
         ensures count { result ≡ held_slots self.now }
-        ensures few { result ≤ 1048576 }
+        ensures few { result ≤ MAX_PAGES }
     {
         (self.slots.len() - self.free.len()) as u32
     }
@@ -163,7 +163,7 @@ impl<H: PageHash, A: Allocator> LentSlots<H, A> {
     /// Returns how many frames are in use.
     pub fn frames_in_use(&self) -> u32
         ensures count { result ≡ frames_in_use self.now }
-        ensures few { result ≤ 1048576 }
+        ensures few { result ≤ MAX_FRAMES }
     {
         self.core.frames().used()
     }
@@ -171,7 +171,7 @@ impl<H: PageHash, A: Allocator> LentSlots<H, A> {
     /// Returns how many slots have a frame that another slot has, too.
     pub fn shared(&self) -> u32
         ensures count { result ≡ shared_slots self.now }
-        ensures few { result ≤ 1048576 }
+        ensures few { result ≤ MAX_PAGES }
     {
         count_shared(&self.slots, &self.counts)
     }

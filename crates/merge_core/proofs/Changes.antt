@@ -5,11 +5,10 @@ use Rattle.std.proofs.lemmas.List.{length-set}
 use Rattle.page_model.specs.Pages.{Unmapped, Private, page_at, with_slot}
 use Rattle.page_model.proofs.Places.{unchanged}
 use Rattle.machine_frames.specs.FrameMap.{FrameMap, frame, IsTaken}
-use Rattle.machine_frames.proofs.Used.{taken_within}
 use Rattle.share_table.specs.TableMaps.{TableMaps, without_hint, with_hint, hint_at, SharedFrame}
 use Rattle.merge_core.specs.Pmap.{Pmap, bytes_in, guests_in, Known, known_at}
 use Rattle.merge_core.specs.Ties.{Placed, Noted, Shares, SharedWell, Counted, Ties}
-use Rattle.merge_core.proofs.FrameLemmas.{used_set, bytes_are, known_same, known_other}
+use Rattle.merge_core.proofs.FrameLemmas.{used_set, taken_within, bytes_are, known_same, known_other}
 use Rattle.std.proofs.lemmas.Bool.{cases_eq}
 use Rattle.merge_core.proofs.Views.{page_in_is}
 use Rattle.merge_core.proofs.Fill.{Lone, lone_free, lone_private, fill_placed, fill_noted, fill_guests, fill_shares, less_placed, less_noted, less_guests, less_shares}

@@ -7,11 +7,11 @@ use Rattle.std.proofs.lemmas.Slice.Eq.{bytes_eq-Decides}
 use Rattle.page_model.specs.Pages.{SlotOf, Slot, Private, Guest, page_at, with_slot}
 use Rattle.page_model.proofs.Places.{again, swap, same_page}
 use Rattle.machine_frames.specs.FrameMap.{FrameMap, IsTaken}
-use Rattle.machine_frames.proofs.Used.{taken_within}
 use Rattle.share_table.specs.TableMaps.{TableMaps, SharedFrame, hint_at}
 use Rattle.share_table.specs.declared.entries.HintFrame.{HintFrame}
 use Rattle.merge_core.specs.Pmap.{Pmap, Known, known_at}
 use Rattle.merge_core.specs.Ties.{HintWell, Placed, Ties}
+use Rattle.merge_core.proofs.FrameLemmas.{taken_within}
 
 module _ (hash : ℕ → List ℕ → ℕ) (pmap : Pmap) (frames : FrameMap) (table : TableMaps) (notes : List Known) (key x y m : ℕ) (t : Ties hash pmap frames table notes) (found : hint_at table key ≡ Some (record { guest = x; ppn = y; mpn = m })) where
   abbrev the_hint : HintFrame

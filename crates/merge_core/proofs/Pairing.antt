@@ -6,7 +6,6 @@ use Rattle.std.proofs.lemmas.Bool.{cases_eq, false≢true}
 use Rattle.page_model.specs.Pages.{SlotOf, Slot, Unmapped, Private, Shared, page_at, with_slot, is_shared_as, peers, any_page}
 use Rattle.page_model.proofs.Places.{at_changed, here, elsewhere, Changed, same_page}
 use Rattle.page_model.proofs.Anys.{any_is_count, AnyIsCount, none_passes}
-use Rattle.page_model.proofs.Room.{self_shared}
 use Rattle.machine_frames.specs.FrameMap.{FrameMap}
 use Rattle.share_table.specs.TableMaps.{SharedMap, SharedFrame}
 use Rattle.share_table.proofs.Maps.{got_same, got_other}
@@ -14,7 +13,7 @@ use Rattle.merge_core.specs.Pmap.{Pmap, bytes_in, slot_in, guests_in, Known, kno
 use Rattle.merge_core.specs.Ties.{Placed, Noted, Listed, Shares}
 use Rattle.merge_core.proofs.Views.{page_in}
 use Rattle.merge_core.proofs.Remaps.{re_peers, re_placed, re_noted}
-use Rattle.merge_core.proofs.Sharing.{content_is, same_frame, none_frame, calm_shared, inserted_well}
+use Rattle.merge_core.proofs.Sharing.{own_content, content_is, same_frame, none_frame, calm_shared, inserted_well}
 
 -- no shared page has a content whose hash the table doesn't have
 module _ (hash : ℕ → List ℕ → ℕ) (pmap : Pmap) (frames : FrameMap) (notes : List Known) (shared : SharedMap) (salt code : ℕ) (bytes : List ℕ) (shares : Shares hash pmap frames notes shared) (absent : map.get shared code ≡ None) (code_is : hash salt bytes ≡ code) where
@@ -79,7 +78,7 @@ module _ (hash : ℕ → List ℕ → ℕ) (pmap : Pmap) (frames : FrameMap) (no
 
   pub first_count : 1 ≡ peers salt (bytes_in frames m) (guests_in frames (with_slot pmap a b (Shared m)))
   first_count =
-      let e = rw (self_shared salt (bytes_in frames m)) at (re_peers pmap frames a b salt (Private m None) (Shared m) at salt (bytes_in frames m)) in
+      let e = rw (own_content salt (bytes_in frames m)) at (re_peers pmap frames a b salt (Private m None) (Shared m) at salt (bytes_in frames m)) in
       omega (arith, e, no_peers hash pmap frames notes shared salt code (bytes_in frames m) shares absent code_is)
 
   abbrev first : SharedFrame

@@ -13,6 +13,9 @@ use Rattle.merge_core.specs.Pmap.{Pmap, bytes_in, slot_in, guests_in, frame_of, 
 use Rattle.merge_core.specs.Ties.{Placed, Noted, Listed, Shares, HintWell, Hinted}
 use Rattle.merge_core.proofs.Views.{guests_but, page_in_is}
 
+same_some : (x y : ℕ) → Some x ≡ Some y → x ≡ y
+same_some x y e = cc
+
 module _ (pmap : Pmap) (frames : FrameMap) (a b salt : ℕ) (old new : SlotOf ℕ) (at : page_at pmap a b ≡ Some (salt, old)) where
   pub re_guests : guests_in frames (with_slot pmap a b new) ≡ with_slot (guests_in frames pmap) a b (slot_in frames new)
   re_guests = guests_but frames frames pmap a b new (λ c d s slot apart there. refl)

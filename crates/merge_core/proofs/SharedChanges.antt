@@ -7,7 +7,6 @@ use Rattle.page_model.specs.Pages.{Unmapped, Private, Shared, Guest, page_at, wi
 use Rattle.page_model.proofs.Places.{unchanged, at_other, same_page}
 use Rattle.page_model.proofs.Used.{pages_counted, cleared, once}
 use Rattle.page_model.proofs.Anys.{any_is_count, AnyIsCount}
-use Rattle.page_model.proofs.Room.{self_shared}
 use Rattle.machine_frames.specs.FrameMap.{FrameMap}
 use Rattle.share_table.specs.TableMaps.{TableMaps, SharedMap, SharedFrame, shared_at, with_shared, with_count, with_one_less}
 use Rattle.share_table.proofs.Maps.{len_new, len_old, len_gone, sum_new, sum_old, sum_gone, got_same, twice_inserted}
@@ -18,7 +17,7 @@ use Rattle.merge_core.proofs.Numbers.{shift, hinted_calm}
 use Rattle.merge_core.proofs.Remaps.{re_guests}
 use Rattle.merge_core.proofs.Owners.{same_owned, more_owned, re_owned, sharer}
 use Rattle.merge_core.proofs.Pairing.{no_peers, first_placed, first_noted, first_shares}
-use Rattle.merge_core.proofs.Sharing.{joined_placed, joined_noted, joined_shares, joined_count, left_placed, left_noted, left_shares, left_count, kept_placed, kept_noted, kept_shares}
+use Rattle.merge_core.proofs.Sharing.{own_content, joined_placed, joined_noted, joined_shares, joined_count, left_placed, left_noted, left_shares, left_count, kept_placed, kept_noted, kept_shares}
 
 rest_of : (t : Bool) (n : ℕ) → AnyIsCount t n → 1 ≤ n → once t ≡ 0
 rest_of t n (inl h) some = ap once h.0
@@ -160,7 +159,7 @@ module _ (hash : ℕ → List ℕ → ℕ) (pmap : Pmap) (frames : FrameMap) (ta
 
   kept_rest : once (any_page (is_shared_as salt (bytes_in frames m)) (cleared (guests_in frames pmap) a b)) ≡ 1
   kept_rest =
-      let e = rw (self_shared salt (bytes_in frames m)) at (pages_counted (is_shared_as salt (bytes_in frames m)) (guests_in frames pmap) a b salt (Shared (bytes_in frames m)) Unmapped (page_in_is frames pmap a b salt (Shared m) at)) in
+      let e = rw (own_content salt (bytes_in frames m)) at (pages_counted (is_shared_as salt (bytes_in frames m)) (guests_in frames pmap) a b salt (Shared (bytes_in frames m)) Unmapped (page_in_is frames pmap a b salt (Shared m) at)) in
       rest_none salt (bytes_in frames m) (cleared (guests_in frames pmap) a b) (omega (arith, e, kept_before))
 
   kept_counted : Counted (guests_in frames (with_slot pmap a b (Private m None))) frames (without_shared table code)

@@ -3,12 +3,11 @@ use Rattle.std.proofs.Common.{◌≡◌, ◌≢◌, ℕ, ◌+◌, ◌≤◌, tru
 use Rattle.std.specs.Prelude.{nat_eq}
 use Rattle.std.specs.Str.{bytes_eq}
 use Rattle.std.specs.FinMap as map
-use Rattle.std.proofs.lemmas.Bool.{cases_eq, cases_Bool, eqb-true, and_parts}
+use Rattle.std.proofs.lemmas.Bool.{cases_eq, cases_Bool, eqb-true, and_parts, and_from, eq-eqb}
 use Rattle.std.proofs.lemmas.Slice.Eq.{bytes_eq-Decides}
 use Rattle.page_model.specs.Pages.{SlotOf, Slot, Unmapped, Private, Shared, Guest, page_at, with_slot, is_shared_as, peers}
 use Rattle.page_model.proofs.Places.{at_changed, here, elsewhere, Changed, at_other}
 use Rattle.page_model.proofs.Used.{pages_counted}
-use Rattle.page_model.proofs.Room.{self_shared}
 use Rattle.machine_frames.specs.FrameMap.{FrameMap, IsTaken}
 use Rattle.share_table.specs.TableMaps.{SharedMap, SharedFrame}
 use Rattle.share_table.proofs.Maps.{got_same, got_other, gone_same, gone_other}
@@ -22,6 +21,9 @@ same_frame e = cc
 
 pub none_frame : {x : SharedFrame} → Some x ≡ None → ⊥
 none_frame e = cc
+
+pub own_content : (salt : ℕ) (bytes : List ℕ) → is_shared_as salt bytes salt (Shared bytes) ≡ true
+own_content salt bytes = and_from (nat_eq salt salt) (bytes_eq bytes bytes) (eq-eqb salt salt refl) ((bytes_eq-Decides bytes bytes).1 refl)
 
 pub content_is : (s salt : ℕ) (bs bytes : List ℕ) → is_shared_as s bs salt (Shared bytes) ≡ true → (salt ≡ s) × (bytes ≡ bs)
 content_is s salt bs bytes h =
@@ -130,7 +132,7 @@ module _ (hash : ℕ → List ℕ → ℕ) (pmap : Pmap) (frames : FrameMap) (no
 
   pub joined_count : n + 1 ≡ peers salt (bytes_in frames m) (guests_in frames (with_slot pmap a b (Shared m)))
   joined_count =
-      let e = rw (self_shared salt (bytes_in frames m)) at (re_peers pmap frames a b salt Unmapped (Shared m) at salt (bytes_in frames m)) in
+      let e = rw (own_content salt (bytes_in frames m)) at (re_peers pmap frames a b salt Unmapped (Shared m) at salt (bytes_in frames m)) in
       let w = rw salt_is at join_well.count in
       omega (arith, e, w)
 
@@ -190,7 +192,7 @@ module _ (hash : ℕ → List ℕ → ℕ) (pmap : Pmap) (frames : FrameMap) (no
 
   pub left_count : n ≡ peers salt (bytes_in frames m) (guests_in frames (with_slot pmap a b Unmapped))
   left_count =
-      let e = rw (self_shared salt (bytes_in frames m)) at (re_peers pmap frames a b salt (Shared m) Unmapped at salt (bytes_in frames m)) in
+      let e = rw (own_content salt (bytes_in frames m)) at (re_peers pmap frames a b salt (Shared m) Unmapped at salt (bytes_in frames m)) in
       let w = rw left_salt at left_well.count in
       omega (arith, e, w)
 
@@ -218,7 +220,7 @@ module _ (hash : ℕ → List ℕ → ℕ) (pmap : Pmap) (frames : FrameMap) (no
 pub has_peer : (gs : List Guest) (c d s salt : ℕ) (bytes : List ℕ) → page_at gs c d ≡ Some (s, Shared bytes) → s ≡ salt → 1 ≤ peers salt bytes gs
 has_peer gs c d s salt bytes at e =
     let moved : page_at gs c d ≡ Some (salt, Shared bytes) = at ∙ ap (λ (x : ℕ). let p : ℕ × Slot = (x, Shared bytes) in Some p) e in
-    let counted = rw (self_shared salt bytes) at (pages_counted (is_shared_as salt bytes) gs c d salt (Shared bytes) Unmapped moved) in
+    let counted = rw (own_content salt bytes) at (pages_counted (is_shared_as salt bytes) gs c d salt (Shared bytes) Unmapped moved) in
     omega (arith, counted)
 
 -- the last shared page of its content becomes private
@@ -242,7 +244,7 @@ module _ (hash : ℕ → List ℕ → ℕ) (pmap : Pmap) (frames : FrameMap) (no
 
   pub kept_count : 0 ≡ peers salt (bytes_in frames m) (guests_in frames kept)
   kept_count =
-      let e = rw (self_shared salt (bytes_in frames m)) at (re_peers pmap frames a b salt (Shared m) (Private m None) at salt (bytes_in frames m)) in
+      let e = rw (own_content salt (bytes_in frames m)) at (re_peers pmap frames a b salt (Shared m) (Private m None) at salt (bytes_in frames m)) in
       let w = rw kept_salt at kept_well.count in
       omega (arith, e, w)
 

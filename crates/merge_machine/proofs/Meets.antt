@@ -39,7 +39,7 @@ module _ {A : Type 0} where
       let c = ap (λ (v : View A). v.0) (maps_at end_view end_view ends ends0 i e e ev l) in
       ap closed_name pis ∙ (a ∙ (b ∙ (sym c ∙ sym (ap end_name eis))))
 
-  -- a meeting tells of the ends as they were at the beginning
+  -- a meeting is about the ends as they were at the beginning
   met_at : (p q : ClosedPort A) (e f : MergerEnd A) (m : Meeting) → closed_view p ≡ closed_view q → end_view e ≡ end_view f → MeetingIs m (closed_sent p) (end_taken e) (end_given e) (closed_got p)
       → has_closed (closed_got p) ≡ last_closed (closed_got p) → MeetWhereClosedAt q f
   met_at p q e f m pv ev met last =

@@ -27,15 +27,9 @@ pub struct Config<A: Allocator = Global> {
 /// Why no machine was made, in the order in which the causes are checked.
 #[derive(Clone, Copy, Debug, PartialEq, Eq, Error)]
 pub enum Fault {
-    /// 0 frames, or more than 1,048,576.
-    #[error("a machine has 1 to 1,048,576 frames")]
-    Frames,
-    /// No guest, more than 64, or not exactly one salt per guest.
-    #[error("a machine has 1 to 64 guests, with a salt each")]
-    Guests,
-    /// A guest with no page, or more than 1,048,576 pages in total.
-    #[error("a guest has a page at least, and all together have at most 1,048,576")]
-    Pages,
+    /// The frames, guests or pages are not within the limits.
+    #[error(transparent)]
+    Shape(ShapeFault),
     /// A ring of 0 items, or of more than 65,536.
     #[error("a ring holds 1 to 65,536 items")]
     Ring,
@@ -58,16 +52,12 @@ impl From<AllocError> for Fault {
 }
 
 impl From<ShapeFault> for Fault {
-    ghost use Rattle.merge_machine.specs.Limits.{fault_of};
+    ghost use Rattle.merge_machine.specs.declared.config.Fault.TheVariants.{Shape};
 
-    ghost from_gives = { λ refused fault. fault ≡ fault_of refused };
+    ghost from_gives = { λ refused fault. fault ≡ Shape refused };
 
     fn from(refused: ShapeFault) -> Fault {
-        match refused {
-            ShapeFault::Frames => Fault::Frames,
-            ShapeFault::Guests => Fault::Guests,
-            ShapeFault::Pages => Fault::Pages,
-        }
+        Fault::Shape(refused)
     }
 }
 

@@ -4,7 +4,7 @@ ghost use Rattle.merge_machine.specs.Taking.{AreExhausted, Took, TookSo, Visits}
 ghost use Rattle.merge_machine.specs.declared.limits.TheConstants.{MAX_ROUND};
 ghost use Rattle.page_model.specs.declared.limits.TheConstants.{MAX_GUESTS};
 
-use page_model::Entry;
+use page_model::{Entry, MAX_GUESTS};
 use share_rings::MergerEnd;
 use std::alloc::Allocator;
 
@@ -37,7 +37,7 @@ pub(crate) fn take_requests<A: Allocator>(
 fn take_turn<A: Allocator>(
     ends: &mut Vec<MergerEnd<A>, A>,
     journal: &mut Vec<Entry, A>,
-    owed: &mut [u32; 64],
+    owed: &mut [u32; MAX_GUESTS],
     full: usize,
 )
     requires few { length ends.old.items ≤ MAX_GUESTS }
@@ -47,7 +47,7 @@ fn take_turn<A: Allocator>(
     ensures within { length journal.new.items ≤ full }
     ensures exhausted { length journal.new.items ≡ length journal.old.items → length journal.old.items < full
         → AreExhausted (length ends.old.items) owed.new ends.new.items }
-    ensures owed { length owed.new ≡ 64 }
+    ensures owed { length owed.new ≡ MAX_GUESTS }
     ensures capacity { vec_capacity journal.new ≡ vec_capacity journal.old }
 {
     for guest in 0..ends.len() {
@@ -83,8 +83,8 @@ fn visit_guest<A: Allocator>(
 }
 
 /// Returns the verdicts owed at first: none to any guest.
-fn no_debts() -> [u32; 64]
-    ensures { result ≡ replicate 64 0 }
+fn no_debts() -> [u32; MAX_GUESTS]
+    ensures { result ≡ replicate MAX_GUESTS 0 }
 {
-    [0; 64]
+    [0; MAX_GUESTS]
 }

@@ -2,21 +2,16 @@
 ghost use Rattle.std.specs.Prelude.{◌≡◌};
 
 use merge_machine::{Fault, JournalFull};
+use page_model::ShapeFault;
 use std::alloc::AllocError;
 use thiserror::Error;
 
 /// Why a machine was not run to its end, in the order in which the causes are checked.
 #[derive(Clone, Copy, Debug, PartialEq, Eq, Error)]
 pub enum RunFault {
-    /// 0 frames, or more than 1,048,576.
-    #[error("a machine has 1 to 1,048,576 frames")]
-    Frames,
-    /// No guest, more than 64, or not exactly one salt per guest.
-    #[error("a machine has 1 to 64 guests, with a salt each")]
-    Guests,
-    /// A guest with no page, or more than 1,048,576 pages in total.
-    #[error("a guest has a page at least, and all together have at most 1,048,576")]
-    Pages,
+    /// The frames, guests or pages are not within the limits.
+    #[error(transparent)]
+    Shape(ShapeFault),
     /// A ring of 0 items, or of more than 65,536.
     #[error("a ring holds 1 to 65,536 items")]
     Ring,
@@ -41,9 +36,7 @@ impl From<Fault> for RunFault {
 
     fn from(refused: Fault) -> RunFault {
         match refused {
-            Fault::Frames => RunFault::Frames,
-            Fault::Guests => RunFault::Guests,
-            Fault::Pages => RunFault::Pages,
+            Fault::Shape(fault) => RunFault::Shape(fault),
             Fault::Ring => RunFault::Ring,
             Fault::Journal => RunFault::Journal,
             Fault::OutOfMemory => RunFault::OutOfMemory,

@@ -6,6 +6,7 @@ use Rattle.page_model.specs.Replay.{state_after, verdicts_of}
 use Rattle.page_model.specs.Journal.{asked, answers}
 use Rattle.page_model.specs.Stored.{byte_at, last_stored}
 use Rattle.page_model.specs.Reports.{AddUp}
+use Rattle.page_model.specs.declared.limits.TheConstants.{PAGE_BYTES}
 use Rattle.page_model.specs.declared.request.Entry.{Entry}
 use Rattle.merge_core.specs.Shown.{Shown, state_of}
 use Rattle.share_rings.specs.declared.merger_end.MergerEnd.{MergerEnd}
@@ -49,7 +50,7 @@ module _ {A : Type 0} where
     -- memory is as left by one thread that replays the journal on plain page contents
     pub memory : state_of core ≡ state_after hash (opening (state_of core)) journal
     -- each page reads the bytes last stored to it
-    pub stored : (guest ppn at : ℕ) → at < 4096
+    pub stored : (guest ppn at : ℕ) → at < PAGE_BYTES
         → byte_at (state_of core) guest ppn at ≡ last_stored journal (verdicts_of hash (opening (state_of core)) journal) guest ppn at
     -- the frames reclaimed are the pages mapped less the distinct frames that the pages name
     pub adds_up : AddUp (totals (state_of core).entries (state_of core).guests)

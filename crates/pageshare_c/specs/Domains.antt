@@ -1,5 +1,5 @@
 -- A domain, by the hash that it was made with: what it shows, and the hash.
-use Rattle.std.specs.Prelude.{◌≡◌, ℕ, zero, suc, List, refl}
+use Rattle.std.specs.Prelude.{ℕ, zero, suc, List}
 use Rattle.page_digest.specs.Hashes.{sha256_hash, fold_hash}
 use Rattle.share_domain.specs.Domains.{DomainView}
 use Rattle.pageshare_c.specs.declared.hashed_domain.HashedDomain.{HashedDomain}
@@ -26,11 +26,6 @@ abbrev pub domain_by : ℕ → DomainView → HashedDomain
 domain_by zero d = Sha256 d
 domain_by (suc zero) d = Fold d
 domain_by (suc (suc n)) d = WideSha256 d
-
-pub domain_back : (d : HashedDomain) → domain_by (number_of d) (view_of d) ≡ d
-domain_back (Sha256 d) = refl
-domain_back (Fold d) = refl
-domain_back (WideSha256 d) = refl
 
 -- the domain by the same hash that shows this
 abbrev pub with_view : DomainView → HashedDomain → HashedDomain

@@ -1,8 +1,7 @@
 -- A core, by the hash that its machine was made with: what it shows, and the hash.
-use Rattle.std.specs.Prelude.{◌≡◌, ℕ, zero, suc, List, refl}
-use Rattle.std.specs.Coded.{Coded, code_by, coded×, coded_ℕ}
+use Rattle.std.specs.Prelude.{◌≡◌, ℕ, List}
 use Rattle.page_digest.specs.Hashes.{sha256_hash, fold_hash}
-use Rattle.merge_core.specs.Shown.{Shown, shown_code}
+use Rattle.merge_core.specs.Shown.{Shown}
 use Rattle.pageshare_c.specs.declared.hashed_core.HashedCore.{HashedCore}
 use Rattle.pageshare_c.specs.declared.hashed_core.HashedCore.TheVariants.{Sha256, Fold, WideSha256}
 
@@ -25,20 +24,6 @@ hash_number (WideSha256 c) = 2
 -- both have one hash
 abbrev pub SameHash : HashedCore → HashedCore → Type 0
 SameHash old new = hash_number new ≡ hash_number old
-
--- the core whose hash has this number
-abbrev pub hashed : ℕ → Shown → HashedCore
-hashed zero c = Sha256 c
-hashed (suc zero) c = Fold c
-hashed (suc (suc n)) c = WideSha256 c
-
-pub hashed_back : (c : HashedCore) → hashed (hash_number c) (shown_in c) ≡ c
-hashed_back (Sha256 c) = refl
-hashed_back (Fold c) = refl
-hashed_back (WideSha256 c) = refl
-
-abbrev pub hashed_code : Coded HashedCore
-hashed_code = code_by (ℕ × Shown) (coded× coded_ℕ shown_code) (λ c. (hash_number c, shown_in c)) (λ p. hashed p.0 p.1) hashed_back
 
 -- the core with other things to show
 abbrev pub with_shown : (Shown → Shown) → HashedCore → HashedCore

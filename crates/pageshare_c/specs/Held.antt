@@ -1,23 +1,10 @@
--- What a slot owns: nothing, or a core in a block of the heap.
-use Rattle.std.specs.Prelude.{Option, Some, None}
-use base.Fml.{Fml, ftrue}
-use denote.RawPtr.{Ptr}
+-- The types of what the handles hold.
 use denote.RattleType.{RattleType}
-use Rattle.std.specs.Box.Ownership.{box_owns}
-use Rattle.std.specs.declared.alloc.Global.{Global}
-use Rattle.std.specs.contracts.impls.GlobalAllocator.TheImpl as allocator
-use Rattle.pageshare_c.specs.declared.hashed_core.HashedCore.{HashedCore}
 use Rattle.pageshare_c.specs.contracts.hashed_core.HashedCore as core
+use Rattle.pageshare_c.specs.contracts.hosted.Hosted as hosted
 
--- the type of the core
 abbrev pub core_row : RattleType
 core_row = core.the_row
 
--- the heap's handle; there is only one, since it has no bytes
-abbrev pub heap : Global
-heap = record { memory = record { seal = tt } }
-
--- the address p holds such a core, in a block that the heap frees
-abbrev pub held_owns : Ptr → Option HashedCore → Fml
-held_owns p None = ftrue
-held_owns p (Some x) = box_owns (allocator.ghosts.dealloc_token heap) core_row p x
+abbrev pub hosted_row : RattleType
+hosted_row = hosted.the_row

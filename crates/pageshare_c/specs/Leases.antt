@@ -1,5 +1,5 @@
 -- Clients and their slots, as C names them: what each call answers, and what the handle holds afterwards.
-use Rattle.std.specs.Prelude.{◌≡◌, ◌≢◌, ℕ, ◌+◌, ◌*◌, ◌/◌, ◌%◌, ◌==◌, if◌then◌else◌, List, length, slice_get, Option, Some, None, Result, Ok, Err, MatchResult}
+use Rattle.std.specs.Prelude.{◌≡◌, ◌≢◌, ℕ, ◌==◌, if◌then◌else◌, List, length, slice_get, Option, Some, None, Result, Ok, Err, MatchResult}
 use Rattle.share_domain.specs.declared.holding.Loan.{Loan}
 use Rattle.share_domain.specs.declared.holding.Slot.{Slot}
 use Rattle.share_domain.specs.declared.fault.LendFault.{LendFault}
@@ -8,6 +8,7 @@ use Rattle.share_domain.specs.declared.fault.NoSuchSlot.{NoSuchSlot}
 use Rattle.share_domain.specs.declared.report.DomainReport.{DomainReport}
 use Rattle.share_domain.specs.Domains.{DomainView, next_client, entered, page_machine, LendsIn, RefusesIn, release_answer, after_release}
 use Rattle.share_domain.specs.Leaving.{Leaves, is_here, told}
+use Rattle.share_domain.specs.Numbers.{slot_number}
 use Rattle.share_domain.specs.Totals.{domain_totals}
 use Rattle.pageshare_c.specs.Domains.{hash_of}
 use Rattle.pageshare_c.specs.Hosts.{changed, made_status, of_made, showing, shows}
@@ -16,7 +17,6 @@ use Rattle.pageshare_c.specs.declared.hosted.Hosted.{Hosted}
 use Rattle.pageshare_c.specs.declared.hosted.Hosted.TheVariants.{Begun, Made}
 use Rattle.pageshare_c.specs.declared.hosted.MadeDomain.{MadeDomain}
 use Rattle.pageshare_c.specs.declared.loan.DomainLoan.{DomainLoan}
-use Rattle.pageshare_c.specs.declared.loan.TheConstants.{SLOTS_APART}
 use Rattle.pageshare_c.specs.declared.domain_totals.DomainTotals.{DomainTotals}
 
 -- a client enters: 20 if as many are in as there may be
@@ -36,13 +36,6 @@ client_after client old = of_made client (λ m. number_or client (next_client (s
 
 abbrev pub after_enter : Option Hosted → Option Hosted
 after_enter old = changed (λ m. showing (entered (shows m) (next_client (shows m))) m) old
-
--- a slot's number, and the slot with a number
-abbrev pub slot_number : Slot → ℕ
-slot_number slot = slot.machine * SLOTS_APART + slot.ppn
-
-abbrev pub slot_by : ℕ → Slot
-slot_by n = record { machine = n / SLOTS_APART; ppn = n % SLOTS_APART }
 
 -- what C gets of a page that wasn't lent
 abbrev pub not_lent : ℕ → DomainLoan

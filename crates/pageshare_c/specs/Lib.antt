@@ -7,8 +7,6 @@ pub mod Framed
 pub mod Given
 pub mod Hashed
 pub mod Held
-pub mod HeldDomain
-pub mod HostedCode
 pub mod Hosts
 pub mod InTurn
 pub mod Kept

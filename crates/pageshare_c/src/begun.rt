@@ -6,7 +6,6 @@ ghost use Rattle.recent_fingerprints.specs.Notes.{nothing_noted};
 ghost use Rattle.pageshare_c.specs.Hosts.{next_stage};
 ghost use Rattle.pageshare_c.specs.Shapes.{IsFit};
 
-use crate::given::GivenFrames;
 use crate::hashed_domain::HashedDomain;
 use crate::hosted::{Hosted, MadeDomain};
 use crate::limits::config_of;
@@ -14,6 +13,7 @@ use crate::make::WIDE_SHA256;
 use crate::shape::DomainShape;
 use machine_frames::Frames;
 use recent_fingerprints::RecentFingerprints;
+use share_domain::GivenFrames;
 use std::alloc::{AllocError, Global};
 use std::marker::Model;
 

@@ -3,7 +3,7 @@ ghost use Rattle.std.specs.Prelude.{◌≡◌, Some, None, MatchOption, is_some}
 
 use crate::domain_slot::DomainSlot;
 use crate::hosted::Hosted;
-use crate::parcel::Parcel;
+use box_parcels::Parcel;
 use std::alloc::Global;
 
 /// A handle: room for one domain. It holds none while all its bytes are 0.

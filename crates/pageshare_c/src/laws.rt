@@ -1,10 +1,8 @@
 //! The numbers that C reads, as include/pageshare.h has them.
-ghost use Rattle.std.specs.Prelude.{◌≡◌, ◌<◌};
-ghost use Rattle.share_domain.specs.declared.holding.Slot.{Slot};
+ghost use Rattle.std.specs.Prelude.{◌≡◌};
 ghost use Rattle.share_domain.specs.declared.client.TheConstants as domain;
-ghost use Rattle.pageshare_c.specs.Leases.{slot_by, slot_number};
 ghost use Rattle.pageshare_c.specs.declared.answer.TheConstants.{NO_FRAME};
-ghost use Rattle.pageshare_c.specs.declared.loan.TheConstants.{SLOTS_APART};
+ghost use Rattle.share_domain.specs.declared.number.TheConstants.{SLOTS_APART};
 ghost use Rattle.pageshare_c.specs.declared.make.TheConstants.{SHA256, FOLD, WIDE_SHA256};
 
 /// Each constant is this number.
@@ -15,9 +13,4 @@ pub fn numbers_law()
     ensures wide { WIDE_SHA256 ≡ 2 }
     ensures slots_apart { SLOTS_APART ≡ 4294967296 }
     ensures domain { domain.NO_FRAME ≡ NO_FRAME }
-{}
-
-/// The number that a loan has for a slot names this slot.
-pub fn slots_law()
-    ensures { (slot : Slot) → slot.ppn < SLOTS_APART → slot_by (slot_number slot) ≡ slot }
 {}

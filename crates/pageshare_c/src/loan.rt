@@ -1,11 +1,11 @@
 //! Pages that clients lend, as C gets them.
 ghost use Rattle.std.specs.Prelude.{◌≡◌, Some};
-ghost use Rattle.pageshare_c.specs.Leases.{fault_status, loan_told, not_lent, slot_by, slot_number, LendsAt};
+ghost use Rattle.pageshare_c.specs.Leases.{fault_status, loan_told, not_lent, LendsAt};
 
 use crate::answer::NO_FRAME;
 use crate::hosted::Hosted;
 use page_model::Page;
-use share_domain::{LendFault, Loan, Slot};
+use share_domain::{LendFault, Loan, slot_number};
 
 /// What became of a page that was to be lent.
 #[repr(C)]
@@ -21,9 +21,6 @@ pub struct DomainLoan {
     pub sharers: u32,
 }
 
-/// How far apart the numbers of slots of two machines are: a slot's number is its machine times this plus its page.
-pub const SLOTS_APART: u64 = 4_294_967_296;
-
 /// Lends a client's page, and returns what became of it.
 pub(crate) fn lend(hosted: &mut Hosted, client: u32, page: &Page) -> DomainLoan
     ensures { LendsAt client page.now result (Some hosted.old) (Some hosted.new) }
@@ -31,16 +28,6 @@ pub(crate) fn lend(hosted: &mut Hosted, client: u32, page: &Page) -> DomainLoan
     match hosted {
         Hosted::Begun(_) => not_lent(6),
         Hosted::Made(made) => loan_told(made.domain.lend(client, page)),
-    }
-}
-
-/// Returns the slot with this number.
-pub(crate) fn slot_by(number: u64) -> Slot
-    ensures { result ≡ slot_by number }
-{
-    Slot {
-        machine: (number / SLOTS_APART) as u32,
-        ppn: (number % SLOTS_APART) as u32,
     }
 }
 
@@ -69,13 +56,6 @@ pub(crate) fn not_lent(status: u32) -> DomainLoan
         slot: 0,
         sharers: 0,
     }
-}
-
-/// Returns the number of a slot.
-fn slot_number(slot: Slot) -> u64
-    ensures { result ≡ slot_number slot }
-{
-    u64::from(slot.machine) * SLOTS_APART + u64::from(slot.ppn)
 }
 
 /// Returns the status for a page that wasn't lent.

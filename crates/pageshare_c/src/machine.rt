@@ -2,8 +2,8 @@
 ghost use Rattle.std.specs.Prelude.{◌≡◌, Some, None, MatchOption, is_some};
 
 use crate::hashed_core::HashedCore;
-use crate::parcel::Parcel;
 use crate::slot::Slot;
+use box_parcels::Parcel;
 use std::alloc::Global;
 
 /// A handle: room for one machine. It holds none while all its bytes are 0.

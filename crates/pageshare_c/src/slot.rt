@@ -1,11 +1,11 @@
 //! A core behind an address that says nothing about its type.
 ghost use Rattle.std.specs.Prelude.{◌≡◌, Option, Some, None, IsSome};
 ghost use Rattle.std.specs.Coded.{coded_option};
-ghost use Rattle.pageshare_c.specs.Hashed.{hashed_code};
+ghost use Rattle.pageshare_c.specs.Held.{core_row};
 ghost use Rattle.pageshare_c.specs.declared.hashed_core.HashedCore.{HashedCore};
 
 use crate::hashed_core::HashedCore;
-use crate::parcel::Parcel;
+use box_parcels::Parcel;
 use std::alloc::Global;
 use std::marker::Model;
 
@@ -15,13 +15,14 @@ use std::marker::Model;
 #[repr(C)]
 pub struct Slot {
     at: *mut u8,
-    pub ghost core: { Option HashedCore } by { coded_option hashed_code },
+    pub ghost core: { Option HashedCore } by { coded_option core_row.coded },
 }
 
 impl Model for Slot {
-    ghost use Rattle.pageshare_c.specs.Held.{held_owns};
+    ghost use Rattle.box_parcels.specs.Held.{held_owns};
+    ghost use Rattle.pageshare_c.specs.Held.{core_row};
 
-    ghost also_owns = { λ s. held_owns s.at s.core };
+    ghost also_owns = { λ s. held_owns core_row s.at s.core };
 }
 
 // SAFETY: a core and the heap may go to another thread, and so may the address of a block that nobody else has.

@@ -1,7 +1,6 @@
 pub mod Shapes
 pub mod Given
 pub mod Hosts
-pub mod HostedCode
 pub mod Held
 pub mod Packets
 pub mod Calls

@@ -2,8 +2,8 @@
 ghost use Rattle.std.specs.Prelude.{◌≡◌, Some, None, MatchOption, is_some};
 
 use crate::hosted::Hosted;
-use crate::parcel::Parcel;
 use crate::slot::HostSlot;
+use box_parcels::Parcel;
 use std::alloc::Global;
 
 /// A handle: room for one host. It holds none while all its bytes are 0.

@@ -13,10 +13,8 @@ ghost use Rattle.pageshare_host_c.specs.Packets.{ReceivesAt};
 
 mod begin;
 mod calls;
-mod given;
 mod handle;
 mod hosted;
-mod parcel;
 mod receive;
 mod shape;
 mod slot;

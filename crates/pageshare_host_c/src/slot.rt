@@ -1,11 +1,11 @@
 //! A host behind an address that says nothing about its type.
 ghost use Rattle.std.specs.Prelude.{◌≡◌, Option, Some, None, IsSome};
 ghost use Rattle.std.specs.Coded.{coded_option};
-ghost use Rattle.pageshare_host_c.specs.HostedCode.{hosted_code};
+ghost use Rattle.pageshare_host_c.specs.Held.{hosted_row};
 ghost use Rattle.pageshare_host_c.specs.declared.hosted.Hosted.{Hosted};
 
 use crate::hosted::Hosted;
-use crate::parcel::Parcel;
+use box_parcels::Parcel;
 use std::alloc::Global;
 use std::marker::Model;
 
@@ -15,13 +15,14 @@ use std::marker::Model;
 #[repr(C)]
 pub struct HostSlot {
     at: *mut u8,
-    pub ghost host: { Option Hosted } by { coded_option hosted_code },
+    pub ghost host: { Option Hosted } by { coded_option hosted_row.coded },
 }
 
 impl Model for HostSlot {
-    ghost use Rattle.pageshare_host_c.specs.Held.{held_owns};
+    ghost use Rattle.box_parcels.specs.Held.{held_owns};
+    ghost use Rattle.pageshare_host_c.specs.Held.{hosted_row};
 
-    ghost also_owns = { λ s. held_owns s.at s.host };
+    ghost also_owns = { λ s. held_owns hosted_row s.at s.host };
 }
 
 // SAFETY: a host and the heap may go to another thread, and so may the address of a block that nobody else has.

@@ -5,12 +5,12 @@ ghost use Rattle.page_model.specs.declared.limits.TheConstants.{MAX_FRAMES};
 ghost use Rattle.pageshare_host_c.specs.Hosts.{next_stage};
 ghost use Rattle.pageshare_host_c.specs.Shapes.{IsFit};
 
-use crate::given::GivenFrames;
 use crate::hosted::Hosted;
 use crate::shape::{HostShape, config_of};
 use host_sessions::Host;
 use machine_frames::Frames;
 use page_digest::FoldHash;
+use share_domain::GivenFrames;
 use std::alloc::{AllocError, Global};
 use std::marker::Model;
 

@@ -1,6 +1,7 @@
 -- What serving a text answers.
-use Rattle.std.proofs.Common.{◌≡◌, ◌^◌, ℕ, List, length, Result, Ok, Err, true, refl, ap, nat_lt}
+use Rattle.std.proofs.Common.{◌≡◌, ℕ, List, length, Result, Ok, Err, true, refl, ap, nat_lt}
 use Rattle.std.proofs.lemmas.Bool.{lt-ltb}
+use Rattle.page_model.specs.declared.limits.TheConstants.{MAX_TEXT_BYTES}
 use Rattle.text_words.specs.declared.fault.TextFault.{TextFault}
 use Rattle.text_words.specs.Words.{◌>>=◌}
 use Rattle.journal_replay.proofs.Refusals.{KnowsLong}
@@ -10,7 +11,7 @@ use Rattle.script_text.specs.Served.{serial_printed, serial_answer}
 -- too long a text is answered as such
 pub long_script : (hash : ℕ → List ℕ → ℕ) → KnowsLong (serial_answer hash)
 unfolding serial_answer script_of
-long_script hash text h = let test : nat_lt (2 ^ 26) (length text) ≡ true = lt-ltb (2 ^ 26) (length text) h in rw test refl
+long_script hash text h = let test : nat_lt MAX_TEXT_BYTES (length text) ≡ true = lt-ltb MAX_TEXT_BYTES (length text) h in rw test refl
 
 -- what is done with a text's script, or not
 goes_on : (ℕ → List ℕ → ℕ) → Result Script TextFault → Result (List ℕ) TextFault

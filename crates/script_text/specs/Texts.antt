@@ -1,6 +1,7 @@
 -- A script's text, version 1 or 2: what it says, or its first fault. Its lines are read in the same order as any text's.
-use Rattle.std.specs.Prelude.{ℕ, ◌+◌, ◌^◌, ◌==◌, ◌||◌, nat_lt, if◌then◌else◌, List, length, Some, Result, Ok, Err, codes}
+use Rattle.std.specs.Prelude.{ℕ, ◌+◌, ◌==◌, ◌||◌, nat_lt, if◌then◌else◌, List, length, Some, Result, Ok, Err, codes}
 use Rattle.page_model.specs.declared.request.Request.{Request}
+use Rattle.page_model.specs.declared.limits.TheConstants.{MAX_TEXT_BYTES, MAX_RING_CAPACITY, MAX_ENTRIES}
 use Rattle.text_words.specs.declared.fault.Cause.{Cause}
 use Rattle.text_words.specs.declared.fault.Cause.TheVariants as causes
 use Rattle.text_words.specs.declared.fault.TextFault.{TextFault}
@@ -32,12 +33,12 @@ named_number name line = do
 
 -- rings of 1 to 65,536 items
 abbrev pub ring_in_limits : ℕ → Result ℕ Cause
-ring_in_limits n = if n == 0 || nat_lt (2 ^ 16) n then Err causes.Ring else Ok n
+ring_in_limits n = if n == 0 || nat_lt MAX_RING_CAPACITY n then Err causes.Ring else Ok n
 
 -- a journal of 1 to 16,777,216 entries, with room for a close of each guest
 abbrev pub journal_in_limits : ℕ → ℕ → Result ℕ Cause
 journal_in_limits guests n =
-    if n == 0 || nat_lt (2 ^ 24) n then Err causes.Journal
+    if n == 0 || nat_lt MAX_ENTRIES n then Err causes.Journal
     else if nat_lt n guests then Err causes.TooMany
     else Ok n
 
@@ -86,4 +87,4 @@ script_in text = do
 
 -- What a script's text says: its script, or its first fault. A text has at most 67,108,864 bytes, which is checked first.
 unfoldable pub script_of : List ℕ → Result Script TextFault
-script_of text = if nat_lt (2 ^ 26) (length text) then Err faults.Long else script_in text
+script_of text = if nat_lt MAX_TEXT_BYTES (length text) then Err faults.Long else script_in text

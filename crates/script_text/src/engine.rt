@@ -2,7 +2,7 @@
 ghost use Rattle.std.specs.Prelude.{◌≡◌, ◌+◌, ◌≤◌, [], false, length, string_bytes, string_capacity, vec_capacity};
 ghost use Rattle.merge_core.specs.Shown.{state_of};
 ghost use Rattle.merge_machine.specs.Scripts.{entries_needed};
-ghost use Rattle.journal_replay.specs.Ends.{WritesAll, tells_read, tells_write};
+ghost use Rattle.journal_replay.specs.Ends.{WritesAll, has_read_fault, has_write_fault};
 ghost use Rattle.journal_replay.specs.Replayed.{Prints, printed_from};
 ghost use Rattle.script_text.specs.Order.{serial_order};
 ghost use Rattle.script_text.specs.Served.{serial_printed, Serves};
@@ -14,7 +14,7 @@ use crate::order::{push_turn, turns_of};
 use crate::reader::read_script;
 use crate::script::Script;
 use journal_replay::ends::read_all;
-use journal_replay::engine::{core_of, print_report, serve_entries, tell_fault};
+use journal_replay::engine::{core_of, print_fault, print_report, serve_entries};
 use journal_replay::output::{LINE_BYTES, buffer};
 use journal_replay::{Sink, Source};
 use merge_core::Core;
@@ -98,8 +98,8 @@ pub fn serial<R: Source, W: Sink, H: PageHash + Drop, A: Allocator + Clone>(
     requires reader { R.has_failed reader.old ≡ false }
     requires writer { W.has_failed writer.old ≡ false }
     ensures bytes { Serves H.hash_of (R.remaining reader.old) (W.contents writer.old) (W.contents writer.new) result }
-    ensures reader { R.has_failed reader.new ≡ tells_read result }
-    ensures writer { W.has_failed writer.new ≡ tells_write result }
+    ensures reader { R.has_failed reader.new ≡ has_read_fault result }
+    ensures writer { W.has_failed writer.new ≡ has_write_fault result }
 {
     let text = match read_all(alloc.clone()?, reader) {
         Ok(text) => text,
@@ -107,6 +107,6 @@ pub fn serial<R: Source, W: Sink, H: PageHash + Drop, A: Allocator + Clone>(
     };
     match read_script(alloc.clone()?, &text) {
         Ok(script) => print_script(alloc, &script, writer, hash),
-        Err(fault) => tell_fault(alloc, writer, fault),
+        Err(fault) => print_fault(alloc, writer, fault),
     }
 }

@@ -1,12 +1,12 @@
 //! The reader of scripts.
-ghost use Rattle.std.specs.Prelude.{◌≡◌, ◌+◌, ◌≤◌, ◌<◌, ◌^◌, All, [], false, length, replicate, IfOk, IfErr, OnOk};
+ghost use Rattle.std.specs.Prelude.{◌≡◌, ◌+◌, ◌≤◌, ◌<◌, All, [], false, length, replicate, IfOk, IfErr, OnOk};
 ghost use Rattle.page_model.specs.Closing.{has_close};
 ghost use Rattle.text_words.specs.Views.{Gives};
 ghost use Rattle.merge_machine.specs.Scripts.{entries_needed};
 ghost use Rattle.script_text.specs.Texts.{scripts_in, script_in, script_of};
 ghost use Rattle.script_text.specs.Views.{lists_of, script_seen, Fills, Adds};
 ghost use Rattle.text_words.specs.declared.fault.TextFault.TheVariants.{OutOfMemory};
-ghost use Rattle.page_model.specs.declared.limits.TheConstants.{MAX_GUESTS};
+ghost use Rattle.page_model.specs.declared.limits.TheConstants.{MAX_GUESTS, MAX_TEXT_BYTES};
 
 use crate::fill::add;
 use crate::line::read_script_line;
@@ -52,7 +52,7 @@ fn add_lines<A: Allocator>(
     requires some { All (λ n. 1 ≤ n) pages.now }
     requires empty { lists_of scripts.old.items ≡ replicate (length pages.now) [] }
     requires room { length pages.now ≤ most }
-    requires short { length text.now ≤ 2 ^ 26 }
+    requires short { length text.now ≤ MAX_TEXT_BYTES }
     ensures value { Fills (lists_of scripts.new.items) result (scripts_in pages.now most first text.now) }
     ensures guests { OnOk result (length scripts.new.items ≡ length pages.now) }
     ensures plain { OnOk result (All (λ script. has_close script.items ≡ false) scripts.new.items) }
@@ -90,7 +90,7 @@ fn read_lists<A: Allocator + Clone>(
     requires guests { length pages.now ≤ MAX_GUESTS }
     requires some { All (λ n. 1 ≤ n) pages.now }
     requires room { length pages.now ≤ most }
-    requires short { length text.now ≤ 2 ^ 26 }
+    requires short { length text.now ≤ MAX_TEXT_BYTES }
     ensures value { Gives (λ v. lists_of v.items) result (scripts_in pages.now most first text.now) }
     ensures guests { IfOk result (λ v. length v.items ≡ length pages.now) }
     ensures plain { IfOk result (λ v. All (λ script. has_close script.items ≡ false) v.items) }
@@ -104,7 +104,7 @@ fn read_lists<A: Allocator + Clone>(
 /// Reads the script of a text that is not too long.
 #[tactic(auto, unfolding(crate::specs::Texts::script_in))]
 fn script_in<A: Allocator + Clone>(alloc: A, text: &[u8]) -> Result<Script<A>, TextFault>
-    requires { length text.now ≤ 2 ^ 26 }
+    requires { length text.now ≤ MAX_TEXT_BYTES }
     ensures { Gives script_seen result (script_in text.now) }
 {
     let (head, rest) = read_head(

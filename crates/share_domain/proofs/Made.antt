@@ -2,12 +2,14 @@
 use Rattle.std.proofs.Common.{◌≡◌, ℕ, ◌<◌, ◌≤◌, List, [], ◌∷◌, ◌++◌, length, replicate, get_or, refl, ap, sym, ◌∙◌, arith}
 use Rattle.std.proofs.lemmas.List.{get_or_at, get_or-replicate, length-append, length-replicate, length_push, replicate-append-replicate}
 use Rattle.std.specs.Prelude.{None, Option}
+use Rattle.page_model.specs.declared.limits.TheConstants.{MAX_FRAMES, MAX_PAGES}
 use Rattle.machine_frames.specs.FrameMap.{FrameMap, no_frames}
 use Rattle.lent_slots.specs.declared.holding.Holding.{Holding}
 use Rattle.lent_slots.specs.Slots.{MachineView}
 use Rattle.lent_slots.specs.Totals.{empty_machine}
 use Rattle.share_domain.specs.declared.client.Presence.{Presence}
 use Rattle.share_domain.specs.declared.client.Presence.TheVariants.{Out}
+use Rattle.share_domain.specs.declared.config.TheConstants.{MAX_MACHINES, MAX_CLIENTS}
 use Rattle.share_domain.specs.Domains.{machine_at, no_machine}
 use Rattle.share_domain.specs.Sound.{SoundDomain}
 
@@ -36,7 +38,7 @@ more_made machines after done own x slots frames count em ex ec ea =
     ∙ replicate-append-replicate (length done) 1 v ∙ ap (λ (n : ℕ). replicate n v) (sym (length_push done own))
 
 -- the sizes of a new domain
-pub sound_new : (machines slots frames clients : ℕ) → (1 ≤ machines) × (machines ≤ 64) → slots ≤ 1048576 → frames ≤ 1048576 → clients ≤ 65536
+pub sound_new : (machines slots frames clients : ℕ) → (1 ≤ machines) × (machines ≤ MAX_MACHINES) → slots ≤ MAX_PAGES → frames ≤ MAX_FRAMES → clients ≤ MAX_CLIENTS
     → SoundDomain frames (replicate machines (empty_machine slots frames)) (replicate clients Out)
 sound_new machines slots frames clients some few_slots few_frames few_clients =
     let v : MachineView = empty_machine slots frames in

@@ -2,6 +2,7 @@
 ghost use Rattle.std.specs.Prelude.{◌≡◌, ◌<◌, ◌≤◌, ◌↔◌, IfSome, IsTrue, length, slice_get, position};
 ghost use Rattle.share_domain.specs.Domains.{is_out};
 ghost use Rattle.share_domain.specs.Leaving.{is_here};
+ghost use Rattle.share_domain.specs.declared.config.TheConstants.{MAX_CLIENTS};
 
 use crate::client::Presence;
 
@@ -24,7 +25,7 @@ fn first_out(clients: &[Presence]) -> Option<usize>
 
 /// Returns the first number that no client has.
 pub(crate) fn find_out(clients: &[Presence]) -> Option<u32>
-    requires { length clients.now ≤ 65536 }
+    requires { length clients.now ≤ MAX_CLIENTS }
     ensures client { result ≡ position is_out clients.now }
     ensures within { IfSome result (λ client. client < length clients.now) }
 {

@@ -1,8 +1,10 @@
 //! The slots of a client that leaves.
 ghost use Rattle.std.specs.Prelude.{◌≡◌, ◌<◌, ◌≤◌, drop, length, position, IfSome};
+ghost use Rattle.page_model.specs.declared.limits.TheConstants.{MAX_PAGES};
 ghost use Rattle.lent_slots.specs.Slots.{is_of};
 ghost use Rattle.share_domain.specs.Leaving.{next_slot, ppn_after, slot_from, told};
 ghost use Rattle.share_domain.specs.Sound.{HaveFewSlots};
+ghost use Rattle.share_domain.specs.declared.config.TheConstants.{MAX_MACHINES};
 
 use crate::client::NO_FRAME;
 use crate::holding::Slot;
@@ -20,7 +22,7 @@ fn find_in(slots: &[Option<Holding>], client: u32) -> Option<usize>
 
 /// Returns the first of these slots after this one that is the client's.
 fn find_after(slots: &[Option<Holding>], client: u32, ppn: u32) -> Option<u32>
-    requires { length slots.now ≤ 1048576 }
+    requires { length slots.now ≤ MAX_PAGES }
     ensures { result ≡ ppn_after client ppn slots.now }
 {
     let start = ppn as usize + 1;
@@ -49,7 +51,7 @@ pub(crate) fn find_slot<H: PageHash, A: Allocator>(
     client: u32,
     first: usize,
 ) -> Option<Slot>
-    requires machines { length machines.now.items ≤ 64 }
+    requires machines { length machines.now.items ≤ MAX_MACHINES }
     requires slots { HaveFewSlots machines.now.items }
     requires first { first ≤ length machines.now.items }
     ensures slot { result ≡ slot_from client first (drop first machines.now.items) }
@@ -72,7 +74,7 @@ pub(crate) fn find_next<H: PageHash, A: Allocator>(
     client: u32,
     slot: Slot,
 ) -> Option<Slot>
-    requires machines { length machines.now.items ≤ 64 }
+    requires machines { length machines.now.items ≤ MAX_MACHINES }
     requires slots { HaveFewSlots machines.now.items }
     requires within { slot.machine < length machines.now.items }
     ensures slot { result ≡ next_slot client slot machines.now.items }

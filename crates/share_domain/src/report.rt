@@ -1,6 +1,7 @@
 //! What a domain counts.
 ghost use Rattle.std.specs.Prelude.{◌≡◌, ◌≤◌, length, count_by};
 ghost use Rattle.share_domain.specs.Totals.{is_present, totals_of};
+ghost use Rattle.share_domain.specs.declared.config.TheConstants.{MAX_CLIENTS, MAX_MACHINES};
 
 use crate::client::Presence;
 use lent_slots::LentSlots;
@@ -29,8 +30,8 @@ pub(crate) fn report<H: PageHash, A: Allocator>(
     machines: &Vec<LentSlots<H, A>, A>,
     clients: &[Presence],
 ) -> DomainReport
-    requires machines { length machines.now.items ≤ 64 }
-    requires clients { length clients.now ≤ 65536 }
+    requires machines { length machines.now.items ≤ MAX_MACHINES }
+    requires clients { length clients.now ≤ MAX_CLIENTS }
     ensures { result ≡ totals_of machines.now.items clients.now }
 {
     let mut slots = 0;
@@ -53,7 +54,7 @@ pub(crate) fn report<H: PageHash, A: Allocator>(
 
 /// Counts the clients that have entered and aren't out.
 fn count_present(clients: &[Presence]) -> u32
-    requires { length clients.now ≤ 65536 }
+    requires { length clients.now ≤ MAX_CLIENTS }
     ensures { result ≡ count_by is_present clients.now }
 {
     let mut count = 0;

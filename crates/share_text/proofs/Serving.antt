@@ -1,11 +1,13 @@
 -- How the work on a script ends, and on a text.
-use Rattle.std.proofs.Common.{◌≡◌, ◌≤◌, ◌^◌, ℕ, List, length, Option, Some, None, Result, Ok, Err, true, false, refl, ap, sym, subst, nat_lt, arith}
+use Rattle.std.proofs.Common.{◌≡◌, ◌≤◌, ℕ, List, length, Option, Some, None, Result, Ok, Err, true, false, refl, ap, sym, subst, nat_lt, arith}
 use Rattle.std.specs.Prelude.{IfSome, IfOk, IfErr, OnOk, IsErr}
 use Rattle.std.specs.Io.KnownBytes.{Appends}
 use Rattle.std.specs.declared.vec.Vec.{Vec}
 use Rattle.std.proofs.lemmas.Bool.{lt-ltb}
+use Rattle.page_model.specs.declared.machine_shape.ShapeFault.TheVariants as shape
 use Rattle.page_model.specs.declared.request.Entry.{Entry}
 use Rattle.page_model.specs.declared.request.Request.{Request}
+use Rattle.page_model.specs.declared.limits.TheConstants.{MAX_TEXT_BYTES}
 use Rattle.merge_machine.specs.Limits.{IsMachine}
 use Rattle.merge_machine.specs.declared.config.Config.{Config}
 use Rattle.merge_run.specs.Runs.{NotRunFor}
@@ -26,13 +28,13 @@ use Rattle.share_text.specs.declared.fault.ThreadedFault.{ThreadedFault}
 use Rattle.share_text.specs.declared.fault.ThreadedFault.TheVariants as threaded
 use Rattle.share_text.specs.declared.form.Output.{Output}
 
--- what is due for a run that has ended was written, or why it wasn't is told
+-- what is due for a run that has ended was written, or the answer says why it wasn't
 pub wrote : (hash : ℕ → List ℕ → ℕ) (form : Output) (s : Script) (es : List Entry) (old new : Option (List ℕ)) (r : Result (Unit {0}) TextFault)
     → IsRunOf s es → OnOk r (Appends old new (run_text hash form s es)) → IfErr r (λ e. NotPrinted old new (run_text hash form s es) e) → Serves hash form s old new (of_text r)
 wrote hash form s es old new (Ok done) is ok err = record { outcome = Ran es; can_end = is; ends = record { answers = tt; ok = ok; err = tt } }
 wrote hash form s es old new (Err e) is ok err = record { outcome = Ran es; can_end = is; ends = record { answers = tt; ok = tt; err = err } }
 
--- a script's run was refused, and that is told
+-- a script's run was refused, and the answer says so
 pub not_run : (hash : ℕ → List ℕ → ℕ) (form : Output) (s : Script) (old new : Option (List ℕ)) (r : Result (Unit {0}) ThreadedFault) → EndsAs NoThread no_thread_text old new r → Serves hash form s old new r
 not_run hash form s old new r ends = record { outcome = NoThread; can_end = tt; ends = ends }
 
@@ -41,9 +43,9 @@ module _ {A : Type 0} where
   pub left : (c : Config A) (scripts : List (Vec Request A)) (fault : RunFault) → IsMachine c → entries_needed scripts ≤ c.journal → NotRunFor c scripts fault → IsLeft fault
   left c scripts runs.OutOfMemory is room why = tt
   left c scripts runs.NoThread is room why = tt
-  left c scripts runs.Frames is room why = why is.0.0
-  left c scripts runs.Guests is room why = why.1 is.0.1
-  left c scripts runs.Pages is room why = why.2 is.0.2
+  left c scripts (runs.Shape shape.Frames) is room why = why is.0.0
+  left c scripts (runs.Shape shape.Guests) is room why = why.1 is.0.1
+  left c scripts (runs.Shape shape.Pages) is room why = why.2 is.0.2
   left c scripts runs.Ring is room why = why.1 is.1
   left c scripts runs.Journal is room why = why.2 is.2
   left c scripts (runs.Stopped full) is room why = omega (arith, room, why.1)
@@ -59,7 +61,7 @@ may_end (Some text) = let P : (said : Result Script TextFault) → IfOk said (λ
 -- the answer to too long a text
 too_long : (hash : ℕ → List ℕ → ℕ) (form : Output) (outcome : Outcome) → KnowsLong (run_answer hash form outcome)
 unfolding run_answer script_of
-too_long hash form outcome text h = let test : nat_lt (2 ^ 26) (length text) ≡ true = lt-ltb (2 ^ 26) (length text) h in rw test refl
+too_long hash form outcome text h = let test : nat_lt MAX_TEXT_BYTES (length text) ≡ true = lt-ltb MAX_TEXT_BYTES (length text) h in rw test refl
 
 -- a script's run gives the text's answer
 answer_ok : (hash : ℕ → List ℕ → ℕ) (form : Output) (outcome : Outcome) (text : List ℕ) (s : Script) → script_of text ≡ Ok s → run_answer hash form outcome text ≡ Ok (outcome_text hash form s outcome)
@@ -108,12 +110,12 @@ fault_written : (hash : ℕ → List ℕ → ℕ) (form : Output) (input old new
 fault_written hash form input old new (Ok done) is h = cc
 fault_written hash form input old new (Err e) is h = record { outcome = NoThread; can_end = may_end input; answers = tt; writes = h }
 
--- where the text is at fault, that is told
+-- where the text is at fault, the answer says so
 pub threads_refused : (hash : ℕ → List ℕ → ℕ) (form : Output) (input old new : Option (List ℕ)) (text : List ℕ) (fault : TextFault) (r : Result (Unit {0}) TextFault)
     → IfSome input (λ bytes. text ≡ bytes) → Fails fault (script_of text) → Refused fault old new r → Threads hash form input old new (of_text r)
-threads_refused hash form input old new text fault r same fails told =
-    fault_written hash form input old new r (refused_err fault old new r told)
-    (refused (run_answer hash form NoThread) input old new text (script_of text) fault r (λ e h. answer_err hash form NoThread text e h) same fails told)
+threads_refused hash form input old new text fault r same fails refuses =
+    fault_written hash form input old new r (refused_err fault old new r refuses)
+    (refused (run_answer hash form NoThread) input old new text (script_of text) fault r (λ e h. answer_err hash form NoThread text e h) same fails refuses)
 
 -- where a script was read, its run is written
 pub threads_served : (hash : ℕ → List ℕ → ℕ) (form : Output) (s : Script) (input old new : Option (List ℕ)) (text : List ℕ) (r : Result (Unit {0}) ThreadedFault)

@@ -9,7 +9,7 @@ use Rattle.merge_run.specs.View.{settled_journal, settled_core}
 use Rattle.merge_run.specs.declared.finished.Finished.{Finished}
 use Rattle.merge_run.specs.declared.run_fault.RunFault.{RunFault}
 use Rattle.merge_run.specs.declared.run_fault.RunFault.TheVariants as runs
-use Rattle.journal_replay.specs.Ends.{tells_read, tells_write}
+use Rattle.journal_replay.specs.Ends.{has_read_fault, has_write_fault}
 use Rattle.journal_replay.specs.Replayed.{report_text, NotPrinted, Writes}
 use Rattle.text_words.specs.Words.{◌>>=◌}
 use Rattle.journal_text.specs.Written.{journal_text}
@@ -84,17 +84,15 @@ pub record NeitherFailed (read_failed write_failed : Bool) : Type 0 where
 pub record RunsText (hash : ℕ → List ℕ → ℕ) (form : Output) (input old new : Option (List ℕ)) (read_failed write_failed : Bool)
     (r : Result (Unit {0}) ThreadedFault) : Type 0 where
   pub bytes : Threads hash form input old new r
-  pub reader : read_failed ≡ tells_read (as_written r)
-  pub writer : write_failed ≡ tells_write (as_written r)
+  pub reader : read_failed ≡ has_read_fault (as_written r)
+  pub writer : write_failed ≡ has_write_fault (as_written r)
 
 -- The causes that are left for the run of a script that was read: its machine is within the limits, and its journal has room
 -- for all that its guests send.
 abbrev pub IsLeft : RunFault → Type 0
 IsLeft runs.OutOfMemory = Unit {0}
 IsLeft runs.NoThread = Unit {0}
-IsLeft runs.Frames = ⊥
-IsLeft runs.Guests = ⊥
-IsLeft runs.Pages = ⊥
+IsLeft (runs.Shape fault) = ⊥
 IsLeft runs.Ring = ⊥
 IsLeft runs.Journal = ⊥
 IsLeft (runs.Stopped full) = ⊥

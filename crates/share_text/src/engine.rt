@@ -1,7 +1,7 @@
 //! The engine that runs a script, with a thread for each guest.
 ghost use Rattle.std.specs.Prelude.{◌≡◌, false, MatchResult};
 ghost use Rattle.merge_run.specs.Runs.{CanBeRun, IsWholeRun, NotRunFor};
-ghost use Rattle.journal_replay.specs.Ends.{tells_read, tells_write};
+ghost use Rattle.journal_replay.specs.Ends.{has_read_fault, has_write_fault};
 ghost use Rattle.script_text.specs.Views.{script_seen};
 ghost use Rattle.share_text.specs.Threads as threads;
 ghost use Rattle.share_text.specs.Threads.{EndsAs, IsLeft, NeitherFailed, RunsText, Serves, as_written, no_thread_text, of_text};
@@ -10,7 +10,7 @@ use crate::fault::ThreadedFault;
 use crate::form::Output;
 use crate::printing::print_run;
 use journal_replay::ends::{read_all, write_all};
-use journal_replay::engine::tell_fault;
+use journal_replay::engine::print_fault;
 use journal_replay::{Sink, Source};
 use merge_machine::Config;
 use merge_run::{Finished, Gate, RunFault, run};
@@ -35,11 +35,11 @@ fn of_text(answer: Result<(), TextFault>) -> Result<(), ThreadedFault>
 }
 
 /// Writes the line of a run that was refused for lack of a thread, and returns that fault.
-fn tell_no_thread<W: Sink>(writer: &mut W) -> Result<(), ThreadedFault>
+fn print_no_thread<W: Sink>(writer: &mut W) -> Result<(), ThreadedFault>
     requires fine { W.has_failed writer.old ≡ false }
     ensures ends { EndsAs threads.NoThread no_thread_text (W.contents writer.old) (W.contents writer.new) result }
-    ensures reader { tells_read (as_written result) ≡ false }
-    ensures writer { W.has_failed writer.new ≡ tells_write (as_written result) }
+    ensures reader { has_read_fault (as_written result) ≡ false }
+    ensures writer { W.has_failed writer.new ≡ has_write_fault (as_written result) }
 {
     match write_all(writer, "fault run: no-thread\n".as_bytes()) {
         Ok(()) => Err(ThreadedFault::NoThread),
@@ -48,19 +48,17 @@ fn tell_no_thread<W: Sink>(writer: &mut W) -> Result<(), ThreadedFault>
 }
 
 /// Returns why the run of a script that was read was refused. If it was for lack of a thread, writes the line of that fault.
-fn tell_refused<W: Sink>(writer: &mut W, fault: RunFault) -> Result<(), ThreadedFault>
+fn print_refusal<W: Sink>(writer: &mut W, fault: RunFault) -> Result<(), ThreadedFault>
     requires left { IsLeft fault }
     requires fine { W.has_failed writer.old ≡ false }
     ensures ends { EndsAs threads.NoThread no_thread_text (W.contents writer.old) (W.contents writer.new) result }
-    ensures reader { tells_read (as_written result) ≡ false }
-    ensures writer { W.has_failed writer.new ≡ tells_write (as_written result) }
+    ensures reader { has_read_fault (as_written result) ≡ false }
+    ensures writer { W.has_failed writer.new ≡ has_write_fault (as_written result) }
 {
     match fault {
-        RunFault::NoThread => tell_no_thread(writer),
+        RunFault::NoThread => print_no_thread(writer),
         RunFault::OutOfMemory => Err(ThreadedFault::Text(TextFault::OutOfMemory)),
-        RunFault::Frames => unreachable!(),
-        RunFault::Guests => unreachable!(),
-        RunFault::Pages => unreachable!(),
+        RunFault::Shape(_) => unreachable!(),
         RunFault::Ring => unreachable!(),
         RunFault::Journal => unreachable!(),
         RunFault::Stopped(_) => unreachable!(),
@@ -129,13 +127,13 @@ fn run_script<
 ) -> Result<(), ThreadedFault>
     requires fine { W.has_failed writer.old ≡ false }
     ensures serves { Serves H.hash_of form (script_seen script) (W.contents writer.old) (W.contents writer.new) result }
-    ensures reader { tells_read (as_written result) ≡ false }
-    ensures writer { W.has_failed writer.new ≡ tells_write (as_written result) }
+    ensures reader { has_read_fault (as_written result) ≡ false }
+    ensures writer { W.has_failed writer.new ≡ has_write_fault (as_written result) }
 {
     let Script { config, scripts } = script;
     match run_machine(rt, alloc, &config, hash, scripts, onlookers) {
         Ok(finished) => of_text(print_run(alloc, form, &config, &finished, writer)),
-        Err(fault) => tell_refused(writer, fault),
+        Err(fault) => print_refusal(writer, fault),
     }
 }
 
@@ -167,7 +165,7 @@ fn read_and_run<
     };
     match read_script(alloc, &text) {
         Ok(script) => run_script(rt, alloc, script, writer, hash, onlookers, form),
-        Err(fault) => of_text(tell_fault(alloc, writer, fault)),
+        Err(fault) => of_text(print_fault(alloc, writer, fault)),
     }
 }
 

@@ -1,6 +1,8 @@
-//! Worked domains, served by the public calls of `share_domain`: clients that come and go, and what is counted. This crate has only
-//! tests.
+//! Worked domains, served by the public calls of `share_domain`: clients that come and go, frames that are given, and what is
+//! counted. This crate has only tests.
 #![tactic(auto)]
 
 #[cfg(test)]
 mod clients;
+#[cfg(test)]
+mod given;

@@ -12,7 +12,7 @@ fn says(alloc: Global, fault: &TextFault, wanted: &str, shown: &str) -> Result<b
 }
 
 #[test]
-fn lines_tell_what_was_expected(rt: HostRuntime) -> Result<(), Fail> {
+fn lines_report_what_was_expected(rt: HostRuntime) -> Result<(), Fail> {
     assert!(rt;
         says(
             rt.alloc(),
@@ -41,7 +41,7 @@ fn lines_tell_what_was_expected(rt: HostRuntime) -> Result<(), Fail> {
 }
 
 #[test]
-fn texts_tell_what_was_expected(rt: HostRuntime) -> Result<(), Fail> {
+fn texts_report_what_was_expected(rt: HostRuntime) -> Result<(), Fail> {
     assert!(rt;
         says(
             rt.alloc(),
@@ -70,30 +70,30 @@ fn texts_tell_what_was_expected(rt: HostRuntime) -> Result<(), Fail> {
 }
 
 #[test]
-fn a_cause_tells_what_to_do(rt: HostRuntime) -> Result<(), Fail> {
+fn a_cause_says_what_to_do(rt: HostRuntime) -> Result<(), Fail> {
     let text = format!(in rt.alloc(); "{}", Cause::Length)?;
     assert_eq!(rt; text.as_str(), "store or load 1 to 64 bytes");
     Ok(())
 }
 
 /// Whether a run's fault has this line, expects this, and is shown as a person reads it.
-fn tells(
+fn has_texts(
     alloc: Global,
     fault: &ThreadedFault,
     line: &str,
     wanted: &str,
     shown: &str,
 ) -> Result<bool, AllocError> {
-    let told = threaded_fault_line(alloc, fault)?;
+    let printed = threaded_fault_line(alloc, fault)?;
     let text = format!(in alloc; "{fault}")?;
-    Ok(told.as_str() == line && threaded_expectation(fault) == wanted && text.as_str() == shown)
+    Ok(printed.as_str() == line && threaded_expectation(fault) == wanted && text.as_str() == shown)
 }
 
 /// No run of a test can make a thread be refused, so the sentence about it is compared here.
 #[test]
-fn refused_threads_are_told(rt: HostRuntime) -> Result<(), Fail> {
+fn refused_threads_are_reported(rt: HostRuntime) -> Result<(), Fail> {
     assert!(rt;
-        tells(
+        has_texts(
             rt.alloc(),
             &ThreadedFault::NoThread,
             "fault run: no-thread",
@@ -102,7 +102,7 @@ fn refused_threads_are_told(rt: HostRuntime) -> Result<(), Fail> {
         )?
     );
     assert!(rt;
-        tells(
+        has_texts(
             rt.alloc(),
             &ThreadedFault::Text(TextFault::Line(2, Cause::Form)),
             "fault line 2: form",

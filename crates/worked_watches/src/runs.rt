@@ -5,7 +5,7 @@ ghost use Rattle.merge_run.specs.Runs.{CanBeRun};
 
 use crate::config::config_of;
 use page_digest::Sha256Hash;
-use page_model::{Report, Request, Verdict};
+use page_model::{Report, Request, ShapeFault, Verdict};
 use refusing::Refusing;
 use std::alloc::{AllocError, Allocator, Global};
 use std::process::Abort;
@@ -143,9 +143,9 @@ fn fault_without_memory<R: Threads + Wait + Abort + Sync>(
 
 // The two scripts need five entries.
 #[test]
-fn want_of_memory_is_told_last(rt: HostRuntime) {
+fn out_of_memory_is_reported_last(rt: HostRuntime) {
     let cases = [
-        ((0, 1, 5), RunFault::Frames),
+        ((0, 1, 5), RunFault::Shape(ShapeFault::Frames)),
         ((2, 0, 5), RunFault::Ring),
         ((2, 1, 0), RunFault::Journal),
         ((2, 1, 4), RunFault::Stopped(JournalFull)),
@@ -160,7 +160,7 @@ fn want_of_memory_is_told_last(rt: HostRuntime) {
 #[test]
 fn faults_with_memory(rt: HostRuntime) {
     let cases = [
-        ((0, 1, 5), RunFault::Frames),
+        ((0, 1, 5), RunFault::Shape(ShapeFault::Frames)),
         ((2, 1, 4), RunFault::Stopped(JournalFull)),
     ];
     for (numbers, fault) in cases {

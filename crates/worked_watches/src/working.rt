@@ -60,7 +60,7 @@ impl Gate for Busy {
     fn after(&self, _guest: u8, _nth: u32) {}
 }
 
-/// Hashes to byte 0 of the page, and waits as byte 0 tells.
+/// Hashes to byte 0 of the page, and waits as byte 0 says.
 #[derive(Drop)]
 struct Waiting<'a> {
     busy: &'a Busy,

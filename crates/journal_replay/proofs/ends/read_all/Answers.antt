@@ -1,6 +1,7 @@
-use Rattle.std.proofs.Common.{◌≡◌, ◌^◌, ◌<◌, ◌++◌, [], length, take, arith, length-append}
+use Rattle.std.proofs.Common.{◌≡◌, ◌<◌, ◌++◌, [], length, take, arith, length-append}
 use Rattle.std.specs.Io.KnownBytes.{Consumes}
 use Rattle.std.proofs.KnownBytes.{Consumes-trans, Consumes-kept}
+use Rattle.page_model.specs.declared.limits.TheConstants.{MAX_TEXT_BYTES}
 use Rattle.journal_replay.proofs.Known.{read_end, read_more}
 use Rattle.journal_replay.proofs.ends.read_all.Goals as goal
 
@@ -18,8 +19,8 @@ returns-then-n-len-clause-err g c =
     let text = c.loop-piece.text.items in
     let got = take c.in-Ok.n c.read.new.buf in
     let all : Consumes (remaining c.args.reader.now) (remaining c.read.new.self) (text ++ got) = Consumes-trans _ _ _ text got c.loop-piece.invariant.got c.in-Ok.ensures.bytes.0 in
-    let above : 2 ^ 26 < length (text ++ got) = omega (arith, length-append text got, c.in-Ok.ensures.bound, c.loop-piece.text.ok.0, c.len.ensures) in
-    read_more (remaining c.args.reader.now) (remaining c.read.new.self) (2 ^ 26) (text ++ got) all above
+    let above : MAX_TEXT_BYTES < length (text ++ got) = omega (arith, length-append text got, c.in-Ok.ensures.bound, c.loop-piece.text.ok.0, c.len.ensures) in
+    read_more (remaining c.args.reader.now) (remaining c.read.new.self) MAX_TEXT_BYTES (text ++ got) all above
 
 pub returns-in-Err-clause-read : goal.returns-in-Err-clause-read
 returns-in-Err-clause-read g c same =

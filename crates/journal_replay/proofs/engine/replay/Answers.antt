@@ -20,5 +20,5 @@ pub returns-in-Err-read_journal-clause-bytes : goal.returns-in-Err-read_journal-
 returns-in-Err-read_journal-clause-bytes g c =
     let hash = g.H.HashFunction.hash_of in
     let text = c.in-Ok.text.items in
-    refused (answer_of hash) (g.R.Source.remaining c.args.reader.now) (g.W.Sink.contents c.args.writer.now) (g.W.Sink.contents c.tell_fault.new.writer)
-    text (journal_of c.deref.result.now) c.in-Err-read_journal.fault c.tell_fault.result (λ e h. answer_err hash text e (ap journal_of (sym c.deref.ensures.value) ∙ h)) c.in-Ok.ensures.ok c.in-Err-read_journal.ensures c.tell_fault.ensures.told
+    refused (answer_of hash) (g.R.Source.remaining c.args.reader.now) (g.W.Sink.contents c.args.writer.now) (g.W.Sink.contents c.print_fault.new.writer)
+    text (journal_of c.deref.result.now) c.in-Err-read_journal.fault c.print_fault.result (λ e h. answer_err hash text e (ap journal_of (sym c.deref.ensures.value) ∙ h)) c.in-Ok.ensures.ok c.in-Err-read_journal.ensures c.print_fault.ensures.refused

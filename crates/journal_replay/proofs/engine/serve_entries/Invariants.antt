@@ -1,6 +1,7 @@
 use Rattle.std.proofs.Common.{◌≡◌, ◌+◌, ◌++◌, ◌≤◌, length, drop, false, string_bytes, string_capacity}
 use Rattle.merge_core.specs.Shown.{state_of}
 use Rattle.page_model.specs.Replay.{state_after}
+use Rattle.journal_replay.specs.declared.output.TheConstants.{LINE_BYTES}
 use Rattle.journal_replay.specs.Ends.{Sends}
 use Rattle.journal_replay.specs.Replayed.{lines_from}
 use Rattle.journal_replay.proofs.engine.serve_entries.Given as goal
@@ -12,5 +13,5 @@ invariant-loop-at g l = record {
   count : l.core.entries ≡ l.fn.core.entries + l.at;
   guests : length (state_of l.core).guests ≡ length (state_of l.fn.core).guests;
   fine : g.W.Sink.has_failed l.writer ≡ false;
-  room : 160 ≤ string_capacity l.out;
+  room : LINE_BYTES ≤ string_capacity l.out;
 }

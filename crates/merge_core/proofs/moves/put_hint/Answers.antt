@@ -3,12 +3,12 @@ use Rattle.page_model.proofs.Places.{at_same}
 use Rattle.merge_core.specs.View.{pmap_of, notes_of}
 use Rattle.std.proofs.Common.{None}
 use Rattle.page_model.specs.Pages.{Private}
+use Rattle.merge_core.proofs.FrameLemmas.{taken_within}
 use Rattle.merge_core.proofs.Holders.{room_for}
 use Rattle.merge_core.proofs.Changes.{put_ties, put_guests}
 use Rattle.merge_core.proofs.Limits.{few_after, place_few, hints_few}
 use Rattle.share_table.proofs.Maps.{len_new}
 use Rattle.merge_core.proofs.moves.put_hint.Goals as goal
-use Rattle.machine_frames.proofs.Used.{taken_within}
 
 pub put_hint-requires-clause-room : goal.put_hint-requires-clause-room
 put_hint-requires-clause-room g c =

@@ -3,10 +3,10 @@ use Rattle.merge_core.specs.View.{pmap_of, notes_of}
 use Rattle.merge_core.proofs.Holders.{room_for}
 use Rattle.std.proofs.Common.{None}
 use Rattle.page_model.specs.Pages.{Private}
+use Rattle.merge_core.proofs.FrameLemmas.{taken_within}
 use Rattle.merge_core.proofs.Limits.{few_after, references_two}
 use Rattle.merge_core.proofs.SharedChanges.{paired_ties, paired_guests, still_there}
 use Rattle.merge_core.proofs.moves.share.Goals as goal
-use Rattle.machine_frames.proofs.Used.{taken_within}
 
 pub add_shared-requires-clause-room : goal.add_shared-requires-clause-room
 add_shared-requires-clause-room g c =

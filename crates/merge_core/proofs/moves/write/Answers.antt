@@ -2,11 +2,10 @@ use Rattle.std.proofs.Common.{refl, arith, Some}
 use Rattle.page_model.specs.Pages.{written}
 use Rattle.merge_core.specs.Pmap.{bytes_in}
 use Rattle.merge_core.specs.View.{pmap_of, notes_of}
-use Rattle.merge_core.proofs.FrameLemmas.{bytes_are, bytes_same}
+use Rattle.merge_core.proofs.FrameLemmas.{bytes_are, bytes_same, taken_within}
 use Rattle.merge_core.proofs.Changes.{written_ties, written_guests, write_within}
 use Rattle.std.proofs.lemmas.List.{length-set}
 use Rattle.merge_core.proofs.moves.write.Goals as goal
-use Rattle.machine_frames.proofs.Used.{taken_within}
 
 pub forget-requires : goal.forget-requires
 forget-requires g c =

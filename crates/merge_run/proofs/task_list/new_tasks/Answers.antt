@@ -4,6 +4,7 @@ use Rattle.std.proofs.lemmas.List.{append-nil}
 use Rattle.std.proofs.lemmas.List.Sums.{sum_by-cons}
 use Rattle.std.specs.Prelude.{All}
 use Rattle.std.specs.Vec.Iter.{into_iter_items}
+use Rattle.page_model.specs.declared.limits.TheConstants.{MAX_ENTRIES}
 use Rattle.share_rings.specs.Closing.{has_close}
 use Rattle.share_rings.specs.Ends.{port_name, port_capacity}
 use Rattle.merge_machine.specs.Kept.{port_names, port_capacities}
@@ -47,7 +48,7 @@ loop-script-preserved g c =
     let unused = subst (All IsUnused) split_ports before.unused in
     let capacities = subst (λ ps. task_capacities c.loop-script.tasks.items ++ port_capacities ps ≡ port_capacities c.args.ports.items) split_ports before.capacities in
     let names = subst (λ ps. task_names c.loop-script.tasks.items ++ port_names ps ≡ port_names c.args.ports.items) split_ports before.names in
-    let few : length script.items + 1 + entries_needed scripts ≤ 16777216 = omega (arith, before.few, ap entries_needed split, sum_by-cons (λ s. length s.items + 1) script scripts) in
+    let few : length script.items + 1 + entries_needed scripts ≤ MAX_ENTRIES = omega (arith, before.few, ap entries_needed split, sum_by-cons (λ s. length s.items + 1) script scripts) in
     let task : Task _ = record { guest = c.len-in-loop-script-2.result; port = port; script = script; verdicts = verdicts } in
     let push = c.push_reserved.ensures in
     let ready : IsReady task = record {

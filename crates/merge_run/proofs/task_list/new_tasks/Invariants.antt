@@ -1,6 +1,7 @@
 use Rattle.std.proofs.Common.{◌≡◌, ◌≤◌, ◌++◌, false, vec_len, vec_capacity, length}
 use Rattle.std.specs.Prelude.{All}
 use Rattle.std.specs.Vec.Iter.{into_iter_items, into_iter_len}
+use Rattle.page_model.specs.declared.limits.TheConstants.{MAX_ENTRIES}
 use Rattle.share_rings.specs.Closing.{has_close}
 use Rattle.merge_machine.specs.Kept.{port_names, port_capacities}
 use Rattle.merge_machine.specs.Scripts.{entries_needed}
@@ -19,6 +20,6 @@ invariant-loop-script g l = record {
   each : length (into_iter_items l.ports) ≡ length (into_iter_items l.script-iterator);
   unused : All IsUnused (into_iter_items l.ports);
   plain : All (λ script. has_close script.items ≡ false) (into_iter_items l.script-iterator);
-  few : entries_needed (into_iter_items l.script-iterator) ≤ 16777216;
+  few : entries_needed (into_iter_items l.script-iterator) ≤ MAX_ENTRIES;
   whole : l.yielded ++ into_iter_items l.script-iterator ≡ l.fn.scripts.items;
 }

@@ -1,4 +1,6 @@
 use Rattle.std.proofs.Common.{◌≡◌, ◌+◌, ◌-◌, ◌++◌, ◌<◌, ◌≤◌, false, length, map, string_bytes, string_capacity, vec_capacity}
+use Rattle.page_model.specs.declared.limits.TheConstants.{MAX_ENTRIES}
+use Rattle.journal_replay.specs.declared.output.TheConstants.{LINE_BYTES}
 use Rattle.merge_core.specs.Shown.{state_of}
 use Rattle.merge_machine.specs.Scripts.{with_close}
 use Rattle.journal_replay.specs.Ends.{Sends}
@@ -13,11 +15,11 @@ abbrev pub invariant-loop-turn : goal.invariant-loop-turn
 invariant-loop-turn g l = record {
   sends : Sends (g.W.Sink.contents l.fn.writer) (g.W.Sink.contents l.writer) (string_bytes l.out ++ printed_from g.H.HashFunction.hash_of (state_of l.core) (l.entries.items ++ turns (longest (map with_close (lists_of l.scripts)) - l.turn) (left_of l.turn (lists_of l.scripts))))
       (printed_from g.H.HashFunction.hash_of (state_of l.fn.core) (serial_order (lists_of l.scripts)));
-  few : l.core.entries + length (l.entries.items ++ turns (longest (map with_close (lists_of l.scripts)) - l.turn) (left_of l.turn (lists_of l.scripts))) ≤ 16777216;
+  few : l.core.entries + length (l.entries.items ++ turns (longest (map with_close (lists_of l.scripts)) - l.turn) (left_of l.turn (lists_of l.scripts))) ≤ MAX_ENTRIES;
   guests : length (state_of l.core).guests ≡ length l.scripts;
   below : AreBelow (length l.scripts) l.entries.items;
   waiting : length l.entries.items < 256;
   space : 320 ≤ vec_capacity l.entries;
   fine : g.W.Sink.has_failed l.writer ≡ false;
-  room : 160 ≤ string_capacity l.out;
+  room : LINE_BYTES ≤ string_capacity l.out;
 }

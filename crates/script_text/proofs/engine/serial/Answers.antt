@@ -21,5 +21,5 @@ pub returns-in-Err-read_script-clause-bytes : goal.returns-in-Err-read_script-cl
 returns-in-Err-read_script-clause-bytes g c =
     let hash = g.H.HashFunction.hash_of in
     let text = c.in-Ok.text.items in
-    refused (serial_answer hash) (g.R.Source.remaining c.args.reader.now) (g.W.Sink.contents c.args.writer.now) (g.W.Sink.contents c.tell_fault.new.writer)
-    text (script_of c.deref.result.now) c.in-Err-read_script.fault c.tell_fault.result (λ e h. script_fault hash text e (ap script_of (sym c.deref.ensures.value) ∙ h)) c.in-Ok.ensures.ok c.in-Err-read_script.ensures c.tell_fault.ensures.told
+    refused (serial_answer hash) (g.R.Source.remaining c.args.reader.now) (g.W.Sink.contents c.args.writer.now) (g.W.Sink.contents c.print_fault.new.writer)
+    text (script_of c.deref.result.now) c.in-Err-read_script.fault c.print_fault.result (λ e h. script_fault hash text e (ap script_of (sym c.deref.ensures.value) ∙ h)) c.in-Ok.ensures.ok c.in-Err-read_script.ensures c.print_fault.ensures.refused

@@ -1,5 +1,6 @@
 use Rattle.std.proofs.Common.{◌≡◌, ◌*◌, ◌≤◌, take}
 use Rattle.std.specs.Prelude.{sum_by}
+use Rattle.page_model.specs.declared.limits.TheConstants.{MAX_FRAMES, MAX_PAGES}
 use Rattle.lent_slots.specs.Totals.{held_slots, shared_slots, frames_in_use}
 use Rattle.share_domain.proofs.report.report.Given as goal
 
@@ -8,7 +9,7 @@ invariant-loop-machine g l = record {
   slots : l.slots ≡ sum_by held_slots (take l.machine-index l.machines.items);
   frames : l.frames ≡ sum_by frames_in_use (take l.machine-index l.machines.items);
   shared : l.shared ≡ sum_by shared_slots (take l.machine-index l.machines.items);
-  few_slots : l.slots ≤ 1048576 * l.machine-index;
-  few_frames : l.frames ≤ 1048576 * l.machine-index;
-  few_shared : l.shared ≤ 1048576 * l.machine-index;
+  few_slots : l.slots ≤ MAX_PAGES * l.machine-index;
+  few_frames : l.frames ≤ MAX_FRAMES * l.machine-index;
+  few_shared : l.shared ≤ MAX_PAGES * l.machine-index;
 }

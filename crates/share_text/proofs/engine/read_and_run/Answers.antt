@@ -28,9 +28,9 @@ pub returns-in-Err-read_script : goal.returns-in-Err-read_script
 returns-in-Err-read_script g c =
     let text = c.in-Ok.text.items in
     let fails : Fails c.in-Err-read_script.fault (script_of text) = rw c.deref.ensures.value at c.in-Err-read_script.ensures in
-    let told = threads_refused g.H.HashFunction.hash_of c.args.form (g.R.Source.remaining c.args.reader.now) _ _ text c.in-Err-read_script.fault c.tell_fault.result c.in-Ok.ensures.ok fails c.tell_fault.ensures.told in
+    let refuses = threads_refused g.H.HashFunction.hash_of c.args.form (g.R.Source.remaining c.args.reader.now) _ _ text c.in-Err-read_script.fault c.print_fault.result c.in-Ok.ensures.ok fails c.print_fault.ensures.refused in
     record {
-      bytes = rw c.of_text.ensures.answer told;
-      reader = rw c.of_text.ensures.written (c.in-Ok.ensures.failed ∙ sym c.tell_fault.ensures.reader);
-      writer = rw c.of_text.ensures.written c.tell_fault.ensures.writer;
+      bytes = rw c.of_text.ensures.answer refuses;
+      reader = rw c.of_text.ensures.written (c.in-Ok.ensures.failed ∙ sym c.print_fault.ensures.reader);
+      writer = rw c.of_text.ensures.written c.print_fault.ensures.writer;
     }

@@ -16,7 +16,7 @@ use types.Run.{enter, of_opd, stop, fld, load, no_more, and_then, returns}
 use denote.Exit.{yes}
 use denote.Laws.{shows}
 use denote.Memory.{cell_at, lone}
-use denote.RattleType.{owns}
+use denote.RattleType.{RattleType, owns}
 use denote.RawPtr.{Ptr, block_ptr, null_ptr, in_a_block}
 use denote.Signature.{plain, types_at}
 use denote.Steps.{nothing, opens, closes, peeks, heard}
@@ -25,13 +25,21 @@ use Rattle.core.proofs.alloc.Calls.{Goes-blank, handle_tells}
 use Rattle.pageshare_c.specs.declared.hashed_core.HashedCore.{HashedCore}
 use Rattle.std.proofs.raw_atomic.Walks.{proved_at}
 use Rattle.std.specs.contracts.impls.GlobalAllocator.TheImpl.{ghosts}
-use Rattle.pageshare_c.proofs.Held.{Heap, heap_laws, Core, Slot, held}
-use Rattle.pageshare_c.proofs.Parcels.{two, handle, Block, parcel_typed, parcel_closes}
+use Rattle.box_parcels.proofs.Held.{Heap, heap_laws, HeapParcel, held}
+use Rattle.box_parcels.proofs.Parcels.{two, handle, Block, parcel_typed, parcel_closes}
 use Rattle.pageshare_c.proofs.slot.Slot.TheLaws.{lowers}
 use Rattle.pageshare_c.proofs.slot.Slot.empty.Code as code
 use Rattle.pageshare_c.proofs.slot.Slot.empty.Statement.{statement}
-use Rattle.pageshare_c.specs.Held.{core_row, heap, held_owns}
+use Rattle.box_parcels.specs.Held.{heap, held_owns}
+use Rattle.pageshare_c.specs.Held.{core_row}
+use Rattle.pageshare_c.specs.contracts.slot.Slot as slot
 use Rattle.pageshare_c.specs.contracts.slot.Slot.empty as f
+
+abbrev Core : RattleType
+Core = HeapParcel core_row
+
+abbrev Slot : RattleType
+Slot = slot.the_row
 
 abbrev stayed : Stays f.ended.signature.params f.ended.kept
 stayed = (stay_ref (0 ∷ []) tt (plain (λ _. Slot)), (stay_dropped (plain (λ _. Heap)) yes, tt))
@@ -53,7 +61,7 @@ empty_spec 𝓤 𝓛 𝓜 𝓡 wired =
     suffices ! (Runs args) (subst (λ (vs : List Val). ent 𝓤 (Runs args) (Runs vs)) (sym (λ i. at_slot i ++ (bits i ++ []))) (id⊢ 𝓤 (Runs args))) $
     enter ! 𝓣.C 𝓣.Λ code.function args (W.post y) $ alloc_all ! (λ l. pass_all ! refl ((tt, tt), (fits, tt)) $
     move ! (1 ∷ 2 ∷ 3 ∷ []) $ opens ! tt Slot b o (λ words. move ! (1 ∷ []) $ peeks ! Slot _ (shows 𝓛 Slot) before words (λ is. fsplit ! $ move ! (1 ∷ []) $
-    rewrite ! 0 (λ (v : Option HashedCore). ‵ (held_owns before.at v)) is_x refl $
+    rewrite ! 0 (λ (v : Option HashedCore). ‵ (held_owns core_row before.at v)) is_x refl $
     in_a_block ! before.at (Block core_row Heap heap_laws ghosts heap x) (fst∗ 𝓤 (never 𝓤) (sem 𝓛 (ghosts.dealloc_token heap (bare (lone core_row.mir)) null_ptr))) (λ b' o' at.
     let Cell = λ (vs : List Val). ‵ (cell_at full_share Slot.mir vs b o) in
     let points = lowers.val_is before words is ∙ ap (λ (p : Ptr). lowers.lowered (record before { at = p }) ∷ []) at in

@@ -15,7 +15,7 @@ use denote.Builtin.{RawPtr}
 use denote.Exit.{yes}
 use denote.Laws.{shows}
 use denote.Memory.{cell_at}
-use denote.RattleType.{Valss, owns}
+use denote.RattleType.{RattleType, Valss, owns}
 use denote.RawPtr.{block_ptr}
 use denote.Signature.{plain, types_at}
 use denote.Steps.{nothing, opens, closes, peeks, heard}
@@ -25,14 +25,20 @@ use denote.Triple.Walked.{Stays, walk_of, says, stay_ref, Goes-ref, stay_dropped
 use Rattle.core.proofs.alloc.Calls.{Goes-blank}
 use Rattle.std.proofs.raw_atomic.Walks.{proved_at}
 use Rattle.std.specs.contracts.impls.GlobalAllocator.TheImpl.{ghosts}
-use Rattle.pageshare_c.proofs.Held.{Heap, heap_laws, Core, Slot, word}
-use Rattle.pageshare_c.proofs.Parcels.{two, parcel_typed, parcel_opens}
+use Rattle.box_parcels.proofs.Held.{Heap, heap_laws, HeapParcel, word}
+use Rattle.box_parcels.proofs.Parcels.{two, parcel_typed, parcel_opens}
 use Rattle.pageshare_c.proofs.slot.Slot.TheLaws.{lowers}
 use Rattle.pageshare_c.proofs.slot.Slot.fill.Code as code
 use Rattle.pageshare_c.proofs.slot.Slot.fill.Statement.{statement}
 use Rattle.pageshare_c.specs.Held.{core_row}
 use Rattle.pageshare_c.specs.contracts.slot.Slot as slot
 use Rattle.pageshare_c.specs.contracts.slot.Slot.fill as f
+
+abbrev Core : RattleType
+Core = HeapParcel core_row
+
+abbrev Slot : RattleType
+Slot = slot.the_row
 
 abbrev stayed : Stays f.ended.signature.params f.ended.kept
 stayed = (stay_ref (0 ∷ []) tt (plain (λ _. Slot)), (stay_dropped (plain (λ _. Core)) yes, tt))

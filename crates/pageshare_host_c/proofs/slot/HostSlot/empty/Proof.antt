@@ -16,7 +16,7 @@ use types.Run.{enter, of_opd, stop, fld, load, no_more, and_then, returns}
 use denote.Exit.{yes}
 use denote.Laws.{shows}
 use denote.Memory.{cell_at, lone}
-use denote.RattleType.{owns}
+use denote.RattleType.{RattleType, owns}
 use denote.RawPtr.{Ptr, block_ptr, null_ptr, in_a_block}
 use denote.Signature.{plain, types_at}
 use denote.Steps.{nothing, opens, closes, peeks, heard}
@@ -25,13 +25,21 @@ use Rattle.core.proofs.alloc.Calls.{Goes-blank, handle_tells}
 use Rattle.pageshare_host_c.specs.declared.hosted.Hosted.{Hosted}
 use Rattle.std.proofs.raw_atomic.Walks.{proved_at}
 use Rattle.std.specs.contracts.impls.GlobalAllocator.TheImpl.{ghosts}
-use Rattle.pageshare_host_c.proofs.Held.{Heap, heap_laws, Core, Slot, held}
-use Rattle.pageshare_host_c.proofs.Parcels.{two, handle, Block, parcel_typed, parcel_closes}
+use Rattle.box_parcels.proofs.Held.{Heap, heap_laws, HeapParcel, held}
+use Rattle.box_parcels.proofs.Parcels.{two, handle, Block, parcel_typed, parcel_closes}
 use Rattle.pageshare_host_c.proofs.slot.HostSlot.TheLaws.{lowers}
 use Rattle.pageshare_host_c.proofs.slot.HostSlot.empty.Code as code
 use Rattle.pageshare_host_c.proofs.slot.HostSlot.empty.Statement.{statement}
-use Rattle.pageshare_host_c.specs.Held.{core_row, heap, held_owns}
+use Rattle.box_parcels.specs.Held.{heap, held_owns}
+use Rattle.pageshare_host_c.specs.Held.{hosted_row}
+use Rattle.pageshare_host_c.specs.contracts.slot.HostSlot as slot
 use Rattle.pageshare_host_c.specs.contracts.slot.HostSlot.empty as f
+
+abbrev Core : RattleType
+Core = HeapParcel hosted_row
+
+abbrev Slot : RattleType
+Slot = slot.the_row
 
 abbrev stayed : Stays f.ended.signature.params f.ended.kept
 stayed = (stay_ref (0 ∷ []) tt (plain (λ _. Slot)), (stay_dropped (plain (λ _. Heap)) yes, tt))
@@ -47,24 +55,24 @@ empty_spec 𝓤 𝓛 𝓜 𝓡 wired =
     qed 𝓛 (((‵ (flft κ q) ⊛ ‵ ftrue) ⊛ ‵ (owns (types_at f.ended.signature.params y.0.0) y.0.3 stored)) ∷ raw (fact 𝓤 (IsSome before.host)) ∷ []) ∵
     move ! (1 ∷ []) $ heard ! (IsSome before.host) (λ full. let x = (held before.host full).0 in let is_x = (held before.host full).1 in
     split ! $ split ! $ move ! (2 ∷ []) $ fsplit ! $ fsplit3 ! $ feq_l ! (λ at_slot. move ! (2 ∷ []) $ fsplit ! $
-    handle_tells (handle core_row Heap heap_laws ghosts) ! a stored.1.0 (λ hv bits fits. keep ! (0 ∷ 2 ∷ 3 ∷ 4 ∷ []) $
+    handle_tells (handle hosted_row Heap heap_laws ghosts) ! a stored.1.0 (λ hv bits fits. keep ! (0 ∷ 2 ∷ 3 ∷ 4 ∷ []) $
     -- [the handle; the slot's name and borrow; the token]
     let args : List Val = vptr b o ∷ hv ∷ [] in
     suffices ! (Runs args) (subst (λ (vs : List Val). ent 𝓤 (Runs args) (Runs vs)) (sym (λ i. at_slot i ++ (bits i ++ []))) (id⊢ 𝓤 (Runs args))) $
     enter ! 𝓣.C 𝓣.Λ code.function args (W.post y) $ alloc_all ! (λ l. pass_all ! refl ((tt, tt), (fits, tt)) $
     move ! (1 ∷ 2 ∷ 3 ∷ []) $ opens ! tt Slot b o (λ words. move ! (1 ∷ []) $ peeks ! Slot _ (shows 𝓛 Slot) before words (λ is. fsplit ! $ move ! (1 ∷ []) $
-    rewrite ! 0 (λ (v : Option Hosted). ‵ (held_owns before.at v)) is_x refl $
-    in_a_block ! before.at (Block core_row Heap heap_laws ghosts heap x) (fst∗ 𝓤 (never 𝓤) (sem 𝓛 (ghosts.dealloc_token heap (bare (lone core_row.mir)) null_ptr))) (λ b' o' at.
+    rewrite ! 0 (λ (v : Option Hosted). ‵ (held_owns hosted_row before.at v)) is_x refl $
+    in_a_block ! before.at (Block hosted_row Heap heap_laws ghosts heap x) (fst∗ 𝓤 (never 𝓤) (sem 𝓛 (ghosts.dealloc_token heap (bare (lone hosted_row.mir)) null_ptr))) (λ b' o' at.
     let Cell = λ (vs : List Val). ‵ (cell_at full_share Slot.mir vs b o) in
     let points = lowers.val_is before words is ∙ ap (λ (p : Ptr). lowers.lowered (record before { at = p }) ∷ []) at in
     rewrite ! 2 Cell points refl $
     -- [the block; what the slot's field owns; the slot's cell; its open borrow, in three entries; the handle]
-    let typed = parcel_typed core_row Heap heap_laws ghosts b' o' hv fits in
+    let typed = parcel_typed hosted_row Heap heap_laws ghosts b' o' hv fits in
     sets ! (of_opd ! (load ! (through ! refl (fld ! refl (stop !))) (look_in ! 2 (sub ! 0 refl (whole !))))) refl (tt, tt) $
     sets ! (of_opd ! (get ! refl)) refl (tt, tt) $
     sets ! (agg ! (and_then ! (get ! refl) (and_then ! (get ! refl) (no_more !)))) refl typed $
     let after : Slot.Denot = record { at = before.at; host = None } in let out : Core.Denot = record { at = block_ptr b' o'; heap = a; value = x } in
-    rewrite ! 2 Cell (sym points) refl $ move ! (0 ∷ 6 ∷ []) $ parcel_closes core_row Heap heap_laws ghosts ! b' o' hv a x $
+    rewrite ! 2 Cell (sym points) refl $ move ! (0 ∷ 6 ∷ []) $ parcel_closes hosted_row Heap heap_laws ghosts ! b' o' hv a x $
     -- [the parcel; what the slot's field owns; the slot's cell; its open borrow]
     nothing ! $ move ! (2 ∷ 0 ∷ []) $ fjoin ! $ move ! (2 ∷ 0 ∷ 3 ∷ 4 ∷ 5 ∷ []) $ closes ! tt Slot after words b o $
     -- [the slot's name and borrow; the token; the parcel]

@@ -15,7 +15,7 @@ use denote.Builtin.{RawPtr}
 use denote.Exit.{yes}
 use denote.Laws.{shows}
 use denote.Memory.{cell_at}
-use denote.RattleType.{Valss, owns}
+use denote.RattleType.{RattleType, Valss, owns}
 use denote.RawPtr.{block_ptr}
 use denote.Signature.{plain, types_at}
 use denote.Steps.{nothing, opens, closes, peeks, heard}
@@ -25,14 +25,20 @@ use denote.Triple.Walked.{Stays, walk_of, says, stay_ref, Goes-ref, stay_dropped
 use Rattle.core.proofs.alloc.Calls.{Goes-blank}
 use Rattle.std.proofs.raw_atomic.Walks.{proved_at}
 use Rattle.std.specs.contracts.impls.GlobalAllocator.TheImpl.{ghosts}
-use Rattle.pageshare_host_c.proofs.Held.{Heap, heap_laws, Core, Slot, word}
-use Rattle.pageshare_host_c.proofs.Parcels.{two, parcel_typed, parcel_opens}
+use Rattle.box_parcels.proofs.Held.{Heap, heap_laws, HeapParcel, word}
+use Rattle.box_parcels.proofs.Parcels.{two, parcel_typed, parcel_opens}
 use Rattle.pageshare_host_c.proofs.slot.HostSlot.TheLaws.{lowers}
 use Rattle.pageshare_host_c.proofs.slot.HostSlot.fill.Code as code
 use Rattle.pageshare_host_c.proofs.slot.HostSlot.fill.Statement.{statement}
-use Rattle.pageshare_host_c.specs.Held.{core_row}
+use Rattle.pageshare_host_c.specs.Held.{hosted_row}
 use Rattle.pageshare_host_c.specs.contracts.slot.HostSlot as slot
 use Rattle.pageshare_host_c.specs.contracts.slot.HostSlot.fill as f
+
+abbrev Core : RattleType
+Core = HeapParcel hosted_row
+
+abbrev Slot : RattleType
+Slot = slot.the_row
 
 abbrev stayed : Stays f.ended.signature.params f.ended.kept
 stayed = (stay_ref (0 ∷ []) tt (plain (λ _. Slot)), (stay_dropped (plain (λ _. Core)) yes, tt))
@@ -47,11 +53,11 @@ fill_spec 𝓤 𝓛 𝓜 𝓡 wired =
     let Runs : List Val → SProp 𝓤 = λ vs. WpFn 𝓤 𝓛.H 𝓣.C 𝓣.Λ code.function vs (W.post y) in
     qed 𝓛 (((‵ (flft κ q) ⊛ ‵ ftrue) ⊛ ‵ (owns (types_at f.ended.signature.params y.0.0) y.0.3 stored)) ∷ raw (fact 𝓤 (before.host ≡ None)) ∷ []) ∵
     move ! (1 ∷ []) $ heard ! (before.host ≡ None) (λ was_empty. split ! $ split ! $ move ! (2 ∷ []) $ fsplit ! $ fsplit3 ! $ feq_l ! (λ at_slot. move ! (2 ∷ []) $ fsplit ! $
-    parcel_opens core_row Heap heap_laws ghosts ! core stored.1.0 (λ b' o' hv at bits fits. keep ! (0 ∷ 3 ∷ 4 ∷ 5 ∷ []) $
+    parcel_opens hosted_row Heap heap_laws ghosts ! core stored.1.0 (λ b' o' hv at bits fits. keep ! (0 ∷ 3 ∷ 4 ∷ 5 ∷ []) $
     -- [the block; the slot's name and borrow; the token]
     let args : List Val = vptr b o ∷ two (vptr b' o') hv ∷ [] in
     suffices ! (Runs args) (subst (λ (vs : List Val). ent 𝓤 (Runs args) (Runs vs)) (sym (λ i. at_slot i ++ (bits i ++ []))) (id⊢ 𝓤 (Runs args))) $
-    enter ! 𝓣.C 𝓣.Λ code.function args (W.post y) $ alloc_all ! (λ l. pass_all ! refl ((tt, tt), (parcel_typed core_row Heap heap_laws ghosts b' o' hv fits, tt)) $
+    enter ! 𝓣.C 𝓣.Λ code.function args (W.post y) $ alloc_all ! (λ l. pass_all ! refl ((tt, tt), (parcel_typed hosted_row Heap heap_laws ghosts b' o' hv fits, tt)) $
     sets ! (of_opd ! (get_in ! (fld ! refl (stop !)) (sub ! 0 refl (whole !)))) refl (tt, tt) $
     sets ! (of_opd ! (get ! refl)) refl (tt, tt) $
     move ! (1 ∷ 2 ∷ 3 ∷ []) $ opens ! tt Slot b o (λ words. move ! (1 ∷ []) $ peeks ! Slot _ (shows 𝓛 Slot) before words (λ is. fsplit ! $ drop ! $ drop ! $

@@ -1,8 +1,8 @@
-//! The frames of a host's machines, which C gives for one machine after the other.
+//! The frames of a domain's machines, which are given for one machine after the other.
 ghost use Rattle.std.specs.Prelude.{◌≡◌, ◌≤◌, ◌<◌, ◌==◌, IfOk, replicate};
 ghost use Rattle.page_model.specs.declared.limits.TheConstants.{MAX_FRAMES};
 ghost use Rattle.machine_frames.specs.FrameMap.{no_frames};
-ghost use Rattle.pageshare_host_c.specs.Given.{none_given, one_more};
+ghost use Rattle.share_domain.specs.Given.{none_given, one_more};
 
 use machine_frames::Frames;
 use std::alloc::{AllocError, Global};
@@ -18,7 +18,7 @@ pub struct GivenFrames {
 
 impl Model for GivenFrames {
     ghost use Rattle.std.specs.Prelude.{length, vec_capacity};
-    ghost use Rattle.pageshare_host_c.specs.Given.{Given, AreGiven};
+    ghost use Rattle.share_domain.specs.Given.{Given, AreGiven};
 
     ghost Value = { Given };
 
@@ -31,7 +31,7 @@ impl GivenFrames {
     ghost use Rattle.page_model.specs.declared.limits.TheConstants.{MAX_FRAMES};
 
     /// Makes room for the frames of so many machines, each of which has so many.
-    pub(crate) fn new(alloc: Global, machines: u32, each: u32) -> Result<GivenFrames, AllocError>
+    pub fn new(alloc: Global, machines: u32, each: u32) -> Result<GivenFrames, AllocError>
         requires some { 1 ≤ each }
         requires limit { each ≤ MAX_FRAMES }
         ensures { IfOk result (λ given. given ≡ none_given machines each) }
@@ -45,7 +45,7 @@ impl GivenFrames {
     }
 
     /// Takes the frames of the next machine, all of them free.
-    pub(crate) fn add(&mut self, frames: Frames)
+    pub fn add(&mut self, frames: Frames)
         requires more { self.old.given < self.old.machines }
         requires free { frames ≡ no_frames self.old.each }
         ensures { self.new ≡ one_more self.old }
@@ -54,14 +54,14 @@ impl GivenFrames {
     }
 
     /// Whether the frames of all machines are there.
-    pub(crate) fn are_all(&self) -> bool
+    pub fn are_all(&self) -> bool
         ensures { result ≡ (self.now.given == self.now.machines) }
     {
         self.frames.len() == self.machines as usize
     }
 
     /// Returns the frames of all machines, all of them free.
-    pub(crate) fn into_frames(self) -> Vec<Frames>
+    pub fn into_frames(self) -> Vec<Frames>
         requires { self.given ≡ self.machines }
         ensures { result.items ≡ replicate self.machines (no_frames self.each) }
     {

@@ -9,10 +9,10 @@ use std::marker::Model;
 /// address.
 ///
 /// A pointer of a known type can be cast to one of no type and back, which a box cannot.
-pub(crate) struct Parcel<T, A: Allocator> {
-    pub(crate) at: *mut T,
-    pub(crate) heap: A,
-    pub(crate) ghost value: { T },
+pub struct Parcel<T, A: Allocator> {
+    pub at: *mut T,
+    pub heap: A,
+    pub ghost value: { T },
 }
 
 impl<T, A: Allocator> Model for Parcel<T, A> {
@@ -20,14 +20,14 @@ impl<T, A: Allocator> Model for Parcel<T, A> {
 }
 
 impl<T: Drop, A: Allocator> Parcel<T, A> {
-    pub(crate) fn wrap(boxed: Box<T, A>) -> Parcel<T, A>
+    pub fn wrap(boxed: Box<T, A>) -> Parcel<T, A>
         ensures { result.value ≡ boxed.value }
     {
         let (at, heap) = Box::into_raw_with_allocator(boxed);
         Parcel { at, heap }
     }
 
-    pub(crate) fn unwrap(self) -> Box<T, A>
+    pub fn unwrap(self) -> Box<T, A>
         ensures { result.value ≡ self.value }
     {
         let Parcel { at, heap } = self;

@@ -1,0 +1,32 @@
+//! Slots as numbers.
+ghost use Rattle.std.specs.Prelude.{◌≡◌, ◌<◌};
+ghost use Rattle.share_domain.specs.Numbers.{slot_by, slot_number};
+ghost use Rattle.share_domain.specs.declared.holding.Slot.{Slot};
+ghost use Rattle.share_domain.specs.declared.number.TheConstants.{SLOTS_APART};
+
+use crate::holding::Slot;
+
+/// How far apart the numbers of slots of two machines are: a slot's number is its machine times this plus its page.
+pub const SLOTS_APART: u64 = 4_294_967_296;
+
+/// Returns the number of a slot.
+pub fn slot_number(slot: Slot) -> u64
+    ensures { result ≡ slot_number slot }
+{
+    u64::from(slot.machine) * SLOTS_APART + u64::from(slot.ppn)
+}
+
+/// Returns the slot with this number.
+pub fn slot_by(number: u64) -> Slot
+    ensures { result ≡ slot_by number }
+{
+    Slot {
+        machine: (number / SLOTS_APART) as u32,
+        ppn: (number % SLOTS_APART) as u32,
+    }
+}
+
+/// The number of a slot names this slot.
+pub fn slots_law()
+    ensures { (slot : Slot) → slot.ppn < SLOTS_APART → slot_by (slot_number slot) ≡ slot }
+{}
