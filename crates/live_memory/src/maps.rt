@@ -30,7 +30,7 @@ fn push_kept<A: Allocator>(
 /// Returns where the pages of a process lie that are no file's and can be written, by the text of its `/proc/PID/maps`. The
 /// first line that isn't of its form is a fault.
 pub fn writable_segments<A: Allocator>(alloc: A, maps: &[u8]) -> Result<Vec<Segment, A>, LiveFault>
-    ensures told { IsRead (λ segments. segments.items) (segments_of_maps maps.now) result }
+    ensures read { IsRead (λ segments. segments.items) (segments_of_maps maps.now) result }
     ensures within { IfOk result (λ segments. AreWithin (2 ^ 64 - 1) segments.items) }
 {
     let mut segments = Vec::new(alloc);

@@ -61,9 +61,9 @@ module _ (bytes : List ℕ) (segments : List Segment) (i : ℕ) (d : Segment) (l
       → skip - pages + m ≤ length (pages_of (drop (i + 1) segments) bytes)
   passed_left pages skip m e h w = omega (arith, all_long, e, h, w)
 
-  pub passed_told : (pages skip m : ℕ) → pages ≡ page_count (get_or segments i d).len → pages ≤ skip
+  pub passed_pages : (pages skip m : ℕ) → pages ≡ page_count (get_or segments i d).len → pages ≤ skip
       → take m (drop (skip - pages) (pages_of (drop (i + 1) segments) bytes)) ≡ take m (drop skip (pages_of (drop i segments) bytes))
-  passed_told pages skip m e h =
+  passed_pages pages skip m e h =
       let size : length (segment_pages bytes (get_or segments i d)) ≡ pages = long ∙ sym e in
       ap (take m) (ap (λ (k : ℕ). drop (skip - k) (pages_of (drop (i + 1) segments) bytes)) (sym size) ∙ sym (drop_past (segment_pages bytes (get_or segments i d)) (pages_of (drop (i + 1) segments) bytes) skip (omega (arith, size, h))) ∙ ap (drop skip) (sym next))
 
@@ -72,10 +72,10 @@ module _ (bytes : List ℕ) (segments : List Segment) (i : ℕ) (d : Segment) (l
       → m - run ≤ length (pages_of (drop (i + 1) segments) bytes)
   read_left pages skip m run e h r w = omega (arith, all_long, e, h, r, w)
 
-  pub read_told : (pages skip m run n : ℕ) (got : List (List ℕ)) → pages ≡ page_count (get_or segments i d).len → skip < pages → run ≡ min (pages - skip) m
+  pub read_pages : (pages skip m run n : ℕ) (got : List (List ℕ)) → pages ≡ page_count (get_or segments i d).len → skip < pages → run ≡ min (pages - skip) m
       → n ≡ run → got ≡ take n (drop skip (segment_pages bytes (get_or segments i d)))
       → got ++ take (m - run) (drop 0 (pages_of (drop (i + 1) segments) bytes)) ≡ take m (drop skip (pages_of (drop i segments) bytes))
-  read_told pages skip m run n got e h r same is =
+  read_pages pages skip m run n got e h r same is =
       let size : length (segment_pages bytes (get_or segments i d)) ≡ pages = long ∙ sym e in
       ap (λ (xs : List (List ℕ)). xs ++ take (m - run) (drop 0 (pages_of (drop (i + 1) segments) bytes))) (is ∙ ap (λ (k : ℕ). take k (drop skip (segment_pages bytes (get_or segments i d)))) same)
       ∙ taken_apart (segment_pages bytes (get_or segments i d)) (pages_of (drop (i + 1) segments) bytes) skip m run (omega (arith, size, h)) (omega (arith, size, r))
@@ -94,12 +94,12 @@ both_read into got rest pages n done first left h len here e eg er =
 -- what was read stands behind what was read before
 pub read_on : {X : Type 0} (into new got post later all : List X) (done run : ℕ) → done ≤ length into → length got ≡ run → new ≡ take done into ++ (got ++ post)
     → take done into ++ (got ++ later) ≡ all → take (done + run) new ++ later ≡ all
-read_on into new got post later all done run h len is told =
+read_on into new got post later all done run h len is read =
     let before : length (take done into) ≡ done = omega (arith, length-take done into, h) in
     let rest : done + run - length (take done into) ≡ run = omega (arith, before) in
     let placed : take (done + run) new ≡ take done into ++ got =
     ap (take (done + run)) is ∙ take_past (take done into) (got ++ post) (done + run) (omega (arith, before)) ∙ ap (λ (k : ℕ). take done into ++ take k (got ++ post)) rest ∙ ap (λ xs. take done into ++ xs) (take_at got post run len) in
-    ap (λ xs. xs ++ later) placed ∙ append_assoc (take done into) got later ∙ told
+    ap (λ xs. xs ++ later) placed ∙ append_assoc (take done into) got later ∙ read
 
 module _ (bytes : List ℕ) (segments : List Segment) (k start : ℕ) (W : AreWithin (length bytes) segments) (is : start ≡ count_of (take k segments)) where
   parted : pages_of segments bytes ≡ pages_of (take k segments) bytes ++ pages_of (drop k segments) bytes
@@ -112,8 +112,8 @@ module _ (bytes : List ℕ) (segments : List Segment) (k start : ℕ) (W : AreWi
   pub later_left : length (pages_of segments bytes) ≡ start + length (pages_of (drop k segments) bytes)
   later_left = ap length parted ∙ length-append (pages_of (take k segments) bytes) (pages_of (drop k segments) bytes) ∙ ap (λ (n : ℕ). n + length (pages_of (drop k segments) bytes)) before
 
-  pub later_told : (first n : ℕ) → start ≤ first → take n (drop (first - start) (pages_of (drop k segments) bytes)) ≡ take n (drop first (pages_of segments bytes))
-  later_told first n h =
+  pub later_pages : (first n : ℕ) → start ≤ first → take n (drop (first - start) (pages_of (drop k segments) bytes)) ≡ take n (drop first (pages_of segments bytes))
+  later_pages first n h =
       ap (take n) (ap (λ (m : ℕ). drop (first - m) (pages_of (drop k segments) bytes)) (sym before)
       ∙ sym (drop_past (pages_of (take k segments) bytes) (pages_of (drop k segments) bytes) first (omega (arith, before, h))) ∙ ap (drop first) (sym parted))
 

@@ -2,5 +2,5 @@ pub mod Words
 pub mod Pages
 pub mod Headers
 pub mod Images
-pub mod Told
+pub mod Answers
 pub mod Views

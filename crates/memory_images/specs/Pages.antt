@@ -43,4 +43,4 @@ AreWithin size segments = All (λ segment. segment.offset + segment.len ≤ size
 -- how many pages come before each segment
 pub record AreStarts (segments : List Segment) (starts : List ℕ) : Type 0 where
   pub len : length starts ≡ length segments
-  pub told : (i : ℕ) → i < length segments → slice_index starts i ≡ count_of (take i segments)
+  pub starts_are : (i : ℕ) → i < length segments → slice_index starts i ≡ count_of (take i segments)

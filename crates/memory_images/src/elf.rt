@@ -4,7 +4,7 @@ ghost use Rattle.memory_images.specs.Words.{part};
 ghost use Rattle.memory_images.specs.Headers.{header_of};
 ghost use Rattle.memory_images.specs.Images as said;
 ghost use Rattle.memory_images.specs.Pages.{AreWithin};
-ghost use Rattle.memory_images.specs.Told.{Tells, HasNoForm};
+ghost use Rattle.memory_images.specs.Answers.{Answers, HasNoForm};
 
 use crate::header::{
     HEADER_BYTES, PROGRAM_HEADER_BYTES, SECTION_HEADER_BYTES, read_header, read_program_header,
@@ -25,8 +25,8 @@ pub(crate) fn core_segments<R: ReadAt, A: Allocator>(
     alloc: A,
     reader: &R,
 ) -> Result<Vec<Segment, A>, ImageFault<R::Fault>>
-    ensures told { R.is_steady reader.now
-        → Tells (λ segments. segments.items) result (said.core_segments (R.bytes reader.now)) }
+    ensures read { R.is_steady reader.now
+        → Answers (λ segments. segments.items) result (said.core_segments (R.bytes reader.now)) }
     ensures within { IfOk result (λ segments. AreWithin (length (R.bytes reader.now)) segments.items) }
 {
     let header = core_header(reader)?;
@@ -37,7 +37,7 @@ pub(crate) fn core_segments<R: ReadAt, A: Allocator>(
 /// Reads the ELF header of a file.
 #[tactic(auto, unfolding(crate::specs::Images::core_header))]
 fn core_header<R: ReadAt>(reader: &R) -> Result<Header, ImageFault<R::Fault>>
-    ensures { R.is_steady reader.now → Tells (λ header. header) result (said.core_header (R.bytes reader.now)) }
+    ensures { R.is_steady reader.now → Answers (λ header. header) result (said.core_header (R.bytes reader.now)) }
 {
     if reader.len() < HEADER_BYTES as u64 {
         return Err(ImageFault::Form(FormFault::CutHeader));
@@ -53,7 +53,7 @@ fn core_header<R: ReadAt>(reader: &R) -> Result<Header, ImageFault<R::Fault>>
 /// Finds the number of program headers.
 #[tactic(auto, unfolding(crate::specs::Images::table_count))]
 fn table_count<R: ReadAt>(reader: &R, header: Header) -> Result<u32, ImageFault<R::Fault>>
-    ensures { R.is_steady reader.now → Tells (λ count. count) result (said.table_count (R.bytes reader.now) header) }
+    ensures { R.is_steady reader.now → Answers (λ count. count) result (said.table_count (R.bytes reader.now) header) }
 {
     if header.count != MANY {
         return Ok(u32::from(header.count));
@@ -90,8 +90,8 @@ fn table_segments<R: ReadAt, A: Allocator>(
     table: u64,
     count: u32,
 ) -> Result<Vec<Segment, A>, ImageFault<R::Fault>>
-    ensures told { R.is_steady reader.now
-        → Tells (λ segments. segments.items) result (said.table_segments (R.bytes reader.now) table count) }
+    ensures read { R.is_steady reader.now
+        → Answers (λ segments. segments.items) result (said.table_segments (R.bytes reader.now) table count) }
     ensures within { IfOk result (λ segments. AreWithin (length (R.bytes reader.now)) segments.items) }
 {
     let size = reader.len();
@@ -115,7 +115,7 @@ fn loads<R: ReadAt, A: Allocator>(
     requires within { table + 56 * count ≤ length (R.bytes reader.now) }
     requires fits { length (R.bytes reader.now) < 2 ^ 64 }
     ensures fault { IfErr result (λ fault. HasNoForm fault) }
-    ensures told { IfOk result (λ segments. R.is_steady reader.now → segments.items ≡ said.loads (R.bytes reader.now) table count) }
+    ensures read { IfOk result (λ segments. R.is_steady reader.now → segments.items ≡ said.loads (R.bytes reader.now) table count) }
 {
     let mut segments = Vec::new(alloc);
     for n in 0..count {
@@ -147,7 +147,7 @@ fn program_header<R: ReadAt>(
     requires within { table + 56 * (n + 1) ≤ length (R.bytes reader.now) }
     requires fits { length (R.bytes reader.now) < 2 ^ 64 }
     ensures fault { IfErr result (λ fault. HasNoForm fault) }
-    ensures told { IfOk result (λ header. R.is_steady reader.now → header ≡ said.program_header (R.bytes reader.now) table n) }
+    ensures read { IfOk result (λ header. R.is_steady reader.now → header ≡ said.program_header (R.bytes reader.now) table n) }
 {
     let mut bytes = [0; PROGRAM_HEADER_BYTES];
     let at = table + u64::from(n) * PROGRAM_HEADER_BYTES as u64;
@@ -191,7 +191,7 @@ pub(crate) fn read_part<R: ReadAt>(
     into: &mut [u8],
 ) -> Result<(), ImageFault<R::Fault>>
     requires within { at + length into.old ≤ length (R.bytes reader.now) }
-    ensures told { OnOk result (R.is_steady reader.now → into.new ≡ part (R.bytes reader.now) at (length into.old)) }
+    ensures read { OnOk result (R.is_steady reader.now → into.new ≡ part (R.bytes reader.now) at (length into.old)) }
     ensures fault { IfErr result (λ fault. HasNoForm fault) }
 {
     match reader.read_at(at, into) {

@@ -2,7 +2,7 @@
 ghost use Rattle.std.specs.Prelude.{◌≡◌, ◌<◌, ◌≤◌, ◌^◌, IfOk, IfErr, OnOk, Some, None, length};
 ghost use Rattle.memory_images.specs.Images as said;
 ghost use Rattle.memory_images.specs.Pages.{AreStarts, AreWithin, count_of};
-ghost use Rattle.memory_images.specs.Told.{Tells, HasNoForm};
+ghost use Rattle.memory_images.specs.Answers.{Answers, HasNoForm};
 ghost use Rattle.memory_images.specs.Views.{reader_of, segments_of};
 
 use crate::elf::{core_segments, read_part};
@@ -16,7 +16,7 @@ const MAGIC: [u8; 4] = [0x7f, 0x45, 0x4c, 0x46];
 impl<R: ReadAt + Drop, A: Allocator + Clone> Image<R, A> {
     /// Makes the image of a raw file, whatever it begins with: page n is its bytes 4096n to 4096n + 4095.
     pub fn raw(alloc: A, reader: R) -> Result<Image<R, A>, ImageFault<R::Fault>>
-        ensures told { Tells segments_of result (said.raw_of (R.bytes reader)) }
+        ensures read { Answers segments_of result (said.raw_of (R.bytes reader)) }
         ensures reader { IfOk result (λ image. reader_of image ≡ reader) }
     {
         let segments = whole_file(alloc.clone()?, reader.len())?;
@@ -25,7 +25,7 @@ impl<R: ReadAt + Drop, A: Allocator + Clone> Image<R, A> {
 
     /// Makes the image of a file: of an ELF core if it begins as an ELF file, and else of a raw file.
     pub fn open(alloc: A, reader: R) -> Result<Image<R, A>, ImageFault<R::Fault>>
-        ensures told { R.is_steady reader → Tells segments_of result (said.image_of (R.bytes reader)) }
+        ensures read { R.is_steady reader → Answers segments_of result (said.image_of (R.bytes reader)) }
         ensures reader { IfOk result (λ image. reader_of image ≡ reader) }
     {
         let segments = file_segments(alloc.clone()?, &reader)?;
@@ -40,7 +40,7 @@ impl<R: ReadAt + Drop, A: Allocator + Clone> Image<R, A> {
     ) -> Result<Image<R, A>, ImageFault<R::Fault>>
         requires within { AreWithin (length (R.bytes reader)) segments.items }
         requires fits { length (R.bytes reader) < 2 ^ 64 }
-        ensures told { Tells segments_of result (said.few segments.items) }
+        ensures read { Answers segments_of result (said.few segments.items) }
         ensures reader { IfOk result (λ image. reader_of image ≡ reader) }
     {
         let Some(count) = count_pages(&segments) else {
@@ -61,7 +61,7 @@ fn file_segments<R: ReadAt, A: Allocator>(
     alloc: A,
     reader: &R,
 ) -> Result<Vec<Segment, A>, ImageFault<R::Fault>>
-    ensures told { R.is_steady reader.now → Tells (λ segments. segments.items) result (said.file_segments (R.bytes reader.now)) }
+    ensures read { R.is_steady reader.now → Answers (λ segments. segments.items) result (said.file_segments (R.bytes reader.now)) }
     ensures within { IfOk result (λ segments. AreWithin (length (R.bytes reader.now)) segments.items) }
     ensures fits { length (R.bytes reader.now) < 2 ^ 64 }
 {
@@ -76,7 +76,7 @@ fn file_segments<R: ReadAt, A: Allocator>(
 #[tactic(auto, unfolding(crate::specs::Images::is_elf))]
 fn is_elf<R: ReadAt>(reader: &R) -> Result<bool, ImageFault<R::Fault>>
     ensures fault { IfErr result (λ fault. HasNoForm fault) }
-    ensures told { IfOk result (λ yes. R.is_steady reader.now → yes ≡ said.is_elf (R.bytes reader.now)) }
+    ensures read { IfOk result (λ yes. R.is_steady reader.now → yes ≡ said.is_elf (R.bytes reader.now)) }
 {
     if reader.len() < MAGIC.len() as u64 {
         return Ok(false);

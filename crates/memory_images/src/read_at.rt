@@ -22,14 +22,14 @@ pub trait ReadAt {
     /// Reads bytes into the list until it is full, from byte `at` on. After a fault, the list may hold anything.
     fn read_at(&self, at: u64, into: &mut [u8]) -> Result<(), Self::Fault>
         requires within { at + length into.old ≤ length (bytes self.now) }
-        ensures told { OnOk result (is_steady self.now → into.new ≡ take (length into.old) (drop at (bytes self.now))) };
+        ensures read { OnOk result (is_steady self.now → into.new ≡ take (length into.old) (drop at (bytes self.now))) };
 
     /// Reads pages into the list until it is full, the first from byte `at` on. After a fault, the list may hold
     /// anything. A type that reads many pages faster at once than one by one does so here.
     fn read_pages_at(&self, at: u64, into: &mut [Page]) -> Result<(), Self::Fault>
         requires within { at + 4096 * length into.old ≤ length (bytes self.now) }
         requires fits { length (bytes self.now) < 2 ^ 64 }
-        ensures told { OnOk result (is_steady self.now → into.new ≡ pages_at (bytes self.now) at (length into.old)) }
+        ensures read { OnOk result (is_steady self.now → into.new ≡ pages_at (bytes self.now) at (length into.old)) }
     {
         for i in 0..into.len() {
             self.read_at(at + (i * PAGE_BYTES) as u64, &mut into[i][..])?;

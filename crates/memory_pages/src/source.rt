@@ -21,7 +21,7 @@ pub trait PageSource: Sync {
     /// Reads pages into the list until it is full, from page `first` on. After a fault, the list may hold anything.
     fn read(&self, first: u32, into: &mut [Page]) -> Result<(), Self::Fault>
         requires within { first + length into.old ≤ length (pages self.now) }
-        ensures told { OnOk result (is_steady self.now → into.new ≡ take (length into.old) (drop first (pages self.now))) };
+        ensures read { OnOk result (is_steady self.now → into.new ≡ take (length into.old) (drop first (pages self.now))) };
 }
 
 /// Hears how much was read. Several threads may report to it.

@@ -79,7 +79,7 @@ module _ (steady : Type 0) (all : List Content) (marks classes links heads : Lis
   first_class steady j lt =
       let within : j < length (take (length classes) all) = omega (arith, length-take (length classes) all, next) in
       let taken : content_at (take (length classes) all) j ≡ content_at all j = get_or-take (length classes) all j (0, []) (omega arith) in
-      ap (λ (cs : List ℕ). get_or cs j 0) (known.told steady) ∙ get_or-map (class_of all) (take (length classes) all) j (0, []) 0 within ∙ ap (class_of all) taken
+      ap (λ (cs : List ℕ). get_or cs j 0) (known.right steady) ∙ get_or-map (class_of all) (take (length classes) all) j (0, []) 0 within ∙ ap (class_of all) taken
 
   pub starts : (link : ℕ) → link ≡ last_in marks classes (length heads) (get_or marks number 0 % length heads) (length classes) → Walks steady all marks classes (length heads) number link
   starts link e =

@@ -6,7 +6,7 @@ use Rattle.std.proofs.lemmas.List.FromFn.{length-map-range_with_len, get_or-map-
 use Rattle.std.proofs.lemmas.List.Sums.{fails_before_first, position_or_len_is}
 use Rattle.std.proofs.lemmas.Slice.Eq.{bytes_eq-Decides}
 use Rattle.std.specs.Str.{bytes_eq}
-use Rattle.page_census.specs.Classes.{AreAlike, TellApart, class_of}
+use Rattle.page_census.specs.Classes.{AreAlike, DistinguishedBy, class_of}
 use Rattle.page_census.specs.Contents.{Content, content_at, is_same}
 use Rattle.page_census.specs.Fingerprints.{AreConfirmed, Sure, fingerprint_at, fingerprints, seen}
 use Rattle.page_census.specs.declared.compare.Compare.{Compare}
@@ -29,7 +29,7 @@ module _ (all : List Content) (marks : List ℕ) where
       let one : fingerprint_at all marks i ≡ fingerprint_at all marks j = sym (fingerprint_is i (omega (arith, li, length-fingerprints))) ∙ same ∙ fingerprint_is j (omega (arith, lj, length-fingerprints)) in
       ap (λ (fingerprint : Content). get_or fingerprint.1 0 0) one
 
-  pub alike_seen : (by : Compare) (steady : Type 0) → (steady → TellApart all marks) → Sure by steady → AreAlike (seen by all marks) marks
+  pub alike_seen : (by : Compare) (steady : Type 0) → (steady → DistinguishedBy all marks) → Sure by steady → AreAlike (seen by all marks) marks
   alike_seen Marks steady apart sure = equal_fingerprints
   alike_seen Bytes steady apart sure = (apart sure).equal
 
@@ -53,7 +53,7 @@ module _ (all : List Content) (marks : List ℕ) where
       and_true false = refl
 
   -- the classes of fingerprints are those of contents once they are confirmed
-  pub confirmed_right : (steady : Type 0) (classes : List ℕ) → length marks ≡ length all → classes ≡ map (class_of (fingerprints all marks)) (fingerprints all marks) → (steady → TellApart all marks)
+  pub confirmed_right : (steady : Type 0) (classes : List ℕ) → length marks ≡ length all → classes ≡ map (class_of (fingerprints all marks)) (fingerprints all marks) → (steady → DistinguishedBy all marks)
       → AreConfirmed steady all classes 0 (length all) → steady → classes ≡ map (class_of all) all
   confirmed_right steady classes marked is apart confirmed s = ext_get_or 0 classes (map (class_of all) all) (len ∙ sym (length-map all (class_of all))) (λ i lt.
       let within : i < length all = omega (arith, lt, len) in
@@ -89,7 +89,7 @@ module _ (all : List Content) (marks : List ℕ) where
           let fingerprint : fingerprint_at all marks i ≡ fingerprint_at all marks k = one_fingerprint i k lt there (is_one (content_at all i) (content_at all k) t) in
           let fails : is_same (fingerprint_at all marks i) (content_at (fingerprints all marks) k) ≡ false = fails_before_first (is_same (fingerprint_at all marks i)) (fingerprints all marks) k (0, []) less in
           both_ways _ fails (ap (is_same (fingerprint_at all marks i)) (fingerprint_is k there ∙ sym fingerprint) ∙ is_itself (fingerprint_at all marks i))))
-          (λ there. let same : content_at all i ≡ content_at all (class_of (fingerprints all marks) (fingerprint_at all marks i)) = confirmed.told s i (omega arith) lt lt ∙ ap (content_at all) (guessed i lt) in
+          (λ there. let same : content_at all i ≡ content_at all (class_of (fingerprints all marks) (fingerprint_at all marks i)) = confirmed.right s i (omega arith) lt lt ∙ ap (content_at all) (guessed i lt) in
           ap (is_same (content_at all i)) (sym same) ∙ is_itself (content_at all i))
 
 -- one page more is confirmed
@@ -107,12 +107,12 @@ module _ (steady : Type 0) (all : List Content) (classes : List ℕ) where
   part_confirmed size done one before here =
       let more : size * length (done ++ one ∷ []) ≡ size * length done + size = rw (length_push done one) (omega arith) in
       record {
-        told = λ s n low lt within. ⊎_elim
-            (λ less. before.told s n low less within)
-            (λ late. here.told s n late (omega (arith, more, lt)) within)
+        right = λ s n low lt within. ⊎_elim
+            (λ less. before.right s n low less within)
+            (λ late. here.right s n late (omega (arith, more, lt)) within)
             (cases_lt n (size * length done));
       }
 
   -- all are where the parts cover all
   pub all_confirmed : (to : ℕ) → length all ≤ to → AreConfirmed steady all classes 0 to → AreConfirmed steady all classes 0 (length all)
-  all_confirmed to cover done = record { told = λ s n low lt within. done.told s n low (omega (arith, cover, lt)) within }
+  all_confirmed to cover done = record { right = λ s n low lt within. done.right s n low (omega (arith, cover, lt)) within }

@@ -18,7 +18,7 @@ none_known steady all marks heads n count few alike e = record {
   links_are = λ k lt. absurd (omega (arith, lt));
   below = λ k lt. absurd (omega (arith, lt));
   alike = alike;
-  told = λ s. refl;
+  right = λ s. refl;
 }
 
 -- one class more changes no earlier first page
@@ -79,8 +79,8 @@ module _ (steady : Type 0) (all : List Content) (marks classes links heads : Lis
             (λ late. let here : n ≡ number = omega (arith, grown) in let P : ℕ → Type 0 = λ n. get_or (classes ++ class ∷ []) n 0 ≤ n in subst P (sym here) (rw (get_or_push classes class 0 number refl) low))
             (cases_lt n number);
         alike = known.alike;
-        told = λ s.
-            let before = known.told s in
+        right = λ s.
+            let before = known.right s in
             let one : map (class_of all) (take (number + 1) all) ≡ map (class_of all) (take number all) ++ class_of all (content_at all number) ∷ [] = map_more (class_of all) all number (0, []) more in
             rw (length_push classes class, one, ← before, ← (is s)) refl;
       }

@@ -104,16 +104,16 @@ listed f xs (suc n) le =
 pub sum_by_places : (f : ℕ → ℕ) (xs : List ℕ) → sum_by f xs ≡ sum_below (λ k. f (get_or xs k 0)) (length xs)
 sum_by_places f xs = ap (sum_by f) (sym (take_all (length xs) xs (omega arith))) ∙ listed f xs (length xs) (omega arith)
 
-module _ (classes counts : List ℕ) (within : All (λ k. k < length counts) classes) (told : (k : ℕ) → k < length counts → get_or counts k 0 ≡ copies eqb k classes) where
-  -- the classes that pass, by a list that tells the copies of each
+module _ (classes counts : List ℕ) (within : All (λ k. k < length counts) classes) (right : (k : ℕ) → k < length counts → get_or counts k 0 ≡ copies eqb k classes) where
+  -- the classes that pass, by a list that distinguished the copies of each
   pub distinct_passing : (q : ℕ → Bool) → All (λ k. k < length counts) (filter q classes) → distinct eqb (filter q classes) ≡ count_below (λ k. q k && ltb 0 (get_or counts k 0)) (length counts)
   distinct_passing q low =
       distinct_below (length counts) (filter q classes) low ∙ same_below (λ k. cond (list_any (eqb k) (filter q classes)) 1 0) (λ k. cond (q k && ltb 0 (get_or counts k 0)) 1 0) (length counts) (λ k lt.
-      ap (λ (b : Bool). cond b 1 0) (any-filter_same (eqb k) q (q k) (λ j e. ap q (sym (eqb-true k j e))) classes ∙ ap (λ (b : Bool). q k && b) (occurs k classes ∙ ap (ltb 0) (sym (told k lt)))))
+      ap (λ (b : Bool). cond b 1 0) (any-filter_same (eqb k) q (q k) (λ j e. ap q (sym (eqb-true k j e))) classes ∙ ap (λ (b : Bool). q k && b) (occurs k classes ∙ ap (ltb 0) (sym (right k lt)))))
 
   pub count_passing : (q : ℕ → Bool) → count_by q classes ≡ sum_below (λ k. cond (q k) (get_or counts k 0) 0) (length counts)
   count_passing q =
-      passing_below q (length counts) classes within ∙ same_below (λ k. cond (q k) (copies eqb k classes) 0) (λ k. cond (q k) (get_or counts k 0) 0) (length counts) (λ k lt. ap (λ (m : ℕ). cond (q k) m 0) (sym (told k lt)))
+      passing_below q (length counts) classes within ∙ same_below (λ k. cond (q k) (copies eqb k classes) 0) (λ k. cond (q k) (get_or counts k 0) 0) (length counts) (λ k lt. ap (λ (m : ℕ). cond (q k) m 0) (sym (right k lt)))
 
   all_pass : (xs : List ℕ) → count_by (λ k. true) xs ≡ length xs
   all_pass [] = refl

@@ -66,29 +66,29 @@ module _ (all : List Content) (p : Content → Bool) (q : ℕ → Bool) (agree :
       sum_by-cons (λ (c : Content). cond (p c) 1 0) x xs
       ∙ rw (agree x (All-head (IsIn all) x xs within), count_same xs (All-tail (IsIn all) x xs within)) (sym (sum_by-cons (λ (k : ℕ). cond (q k) 1 0) (class_of all x) (map (class_of all) xs)))
 
-module _ (all : List Content) (counts : List ℕ) (len : length counts ≡ length all) (told : (k : ℕ) → k < length all → get_or counts k 0 ≡ copies eqb k (map (class_of all) all)) where
+module _ (all : List Content) (counts : List ℕ) (len : length counts ≡ length all) (right : (k : ℕ) → k < length all → get_or counts k 0 ≡ copies eqb k (map (class_of all) all)) where
   low : All (λ k. k < length counts) (map (class_of all) all)
   low = rw len (All-map (λ (k : ℕ). k < length all) (class_of all) all (all_in all))
 
-  tell : (k : ℕ) → k < length counts → get_or counts k 0 ≡ copies eqb k (map (class_of all) all)
-  tell k lt = told k (omega (arith, len, lt))
+  all_right : (k : ℕ) → k < length counts → get_or counts k 0 ≡ copies eqb k (map (class_of all) all)
+  all_right k lt = right k (omega (arith, len, lt))
 
   different : (p : Content → Bool) (q : ℕ → Bool) → ((c : Content) → class_of all c < length all → p c ≡ q (class_of all c)) → distinct is_same (filter p all) ≡ count_below (λ k. q k && ltb 0 (get_or counts k 0)) (length counts)
   different p q agree =
       distinct_same all (filter p all) (All-filter p (IsIn all) all (all_in all))
       ∙ ap (distinct eqb) (filter_same all p q agree all (all_in all))
-      ∙ distinct_passing (map (class_of all) all) counts low tell q (All-filter q (λ (k : ℕ). k < length counts) (map (class_of all) all) low)
+      ∙ distinct_passing (map (class_of all) all) counts low all_right q (All-filter q (λ (k : ℕ). k < length counts) (map (class_of all) all) low)
 
   class_is : (from to : ℕ) → 0 < from → counted_class counts from to ≡ copies_class all from to
   class_is from to some =
       let q : ℕ → Bool = λ k. is_between from to (get_or counts k 0) in
-      let agree : (c : Content) → class_of all c < length all → has_copies all from to c ≡ q (class_of all c) = λ c within. ap (is_between from to) (copies_same all c within all ∙ sym (told (class_of all c) within)) in
+      let agree : (c : Content) → class_of all c < length all → has_copies all from to c ≡ q (class_of all c) = λ c within. ap (is_between from to) (copies_same all c within all ∙ sym (right (class_of all c) within)) in
       let contents : count_by (is_between from to) counts ≡ distinct is_same (filter (has_copies all from to) all) =
       sum_by_places (λ n. cond (is_between from to n) 1 0) counts
       ∙ same_below (λ k. cond (q k) 1 0) (λ k. cond (q k && ltb 0 (get_or counts k 0)) 1 0) (length counts) (λ k lt. ap (λ (t : Bool). cond t 1 0) (between_some from to (get_or counts k 0) some))
       ∙ sym (different (has_copies all from to) q agree) in
       let pages : sum_by (λ n. cond (is_between from to n) n 0) counts ≡ count_by (has_copies all from to) all =
-      sum_by_places (λ n. cond (is_between from to n) n 0) counts ∙ sym (count_passing (map (class_of all) all) counts low tell q) ∙ sym (count_same all (has_copies all from to) q agree all (all_in all)) in
+      sum_by_places (λ n. cond (is_between from to n) n 0) counts ∙ sym (count_passing (map (class_of all) all) counts low all_right q) ∙ sym (count_same all (has_copies all from to) q agree all (all_in all)) in
       rw (contents, pages) refl
 
   rows_same : (numbers : List ℕ) → map (λ number. counted_class counts (fewest number) (most number)) numbers ≡ map (λ number. copies_class all (fewest number) (most number)) numbers
@@ -128,6 +128,6 @@ module _ (all : List Content) (counts : List ℕ) (len : length counts ≡ lengt
         } in
         counted_total counts frames marks (map (class_of all) all) numbers ≡ meant
     total_is frames numbers e =
-        let s : shared is_same all all ≡ count_by (λ class. ltb 1 (get_or counts class 0)) (map (class_of all) all) = shared_same all counts told all (all_in all) in
+        let s : shared is_same all all ≡ count_by (λ class. ltb 1 (get_or counts class 0)) (map (class_of all) all) = shared_same all counts right all (all_in all) in
         let f : frames ≡ distinct is_same all = e ∙ sym (distinct_same all all (all_in all)) in
         rw (length-map all (class_of all), zero_marked hash all, zero_classes, ← s, f) refl

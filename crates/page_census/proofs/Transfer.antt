@@ -9,7 +9,7 @@ use Rattle.std.proofs.lemmas.Slice.Eq.{bytes_eq-Decides}
 use Rattle.std.proofs.lemmas.List.Elements.{All-drop, All-from_get_or, All-head, All-tail, All-take}
 use Rattle.std.proofs.lemmas.List.Sums.{fails_before_first, passes_at_first, sum_by-cons}
 use Rattle.page_model.specs.Pages.{blank}
-use Rattle.page_census.specs.Classes.{TellApart, class_of}
+use Rattle.page_census.specs.Classes.{DistinguishedBy, class_of}
 use Rattle.page_census.specs.Contents.{Content, content_at, contents, contents_of, is_same}
 use Rattle.page_census.specs.Counted.{counted_guests, counted_numbers}
 use Rattle.page_census.specs.declared.guest.Guest.{Guest}
@@ -65,17 +65,17 @@ module _ (all : List Content) where
   distinct_same [] within = refl
   distinct_same (x ∷ xs) within = rw (any_same x (All-head IsIn x xs within) xs, distinct_same xs (All-tail IsIn x xs within)) refl
 
-  -- by a list that tells the copies of each class
+  -- by a list of the copies of each class
   pub shared_same : (counts : List ℕ) → ((k : ℕ) → k < length all → get_or counts k 0 ≡ copies eqb k (map (class_of all) all)) → (xs : List Content) → All IsIn xs
       → shared is_same all xs ≡ count_by (λ class. ltb 1 (get_or counts class 0)) (map (class_of all) xs)
-  shared_same counts told [] within = refl
-  shared_same counts told (x ∷ xs) within =
+  shared_same counts right [] within = refl
+  shared_same counts right (x ∷ xs) within =
       let here = All-head IsIn x xs within in
-      let counted : copies is_same x all ≡ get_or counts (class_of all x) 0 = copies_same x here all ∙ sym (told (class_of all x) here) in
+      let counted : copies is_same x all ≡ get_or counts (class_of all x) 0 = copies_same x here all ∙ sym (right (class_of all x) here) in
       sum_by-cons (λ (y : Content). cond (ltb 1 (copies is_same y all)) 1 0) x xs
-      ∙ rw (counted, shared_same counts told xs (All-tail IsIn x xs within)) (sym (sum_by-cons (λ (k : ℕ). cond (ltb 1 (get_or counts k 0)) 1 0) (class_of all x) (map (class_of all) xs)))
+      ∙ rw (counted, shared_same counts right xs (All-tail IsIn x xs within)) (sym (sum_by-cons (λ (k : ℕ). cond (ltb 1 (get_or counts k 0)) 1 0) (class_of all x) (map (class_of all) xs)))
 
-  -- how many of xs have a second copy among own is told by classes
+  -- how many of xs have a second copy among own is known by classes
   pub within_same : (own xs : List Content) → All IsIn xs → shared is_same own xs ≡ shared eqb (map (class_of all) own) (map (class_of all) xs)
   within_same own [] within = refl
   within_same own (x ∷ xs) within =
@@ -86,9 +86,9 @@ module _ (all : List Content) where
 blank_of : (hash : ℕ → List ℕ → ℕ) (c : Content) → mark_at hash c ≡ 0 → c.1 ≡ blank
 blank_of hash c e = (bytes_eq-Decides c.1 blank).0 (sym (mark_zero (bytes_eq c.1 blank) (hash c.0 c.1)) ∙ eq-eqb (mark_at hash c) 0 e)
 
--- marks tell contents apart
-pub tells : (hash : ℕ → List ℕ → ℕ) (all : List Content) (marks : List ℕ) → marks ≡ map (mark_at hash) all → TellApart all marks
-tells hash all marks e = record {
+-- marks distinguish contents
+pub distinguished : (hash : ℕ → List ℕ → ℕ) (all : List Content) (marks : List ℕ) → marks ≡ map (mark_at hash) all → DistinguishedBy all marks
+distinguished hash all marks e = record {
   equal = λ i j li lj same. at i li ∙ ap (mark_at hash) same ∙ sym (at j lj);
   zeros = λ i li zero. blank_of hash (content_at all i) (sym (at i li) ∙ zero);
 }
@@ -96,10 +96,10 @@ tells hash all marks e = record {
     at : (i : ℕ) → i < length all → get_or marks i 0 ≡ mark_at hash (content_at all i)
     at i lt = ap (λ (ms : List ℕ). get_or ms i 0) e ∙ get_or-map (mark_at hash) all i (0, []) 0 lt
 
-module _ {S : Type 0} (pages : S → List (List ℕ)) (hash : ℕ → List ℕ → ℕ) (all : List Content) (counts : List ℕ) (told : (k : ℕ) → k < length all → get_or counts k 0 ≡ copies eqb k (map (class_of all) all)) where
+module _ {S : Type 0} (pages : S → List (List ℕ)) (hash : ℕ → List ℕ → ℕ) (all : List Content) (counts : List ℕ) (right : (k : ℕ) → k < length all → get_or counts k 0 ≡ copies eqb k (map (class_of all) all)) where
   one_guest : (own : List Content) → All (IsIn all) own → counted_numbers counts (map (mark_at hash) own) (map (class_of all) own) ≡ guest_numbers all own
   one_guest own within =
-      rw (length-map own (class_of all), zero_marked hash own, ← (distinct_same all own within), ← (shared_same all counts told own within), ← (within_same all own own within)) refl
+      rw (length-map own (class_of all), zero_marked hash own, ← (distinct_same all own within), ← (shared_same all counts right own within), ← (within_same all own own within)) refl
 
   -- the numbers of all guests are those that their contents give
   pub counted_are : (guests : List (Guest S)) → All (IsIn all) (contents pages guests)

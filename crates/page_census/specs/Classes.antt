@@ -23,7 +23,7 @@ AreAlike all marks =
     (i j : ℕ) → i < length all → j < length all → content_at all i ≡ content_at all j → slice_index marks i ≡ slice_index marks j
 
 -- equal contents have equal marks, and a content with the mark 0 is zeros
-pub record TellApart (all : List Content) (marks : List ℕ) : Type 0 where
+pub record DistinguishedBy (all : List Content) (marks : List ℕ) : Type 0 where
   pub equal : AreAlike all marks
   pub zeros : (i : ℕ) → i < length all → slice_index marks i ≡ 0 → (content_at all i).1 ≡ blank
 
@@ -48,7 +48,7 @@ pub record Classed (steady : Type 0) (all : List Content) (marks classes links h
       → slice_index links n ≡ last_in marks classes (length heads) (slice_index marks n % length heads) n
   pub below : (n : ℕ) → n < length classes → slice_index classes n ≤ n
   pub alike : steady → AreAlike all marks
-  pub told : steady → classes ≡ map (class_of all) (take (length classes) all)
+  pub right : steady → classes ≡ map (class_of all) (take (length classes) all)
 
 -- the heads after a page of this class came whose mark is in this bucket
 abbrev pub headed : List ℕ → ℕ → ℕ → ℕ → List ℕ

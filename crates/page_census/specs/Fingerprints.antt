@@ -1,7 +1,7 @@
 -- The fingerprints of pages, which represent their contents until the bytes are compared.
 use Rattle.std.specs.Prelude.{◌≡◌, ℕ, ◌^◌, ◌<◌, ◌≤◌, List, [], ◌∷◌, All, length, map, slice_index}
 use Rattle.std.specs.List.{range_with_len}
-use Rattle.page_census.specs.Classes.{TellApart}
+use Rattle.page_census.specs.Classes.{DistinguishedBy}
 use Rattle.page_census.specs.Contents.{Content, content_at}
 use Rattle.page_census.specs.declared.compare.Compare.{Compare}
 use Rattle.page_census.specs.declared.compare.Compare.TheVariants.{Marks, Bytes}
@@ -25,7 +25,7 @@ Sure Bytes steady = steady
 
 -- the pages from one number up to another have the content of the first page of their class
 pub record AreConfirmed (steady : Type 0) (all : List Content) (classes : List ℕ) (from to : ℕ) : Type 0 where
-  pub told : steady → (n : ℕ) → from ≤ n → n < to → n < length all → content_at all n ≡ content_at all (slice_index classes n)
+  pub right : steady → (n : ℕ) → from ≤ n → n < to → n < length all → content_at all n ≡ content_at all (slice_index classes n)
 
 -- each page has a mark and a class
 pub record AreClassed (steady : Type 0) (all : List Content) (marks classes : List ℕ) : Type 0 where
@@ -33,4 +33,4 @@ pub record AreClassed (steady : Type 0) (all : List Content) (marks classes : Li
   pub classed : length classes ≡ length all
   pub few : length all < 2 ^ 32
   pub below : All (λ class. class < length all) classes
-  pub apart : steady → TellApart all marks
+  pub apart : steady → DistinguishedBy all marks

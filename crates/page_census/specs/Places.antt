@@ -14,4 +14,4 @@ pub record StandsAt {S : Type 0} (pages : S → List (List ℕ)) (guests : List 
 
 -- if the page was read, a list holds it
 pub record Holds (steady : Type 0) (all : List Content) (subject : Subject) (pages : List (List ℕ)) : Type 0 where
-  pub told : steady → subject.is_read ≡ true → pages ≡ (content_at all subject.number).1 ∷ []
+  pub right : steady → subject.is_read ≡ true → pages ≡ (content_at all subject.number).1 ∷ []

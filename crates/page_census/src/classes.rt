@@ -2,7 +2,7 @@
 ghost use Rattle.std.specs.Prelude.{◌≡◌, ◌+◌, ◌≤◌, ◌<◌, ◌^◌, ◌%◌, ◌++◌, ◌/◌, [], ◌∷◌, All, IfOk};
 ghost use Rattle.std.specs.Prelude.{length, map, replicate, vec_capacity, vec_len, slice_index};
 ghost use Rattle.page_census.specs.Contents.{AreSteady, contents};
-ghost use Rattle.page_census.specs.Classes.{Classed, TellApart, class_at, classes_of, headed};
+ghost use Rattle.page_census.specs.Classes.{Classed, DistinguishedBy, class_at, classes_of, headed};
 ghost use Rattle.page_census.specs.Fingerprints.{Sure, seen};
 
 use crate::Guest;
@@ -38,10 +38,10 @@ fn class_of_next<S: PageSource, A: Allocator>(
     requires classed { Classed (Sure by (AreSteady S.is_steady guests.now)) (seen by (contents S.pages guests.now) marks.now) marks.now
         known.now.classes.items known.now.links.items known.now.heads.items }
     requires marked { length marks.now ≡ length (contents S.pages guests.now) }
-    requires apart { AreSteady S.is_steady guests.now → TellApart (contents S.pages guests.now) marks.now }
+    requires apart { AreSteady S.is_steady guests.now → DistinguishedBy (contents S.pages guests.now) marks.now }
     requires more { vec_len known.now.classes < length (contents S.pages guests.now) }
     ensures below { IfOk result (λ class. class ≤ vec_len known.now.classes) }
-    ensures told { IfOk result (λ class. Sure by (AreSteady S.is_steady guests.now)
+    ensures right { IfOk result (λ class. Sure by (AreSteady S.is_steady guests.now)
         → class ≡ class_at (seen by (contents S.pages guests.now) marks.now) (vec_len known.now.classes)) }
 {
     let number = known.classes.len() as u32;
@@ -110,10 +110,10 @@ pub(crate) fn classes_of<S: PageSource, A: Allocator + Clone>(
 ) -> Result<Vec<u32, A>, LookFault<S::Fault>>
     requires count { length marks.now ≡ length (contents S.pages guests.now) }
     requires few { length marks.now < 2 ^ 32 }
-    requires apart { AreSteady S.is_steady guests.now → TellApart (contents S.pages guests.now) marks.now }
+    requires apart { AreSteady S.is_steady guests.now → DistinguishedBy (contents S.pages guests.now) marks.now }
     ensures len { IfOk result (λ classes. vec_len classes ≡ length marks.now) }
     ensures below { IfOk result (λ classes. All (λ class. class < length marks.now) classes.items) }
-    ensures told { IfOk result (λ classes. Sure by (AreSteady S.is_steady guests.now)
+    ensures right { IfOk result (λ classes. Sure by (AreSteady S.is_steady guests.now)
         → classes.items ≡ classes_of (seen by (contents S.pages guests.now) marks.now)) }
 {
     let mut own = new_pages(alloc.clone()?, 1)?;

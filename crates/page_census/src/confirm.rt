@@ -1,7 +1,7 @@
 //! The classes of all pages, found by marks and confirmed by several workers.
 ghost use Rattle.std.specs.Prelude.{◌≡◌, ◌+◌, ◌*◌, ◌<◌, ◌≤◌, ◌^◌, true, All, IfOk, length, map, slice_index, vec_len};
 ghost use Rattle.page_census.specs.Contents.{AreSteady, contents, content_at};
-ghost use Rattle.page_census.specs.Classes.{TellApart, classes_of};
+ghost use Rattle.page_census.specs.Classes.{DistinguishedBy, classes_of};
 ghost use Rattle.page_census.specs.Fingerprints.{AreClassed, AreConfirmed};
 
 use crate::Guest;
@@ -26,10 +26,10 @@ pub(crate) fn find_classes<R: Threads + Sync, S: PageSource, A: Allocator + Clon
     requires workers { 1 ≤ workers.now.count }
     requires count { length marks.now ≡ length (contents S.pages guests.now) }
     requires few { length marks.now < 2 ^ 32 }
-    requires apart { AreSteady S.is_steady guests.now → TellApart (contents S.pages guests.now) marks.now }
+    requires apart { AreSteady S.is_steady guests.now → DistinguishedBy (contents S.pages guests.now) marks.now }
     ensures len { IfOk result (λ classes. vec_len classes ≡ length marks.now) }
     ensures below { IfOk result (λ classes. All (λ class. class < length marks.now) classes.items) }
-    ensures told { IfOk result (λ classes. AreSteady S.is_steady guests.now
+    ensures right { IfOk result (λ classes. AreSteady S.is_steady guests.now
         → classes.items ≡ classes_of (contents S.pages guests.now)) }
 {
     let classes = classes_of(workers.alloc, guests, marks, Compare::Marks)?;
@@ -111,7 +111,7 @@ fn is_one_content<S: PageSource>(
     requires a_within { a < length (contents S.pages guests.now) }
     requires b_within { b < length (contents S.pages guests.now) }
     requires marked { length marks.now ≡ length (contents S.pages guests.now) }
-    requires apart { AreSteady S.is_steady guests.now → TellApart (contents S.pages guests.now) marks.now }
+    requires apart { AreSteady S.is_steady guests.now → DistinguishedBy (contents S.pages guests.now) marks.now }
     ensures { IfOk result (λ yes. yes ≡ true → AreSteady S.is_steady guests.now
         → content_at (contents S.pages guests.now) a ≡ content_at (contents S.pages guests.now) b) }
 {

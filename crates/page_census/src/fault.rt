@@ -51,9 +51,9 @@ impl<F> From<AllocError> for LookFault<F> {
 
 impl<F> From<LookFault<F>> for CensusFault<F> {
     ghost use Rattle.std.specs.Prelude.{◌≡◌};
-    ghost use Rattle.page_census.specs.Faults.{told_as};
+    ghost use Rattle.page_census.specs.Faults.{census_fault};
 
-    ghost from_gives = { λ inner fault. fault ≡ told_as inner };
+    ghost from_gives = { λ inner fault. fault ≡ census_fault inner };
 
     fn from(inner: LookFault<F>) -> CensusFault<F> {
         match inner {

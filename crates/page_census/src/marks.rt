@@ -29,7 +29,7 @@ pub(crate) fn push_guest<
 ) -> Result<(), LookFault<S::Fault>>
     requires { 1 ≤ workers.now.count }
     ensures len { OnOk result (vec_len marks.new ≡ vec_len marks.old + length (S.pages guest.now.source)) }
-    ensures told { OnOk result (S.is_steady guest.now.source
+    ensures right { OnOk result (S.is_steady guest.now.source
         → marks.new.items ≡ marks.old.items ++ marks_of H.hash_of guest.now.salt (S.pages guest.now.source)) }
     ensures capacity { vec_capacity marks.old ≤ vec_capacity marks.new }
 {
@@ -75,7 +75,7 @@ pub(crate) fn marks_of_all<
     requires workers { 1 ≤ workers.now.count }
     requires count { count ≡ length (contents S.pages guests.now) }
     ensures len { IfOk result (λ marks. vec_len marks ≡ count) }
-    ensures told { IfOk result (λ marks. AreSteady S.is_steady guests.now
+    ensures right { IfOk result (λ marks. AreSteady S.is_steady guests.now
         → marks.items ≡ map (mark_at H.hash_of) (contents S.pages guests.now)) }
 {
     let mut marks = Vec::with_capacity(workers.alloc.clone()?, count as usize)?;

@@ -1,7 +1,7 @@
 //! Where to find a page that is numbered among the pages of all guests.
 ghost use Rattle.std.specs.Prelude.{◌≡◌, ◌+◌, ◌<◌, ◌≤◌, ◌^◌, true, length, slice_index_or, slice_index, take, drop, IfOk, OnOk};
 ghost use Rattle.page_census.specs.Contents.{contents, are_same, AreSteady};
-ghost use Rattle.page_census.specs.Classes.{TellApart};
+ghost use Rattle.page_census.specs.Classes.{DistinguishedBy};
 ghost use Rattle.page_census.specs.Fingerprints.{Sure, fingerprints, seen};
 ghost use Rattle.page_census.specs.Places.{Holds, StandsAt};
 
@@ -85,9 +85,9 @@ pub(crate) fn is_same_content<S: PageSource>(
     requires a_within { subject.old.number < length (contents S.pages guests.now) }
     requires b_within { b < length (contents S.pages guests.now) }
     requires marked { length marks.now ≡ length (contents S.pages guests.now) }
-    requires apart { AreSteady S.is_steady guests.now → TellApart (contents S.pages guests.now) marks.now }
+    requires apart { AreSteady S.is_steady guests.now → DistinguishedBy (contents S.pages guests.now) marks.now }
     requires held { Holds (AreSteady S.is_steady guests.now) (contents S.pages guests.now) subject.old own.old }
-    ensures told { IfOk result (λ same. AreSteady S.is_steady guests.now
+    ensures right { IfOk result (λ same. AreSteady S.is_steady guests.now
         → same ≡ are_same (contents S.pages guests.now) subject.old.number b) }
     ensures number { OnOk result (subject.new.number ≡ subject.old.number) }
     ensures held { OnOk result (Holds (AreSteady S.is_steady guests.now) (contents S.pages guests.now) subject.new own.new) }
@@ -138,9 +138,9 @@ pub(crate) fn is_same<S: PageSource>(
     requires a_within { subject.old.number < length (contents S.pages guests.now) }
     requires b_within { b < length (contents S.pages guests.now) }
     requires marked { length marks.now ≡ length (contents S.pages guests.now) }
-    requires apart { AreSteady S.is_steady guests.now → TellApart (contents S.pages guests.now) marks.now }
+    requires apart { AreSteady S.is_steady guests.now → DistinguishedBy (contents S.pages guests.now) marks.now }
     requires held { Holds (AreSteady S.is_steady guests.now) (contents S.pages guests.now) subject.old own.old }
-    ensures told { IfOk result (λ same. Sure by (AreSteady S.is_steady guests.now)
+    ensures right { IfOk result (λ same. Sure by (AreSteady S.is_steady guests.now)
         → same ≡ are_same (seen by (contents S.pages guests.now) marks.now) subject.old.number b) }
     ensures number { OnOk result (subject.new.number ≡ subject.old.number) }
     ensures held { OnOk result (Holds (AreSteady S.is_steady guests.now) (contents S.pages guests.now) subject.new own.new) }

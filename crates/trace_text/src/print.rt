@@ -1,6 +1,6 @@
 //! How the play of a trace ended, as a line.
 ghost use Rattle.std.specs.Prelude.{◌≡◌, ◌<◌, ◌^◌, ◌++◌, codes, decimal, string_bytes, IfOk, OnOk};
-ghost use Rattle.trace_text.specs.Printed.{at_step, possible_words, shown_words, right_told, outcome_line};
+ghost use Rattle.trace_text.specs.Printed.{at_step, possible_words, shown_words, right_line, outcome_line};
 ghost use Rattle.trace_text.specs.declared.outcome.Outcome.TheVariants as Outcome;
 
 use crate::Outcome;
@@ -24,7 +24,7 @@ fn push_counted<A: Allocator>(out: &mut String<A>, words: &str, n: u64) -> Resul
     push_number(out, n)
 }
 
-/// Appends the words that begin what is told of a step.
+/// Appends the words that begin a line about a step.
 fn push_step<A: Allocator>(out: &mut String<A>, place: usize) -> Result<(), AllocError>
     ensures { OnOk result (string_bytes out.new ≡ string_bytes out.old ++ at_step place) }
 {
@@ -50,13 +50,13 @@ fn push_shown<A: Allocator>(out: &mut String<A>) -> Result<(), AllocError>
     out.push_str(" pages shown right")
 }
 
-/// Appends what is told of a play in which each step was right.
+/// Appends what the line says of a play in which each step was right.
 fn push_right<A: Allocator>(
     out: &mut String<A>,
     events: usize,
     looks: usize,
 ) -> Result<(), AllocError>
-    ensures { OnOk result (string_bytes out.new ≡ string_bytes out.old ++ right_told events looks) }
+    ensures { OnOk result (string_bytes out.new ≡ string_bytes out.old ++ right_line events looks) }
 {
     push_number(out, events as u64)?;
     push_possible(out)?;
@@ -64,7 +64,7 @@ fn push_right<A: Allocator>(
     push_shown(out)
 }
 
-/// Appends what is told of a page that shows something else.
+/// Appends what the line says of a page that shows something else.
 #[tactic(auto, unfolding(crate::specs::Printed::outcome_line))]
 fn push_differs<A: Allocator>(
     out: &mut String<A>,
@@ -81,7 +81,7 @@ fn push_differs<A: Allocator>(
     push_counted(out, ", not ", said)
 }
 
-/// Appends what is told of a play.
+/// Appends what the line says of a play.
 #[tactic(auto, unfolding(crate::specs::Printed::outcome_line))]
 fn push_outcome<A: Allocator>(out: &mut String<A>, outcome: &Outcome) -> Result<(), AllocError>
     ensures { OnOk result (string_bytes out.new ≡ string_bytes out.old ++ outcome_line outcome.now) }
@@ -100,7 +100,7 @@ fn push_outcome<A: Allocator>(out: &mut String<A>, outcome: &Outcome) -> Result<
     }
 }
 
-/// Returns the line that tells how a play ended, without a line feed.
+/// Returns the line that says how a play ended, without a line feed.
 pub fn outcome_line<A: Allocator>(alloc: A, outcome: &Outcome) -> Result<String<A>, AllocError>
     ensures { IfOk result (λ line. string_bytes line ≡ outcome_line outcome.now) }
 {

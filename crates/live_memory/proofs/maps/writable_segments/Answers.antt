@@ -12,11 +12,11 @@ use Rattle.live_memory.proofs.maps.writable_segments.Goals as goal
 fault_read : {A : Type 0} (view : A → List Segment) (text : Result (List Segment) ℕ) (n : ℕ) (front after : List Segment) (bytes line : List ℕ) (fault : LiveFault) (result : Result A LiveFault)
     → result ≡ Err fault → with_front front (segments_from n bytes) ≡ text → position_or_len is_feed bytes < length bytes → line ≡ before_first is_feed bytes
     → IsPushed n front after line (Err fault) → IsRead view text result
-fault_read view text n front after bytes line (Line k) result same told within is pushed =
-    rw (same, pushed.1) (sym told ∙ line_fault n front bytes line within is pushed.0)
-fault_read view text n front after bytes line OutOfMemory result same told within is pushed = rw same tt
-fault_read view text n front after bytes line (System error) result same told within is pushed = absurd pushed
-fault_read view text n front after bytes line TooManyPages result same told within is pushed = absurd pushed
+fault_read view text n front after bytes line (Line k) result same so_far within is pushed =
+    rw (same, pushed.1) (sym so_far ∙ line_fault n front bytes line within is pushed.0)
+fault_read view text n front after bytes line OutOfMemory result same so_far within is pushed = rw same tt
+fault_read view text n front after bytes line (System error) result same so_far within is pushed = absurd pushed
+fault_read view text n front after bytes line TooManyPages result same so_far within is pushed = absurd pushed
 
 some_left : (xs : List ℕ) → (length xs == 0) ≡ false → xs ≢ []
 some_left [] h same = cc h
@@ -26,28 +26,28 @@ none_left : (xs : List ℕ) → (length xs == 0) ≡ true → xs ≡ []
 none_left [] h = refl
 none_left (x ∷ xs) h = let e : length (x ∷ xs) ≡ 0 = eqb-true (length (x ∷ xs)) 0 h in absurd (omega (arith, e))
 
-pub returns-in_default-clause-told : goal.returns-in_default-clause-told
-returns-in_default-clause-told g c =
+pub returns-in_default-clause-read : goal.returns-in_default-clause-read
+returns-in_default-clause-read g c =
     let rest = c.loop-rest.rest.now in
-    sym c.loop-rest.invariant.told ∙ cut_line c.loop-rest.line c.loop-rest.segments.items rest (some_left rest (search rules)) c.in_default.ensures.parts
+    sym c.loop-rest.invariant.read ∙ cut_line c.loop-rest.line c.loop-rest.segments.items rest (some_left rest (search rules)) c.in_default.ensures.parts
 
-pub returns-in_err-push_kept-clause-told : goal.returns-in_err-push_kept-clause-told
-returns-in_err-push_kept-clause-told g c =
+pub returns-in_err-push_kept-clause-read : goal.returns-in_err-push_kept-clause-read
+returns-in_err-push_kept-clause-read g c =
     let cut = c.in-Some.ensures.parts in
     fault_read (λ segments. segments.items) _ c.loop-rest.line c.loop-rest.segments.items c.push_kept.new.segments.items c.loop-rest.rest.now c.in-Some.bytes.now
-    c.in_err-push_kept.field-0.0 c.from_residual.result (search rules) c.loop-rest.invariant.told cut.0 cut.1 c.in_err-push_kept.ensures.pushed
+    c.in_err-push_kept.field-0.0 c.from_residual.result (search rules) c.loop-rest.invariant.read cut.0 cut.1 c.in_err-push_kept.ensures.pushed
 
 pub loop-rest-preserved : goal.loop-rest-preserved
 loop-rest-preserved g c =
     let cut = c.in-Some.ensures.parts in
     let pushed = c.in_ok-push_kept.ensures.pushed in
     record {
-      told = sym (line_on c.loop-rest.line c.loop-rest.segments.items c.push_kept.new.segments.items c.loop-rest.rest.now c.in-Some.bytes.now c.in-Some.behind.now pushed.0 cut.0 cut.1 cut.2 pushed.1 pushed.2) ∙ c.loop-rest.invariant.told;
+      read = sym (line_on c.loop-rest.line c.loop-rest.segments.items c.push_kept.new.segments.items c.loop-rest.rest.now c.in-Some.bytes.now c.in-Some.behind.now pushed.0 cut.0 cut.1 cut.2 pushed.1 pushed.2) ∙ c.loop-rest.invariant.read;
       within = c.in_ok-push_kept.ensures.within c.loop-rest.invariant.within;
       count = omega (arith, c.in-Some.ensures.length, c.loop-rest.invariant.count);
     }
 
-pub returns-clause-told : goal.returns-clause-told
-returns-clause-told g c =
+pub returns-clause-read : goal.returns-clause-read
+returns-clause-read g c =
     let none : c.loop-rest.rest.now ≡ [] = none_left c.loop-rest.rest.now (search rules) in
-    sym c.loop-rest.invariant.told ∙ rw none (all_lines c.loop-rest.line c.loop-rest.segments.items)
+    sym c.loop-rest.invariant.read ∙ rw none (all_lines c.loop-rest.line c.loop-rest.segments.items)

@@ -6,7 +6,7 @@ use Rattle.live_memory.proofs.maps.writable_segments.Given as goal
 
 abbrev pub invariant-loop-rest : goal.invariant-loop-rest
 invariant-loop-rest g l = record {
-  told : with_front l.segments.items (segments_from l.line l.rest) ≡ segments_from 1 l.maps;
+  read : with_front l.segments.items (segments_from l.line l.rest) ≡ segments_from 1 l.maps;
   within : AreWithin (2 ^ 64 - 1) l.segments.items;
   count : l.line + length l.rest ≤ length l.maps + 1;
 }

@@ -7,5 +7,5 @@ invariant-loop-segment g l = record {
   len : vec_len l.starts ≡ l.segment-index;
   room : length l.segments ≤ vec_capacity l.starts;
   count : l.count ≡ count_of (take l.segment-index l.segments);
-  told : (i : ℕ) → i < l.segment-index → get_or l.starts.items i 0 ≡ count_of (take i l.segments);
+  starts_are : (i : ℕ) → i < l.segment-index → get_or l.starts.items i 0 ≡ count_of (take i l.segments);
 }

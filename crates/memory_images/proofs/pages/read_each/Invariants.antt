@@ -6,5 +6,5 @@ use Rattle.memory_images.proofs.pages.read_each.Given as goal
 abbrev pub invariant-loop-i : goal.invariant-loop-i
 invariant-loop-i g l = record {
   len : length l.into ≡ length l.initial.into;
-  told : g.R.ReadAt.is_steady l.reader → (k : ℕ) → k < l.i → get_or l.into k [] ≡ page_of (part (g.R.ReadAt.bytes l.reader) l.segment.offset l.segment.len) (l.first + k);
+  read : g.R.ReadAt.is_steady l.reader → (k : ℕ) → k < l.i → get_or l.into k [] ≡ page_of (part (g.R.ReadAt.bytes l.reader) l.segment.offset l.segment.len) (l.first + k);
 }

@@ -18,4 +18,4 @@ returns g c = λ steady.
     ] in
     page_read (g.R.ReadAt.bytes c.args.reader.now) old c.read_at.new.into c.args.segment.offset c.args.segment.len c.args.n len _ _
     c.requires.within c.requires.page (omega (arith, c.min-len.ensures, c.from.ensures)) page zeroed
-    (length-take-le len old (omega (arith, page, c.min-len.ensures))) (omega (arith, c.from.ensures)) (c.in_ok-read_at.ensures.told steady)
+    (length-take-le len old (omega (arith, page, c.min-len.ensures))) (omega (arith, c.from.ensures)) (c.in_ok-read_at.ensures.read steady)

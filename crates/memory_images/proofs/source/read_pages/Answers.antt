@@ -1,6 +1,6 @@
 use Rattle.std.proofs.Common.{◌≡◌, ◌∙◌, ◌++◌, ◌-◌, ◌+◌, ℕ, min, length, take, drop, arith, ap}
 use Rattle.std.proofs.lemmas.List.{length-take, length-drop}
-use Rattle.memory_images.proofs.Walked.{passed_left, passed_told, read_left, read_told, read_on}
+use Rattle.memory_images.proofs.Walked.{passed_left, passed_pages, read_left, read_pages, read_on}
 use Rattle.memory_images.proofs.source.read_pages.Goals as goal
 use Rattle.memory_images.proofs.source.read_pages.Goals.{then-skipped-pages, else-skipped-pages+in_ok-read_run}
 
@@ -21,8 +21,8 @@ loop-segment-preserved g c =
         done = rw (size, w.done-is) so_far.done;
         len = size ∙ so_far.len;
         left = rw (size, w.done-is, w.skipped-is) (passed_left bytes segments i _ c.loop-segment-test.true c.requires.whole pages skip m c.page_count-pages.ensures.value w.if-skipped-pages.true so_far.left);
-        told = λ steady. rw (size, w.done-is, w.skipped-is, w.into-is)
-            (ap (λ xs. take done into ++ xs) (passed_told bytes segments i _ c.loop-segment-test.true c.requires.whole pages skip m c.page_count-pages.ensures.value w.if-skipped-pages.true) ∙ so_far.told steady);
+        read = λ steady. rw (size, w.done-is, w.skipped-is, w.into-is)
+            (ap (λ xs. take done into ++ xs) (passed_pages bytes segments i _ c.loop-segment-test.true c.requires.whole pages skip m c.page_count-pages.ensures.value w.if-skipped-pages.true) ∙ so_far.read steady);
       }
       | else-skipped-pages+in_ok-read_run w ↦
           let run : ℕ = w.min-run.result in
@@ -33,9 +33,9 @@ loop-segment-preserved g c =
             done = rw (size, w.done-is) (omega (arith, is, so_far.done));
             len = size ∙ so_far.len;
             left = rw (size, w.done-is, w.skipped-is, ← less) (omega (arith, read_left bytes segments i _ c.loop-segment-test.true c.requires.whole pages skip m run c.page_count-pages.ensures.value w.if-skipped-pages.false is so_far.left));
-            told = λ steady. rw (size, w.done-is, w.skipped-is, ← less)
+            read = λ steady. rw (size, w.done-is, w.skipped-is, ← less)
                 (read_on into c.if-skipped-pages.into w.read_run.new.into _ _ _ done run so_far.done (w.read_run.auto.into ∙ cut) w.into-is
-                (ap (λ xs. take done into ++ xs) (read_told bytes segments i _ c.loop-segment-test.true c.requires.whole pages skip m run _ w.read_run.new.into c.page_count-pages.ensures.value w.if-skipped-pages.false is
-                cut (w.in_ok-read_run.ensures {u = tt} steady)) ∙ so_far.told steady));
+                (ap (λ xs. take done into ++ xs) (read_pages bytes segments i _ c.loop-segment-test.true c.requires.whole pages skip m run _ w.read_run.new.into c.page_count-pages.ensures.value w.if-skipped-pages.false is
+                cut (w.in_ok-read_run.ensures {u = tt} steady)) ∙ so_far.read steady));
           }
     ]

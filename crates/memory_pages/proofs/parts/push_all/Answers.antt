@@ -24,9 +24,9 @@ loop-list-preserved g c =
     let size = c.split_among-split.result.size in
     let rest = into_iter_items c.next.new.self in
     let all : c.loop-list.yielded ++ c.in-Some.list ∷ rest ≡ c.in_ok-lists.lists.items = grind (arith, common_steps, so_far.whole, c.in-Some.ensures.steps, c.into_iter-list-iterator.ensures.into_iter_gives) in
-    let told = at_next (λ n list. IfOk list (λ items. AreMade steady (part_of pages size n) gives [] items.items)) c.loop-list.yielded rest c.in_ok-lists.lists.items c.in-Some.list all
+    let given = at_next (λ n list. IfOk list (λ items. AreMade steady (part_of pages size n) gives [] items.items)) c.loop-list.yielded rest c.in_ok-lists.lists.items c.in-Some.list all
     (λ k d lt. (c.in_ok-lists.ensures.each k d (omega (arith, c.in_ok-lists.ensures.len, c.in_ok-lists.lists.ok.0))).1.met) in
-    let part = rw c.in_ok-list.was at told in
+    let part = rw c.in_ok-list.was at given in
     let one = length_push c.loop-list.yielded c.in-Some.list in
     record {
       made = part_read steady gives pages size (length c.loop-list.yielded) _ _ _ _ _ so_far.made part

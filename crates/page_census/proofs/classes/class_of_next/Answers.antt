@@ -34,7 +34,7 @@ loop-link-init g c =
     record {
       walk = starts _ _ c.args.marks.now known.classes.items known.links.items known.heads.items c.requires.classed c.len-number.result (next g at) (more g at) c.index-link.result.now
           (get_or_read_under known.heads.items bucket (length known.heads.items) c.index-link.result.now 0 (rw buckets at c.index-link.ensures) within refl ∙ c.requires.classed.heads_are bucket within);
-      own = record { told = λ steady read. cc };
+      own = record { right = λ steady read. cc };
       number = refl;
     }
 
@@ -48,15 +48,15 @@ returns-then-branch-clause-below g c =
     let at = goal.at.returns-then-branch-clause-below g c in
     omega (arith, below g at.In-loop-link (next g at.After-len-number) (more g at.After-len-number), c.len-number.ensures)
 
-pub returns-then-branch-clause-told : goal.returns-then-branch-clause-told
-returns-then-branch-clause-told g c =
-    let at = (goal.at.returns-then-branch-clause-told g c).After-len-number in
+pub returns-then-branch-clause-right : goal.returns-then-branch-clause-right
+returns-then-branch-clause-right g c =
+    let at = (goal.at.returns-then-branch-clause-right g c).After-len-number in
     let known = c.args.known.now in
     let all = seen c.args.by (contents g.S.PageSource.pages c.args.guests.now) c.args.marks.now in
     let first : c.loop-link.link ≡ suc (c.loop-link.link - 1) = omega (arith, c.loop-link-test.true) in
     let number : c.len-number.result ≡ known.classes.len = c.len-number.ensures in
     λ steady. ends_same _ all c.args.marks.now known.classes.items known.links.items known.heads.items c.requires.classed c.len-number.result (next g at) (more g at)
-    c.loop-link.link c.loop-link.invariant.walk steady (c.loop-link.link - 1) first (sym (rw c.loop-link.invariant.number at (c.in_ok-is_same.ensures.told steady)) ∙ c.if-branch.true)
+    c.loop-link.link c.loop-link.invariant.walk steady (c.loop-link.link - 1) first (sym (rw c.loop-link.invariant.number at (c.in_ok-is_same.ensures.right steady)) ∙ c.if-branch.true)
     ∙ ap (λ (n : ℕ). class_of all (content_at all n)) number
 
 pub index-link-requires-in-loop-link : goal.index-link-requires-in-loop-link
@@ -76,7 +76,7 @@ loop-link-preserved g c =
     let read = get_or_read_under known.links.items (c.loop-link.link - 1) (length known.links.items) c.index-link-in-loop-link.result.now 0 c.index-link-in-loop-link.ensures within refl in
     record {
       walk = goes_on _ _ c.args.marks.now known.classes.items known.links.items known.heads.items c.requires.classed c.len-number.result is some
-          c.loop-link.link c.loop-link.invariant.walk (c.loop-link.link - 1) c.index-link-in-loop-link.result.now first read (λ steady. sym (rw c.loop-link.invariant.number at (c.in_ok-is_same.ensures.told steady)) ∙ c.if-branch.false);
+          c.loop-link.link c.loop-link.invariant.walk (c.loop-link.link - 1) c.index-link-in-loop-link.result.now first read (λ steady. sym (rw c.loop-link.invariant.number at (c.in_ok-is_same.ensures.right steady)) ∙ c.if-branch.false);
       own = c.in_ok-is_same.ensures.held;
       number = c.in_ok-is_same.ensures.number ∙ c.loop-link.invariant.number;
     }
@@ -93,9 +93,9 @@ loop-link-smaller g c =
     let links_are = c.requires.classed.links_are place (omega (arith, lower, is)) in
     omega (arith, read, links_are, last_le c.args.marks.now known.classes.items (length known.heads.items) (get_or c.args.marks.now place 0 % length known.heads.items) place, c.loop-link-test.true)
 
-pub returns-clause-told : goal.returns-clause-told
-returns-clause-told g c =
-    let at = (goal.at.returns-clause-told g c).After-len-number in
+pub returns-clause-right : goal.returns-clause-right
+returns-clause-right g c =
+    let at = (goal.at.returns-clause-right g c).After-len-number in
     let known = c.args.known.now in
     let all = seen c.args.by (contents g.S.PageSource.pages c.args.guests.now) c.args.marks.now in
     let number : c.len-number.result ≡ known.classes.len = c.len-number.ensures in

@@ -38,7 +38,7 @@ loop-number-preserved g c =
     let more : length known.classes.items < length all = omega (arith, here, c.loop-number-test.true, c.requires.count, same_len) in
     let low : c.in_ok-class.class ≤ length known.classes.items = omega (arith, c.in_ok-class.ensures.below, known.classes.ok.0) in
     let len : known.classes.len ≡ length known.classes.items = omega (arith, known.classes.ok.0) in
-    let is : steady → c.in_ok-class.class ≡ class_of all (content_at all (length known.classes.items)) = λ s. rw len at (c.in_ok-class.ensures.told s) in
+    let is : steady → c.in_ok-class.class ≡ class_of all (content_at all (length known.classes.items)) = λ s. rw len at (c.in_ok-class.ensures.right s) in
     let after = noted steady all c.args.marks.now known.classes.items known.links.items known.heads.items so_far.classed c.in_ok-class.class more low is c.note.new.known.heads.items (rw here at c.note.ensures.heads) in
     record {
       classed = rw (c.note.ensures.classes, rw here at c.note.ensures.links) after;

@@ -21,7 +21,7 @@ loop-answer-preserved g c =
     (λ k d lt. (c.in_ok-answers.ensures.each k d (omega (arith, c.in_ok-answers.ensures.len, c.in_ok-answers.answers.ok.0))).1.met) in
     let part = rw c.in_ok-answer.was at made in
     record {
-      told = part_confirmed steady all classes size c.loop-answer.yielded c.in-Some.answer so_far.told (part c.if-not-branch.false);
+      right = part_confirmed steady all classes size c.loop-answer.yielded c.in-Some.answer so_far.right (part c.if-not-branch.false);
       whole = grind (arith, common_steps, c.in-Some.ensures.steps, append_assoc);
     }
 
@@ -34,4 +34,4 @@ returns g c =
     let same = ap length whole in
     let parts : length c.loop-answer.yielded ≡ c.split_among-split.result.parts = omega (arith, same, c.in_ok-answers.ensures.len, c.in_ok-answers.answers.ok.0) in
     let covered : length c.args.classes.now ≤ size * length c.loop-answer.yielded = rw parts (omega (arith, c.split_among-split.ensures.all, c.requires.classed.classed, c.requires.classed.few)) in
-    λ _. all_confirmed steady all c.args.classes.now (size * length c.loop-answer.yielded) (omega (arith, covered, c.requires.classed.classed)) c.loop-answer.invariant.told
+    λ _. all_confirmed steady all c.args.classes.now (size * length c.loop-answer.yielded) (omega (arith, covered, c.requires.classed.classed)) c.loop-answer.invariant.right

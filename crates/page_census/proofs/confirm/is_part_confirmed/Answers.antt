@@ -7,13 +7,13 @@ pub loop-number-preserved : goal.loop-number-preserved
 loop-number-preserved g c = record {
   own = c.loop-number.invariant.own;
   other = c.loop-number.invariant.other;
-  told = λ steady. one_confirmed (contents g.S.PageSource.pages c.args.guests.now) c.args.classes.now _ c.loop-number.number (c.loop-number.invariant.told steady) (c.in_ok-is_one_content.ensures {u = tt} c.if-not-branch.false steady);
+  right = λ steady. one_confirmed (contents g.S.PageSource.pages c.args.guests.now) c.args.classes.now _ c.loop-number.number (c.loop-number.invariant.right steady) (c.in_ok-is_one_content.ensures {u = tt} c.if-not-branch.false steady);
 }
 
 pub returns : goal.returns
 returns g c = λ _. record {
-  told = λ steady n low lt within.
+  right = λ steady n low lt within.
       let classed = c.requires.classed in
-      c.loop-number.invariant.told steady n (omega (arith, low, c.saturating_mul-from.ensures))
+      c.loop-number.invariant.right steady n (omega (arith, low, c.saturating_mul-from.ensures))
       (omega (arith, low, lt, within, c.loop-number-test.false, c.min-end.ensures, c.saturating_mul-from.ensures, c.saturating_add.ensures, classed.classed, classed.few));
 }

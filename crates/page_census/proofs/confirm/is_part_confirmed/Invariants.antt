@@ -6,6 +6,6 @@ abbrev pub invariant-loop-number : goal.invariant-loop-number
 invariant-loop-number g l = record {
   own : vec_len l.own ≡ 1;
   other : vec_len l.other ≡ 1;
-  told : AreSteady g.S.PageSource.is_steady l.guests → (n : ℕ) → l.from ≤ n → n < l.number
+  right : AreSteady g.S.PageSource.is_steady l.guests → (n : ℕ) → l.from ≤ n → n < l.number
       → content_at (contents g.S.PageSource.pages l.guests) n ≡ content_at (contents g.S.PageSource.pages l.guests) (get_or l.classes n 0);
 }

@@ -12,12 +12,12 @@ use Rattle.page_census.proofs.Between.{alone_within}
 use Rattle.page_census.proofs.Fewest.{are_fewest}
 use Rattle.page_census.proofs.Summed.{sum_copies}
 use Rattle.page_census.proofs.Totals.{table_is, total_is}
-use Rattle.page_census.proofs.Transfer.{all_in, counted_are, tells}
+use Rattle.page_census.proofs.Transfer.{all_in, counted_are, distinguished}
 use Rattle.page_census.proofs.count.count_contents.Goals as goal
 
 pub find_classes-requires-clause-apart : goal.find_classes-requires-clause-apart
 find_classes-requires-clause-apart g c κs within =
-    λ steady. tells g.H.HashFunction.hash_of (contents g.S.PageSource.pages c.args.guests.now) c.deref.result.now (c.deref.ensures.value ∙ c.in_ok-marks.ensures.told steady)
+    λ steady. distinguished g.H.HashFunction.hash_of (contents g.S.PageSource.pages c.args.guests.now) c.deref.result.now (c.deref.ensures.value ∙ c.in_ok-marks.ensures.right steady)
 
 pub returns-clause-guests : goal.returns-clause-guests
 returns-clause-guests g c =
@@ -28,15 +28,15 @@ returns-clause-guests g c =
     let counts : List ℕ = c.in_ok-tally.tally.copies.items in
     let size = c.requires.count in
     λ steady.
-    let marks : c.in_ok-marks.marks.items ≡ map (mark_at hash) all = c.in_ok-marks.ensures.told steady in
-    let classes : c.in_ok-classes.classes.items ≡ map (class_of all) all = c.in_ok-classes.ensures.told steady in
-    let told : (k : ℕ) → k < length all → get_or counts k 0 ≡ copies eqb k (map (class_of all) all) =
+    let marks : c.in_ok-marks.marks.items ≡ map (mark_at hash) all = c.in_ok-marks.ensures.right steady in
+    let classes : c.in_ok-classes.classes.items ≡ map (class_of all) all = c.in_ok-classes.ensures.right steady in
+    let right : (k : ℕ) → k < length all → get_or counts k 0 ≡ copies eqb k (map (class_of all) all) =
     λ k lt. c.in_ok-tally.ensures.copies k (omega (arith, lt, size, c.len.ensures, c.in_ok-classes.ensures.len, c.deref.ensures.len, c.in_ok-marks.ensures.len)) ∙ ap (copies eqb k) (c.deref-2.ensures.value ∙ classes) in
     c.in_ok-numbers.ensures
     ∙ ap (λ (cs : List ℕ). counted_guests pages cs guests c.deref-4.result.now c.deref-5.result.now) c.deref-3.ensures.value
     ∙ ap (λ (ms : List ℕ). counted_guests pages counts guests ms c.deref-5.result.now) (c.deref-4.ensures.value ∙ marks)
     ∙ ap (λ (cs : List ℕ). counted_guests pages counts guests (map (mark_at hash) all) cs) (c.deref-5.ensures.value ∙ classes)
-    ∙ counted_are pages hash all counts told guests (all_in all)
+    ∙ counted_are pages hash all counts right guests (all_in all)
 
 pub copies_table-requires-clause-all : goal.copies_table-requires-clause-all
 copies_table-requires-clause-all g c =
@@ -46,8 +46,8 @@ copies_table-requires-clause-all g c =
     let low : All (λ k. k < length counts) c.in_ok-classes.classes.items =
     All-weaker (λ (k : ℕ). k < length c.deref.result.now) (λ (k : ℕ). k < length counts) (λ (k : ℕ) (lt : k < length c.deref.result.now). omega (arith, lt, size)) c.in_ok-classes.classes.items c.in_ok-classes.ensures.below in
     let within : All (λ k. k < length counts) c.deref-2.result.now = All-same (λ (k : ℕ). k < length counts) c.deref-2.result.now c.in_ok-classes.classes.items c.deref-2.ensures.value low in
-    let told : (k : ℕ) → k < length counts → get_or counts k 0 ≡ copies eqb k c.deref-2.result.now = λ k lt. c.in_ok-tally.ensures.copies k (omega (arith, lt, c.len.ensures, c.in_ok-tally.ensures.len, c.in_ok-tally.tally.copies.ok.0)) in
-    let all : sum_by (λ (n : ℕ). n) counts ≡ length c.deref-2.result.now = sum_copies c.deref-2.result.now counts within told in
+    let right : (k : ℕ) → k < length counts → get_or counts k 0 ≡ copies eqb k c.deref-2.result.now = λ k lt. c.in_ok-tally.ensures.copies k (omega (arith, lt, c.len.ensures, c.in_ok-tally.ensures.len, c.in_ok-tally.tally.copies.ok.0)) in
+    let all : sum_by (λ (n : ℕ). n) counts ≡ length c.deref-2.result.now = sum_copies c.deref-2.result.now counts within right in
     rw (c.deref-10.ensures.value, all) (omega (arith, c.deref-2.ensures.len, c.in_ok-classes.ensures.len, c.deref.ensures.len, c.in_ok-marks.ensures.len, c.requires.count))
 
 pub returns-clause-total : goal.returns-clause-total
@@ -60,9 +60,9 @@ returns-clause-total g c =
     let frames = c.in_ok-tally.tally.distinct in
     let size = c.requires.count in
     λ steady.
-    let marks : c.in_ok-marks.marks.items ≡ map (mark_at hash) all = c.in_ok-marks.ensures.told steady in
-    let classes : c.in_ok-classes.classes.items ≡ map (class_of all) all = c.in_ok-classes.ensures.told steady in
-    let told : (k : ℕ) → k < length all → get_or counts k 0 ≡ copies eqb k (map (class_of all) all) =
+    let marks : c.in_ok-marks.marks.items ≡ map (mark_at hash) all = c.in_ok-marks.ensures.right steady in
+    let classes : c.in_ok-classes.classes.items ≡ map (class_of all) all = c.in_ok-classes.ensures.right steady in
+    let right : (k : ℕ) → k < length all → get_or counts k 0 ≡ copies eqb k (map (class_of all) all) =
     λ k lt. c.in_ok-tally.ensures.copies k (omega (arith, lt, size, c.len.ensures, c.in_ok-classes.ensures.len, c.deref.ensures.len, c.in_ok-marks.ensures.len)) ∙ ap (copies eqb k) (c.deref-2.ensures.value ∙ classes) in
     let numbers : c.deref-9.result.now ≡ numbers_of pages guests = c.deref-9.ensures.value ∙ returns-clause-guests g c steady in
     let len : length counts ≡ length all = omega (arith, size, c.in_ok-tally.ensures.len, c.len.ensures, c.in_ok-classes.ensures.len, c.deref.ensures.len, c.in_ok-marks.ensures.len, c.in_ok-tally.tally.copies.ok.0) in
@@ -71,7 +71,7 @@ returns-clause-total g c =
     ∙ ap (λ (ms : List ℕ). counted_total counts frames ms c.deref-8.result.now c.deref-9.result.now) (c.deref-7.ensures.value ∙ marks)
     ∙ ap (λ (cs : List ℕ). counted_total counts frames (map (mark_at hash) all) cs c.deref-9.result.now) (c.deref-8.ensures.value ∙ classes)
     ∙ ap (λ (ns : List GuestNumbers). counted_total counts frames (map (mark_at hash) all) (map (class_of all) all) ns) numbers
-    ∙ total_is all counts len told hash frames (numbers_of pages guests) (c.in_ok-tally.ensures.distinct ∙ ap (distinct eqb) (c.deref-2.ensures.value ∙ classes))
+    ∙ total_is all counts len right hash frames (numbers_of pages guests) (c.in_ok-tally.ensures.distinct ∙ ap (distinct eqb) (c.deref-2.ensures.value ∙ classes))
 
 pub returns-clause-fewest : goal.returns-clause-fewest
 returns-clause-fewest g c =
@@ -86,11 +86,11 @@ returns-clause-copies g c =
     let counts : List ℕ = c.in_ok-tally.tally.copies.items in
     let size = c.requires.count in
     λ steady.
-    let classes : c.in_ok-classes.classes.items ≡ map (class_of all) all = c.in_ok-classes.ensures.told steady in
-    let told : (k : ℕ) → k < length all → get_or counts k 0 ≡ copies eqb k (map (class_of all) all) =
+    let classes : c.in_ok-classes.classes.items ≡ map (class_of all) all = c.in_ok-classes.ensures.right steady in
+    let right : (k : ℕ) → k < length all → get_or counts k 0 ≡ copies eqb k (map (class_of all) all) =
     λ k lt. c.in_ok-tally.ensures.copies k (omega (arith, lt, size, c.len.ensures, c.in_ok-classes.ensures.len, c.deref.ensures.len, c.in_ok-marks.ensures.len)) ∙ ap (copies eqb k) (c.deref-2.ensures.value ∙ classes) in
     let len : length counts ≡ length all = omega (arith, size, c.in_ok-tally.ensures.len, c.len.ensures, c.in_ok-classes.ensures.len, c.deref.ensures.len, c.in_ok-marks.ensures.len, c.in_ok-tally.tally.copies.ok.0) in
-    c.in_ok-copies.ensures ∙ ap counted_table c.deref-10.ensures.value ∙ table_is all counts len told
+    c.in_ok-copies.ensures ∙ ap counted_table c.deref-10.ensures.value ∙ table_is all counts len right
 
 pub returns-clause-between : goal.returns-clause-between
 returns-clause-between g c =

@@ -18,6 +18,6 @@ loop-number-preserved g c =
     let more = length_more pages guests number guest lt in
     record {
       len = omega (arith, is, more, so_far.len, done.len);
-      told = λ steady. marks_more pages hash guests number guest _ _ lt (so_far.told steady)
-          (done.told (subst (λ (at : Guest g.row.S.Denot). g.S.PageSource.is_steady at.source) (sym c.index-guests-number.is) (steady number guest lt)) ∙ ap (λ (at : Guest g.row.S.Denot). c.loop-number.marks.items ++ marks_of hash at.salt (pages at.source)) c.index-guests-number.is);
+      right = λ steady. marks_more pages hash guests number guest _ _ lt (so_far.right steady)
+          (done.right (subst (λ (at : Guest g.row.S.Denot). g.S.PageSource.is_steady at.source) (sym c.index-guests-number.is) (steady number guest lt)) ∙ ap (λ (at : Guest g.row.S.Denot). c.loop-number.marks.items ++ marks_of hash at.salt (pages at.source)) c.index-guests-number.is);
     }

@@ -52,7 +52,7 @@ loop-guest-preserved g c =
     let width : start + n - start ≡ n = omega arith in
     record {
       at = omega (arith, count, more, so_far.at);
-      told = rw c.push_reserved.ensures.items (counted_more pages c.args.copies.now guests c.loop-guest.guest guest lt c.args.marks.now c.args.classes.now start n count c.loop-guest.numbers.items _ c.in_ok-own.own (rw width at c.in_ok-own.ensures) so_far.told);
+      right = rw c.push_reserved.ensures.items (counted_more pages c.args.copies.now guests c.loop-guest.guest guest lt c.args.marks.now c.args.classes.now start n count c.loop-guest.numbers.items _ c.in_ok-own.own (rw width at c.in_ok-own.ensures) so_far.right);
       len = omega (arith, so_far.len, c.push_reserved.ensures.len);
       room = omega (arith, so_far.room, c.push_reserved.ensures.capacity);
     }

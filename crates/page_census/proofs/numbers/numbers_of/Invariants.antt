@@ -6,7 +6,7 @@ use Rattle.page_census.proofs.numbers.numbers_of.Given as goal
 abbrev pub invariant-loop-guest : goal.invariant-loop-guest
 invariant-loop-guest g l = record {
   at : l.start ≡ length (contents g.S.PageSource.pages (take l.guest l.guests));
-  told : l.numbers.items ++ counted_guests g.S.PageSource.pages l.copies (drop l.guest l.guests) (drop l.start l.marks) (drop l.start l.classes) ≡ counted_guests g.S.PageSource.pages l.copies l.guests l.marks l.classes;
+  right : l.numbers.items ++ counted_guests g.S.PageSource.pages l.copies (drop l.guest l.guests) (drop l.start l.marks) (drop l.start l.classes) ≡ counted_guests g.S.PageSource.pages l.copies l.guests l.marks l.classes;
   len : vec_len l.numbers ≡ l.guest;
   room : length l.guests ≤ vec_capacity l.numbers;
 }

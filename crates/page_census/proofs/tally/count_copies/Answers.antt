@@ -1,6 +1,6 @@
 use Rattle.std.proofs.Common.{◌≡◌, ◌-◌, ◌<◌, length, get_or, arith, refl}
 use Rattle.std.proofs.lemmas.List.{get_or_read_under, length-drop}
-use Rattle.page_census.proofs.Tallied.{Counts, fits, told_more, new_one, old_one}
+use Rattle.page_census.proofs.Tallied.{Counts, fits, right_more, new_one, old_one}
 use Rattle.page_census.proofs.tally.count_copies.Goals as goal
 use Rattle.page_census.proofs.tally.count_copies.Goals.{then-before-eq0, else-before-eq0}
 
@@ -10,7 +10,7 @@ overflow_add-before g c =
     let classes = c.args.classes.now in
     let counts = c.loop-left.copies.items in
     let left = c.loop-left.left in
-    let counts_are : Counts c.args.bound classes counts left c.loop-left.distinct = record { told = so_far.told; different_is = so_far.different } in
+    let counts_are : Counts c.args.bound classes counts left c.loop-left.distinct = record { right = so_far.right; different_is = so_far.different } in
     let some : 0 < left = omega (arith, c.loop-left-test.true) in
     let len : length counts ≡ c.args.bound = omega (arith, so_far.len, c.loop-left.copies.ok.0) in
     let low : get_or classes (left - 1) 0 < c.args.bound = c.requires.below (left - 1) 0 (omega (arith, some, so_far.within)) in
@@ -24,7 +24,7 @@ loop-left-preserved g c =
     let classes = c.args.classes.now in
     let counts = c.loop-left.copies.items in
     let left = c.loop-left.left in
-    let counts_are : Counts c.args.bound classes counts left c.loop-left.distinct = record { told = so_far.told; different_is = so_far.different } in
+    let counts_are : Counts c.args.bound classes counts left c.loop-left.distinct = record { right = so_far.right; different_is = so_far.different } in
     let some : 0 < left = omega (arith, c.loop-left-test.true) in
     let len : length counts ≡ c.args.bound = omega (arith, so_far.len, c.loop-left.copies.ok.0) in
     let low : get_or classes (left - 1) 0 < c.args.bound = c.requires.below (left - 1) 0 (omega (arith, some, so_far.within)) in
@@ -34,7 +34,7 @@ loop-left-preserved g c =
     record {
       within = omega (arith, so_far.within);
       len = so_far.len;
-      told = told_more c.args.bound classes counts left c.loop-left.distinct c.index-before.result.now counts_are some so_far.within len low read;
+      right = right_more c.args.bound classes counts left c.loop-left.distinct c.index-before.result.now counts_are some so_far.within len low read;
       different = elim c.if-before-eq0.branch [
         | then-before-eq0 w ↦ let more = new_one c.args.bound classes counts left c.loop-left.distinct c.index-before.result.now counts_are some so_far.within len low read w.if-before-eq0.true in omega (arith, more, w.distinct-is)
         | else-before-eq0 w ↦ let same = old_one c.args.bound classes counts left c.loop-left.distinct c.index-before.result.now counts_are some so_far.within len low read w.if-before-eq0.false in omega (arith, same, w.distinct-is)

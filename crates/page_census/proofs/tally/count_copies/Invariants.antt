@@ -7,7 +7,7 @@ abbrev pub invariant-loop-left : goal.invariant-loop-left
 invariant-loop-left g l = record {
   within : l.left ≤ length l.classes;
   len : vec_len l.copies ≡ l.bound;
-  told : (class : ℕ) → class < l.bound → get_or l.copies.items class 0 ≡ copies nat_eq class (drop l.left l.classes);
+  right : (class : ℕ) → class < l.bound → get_or l.copies.items class 0 ≡ copies nat_eq class (drop l.left l.classes);
   different : l.distinct ≡ distinct nat_eq (drop l.left l.classes);
   few : l.distinct ≤ length (drop l.left l.classes);
 }

@@ -11,9 +11,9 @@ Fails (faults.Read fault) form = Unit {0}
 Fails (faults.Form fault) form = form ≡ Err fault
 
 -- a call answers what the form says, with its value seen by view, unless memory was refused or a read failed
-abbrev pub Tells : {X Y F : Type 0} → (X → Y) → Result X (ImageFault F) → Result Y FormFault → Type 0
-Tells view (Ok x) form = form ≡ Ok (view x)
-Tells view (Err fault) form = Fails fault form
+abbrev pub Answers : {X Y F : Type 0} → (X → Y) → Result X (ImageFault F) → Result Y FormFault → Type 0
+Answers view (Ok x) form = form ≡ Ok (view x)
+Answers view (Err fault) form = Fails fault form
 
 -- a call fails because memory was refused or a read failed
 abbrev pub HasNoForm : {F : Type 0} → ImageFault F → Type 0
