@@ -14,6 +14,8 @@ import threading
 from harness import TOP
 
 PARTS = ("src", "specs", "proofs")
+# How much is printed of what a check said of a crate that isn't proved.
+MOST_SAID = 6000
 
 
 def keeps(kit):
@@ -63,31 +65,36 @@ def note_all(kit, names, before):
             note(crate, now[crate.name])
 
 
-def prove(kit, names):
-    """Proves these crates and those below them, side by side, but for what is proved. Returns whether all are."""
-    every = crates_of(kit)
-    wanted = [it for it in every.values() if it.name in names or any(it in every[name].below() for name in names)]
-    sums, printing = sums_of(kit, every.values()), threading.Lock()
-    missing = [it for it in wanted if not is_proved(it, sums[it.name])]
+def proved_alone(crate, tests, jobs):
+    """Proves a crate, or its tests, over the libraries in out/. Returns whether it is proved, and what was said if it isn't."""
+    crate = copy.copy(crate)
+    os.makedirs(f"{crate.folder}/out", exist_ok=True)
+    with tempfile.TemporaryFile("a+", errors="replace") as crate.out:
+        is_well = not crate.ci(["--jobs", str(jobs)], tests)
+        crate.out.seek(0)
+        return is_well, "" if is_well else crate.out.read()[-MOST_SAID:]
 
-    def work(crate, given, jobs):
-        if not all(given[it.name] for it in crate.below() if it in missing):
+
+def prove(kit, names, tested=()):
+    """Proves these crates and those below them, side by side, but for what is proved; and the tests of some. Returns whether all are."""
+    every = crates_of(kit)
+    sums, printing = sums_of(kit, every.values()), threading.Lock()
+    wanted = {it.name for name in [*names, *tested] for it in [*every[name].below(), every[name]]}
+    missing = [it for it in every.values() if it.name in wanted and not is_proved(it, sums[it.name])]
+
+    def work(crate, tests, given, jobs):
+        if not all(given[it.name, False] for it in crate.below() if it in missing):
             return False
-        crate = copy.copy(crate)
-        os.makedirs(f"{crate.folder}/out", exist_ok=True)
-        with tempfile.TemporaryFile("a+", errors="replace") as crate.out:
-            is_well = not crate.ci(["--jobs", str(jobs)], False)
-            crate.out.seek(0)
-            said = "" if is_well else crate.out.read()[-6000:]
-        if is_well:
+        is_well, said = proved_alone(crate, tests, jobs)
+        if is_well and not tests:
             note(crate, sums[crate.name])
         with printing:
-            print(f"{said}{crate.name} {'proved' if is_well else 'NOT PROVED'}", flush=True)
+            print(f"{said}{crate.name}{': its tests' if tests else ''} {'proved' if is_well else 'NOT PROVED'}", flush=True)
         return is_well
 
     tasks = {}
-    for crate in missing:
-        waits = [it.name for it in crate.below() if it in missing]
-        call = lambda given, jobs, it=crate: work(it, given, jobs)
-        tasks[crate.name] = (waits, crate.count(rb"\n"), kit.need(crate), call)
+    for crate, tests in [*((it, False) for it in missing), *((every[it], True) for it in tested if every[it].has_tests())]:
+        waits = [(it.name, False) for it in crate.below() if it in missing]
+        call = lambda given, jobs, crate=crate, tests=tests: work(crate, tests, given, jobs)
+        tasks[crate.name, tests] = (waits, crate.count(rb"\n"), kit.need(crate), call)
     return all(kit.in_lanes(tasks).values())
