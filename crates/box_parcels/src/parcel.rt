@@ -20,6 +20,7 @@ impl<T, A: Allocator> Model for Parcel<T, A> {
 }
 
 impl<T: Drop, A: Allocator> Parcel<T, A> {
+    /// Takes a box apart.
     pub fn wrap(boxed: Box<T, A>) -> Parcel<T, A>
         ensures { result.value ≡ boxed.value }
     {
@@ -27,6 +28,7 @@ impl<T: Drop, A: Allocator> Parcel<T, A> {
         Parcel { at, heap }
     }
 
+    /// Makes the box again.
     pub fn unwrap(self) -> Box<T, A>
         ensures { result.value ≡ self.value }
     {
