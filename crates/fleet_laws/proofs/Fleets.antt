@@ -12,7 +12,6 @@ use Rattle.page_census.specs.Contents.{Content, contents, contents_of, is_same}
 use Rattle.page_census.specs.Numbers.{copies, distinct, guest_numbers, is_zero, sum_alone}
 use Rattle.page_census.specs.declared.numbers.GuestNumbers.{GuestNumbers}
 use Rattle.page_census.specs.declared.guest.Guest.{Guest}
-use Rattle.page_census.proofs.Summed.{both_below}
 use Rattle.fleet_census.specs.Amounts.{all_digests, sum_below}
 use Rattle.fleet_census.specs.Fleets.{all_copies, all_holders, all_zero, copies_of, pages_of, zero_of}
 use Rattle.fleet_laws.specs.Merges.{AreRowsOf, AreApart, digest, zeros}
@@ -20,7 +19,7 @@ use Rattle.fleet_laws.proofs.Contents.{distinct_by_digest}
 use Rattle.fleet_laws.proofs.Digests.{digest_low}
 use Rattle.fleet_laws.proofs.Guests.{AreCounts, guest_counts}
 use Rattle.fleet_laws.proofs.Keys.{in_both}
-use Rattle.fleet_laws.proofs.Sums.{distinct_few, no_sum, once_counted, one_if, same_sum}
+use Rattle.fleet_laws.proofs.Sums.{both_sums, distinct_few, no_sum, once_counted, one_if, same_sum}
 
 all_are : all_digests ≡ 2 ^ 128
 unfolding all_digests
@@ -124,6 +123,6 @@ module _ {S : Type 0} (pages : S → List (List ℕ)) where
       let split = same_sum (all_holders (rows ∷ fleet)) (λ d. min (copies eqb d (map digest own)) 1 + all_holders fleet d) all_digests (λ d.
       sum_by-cons (λ (r : List Row). cond (ltb 0 (copies_of d r)) 1 0) rows fleet
       ∙ ap (λ (m : ℕ). m + all_holders fleet d) (ap (λ (m : ℕ). cond (ltb 0 m) 1 0) (each.0.copies_are d) ∙ sym (one_if (copies eqb d (map digest own))))) in
-      let both = both_below (λ d. min (copies eqb d (map digest own)) 1) (all_holders fleet) all_digests in
+      let both = both_sums (λ d. min (copies eqb d (map digest own)) 1) (all_holders fleet) all_digests in
       let more = sum_by-cons (λ (g : Guest S). distinct eqb (map digest (contents_of pages g))) guest guests in
       omega (arith, here, split, both, more, holders_sum guests fleet each.1)

@@ -8,7 +8,7 @@ use Rattle.std.proofs.lemmas.List.Sums.{sum_by-cons}
 use Rattle.std.proofs.lemmas.Map.Views.{any-filter_same}
 use Rattle.page_census.specs.Counted as census
 use Rattle.page_census.specs.Numbers.{copies, distinct}
-use Rattle.page_census.proofs.Summed.{distinct_below, occurs, passing_below, same_below, both_below}
+use Rattle.page_census.proofs.Summed.{distinct_below, occurs, passing_below, same_below}
 use Rattle.fleet_census.specs.Amounts.{amount_below, estimate, sum_below}
 
 is_sum : (f : ℕ → ℕ) (n : ℕ) → sum_below f n ≡ census.sum_below f n
@@ -19,6 +19,11 @@ is_sum f (suc n) = ap (λ (m : ℕ). m + f n) (is_sum f n)
 pub same_sum : (f g : ℕ → ℕ) (n : ℕ) → ((k : ℕ) → f k ≡ g k) → sum_below f n ≡ sum_below g n
 same_sum f g n each = is_sum f n ∙ same_below f g n (λ k lt. each k) ∙ sym (is_sum g n)
 
+pub both_sums : (f g : ℕ → ℕ) (n : ℕ) → sum_below (λ k. f k + g k) n ≡ sum_below f n + sum_below g n
+unfolding sum_below
+both_sums f g zero = refl
+both_sums f g (suc n) = let rest = both_sums f g n in omega (arith, rest)
+
 -- what is zeros and what isn't is all
 parts : (z : Bool) (x : ℕ) → cond z x 0 + cond z 0 x ≡ x
 parts true x = omega arith
@@ -26,7 +31,7 @@ parts false x = omega arith
 
 pub estimate_is : (z : ℕ → Bool) (x : ℕ → ℕ) (n : ℕ) → estimate (amount_below z x n) 1 ≡ sum_below x n
 estimate_is z x n =
-    let both = both_below (λ k. cond (z k) (x k) 0) (λ k. cond (z k) 0 (x k)) n in
+    let both = both_sums (λ k. cond (z k) (x k) 0) (λ k. cond (z k) 0 (x k)) n in
     let all = same_sum (λ k. cond (z k) (x k) 0 + cond (z k) 0 (x k)) x n (λ k. parts (z k) (x k)) in
     omega (arith, both, all)
 
@@ -37,7 +42,7 @@ no_sum (suc n) = omega (arith, no_sum n)
 
 -- of each number one less, where there is any
 pub less_one : (f : ℕ → ℕ) (n : ℕ) → sum_below (λ k. f k - 1) n + sum_below (λ k. min (f k) 1) n ≡ sum_below f n
-less_one f n = sym (both_below (λ k. f k - 1) (λ k. min (f k) 1) n) ∙ same_sum (λ k. f k - 1 + min (f k) 1) f n (λ k. omega arith)
+less_one f n = sym (both_sums (λ k. f k - 1) (λ k. min (f k) 1) n) ∙ same_sum (λ k. f k - 1 + min (f k) 1) f n (λ k. omega arith)
 
 pub one_if : (m : ℕ) → min m 1 ≡ cond (ltb 0 m) 1 0
 one_if zero = refl
