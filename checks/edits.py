@@ -17,10 +17,11 @@ goal of its own that isn't proved. That it calls a function that isn't proved, o
 tried once more among others, and then alone, and one that stands outside of all functions is tried alone. Where a function that
 nobody edited is refused by itself, the edits of that check are tried again in two halves, down to one. An edit that is known to
 bring that about has a line 'alone: WHY', and is tried alone. Of an edit that is tried alone it is enough that any function is
-refused by itself, as the kit's own gate has it.
+refused by itself, as the kit's own gate has it. Its check is of the whole crate, but where the edit names a function that must be
+refused, in a line 'refused: MODULE::FUNCTION': then it is of this function and what it calls.
 
 A check is of the edited functions and what they call, over what earlier checks of the crate kept. Where the checker knows a function
-by another path than this script guesses, it is of the whole crate; nobody is told NOT REFUSED by them, but only by a whole check.
+by none of the paths that this script guesses, it is of the whole crate. Only a check of the whole crate tells NOT REFUSED.
 """
 import dataclasses
 import hashlib
@@ -77,9 +78,13 @@ class Function:
     # how the checker may also spell the owner
     spelled: str = ""
 
-    def guess(self):
-        """The path by which the checker most likely knows the function."""
-        return (*self.module, *filter(None, [self.owner]), self.name)
+    def owners(self):
+        """How the checker may spell the owner."""
+        return [it + more for it in (self.owner, self.spelled) if it for more in ("", self.argument)]
+
+    def guesses(self):
+        """The paths by which the checker may know the function, the likeliest first."""
+        return [(*self.module, it, self.name) for it in self.owners()] or [(*self.module, self.name)]
 
     def is_named(self, path):
         """Whether the checker means this function, or a closure in it, by these words of a path."""
@@ -87,8 +92,7 @@ class Function:
         if path[: len(self.module)] != self.module or self.name not in rest:
             return False
         before = [it for it in rest[: rest.index(self.name)] if it != "fn"]
-        owners = [it + more for it in (self.owner, self.spelled) if it for more in ("", self.argument)]
-        return before in ([[it] for it in owners] if owners else [[]])
+        return before in ([[it] for it in self.owners()] or [[]])
 
 
 @dataclasses.dataclass
@@ -226,8 +230,8 @@ class Trial:
         self.kit, self.crate, self.told, self.lines, self.plain = kit, crate, {}, [], {}
         self.earlier, self.folder, self.old = earlier, f"{crate.folder}/edits", 0
         self.waiting, self.alone, self.homes = [], [], homes_of(crate)
-        # the functions that checks have named
-        self.paths = set()
+        # the functions that checks have named, and paths that are no function's
+        self.paths, self.unknown = set(), set()
         for name in sorted(os.listdir(self.folder)):
             said = earlier.find(crate, f"{self.folder}/{name}") if name.endswith(".edit") else None
             if said:
@@ -254,9 +258,11 @@ class Trial:
         with open(path, encoding="utf-8") as it:
             text = it.read()
         changes = changes_of(text, texts, self.plain)
-        owners = [self.owner_of(*change[:3]) for change in changes]
+        refused = [it.split("::") for it in re.findall(r"(?m)^refused: (\S+)$", text)]
+        named = [Function(tuple(it[:-1]), "", it[-1]) for it in refused]
+        owners = named or [self.owner_of(*change[:3]) for change in changes]
         edit = Edit(name, texts, changes, frozenset(owners))
-        (self.alone if None in owners or re.search(r"(?m)^alone: ", text) else self.waiting).append(edit)
+        (self.alone if named or None in owners or re.search(r"(?m)^alone: ", text) else self.waiting).append(edit)
 
     def owner_of(self, file, start, end):
         if not file.startswith("src/"):
@@ -277,17 +283,18 @@ class Trial:
                 self.try_alone(edit)
         return self
 
-    def check(self, texts, what, only=()):
+    def check(self, texts, what, functions=()):
         """What the prover says of the crate with these texts: of all of it, or of these functions and what they call."""
-        begun = time.time()
+        begun, only = time.time(), self.paths_of(functions)
         ran = self.run_check(texts, only)
-        if only and ran.returncode == 2:
-            # (a path fits no function)
-            ran = self.run_check(texts, ())
+        while only and ran.returncode == 2:
+            self.unknown.update([it for it in only if f"no function `{'::'.join(it)}`" in ran.stdout] or only)
+            only = self.paths_of(functions)
+            ran = self.run_check(texts, only)
         self.lines.append(f"{self.crate.name}: {what}, {time.time() - begun:.0f} s")
         if self.kit.rtlib.STALE.search(ran.stdout):
             raise RuntimeError(f"{self.crate.name}: the libraries in out/ can't be used: run make test first")
-        said = Said(self.kit, ran, texts)
+        said = Said(self.kit, ran, texts, not only)
         self.paths.update(said.paths)
         return said
 
@@ -295,9 +302,13 @@ class Trial:
         return self.kit.checked(self.crate, texts, [*FLAGS, *(word for path in only for word in ("--only", "::".join(path)))], self.kept)
 
     def paths_of(self, functions):
-        """These functions by their paths, which are guessed where no check has named them; none where one is no function."""
-        named = lambda function: sorted((it for it in self.paths if function.is_named(it)), key=lambda it: (len(it), it))
-        return [] if None in functions else [(named(it) or [it.guess()])[0] for it in functions]
+        """These functions by their paths, which are guessed where no check has named them; none where one has no path."""
+        found = [it and self.path_of(it) for it in functions]
+        return [] if None in found else found
+
+    def path_of(self, function):
+        named = sorted((it for it in self.paths if function.is_named(it)), key=lambda it: (len(it), it))
+        return next((it for it in [*named, *function.guesses()] if it not in self.unknown), None)
 
     def merged(self, batch):
         """The texts with all changes of the batch, each put in at its place in the unedited text."""
@@ -312,7 +323,7 @@ class Trial:
 
     def try_batch(self, batch):
         edited = {it for edit in batch for it in edit.functions}
-        said = self.check(self.merged(batch), f"{len(batch)} edits in one check", self.paths_of(edited))
+        said = self.check(self.merged(batch), f"{len(batch)} edits in one check", edited)
         strays = [it for it in said.refused if not any(function.is_named(it) for function in edited)]
         if not said.was_judged or strays:
             why = f"{'::'.join(strays[0])} is refused too" if strays else f"it was not judged: {(said.unread or said.lines[0])[:120]}"
@@ -335,9 +346,8 @@ class Trial:
         self.try_batch(batch[len(batch) // 2 :])
 
     def try_alone(self, edit):
-        only = [] if edit.tries else self.paths_of(edit.functions)
-        said = self.check(edit.texts, f"{edit.name} alone", only)
-        if only and not (said.was_judged and said.refused):
+        said = self.check(edit.texts, f"{edit.name} alone", () if edit.tries else edit.functions)
+        if not said.is_whole and not (said.was_judged and said.refused):
             said = self.check(edit.texts, f"{edit.name} alone, the whole crate")
         if said.unread:
             self.tell(edit.name, False, f"BAD EDIT: the prover cannot read the edited text, so no contract was tried: {said.unread[:200]}")
@@ -354,7 +364,8 @@ class Trial:
 class Said:
     """What the prover said of a copy of a crate."""
 
-    def __init__(self, kit, ran, texts):
+    def __init__(self, kit, ran, texts, is_whole):
+        self.is_whole = is_whole
         self.lines = ran.stdout.rstrip("\n").split("\n")
         self.is_proved = ran.returncode == 0
         self.unread = next((it for it in self.lines if kit.unread(it, texts)), "")

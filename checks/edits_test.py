@@ -19,6 +19,18 @@ CRATE = """\
 //! Small sums.
 #![tactic(auto)]
 ghost use Rattle.std.specs.Prelude.{◌≡◌, ◌+◌, ◌≤◌};
+ghost use Rattle.sums.specs.declared.TheConstants.{MOST};
+
+/// A limit, which a law has as a number.
+pub const MOST: u32 = 10;
+
+/// A constant that no contract speaks of.
+pub const MARK: u32 = 7;
+
+/// The limit is this number.
+pub fn limit_law()
+    ensures { MOST ≡ 10 }
+{}
 
 /// Twice a number.
 pub fn twice(number: u32) -> u32
@@ -83,6 +95,9 @@ EDITS = [
     ("once", "number + other", "other", "refused, as it must be"),
     ("one_too_few", "twice(half) + 1", "twice(half)", "refused, as it must be"),
     ("width_two_more", "number.wrapping_add(1)", "number.wrapping_add(2)", "refused, as it must be"),
+    ("most_of_nine", "MOST: u32 = 10;", "MOST: u32 = 9;\nrefused: limit_law", "refused, as it must be"),
+    ("refused_by_nobody", "MOST: u32 = 10;", "MOST: u32 = 7;\nrefused: no_law", "refused, as it must be"),
+    ("another_mark", "MARK: u32 = 7;", "MARK: u32 = 6;\nrefused: limit_law", "NOT REFUSED"),
     ("the_same_sum", "twice(half) + 1", "1 + twice(half)", "NOT REFUSED"),
     ("another_guess", "    4", "    5", "NOT REFUSED"),
     ("not_there", "number * other", "number", "BAD EDIT: an 'old:' text is in src/lib.rt 0 times"),
@@ -136,12 +151,16 @@ def main():
     # (the second run may take what the first one kept, if this machine keeps anything; the third is of a crate that is new to it)
     wrong = looked_at(CRATE, EDITS, 0, "--anew")
     keeps = os.path.isdir(getattr(load_kit(), "STORE", ""))
-    wrong += looked_at(CRATE, REFUSED, len(REFUSED) if keeps else 0)
+    again = REFUSED[:2]
+    wrong += looked_at(CRATE, again, len(again) if keeps else 0)
     wrong += looked_at(CRATE.replace("    4", f"    {secrets.randbelow(2**32)}"), REFUSED[:1], 0)
     # (functions that call an edited one, or pass its impl, aren't refused by themselves: one check is enough)
     together = [it for it in REFUSED if it[0] in ("twice_of_one", "width_two_more")]
     wrong += looked_at(CRATE, together, 0, "--anew", checks=1)
-    return close(len(EDITS) + len(REFUSED) + len(together) + 6 - len(wrong), len(wrong))
+    # (an edit outside of all functions that names the one which must be refused: one check, of that function)
+    named = [it for it in REFUSED if it[0] == "most_of_nine"]
+    wrong += looked_at(CRATE, named, 0, "--anew", checks=1)
+    return close(len(EDITS) + len(again) + len(together) + len(named) + 8 - len(wrong), len(wrong))
 
 
 if __name__ == "__main__":
