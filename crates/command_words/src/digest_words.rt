@@ -1,6 +1,6 @@
 //! The words of the command `digest`.
 use crate::help::{DIGEST, IMAGE, NAME, OF_DIGEST, PROCESS, RAW_IMAGE, SALT, SAMPLE};
-use crate::parts::{described, flag, mistake, option, positional, with};
+use crate::parts::{described, flag, mistake, option, positional};
 use crate::progress_words::{progress_of, progress_option};
 use crate::worker_words::{workers_of, workers_option};
 use clap::error::ErrorKind;
@@ -10,25 +10,19 @@ use digest_text::GuestName;
 use guest_digests::Sample;
 use std::alloc::{AllocError, Global};
 
-/// The command, as part of the program's.
+/// The command, as part of the program's. Its help has the arguments in this order.
 pub fn digest_command<'a>(alloc: Global) -> Result<Command<'a>, AllocError> {
-    let digest = described(alloc, "digest", DIGEST, OF_DIGEST);
-    with_source(alloc, with_numbers(alloc, digest)?)
-}
-
-fn with_numbers<'a>(alloc: Global, command: Command<'a>) -> Result<Command<'a>, AllocError> {
-    let command = with(command, option(alloc, "name", "NAME", NAME))?;
-    let command = with(command, salt_option(alloc))?;
-    let command = with(command, sample_option(alloc))?;
-    with(command, workers_option(alloc))
-}
-
-/// The command with the other options and the image, in the order in which help has them.
-fn with_source<'a>(alloc: Global, command: Command<'a>) -> Result<Command<'a>, AllocError> {
-    let command = with(command, flag(alloc, "raw", RAW_IMAGE))?;
-    let command = with(command, progress_option(alloc))?;
-    let command = with(command, process_option(alloc))?;
-    with(command, positional(alloc, "IMAGE", IMAGE))
+    let args = vec![in alloc;
+        option(alloc, "name", "NAME", NAME),
+        salt_option(alloc),
+        sample_option(alloc),
+        workers_option(alloc),
+        flag(alloc, "raw", RAW_IMAGE),
+        progress_option(alloc),
+        process_option(alloc),
+        positional(alloc, "IMAGE", IMAGE),
+    ]?;
+    described(alloc, "digest", DIGEST, OF_DIGEST).args(args)
 }
 
 fn salt_option<'a>(alloc: Global) -> Arg<'a> {

@@ -2,7 +2,7 @@
 use crate::help::{ESTIMATE, IMAGES, OF_ESTIMATE, PIDS, RAW_IMAGES, SALTS, SVG};
 use crate::parts::{
     described, flag, is_in_pages, json_option, mistake, numbers_of, option, positionals,
-    unit_option, values_of, with,
+    unit_option, values_of,
 };
 use crate::progress_words::{progress_of, progress_option};
 use crate::worker_words::{workers_of, workers_option};
@@ -11,27 +11,20 @@ use clap::{Arg, ArgAction, ArgMatches, Command, Error, value_parser};
 use command_terms::EstimateWords;
 use std::alloc::{AllocError, Global};
 
-/// The command, as part of the program's.
+/// The command, as part of the program's. Its help has the arguments in this order.
 pub fn estimate_command<'a>(alloc: Global) -> Result<Command<'a>, AllocError> {
-    let estimate = described(alloc, "estimate", ESTIMATE, OF_ESTIMATE);
-    with_output(alloc, with_input(alloc, estimate)?)
-}
-
-/// The command with the options that say what is read, and how.
-fn with_input<'a>(alloc: Global, command: Command<'a>) -> Result<Command<'a>, AllocError> {
-    let command = with(command, pids_option(alloc))?;
-    let command = with(command, salts_option(alloc))?;
-    let command = with(command, workers_option(alloc))?;
-    with(command, flag(alloc, "raw", RAW_IMAGES))
-}
-
-/// The command with the options that say what is written, and the images.
-fn with_output<'a>(alloc: Global, command: Command<'a>) -> Result<Command<'a>, AllocError> {
-    let command = with(command, unit_option(alloc))?;
-    let command = with(command, json_option(alloc))?;
-    let command = with(command, option(alloc, "svg", "FILE", SVG))?;
-    let command = with(command, progress_option(alloc))?;
-    with(command, positionals(alloc, "IMAGE", IMAGES))
+    let args = vec![in alloc;
+        pids_option(alloc),
+        salts_option(alloc),
+        workers_option(alloc),
+        flag(alloc, "raw", RAW_IMAGES),
+        unit_option(alloc),
+        json_option(alloc),
+        option(alloc, "svg", "FILE", SVG),
+        progress_option(alloc),
+        positionals(alloc, "IMAGE", IMAGES),
+    ]?;
+    described(alloc, "estimate", ESTIMATE, OF_ESTIMATE).args(args)
 }
 
 fn pids_option<'a>(alloc: Global) -> Arg<'a> {

@@ -1,25 +1,23 @@
 //! The words of the command `fleet`.
 use crate::help::{DIGESTS, FLEET, OF_FLEET, PAIRS};
 use crate::parts::{
-    described, is_in_pages, json_option, option, positionals, unit_option, values_of, with,
+    described, is_in_pages, json_option, option, positionals, unit_option, values_of,
 };
 use crate::progress_words::{progress_of, progress_option};
 use clap::{Arg, ArgMatches, Command};
 use command_terms::FleetWords;
 use std::alloc::{AllocError, Global};
 
-/// The command, as part of the program's.
+/// The command, as part of the program's. Its help has the arguments in this order.
 pub fn fleet_command<'a>(alloc: Global) -> Result<Command<'a>, AllocError> {
-    with_options(alloc, described(alloc, "fleet", FLEET, OF_FLEET))
-}
-
-/// The command with its options and the digests, in the order in which help has them.
-fn with_options<'a>(alloc: Global, command: Command<'a>) -> Result<Command<'a>, AllocError> {
-    let command = with(command, unit_option(alloc))?;
-    let command = with(command, json_option(alloc))?;
-    let command = with(command, option(alloc, "pairs", "FILE", PAIRS))?;
-    let command = with(command, progress_option(alloc))?;
-    with(command, digests_words(alloc))
+    let args = vec![in alloc;
+        unit_option(alloc),
+        json_option(alloc),
+        option(alloc, "pairs", "FILE", PAIRS),
+        progress_option(alloc),
+        digests_words(alloc),
+    ]?;
+    described(alloc, "fleet", FLEET, OF_FLEET).args(args)
 }
 
 fn digests_words<'a>(alloc: Global) -> Arg<'a> {

@@ -16,11 +16,6 @@ fn named<'a>(alloc: Global, name: &'a str, about: &'a str) -> Command<'a> {
     Command::new(alloc, name).about(about)
 }
 
-/// A command with one argument more.
-pub fn with<'a>(command: Command<'a>, arg: Arg<'a>) -> Result<Command<'a>, AllocError> {
-    command.arg(arg)
-}
-
 /// A word that stands by itself, with what it is.
 pub fn positional<'a>(alloc: Global, name: &'a str, help: &'a str) -> Arg<'a> {
     Arg::new(alloc, name).help(help)

@@ -5,47 +5,54 @@ use crate::fleet_words::{fleet_command, fleet_words};
 use crate::help::{
     ABOUT, JOURNAL, JOURNAL_FILE, PROGRAM, REPLAY, RUN, RUN_JOURNAL, SCRIPT, SCRIPT_FILE, SERIAL,
 };
-use crate::parts::{described, flag, positional, with};
+use crate::parts::{described, flag, positional};
 use crate::progress_words::{progress_of, progress_option};
 use clap::{ArgMatches, Command, Error};
 use command_terms::{Asked, Task, Work};
 use std::alloc::{AllocError, Global};
 
 fn replay_command<'a>(alloc: Global) -> Result<Command<'a>, AllocError> {
-    let replay = described(alloc, "replay", REPLAY, JOURNAL);
-    with(replay, positional(alloc, "FILE", JOURNAL_FILE))
+    described(alloc, "replay", REPLAY, JOURNAL).arg(positional(alloc, "FILE", JOURNAL_FILE))
 }
 
 fn serial_command<'a>(alloc: Global) -> Result<Command<'a>, AllocError> {
-    let serial = described(alloc, "serial", SERIAL, SCRIPT);
-    with(serial, positional(alloc, "FILE", SCRIPT_FILE))
+    described(alloc, "serial", SERIAL, SCRIPT).arg(positional(alloc, "FILE", SCRIPT_FILE))
 }
 
 fn run_command<'a>(alloc: Global) -> Result<Command<'a>, AllocError> {
-    let run = described(alloc, "run", RUN, SCRIPT);
-    let run = with(run, flag(alloc, "journal", RUN_JOURNAL))?;
-    let run = with(run, progress_option(alloc))?;
-    with(run, positional(alloc, "FILE", SCRIPT_FILE))
+    let args = vec![in alloc;
+        flag(alloc, "journal", RUN_JOURNAL),
+        progress_option(alloc),
+        positional(alloc, "FILE", SCRIPT_FILE),
+    ]?;
+    described(alloc, "run", RUN, SCRIPT).args(args)
 }
 
 /// The program's command: the commands of operators come first.
 fn command<'a>(alloc: Global, version: &'a str) -> Result<Command<'a>, AllocError> {
-    let command = with_command(whole_command(alloc, version), estimate_command(alloc)?)?;
-    let command = with_command(command, digest_command(alloc)?)?;
-    let command = with_command(command, fleet_command(alloc)?)?;
-    with_texts(alloc, command)
+    with_texts(alloc, with_counts(alloc, whole_command(alloc, version))?)
+}
+
+/// The command with those that count memory.
+fn with_counts<'a>(alloc: Global, command: Command<'a>) -> Result<Command<'a>, AllocError> {
+    let command = with(command, estimate_command(alloc))?;
+    let command = with(command, digest_command(alloc))?;
+    with(command, fleet_command(alloc))
 }
 
 /// The command with those on texts.
 fn with_texts<'a>(alloc: Global, command: Command<'a>) -> Result<Command<'a>, AllocError> {
-    let command = with_command(command, replay_command(alloc)?)?;
-    let command = with_command(command, serial_command(alloc)?)?;
-    with_command(command, run_command(alloc)?)
+    let command = with(command, replay_command(alloc))?;
+    let command = with(command, serial_command(alloc))?;
+    with(command, run_command(alloc))
 }
 
-/// A command with one command more below it.
-fn with_command<'a>(command: Command<'a>, below: Command<'a>) -> Result<Command<'a>, AllocError> {
-    command.subcommand(below)
+/// A command with one command more below it, if that could be made.
+fn with<'a>(
+    command: Command<'a>,
+    below: Result<Command<'a>, AllocError>,
+) -> Result<Command<'a>, AllocError> {
+    command.subcommand(below?)
 }
 
 /// The program's command, so far with none of its own.
@@ -65,6 +72,10 @@ pub fn asked_of<'a>(
     version: &'a str,
 ) -> Result<Asked<'a>, Error> {
     let matches = command(alloc, version)?.try_get_matches_from(words)?;
+    asked_in(alloc, &matches)
+}
+
+fn asked_in<'a>(alloc: Global, matches: &ArgMatches<'a>) -> Result<Asked<'a>, Error> {
     if let Some(estimate) = matches.subcommand_matches("estimate") {
         return Ok(Asked::Estimate(estimate_words(alloc, estimate)?));
     }
@@ -74,7 +85,7 @@ pub fn asked_of<'a>(
     if let Some(fleet) = matches.subcommand_matches("fleet") {
         return Ok(Asked::Fleet(fleet_words(alloc, fleet)?));
     }
-    Ok(Asked::Text(task_of(&matches)))
+    Ok(Asked::Text(task_of(matches)))
 }
 
 /// What is to be done with a text.
