@@ -1,49 +1,59 @@
 #!/usr/bin/env python3
-"""Where a crate's proof takes its time: the processor seconds of each function.
+"""Where a crate's proof takes its time: the seconds of each function, and of each kind of module that its proof has.
 
     checks/profile.py CRATE [--test] [--most N]
 
-To be run at the repository's top after `rt ci`, over the libraries that it left in out/. Proves CRATE from nothing with one job
-(with --test its tests as well), and prints the N dearest functions (20 unless given) and the sum. The function that is proved
-first has in its seconds what was read before it. Nothing is kept, and no verdict rests on this.
+To be run at the repository's top after `make test`, over the libraries that it left in out/, with nothing beside it. Proves CRATE
+from nothing with one job (with --test its tests as well), and prints the N dearest functions (20 unless given), the kinds and the
+sum. The checker writes a file as it ends with each module; the time between one file and the next is the module's. Of the kinds,
+`Lts` is what lives how long in the function, `Proof` and `Answers` are its goals, and `Tie` joins both to its contract. A
+function's `Lts` grows with its calls times what it holds meanwhile, so it gets cheaper when it is split. The files are removed at
+the end, and no verdict rests on this.
 """
 import argparse
+import collections
 import os
+import pathlib
+import re
 import subprocess
 import sys
+import tempfile
 
 from common.kit import load_kit
 
-TICKS = os.sysconf("SC_CLK_TCK")
+# A module's file: the function's path, and the kind of module.
+MODULE = re.compile(r"Rattle-(?:\w+)-(?:proofs|specs)\.(?P<function>.+)\.(?P<kind>[^.]+?)(?:\.decls)?\.oantt")
+# What is read and compared before and after all functions.
+OTHERS = "(what belongs to no function)"
 
 
-def used_by(process):
-    """The processor seconds of a process and of those that it started."""
-    try:
-        with open(f"/proc/{process}/stat", encoding="utf-8") as it:
-            own = sum(map(int, it.read().rpartition(")")[2].split()[11:15])) / TICKS
-        with open(f"/proc/{process}/task/{process}/children", encoding="utf-8") as it:
-            return own + sum(used_by(int(child)) for child in it.read().split())
-    except OSError:
-        return 0
+def times_of(folder):
+    """Each module that was written below a folder, with the seconds since the one before it."""
+    written = sorted((it.stat().st_mtime, it.name) for it in pathlib.Path(folder).rglob("*") if it.is_file())
+    for (before, _name), (at, name) in zip(written, written[1:]):
+        yield name, at - before
+
+
+def sums_of(folder):
+    """The seconds of each function, and of each kind of module."""
+    functions, kinds = collections.Counter(), collections.Counter()
+    for name, seconds in times_of(folder):
+        found = MODULE.fullmatch(name)
+        functions[found["function"] if found else OTHERS] += seconds
+        kinds[found["kind"] if found else OTHERS] += seconds
+    return functions, kinds
 
 
 def profiled(kit, crate, with_tests):
-    """Each function with the seconds that its proof took, the lines that tell of no proof, and the check's status."""
-    words = crate.words(["--jobs", "1", "--progress"], tests=with_tests, keeps=False)
-    rows, others, last = [], [], 0
-    with subprocess.Popen(
-        [*kit.rtlib.guarded(), kit.rtlib.RATTLE, "check", *words], cwd=crate.folder, stdin=subprocess.DEVNULL,
-        stdout=subprocess.PIPE, stderr=subprocess.STDOUT, text=True, errors="replace",
-    ) as ran:
-        for line in ran.stdout:
-            if line.startswith("checked "):
-                now = max(used_by(ran.pid), last)
-                rows.append((now - last, line.removeprefix("checked ").partition(",")[0]))
-                last = now
-            elif ": error" in line or "not proved" in line or "no proof" in line:
-                others.append(line)
-    return rows, others, ran.returncode
+    """The seconds by function and by kind, the lines that tell of no proof, and the check's status."""
+    with tempfile.TemporaryDirectory(prefix="profile-") as folder:
+        words = crate.words(["--jobs", "1", "--incremental", folder], tests=with_tests, keeps=False)
+        ran = subprocess.run(
+            [*kit.rtlib.guarded(), kit.rtlib.RATTLE, "check", *words], cwd=crate.folder, stdin=subprocess.DEVNULL,
+            stdout=subprocess.PIPE, stderr=subprocess.STDOUT, text=True, errors="replace", check=False,
+        )
+        others = [it for it in ran.stdout.splitlines() if ": error" in it or re.match(r"fn \S+: (not proved|no proof)", it)]
+        return *sums_of(folder), others, ran.returncode
 
 
 def main():
@@ -57,11 +67,13 @@ def main():
     found = [it for it in kit.rtlib.crates_below(os.getcwd()) if it.name == given.crate]
     if not found:
         sys.exit(f"{given.crate}: no crate has this name")
-    rows, others, status = profiled(kit, found[0], given.test)
-    print("".join(others), end="")
-    for seconds, function in sorted(rows, reverse=True)[: given.most]:
-        print(f"{seconds:7.1f} {function}")
-    print(f"{sum(seconds for seconds, _function in rows):7.1f} all {len(rows)} functions")
+    functions, kinds, others, status = profiled(kit, found[0], given.test)
+    print("".join(f"{it}\n" for it in others), end="")
+    for what, sums, most in (("function", functions, given.most), ("kind of module", kinds, 8)):
+        print(f"seconds by {what}:")
+        for name, seconds in sums.most_common(most):
+            print(f"{seconds:7.1f} {name}")
+    print(f"{sum(functions.values()):7.1f} all {len(functions)} functions")
     return status
 
 
