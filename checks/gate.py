@@ -51,7 +51,7 @@ COMMANDS = {
     "edits": [("edits' test", ["checks/edits_test.py"], False), ("edits", ["checks/edits.py"], True)],
 }
 # What each command takes from nothing, in processor minutes (measured on processors of 2.5 GHz).
-MINUTES = {"test": 155, "edits": 140}
+MINUTES = {"test": 152, "edits": 116}
 TICKS = os.sysconf("SC_CLK_TCK")
 # What the steps say of a crate that is done, of one that failed, and of each name that failed at the end.
 DONE = re.compile(r"^rt: (\w+) (?:proved$|is kept)")
