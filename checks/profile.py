@@ -21,17 +21,17 @@ import tempfile
 
 from common.kit import load_kit
 
-# A module's file: the function's path, and the kind of module.
-MODULE = re.compile(r"Rattle-(?:\w+)-(?:proofs|specs)\.(?P<function>.+)\.(?P<kind>[^.]+?)(?:\.decls)?\.oantt")
+# A module's name: the function's path, and the kind of module.
+MODULE = re.compile(r"Rattle-\w+-(?:proofs|specs)\.(?P<function>.+)\.(?P<kind>[^.]+)")
 # What is read and compared before and after all functions.
 OTHERS = "(what belongs to no function)"
 
 
 def times_of(folder):
-    """Each module that was written below a folder, with the seconds since the one before it."""
+    """Each module that was written below a folder, with the seconds since the one before it. A module may have several files."""
     written = sorted((it.stat().st_mtime, it.name) for it in pathlib.Path(folder).rglob("*") if it.is_file())
     for (before, _name), (at, name) in zip(written, written[1:]):
-        yield name, at - before
+        yield name.removesuffix(".oantt").removesuffix(".decls"), at - before
 
 
 def sums_of(folder):
@@ -73,7 +73,7 @@ def main():
         print(f"seconds by {what}:")
         for name, seconds in sums.most_common(most):
             print(f"{seconds:7.1f} {name}")
-    print(f"{sum(functions.values()):7.1f} all {len(functions)} functions")
+    print(f"{sum(functions.values()):7.1f} in all")
     return status
 
 
