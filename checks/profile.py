@@ -6,9 +6,8 @@
 To be run at the repository's top after `make test`, over the libraries that it left in out/, with nothing beside it. Proves CRATE
 from nothing with one job (with --test its tests as well), and prints the N dearest functions (20 unless given), the kinds and the
 sum. The checker writes a file as it ends with each module; the time between one file and the next is the module's. Of the kinds,
-`Lts` is what lives how long in the function, `Proof` and `Answers` are its goals, and `Tie` joins both to its contract. A
-function's `Lts` grows with its calls times what it holds meanwhile, so it gets cheaper when it is split. The files are removed at
-the end, and no verdict rests on this.
+`Lts` is which value lives how long in a function. It grows with the function's calls times what it holds meanwhile, so it gets
+cheaper when the function is split. The files are removed at the end, and no verdict rests on this.
 """
 import argparse
 import collections
