@@ -17,8 +17,9 @@ goal of its own that isn't proved. That it calls a function that isn't proved, o
 tried once more among others, and then alone, and one that stands outside of all functions is tried alone. Where a function that
 nobody edited is refused by itself, the edits of that check are tried again in two halves, down to one. An edit that is known to
 bring that about has a line 'alone: WHY', and is tried alone. Of an edit that is tried alone it is enough that any function is
-refused by itself, as the kit's own gate has it. Its check is of the whole crate, but where the edit names a function that must be
-refused, in a line 'refused: MODULE::FUNCTION': then it is of this function and what it calls.
+refused by itself, as the kit's own gate has it. Its check is of the whole crate. Where the edit names a function that is
+to be refused, in a line 'refused: MODULE::FUNCTION', this function and what it calls are checked first, and the whole crate only if
+none of these is refused.
 
 A check is of the edited functions and what they call, over what earlier checks of the crate kept. Where the checker knows a function
 by none of the paths that this script guesses, it is of the whole crate. Only a check of the whole crate tells NOT REFUSED.
