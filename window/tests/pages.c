@@ -78,7 +78,7 @@ static void bounds(void) {
         check(window_discard(window, firsts[i], counts[i]).status == WINDOW_BAD_RANGE, "window_discard refuses what is outside");
         check(window_pin(window, firsts[i], counts[i]).status == WINDOW_BAD_RANGE, "window_pin refuses it");
         check(window_unpin(window, firsts[i], counts[i]).status == WINDOW_BAD_RANGE, "window_unpin refuses it");
-        check(window_cut(window, firsts[i], counts[i]).status == WINDOW_BAD_RANGE, "window_cut refuses it");
+        check(window_cut(window, firsts[i], counts[i], NULL).status == WINDOW_BAD_RANGE, "window_cut refuses it");
     }
     check(window_page_is(window, PAGES) == WINDOW_PAGE_OUT, "no page is behind the last one");
     check(are_bytes(at + PAGES * PAGE, 7), "what is behind the window is as it was");
@@ -537,12 +537,12 @@ static void cuts(void) {
     struct window *window = window_over(&fixture, at, PAGES);
     fill(at, PAGES, 1);
     check(look_until(&fixture, PAGES) == PAGES, "all pages are lent");
-    must(window_cut(window, 4, 8), "window_cut");
+    must(window_cut(window, 4, 8, NULL), "window_cut");
     check(are_bytes(at + 4 * PAGE, 1) && window_page_is(window, 4) == WINDOW_PAGE_OUT, "pages that leave keep their content");
     check(munmap(at + 4 * PAGE, 8 * PAGE) == 0, "they can be unmapped");
     look_often(&fixture, 8);
     check(counts_of(&fixture).lent == PAGES - 8 && are_bytes(at + 12 * PAGE, 1), "the others are lent still");
-    must(window_cut(window, 0, PAGES), "window_cut");
+    must(window_cut(window, 0, PAGES, NULL), "window_cut");
     must(window_free(window, WINDOW_TAKE_HOME), "window_free");
     fixture_free(&fixture);
 }
