@@ -285,11 +285,14 @@ bool sharing_devices(enum devices devices) {
     }
     struct windows *set = atomic_load(&windows);
     if (devices == DEVICES_WRITE_ALL) return sharing_end("a device is given to the guest, or may write to its memory unnoticed");
-    if (pins_of(devices) == WINDOWS_PINS_POSSIBLE && set && is_owner()) {
-        inside++;
-        windows_set_pins(set, WINDOWS_PINS_POSSIBLE);
-        inside--;
-    }
+    if (pins_of(devices) != WINDOWS_PINS_POSSIBLE || !set || !is_owner()) return true;
+    inside++;
+    windows_set_pins(set, WINDOWS_PINS_POSSIBLE);
+    inside--;
+    if (before < (int)devices)
+        log_line(
+            "devices may have pinned pages (io_uring or io_submit with O_DIRECT, or vmx): those that were lent and written stay "
+            "private from now on");
     return true;
 }
 

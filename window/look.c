@@ -268,7 +268,7 @@ static void look_for_locks(struct windows *windows) {
     enum { TIMES = 50 };
     size_t kib = locked_kib();
     uint64_t begun = clock_now_ns();
-    if (kib == windows->locked_kib || begun < windows->locks_after_ns) return;
+    if (kib == windows->locked_kib || (kib > 0 && begun < windows->locks_after_ns)) return;
     windows->locked_kib = kib;
     windows->is_locked = kib > 0 && locked_any(has_page_between, windows);
     windows->locks_after_ns = begun + TIMES * (clock_now_ns() - begun);
