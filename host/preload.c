@@ -1,11 +1,12 @@
 #define _GNU_SOURCE
 /*
- * libpageshare-window.so, preloaded into a virtual machine monitor: the functions of the C library that it interposes, and nothing else.
+ * libpageshare-window.so, preloaded into a virtual machine monitor: the functions of the C library that it interposes, but for those that
+ * read and write files (transfers.c), and nothing else.
  * sharing.c has what they do. Where a call has nothing to do with a window it goes to the system as it is.
  *
  * Interposed are calls that would show what lies under a window (madvise, munmap, mmap, mremap), that a window's mappings can't follow
- * (mprotect, mlock, a userfaultfd of the monitor's own), that let devices write to memory (open with O_DIRECT and reads, VFIO), and
- * that close descriptors of which the monitor doesn't know.
+ * (mprotect, mlock, a userfaultfd of the monitor's own), that let devices write to memory (open with O_DIRECT, VFIO), and that
+ * close descriptors of which the monitor doesn't know.
  */
 #include "sharing.h"
 #include "trouble.h"
@@ -38,30 +39,13 @@
 /* ---- the C library's own functions ---- */
 
 typedef int fcntl_function(int, int, ...);
-typedef ssize_t read_function(int, void *, size_t);
-typedef ssize_t pread_function(int, void *, size_t, off_t);
-typedef ssize_t readv_function(int, const struct iovec *, int);
-typedef ssize_t preadv_function(int, const struct iovec *, int, off_t);
-typedef ssize_t preadv2_function(int, const struct iovec *, int, off_t, int);
 
-/* Those that are called behind the ones here, since they do more than a call of the system. NULL until the library is loaded. */
-static struct {
-    fcntl_function *fcntl, *fcntl64;
-    read_function *read;
-    pread_function *pread;
-    readv_function *readv;
-    preadv_function *preadv;
-    preadv2_function *preadv2;
-} next;
+/* Those that are called behind the ones here, since they do more than a call of the system. NULL before this library is loaded. */
+static struct { fcntl_function *fcntl, *fcntl64; } next;
 
 __attribute__((constructor)) static void find_next(void) {
     next.fcntl = (fcntl_function *)(uintptr_t)dlsym(RTLD_NEXT, "fcntl");
     next.fcntl64 = (fcntl_function *)(uintptr_t)dlsym(RTLD_NEXT, "fcntl64");
-    next.read = (read_function *)(uintptr_t)dlsym(RTLD_NEXT, "read");
-    next.pread = (pread_function *)(uintptr_t)dlsym(RTLD_NEXT, "pread64");
-    next.readv = (readv_function *)(uintptr_t)dlsym(RTLD_NEXT, "readv");
-    next.preadv = (preadv_function *)(uintptr_t)dlsym(RTLD_NEXT, "preadv64");
-    next.preadv2 = (preadv2_function *)(uintptr_t)dlsym(RTLD_NEXT, "preadv64v2");
 }
 
 /* ---- advice ---- */
@@ -294,73 +278,6 @@ PUBLIC int fcntl64(int descriptor, int command, ...) {
     va_end(rest);
     return set_or_get(next.fcntl64, descriptor, command, with);
 }
-
-/* ---- reads by O_DIRECT, which pin pages until they end ---- */
-
-/* Counts a read, if it is one by O_DIRECT to memory of a window. */
-static struct sharing_reads begin_read(int descriptor, const struct iovec *buffers, int count) {
-    struct sharing_reads reads = {.count = 0};
-    bool meets = false;
-    for (int i = 0; i < count && !meets; i++) meets = sharing_meets(buffers[i].iov_base, buffers[i].iov_len);
-    if (!meets) return reads;
-    int cause = errno, flags = (int)syscall(SYS_fcntl, descriptor, F_GETFL);
-    if (flags >= 0 && (flags & O_DIRECT) != 0) sharing_read_begin(&reads, buffers, count);
-    errno = cause;
-    return reads;
-}
-
-static ssize_t end_read(const struct sharing_reads *reads, ssize_t status) {
-    int cause = errno;
-    if (reads->count > 0) sharing_read_end(reads);
-    errno = cause;
-    return status;
-}
-
-PUBLIC ssize_t read(int descriptor, void *buffer, size_t bytes) {
-    const struct iovec whole = {buffer, bytes};
-    struct sharing_reads reads = begin_read(descriptor, &whole, 1);
-    return end_read(&reads, next.read ? next.read(descriptor, buffer, bytes) : syscall(SYS_read, descriptor, buffer, bytes));
-}
-PUBLIC ssize_t __read_chk(int descriptor, void *buffer, size_t bytes, size_t most);
-PUBLIC ssize_t __read_chk(int descriptor, void *buffer, size_t bytes, size_t most) {
-    if (bytes > most) abort();
-    return read(descriptor, buffer, bytes);
-}
-
-PUBLIC ssize_t pread(int descriptor, void *buffer, size_t bytes, off_t from) {
-    const struct iovec whole = {buffer, bytes};
-    struct sharing_reads reads = begin_read(descriptor, &whole, 1);
-    return end_read(&reads, next.pread ? next.pread(descriptor, buffer, bytes, from)
-                                       : syscall(SYS_pread64, descriptor, buffer, bytes, from));
-}
-PUBLIC ssize_t pread64(int descriptor, void *buffer, size_t bytes, off_t from) __attribute__((alias("pread")));
-PUBLIC ssize_t __pread_chk(int descriptor, void *buffer, size_t bytes, off_t from, size_t most);
-PUBLIC ssize_t __pread_chk(int descriptor, void *buffer, size_t bytes, off_t from, size_t most) {
-    if (bytes > most) abort();
-    return pread(descriptor, buffer, bytes, from);
-}
-PUBLIC ssize_t __pread64_chk(int descriptor, void *buffer, size_t bytes, off_t from, size_t most)
-    __attribute__((alias("__pread_chk")));
-
-PUBLIC ssize_t readv(int descriptor, const struct iovec *buffers, int count) {
-    struct sharing_reads reads = begin_read(descriptor, buffers, count);
-    return end_read(&reads, next.readv ? next.readv(descriptor, buffers, count) : syscall(SYS_readv, descriptor, buffers, count));
-}
-
-PUBLIC ssize_t preadv(int descriptor, const struct iovec *buffers, int count, off_t from) {
-    struct sharing_reads reads = begin_read(descriptor, buffers, count);
-    return end_read(&reads, next.preadv ? next.preadv(descriptor, buffers, count, from)
-                                        : syscall(SYS_preadv, descriptor, buffers, count, from, 0L));
-}
-PUBLIC ssize_t preadv64(int descriptor, const struct iovec *buffers, int count, off_t from) __attribute__((alias("preadv")));
-
-PUBLIC ssize_t preadv2(int descriptor, const struct iovec *buffers, int count, off_t from, int flags) {
-    struct sharing_reads reads = begin_read(descriptor, buffers, count);
-    return end_read(&reads, next.preadv2 ? next.preadv2(descriptor, buffers, count, from, flags)
-                                         : syscall(SYS_preadv2, descriptor, buffers, count, from, 0L, flags));
-}
-PUBLIC ssize_t preadv64v2(int descriptor, const struct iovec *buffers, int count, off_t from, int flags)
-    __attribute__((alias("preadv2")));
 
 /* ---- descriptors ---- */
 

@@ -307,24 +307,24 @@ static struct iovec around(const struct iovec *buffers, int count) {
     return (struct iovec){.iov_base = (void *)low, .iov_len = high - low};
 }
 
-void sharing_read_begin(struct sharing_reads *reads, const struct iovec *buffers, int count) {
+void sharing_transfers_begin(struct sharing_transfers *transfers, const struct iovec *buffers, int count) {
     struct windows *set = atomic_load(&windows);
-    reads->count = 0;
+    transfers->count = 0;
     if (inside || !set || !is_owner()) return;
     inside++;
     for (int i = 0; i < count; i++) {
-        bool is_last = reads->count == SHARING_READS - 1;
+        bool is_last = transfers->count == SHARING_TRANSFERS_MOST - 1;
         struct iovec buffer = is_last ? around(buffers + i, count - i) : buffers[i];
-        reads->reads[reads->count++] = windows_read_begin(set, buffer.iov_base, buffer.iov_len);
+        transfers->transfers[transfers->count++] = windows_transfer_begin(set, buffer.iov_base, buffer.iov_len);
         if (is_last) break;
     }
     inside--;
 }
 
-void sharing_read_end(const struct sharing_reads *reads) {
+void sharing_transfers_end(const struct sharing_transfers *transfers) {
     struct windows *set = atomic_load(&windows);
     inside++;
-    for (size_t i = 0; i < reads->count; i++) windows_read_end(set, reads->reads[i]);
+    for (size_t i = 0; i < transfers->count; i++) windows_transfer_end(set, transfers->transfers[i]);
     inside--;
 }
 

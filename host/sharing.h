@@ -49,17 +49,15 @@ bool sharing_end(const char *why);
 /* Devices may write from now on. Returns false, with errno, where lending would have to end for them and can't. */
 bool sharing_devices(enum devices devices);
 
-/* Reads into the monitor's memory by O_DIRECT that are under way. */
-enum { SHARING_READS = 16 };
-struct sharing_reads {
+/* Transfers by O_DIRECT between files and the monitor's memory that are under way, of one call. */
+enum { SHARING_TRANSFERS_MOST = 16 };
+struct sharing_transfers {
     size_t count;
-    size_t reads[SHARING_READS];
+    size_t transfers[SHARING_TRANSFERS_MOST];
 };
-/* A read by O_DIRECT into these buffers is about to begin, and has ended. */
-void sharing_read_begin(struct sharing_reads *reads, const struct iovec *buffers, int count);
-void sharing_read_end(const struct sharing_reads *reads);
-/* Whether reads by O_DIRECT have to be counted. */
-bool sharing_counts_reads(void);
+/* A call by O_DIRECT with these buffers is about to begin, and has ended. */
+void sharing_transfers_begin(struct sharing_transfers *transfers, const struct iovec *buffers, int count);
+void sharing_transfers_end(const struct sharing_transfers *transfers);
 
 /* Whether the caller is this library: then a call goes to the system as it is. */
 bool sharing_is_inside(void);

@@ -189,6 +189,7 @@ static void collect_part(struct slots *slots, struct window *window, size_t firs
     for (size_t page = first; page < window->count && page < first + PART && slots->count < WINDOW_BATCH; page++) {
         const struct page *its = &window->pages[page];
         if (its->holds == 0 || (its->shows == 1 && its->past == 0)) continue;
+        if (is_in_transfer(window, page)) continue; /* (a device may be reading the frame, as the page showed it when it began) */
         slots->slots[slots->count] = window->pages[page].slot;
         slots->windows[slots->count] = window;
         slots->pages[slots->count++] = (uint32_t)page;

@@ -16,13 +16,20 @@ void lock_for_look(struct windows *windows) {
     pthread_mutex_lock(&windows->lock);
 }
 
-bool is_pinned(const struct window *window, size_t page) {
+bool is_in_transfer(const struct window *window, size_t page) {
     const struct windows *windows = window->windows;
     const uint8_t *at = address_of(window, page);
-    for (size_t i = 0; i < READS_MOST; i++)
-        if (windows->reads[i].begin != NULL && at < windows->reads[i].end && windows->reads[i].begin < at + WINDOW_PAGE_BYTES)
-            return true;
-    return window->pins != NULL && window->pins[page] > 0;
+    for (size_t i = 0, left = windows->transfers_count; left > 0 && i < TRANSFERS_MOST; i++) {
+        const struct transfer *transfer = &windows->transfers[i];
+        if (transfer->begin == NULL) continue;
+        if (at < transfer->end && transfer->begin < at + WINDOW_PAGE_BYTES) return true;
+        left--;
+    }
+    return false;
+}
+
+bool is_pinned(const struct window *window, size_t page) {
+    return (window->pins != NULL && window->pins[page] > 0) || is_in_transfer(window, page);
 }
 
 void find_pins(struct windows *windows) {

@@ -16,7 +16,7 @@ enum {
     STILL = 3,           /* looks with the same fingerprint that make a page idle */
     ASKS_APART_MOST = 3, /* a page that nobody else has is asked about at each 2^n-th look, n up to this */
     PINS_MOST = UINT16_MAX,
-    READS_MOST = 128, /* reads under way that are kept by their places */
+    TRANSFERS_MOST = 128, /* transfers under way that are kept by their places */
     FINGERPRINT_BITS = 24
 };
 
@@ -70,8 +70,8 @@ struct window {
     bool ended;   /* the range is the caller's again; only slots are left to release */
 };
 
-/* Memory into which a read is under way, which may have pinned its pages. `begin` is NULL where there is none. */
-struct read {
+/* Memory of which a transfer by O_DIRECT is under way, which may have pinned its pages. `begin` is NULL where there is none. */
+struct transfer {
     const uint8_t *begin, *end;
 };
 
@@ -103,8 +103,9 @@ struct windows {
     enum windows_pins pins;
     enum windows_pins (*find_pins)(void *opaque);
     void *find_pins_opaque;
-    struct read reads[READS_MOST];
-    size_t reads_elsewhere; /* reads under way that have no place in `reads` */
+    struct transfer transfers[TRANSFERS_MOST];
+    size_t transfers_count;     /* how many places have one */
+    size_t transfers_elsewhere; /* transfers under way that have no place there */
     size_t mappings_most, locked_kib;
     uint64_t locks_after_ns; /* smaps isn't read before this time */
     unsigned rest_most;
@@ -141,11 +142,13 @@ static inline bool can_lend(const struct window *window) {
     return window->advice.dont_fork && !window->ends && !window->windows->is_over;
 }
 
-/* Whether windows_read_begin or window_pin says that a page may be pinned. With the lock. */
+/* Whether a transfer of a page is under way. With the lock. */
+bool is_in_transfer(const struct window *window, size_t page);
+/* Whether that, or window_pin, says that a page may be pinned. With the lock. */
 bool is_pinned(const struct window *window, size_t page);
 /* Whether any page with a copy over a frame may be pinned, for all that is known. With the lock. */
 static inline bool may_pin(const struct windows *windows) {
-    return windows->pins != WINDOWS_PINS_NEVER || windows->reads_elsewhere > 0;
+    return windows->pins != WINDOWS_PINS_NEVER || windows->transfers_elsewhere > 0;
 }
 /* Asks whether devices may pin pages by now. With the lock, or by the looking thread. */
 void find_pins(struct windows *windows);

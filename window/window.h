@@ -62,7 +62,7 @@ struct window;
  * Whether a device, or the kernel for one, may write to pages by their physical addresses: io_uring's buffers, io_submit on files that
  * were opened with O_DIRECT, VFIO, vhost with pinned pages. Where it may, only pages are lent that UFFDIO_MOVE takes (Linux 6.8), which
  * refuses pinned pages, and pages that show a frame. A page that was lent once and copied can't be moved, and so stays private from
- * then on; and it is never copied to other memory. Reads that windows_read_begin knows of are no such device.
+ * then on; and it is never copied to other memory. Transfers of windows_transfer_begin aren't counted as such.
  */
 enum windows_pins { WINDOWS_PINS_POSSIBLE, WINDOWS_PINS_NEVER };
 
@@ -105,11 +105,12 @@ int windows_each_slot(struct windows *windows, int (*each)(void *opaque, uint32_
 void windows_set_pins(struct windows *windows, enum windows_pins pins);
 
 /*
- * A read into `bytes` of memory is about to begin that may pin pages (O_DIRECT) until it ends. Nothing of them is held or copied
- * meanwhile. Returns what windows_read_end takes. The memory may be a window's, in part or not at all.
+ * A transfer from a file to `bytes` of memory, or back, is about to begin that may pin pages (O_DIRECT) until it ends. Meanwhile pages
+ * there aren't held, copies aren't copied to other memory, and slots aren't released. Returns what windows_transfer_end takes. The
+ * memory may be a window's, in part or not at all.
  */
-size_t windows_read_begin(struct windows *windows, const void *at, size_t bytes);
-void windows_read_end(struct windows *windows, size_t read);
+size_t windows_transfer_begin(struct windows *windows, const void *at, size_t bytes);
+void windows_transfer_end(struct windows *windows, size_t transfer);
 
 /* Nothing is lent any more, for good. Pages that show frames go on showing them until they are taken home. */
 void windows_end(struct windows *windows);

@@ -182,20 +182,28 @@ void windows_set_pins(struct windows *windows, enum windows_pins pins) {
     unlock_set(windows);
 }
 
-size_t windows_read_begin(struct windows *windows, const void *at, size_t bytes) {
+size_t windows_transfer_begin(struct windows *windows, const void *at, size_t bytes) {
     size_t place = 0;
     lock_set(windows);
-    while (place < READS_MOST && windows->reads[place].begin != NULL) place++;
-    if (place < READS_MOST) windows->reads[place] = (struct read){.begin = at, .end = (const uint8_t *)at + bytes};
-    else windows->reads_elsewhere++;
+    while (place < TRANSFERS_MOST && windows->transfers[place].begin != NULL) place++;
+    if (place < TRANSFERS_MOST) {
+        windows->transfers[place] = (struct transfer){.begin = at, .end = (const uint8_t *)at + bytes};
+        windows->transfers_count++;
+    } else {
+        windows->transfers_elsewhere++;
+    }
     unlock_set(windows);
     return place;
 }
 
-void windows_read_end(struct windows *windows, size_t read) {
+void windows_transfer_end(struct windows *windows, size_t transfer) {
     lock_set(windows);
-    if (read < READS_MOST) windows->reads[read].begin = NULL;
-    else windows->reads_elsewhere--;
+    if (transfer < TRANSFERS_MOST) {
+        windows->transfers[transfer].begin = NULL;
+        windows->transfers_count--;
+    } else {
+        windows->transfers_elsewhere--;
+    }
     unlock_set(windows);
 }
 

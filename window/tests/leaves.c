@@ -135,25 +135,29 @@ static void pins_are_found(void) {
     munmap(at, PAGES * PAGE);
 }
 
-/* While a read by O_DIRECT is under way its pages aren't held; and then they are. */
-static void reads(void) {
+/* While a transfer by O_DIRECT is under way its pages aren't held, nor their slots released; and then they are. */
+static void transfers(void) {
     struct fixture fixture = fixture_make(&never_pinned, PAGES);
     uint8_t *at = memory(PAGES);
     struct window *window = window_over(&fixture, at, PAGES);
-    size_t begun[READS_MOST + 1], kept = 0;
+    size_t begun[TRANSFERS_MOST + 1], kept = 0;
+    struct pageshare_domain_totals totals;
+    struct lender_counts counts;
     fill(at, PAGES, 1);
     check(look_until(&fixture, PAGES) == PAGES, "all pages are lent");
     memset(at, 1, 4 * PAGE);
-    begun[0] = windows_read_begin(fixture.windows, at + PAGE + 100, PAGE);
-    check(look_until(&fixture, PAGES - 2) == PAGES - 2, "all are lent again but for the two of the read");
+    begun[0] = windows_transfer_begin(fixture.windows, at + PAGE + 100, PAGE);
+    check(look_until(&fixture, PAGES - 2) == PAGES - 2, "all are lent again but for the two of the transfer");
+    lender_count(fixture.lender, &totals, &counts);
+    check(totals.slots == PAGES, "whose slots aren't released");
     must(window_cut(window, 0, 4, &kept), "window_cut");
     check(kept == 2 && are_bytes(at + PAGE, 1), "these stay where they are");
-    windows_read_end(fixture.windows, begun[0]);
+    windows_transfer_end(fixture.windows, begun[0]);
     memset(at + 40 * PAGE, 1, PAGE);
-    for (size_t i = 0; i <= READS_MOST; i++) begun[i] = windows_read_begin(fixture.windows, at, PAGE);
+    for (size_t i = 0; i <= TRANSFERS_MOST; i++) begun[i] = windows_transfer_begin(fixture.windows, at, PAGE);
     look_often(&fixture, 12);
-    check(window_page_is(window, 40) == WINDOW_PAGE_PRIVATE, "with more reads than are kept by their places no copy is held");
-    for (size_t i = 0; i <= READS_MOST; i++) windows_read_end(fixture.windows, begun[i]);
+    check(window_page_is(window, 40) == WINDOW_PAGE_PRIVATE, "with more transfers than are kept by their places no copy is held");
+    for (size_t i = 0; i <= TRANSFERS_MOST; i++) windows_transfer_end(fixture.windows, begun[i]);
     look_often(&fixture, 12);
     check(window_page_is(window, 40) == WINDOW_PAGE_LENT, "afterwards it is");
     must(window_discard(window, 0, PAGES), "window_discard");
@@ -299,7 +303,7 @@ int main(void) {
     holes();
     device_reads();
     pins_are_found();
-    reads();
+    transfers();
     mappings();
     several_mappings();
     lent_anew();
