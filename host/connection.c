@@ -236,9 +236,22 @@ static void turn(void) {
     write_counts(&counts);
 }
 
+/* Says which of the files that the library reads are denied to it, for example by a profile of AppArmor. */
+static void report_denied(void) {
+    static const char *const paths[] = {
+        "/proc/self/pagemap", "/proc/self/smaps",  "/proc/self/maps",     "/proc/self/status",
+        "/proc/self/fd",      "/proc/self/fdinfo", "/proc/sys/fs/aio-nr", "/proc/sys/vm/max_map_count"};
+    for (size_t i = 0; i < sizeof paths / sizeof paths[0]; i++) {
+        int file = (int)syscall(SYS_openat, AT_FDCWD, paths[i], O_RDONLY | O_CLOEXEC);
+        if (file >= 0) syscall(SYS_close, file);
+        else log_line("%s: %s; less is lent for want of it, or nothing", paths[i], strerror(errno));
+    }
+}
+
 void *connection_thread(void *unused) {
     pthread_setname_np(pthread_self(), "pageshare");
     sharing_stay_inside();
+    report_denied();
     /* Who touches a page that is held waits for this thread. (Where a higher priority isn't allowed it has the monitor's.) */
     if (getpriority(PRIO_PROCESS, 0) > FIRST_NICE) setpriority(PRIO_PROCESS, 0, FIRST_NICE);
     ask_for_short_slices();
