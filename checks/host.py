@@ -28,11 +28,12 @@ import client_cases  # noqa: E402
 import guest_cases  # noqa: E402
 import hostile  # noqa: E402
 import measures  # noqa: E402
+import parts_cases  # noqa: E402
 from places import HERE, LeftOut, Place, Wrong  # noqa: E402
 
 CASES = {
     name.removeprefix("case_").replace("_", "-"): run
-    for module in (client_cases, breaker_cases, measures, guest_cases)
+    for module in (client_cases, breaker_cases, parts_cases, measures, guest_cases)
     for name, run in vars(module).items()
     if name.startswith("case_")
 }

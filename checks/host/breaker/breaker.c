@@ -9,6 +9,7 @@
  * 2 where it can't run.
  */
 #define _GNU_SOURCE
+#include "../offered.h"
 #include "calls.h"
 #include <getopt.h>
 #include <pthread.h>
@@ -190,19 +191,6 @@ static bool make_caller(unsigned number) {
     if (caller->aside == MAP_FAILED) return false;
     if (settings.has_devices) caller->device.is_there = ring_make(&caller->device.ring) && pipe(caller->device.ends) == 0;
     return !settings.has_devices || caller->device.is_there;
-}
-
-/* A count of the library's, from the file that it writes; -1: none. */
-static long library_count(const char *name) {
-    const char *path = getenv("PAGESHARE_COUNTS");
-    char text[4096] = "", key[64];
-    FILE *file = path ? fopen(path, "r") : NULL;
-    if (file == NULL) return -1;
-    text[fread(text, 1, sizeof text - 1, file)] = 0;
-    fclose(file);
-    snprintf(key, sizeof key, "\"%s\":", name);
-    const char *at = strstr(text, key);
-    return at ? atol(at + strlen(key)) : -1;
 }
 
 static bool prepare(void) {
