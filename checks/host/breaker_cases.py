@@ -1,6 +1,7 @@
 """Cases of programs that do all that a monitor may do of its memory, beside a shadow of each byte."""
 import os
 import subprocess
+import time
 
 from places import AS_NOBODY, CC, FLAGS, HERE, OUT, TOP, Host, LeftOut, all_released, must, preloaded, sources
 
@@ -55,5 +56,26 @@ def case_breaker():
             print(f"  {line}", flush=True)
             lends += int(line.split(" lends ")[1].split()[0])
     must(lends > 0, "nothing was lent")
+    all_released(host)
+    host.stop()
+
+
+STORMS = (("4", "leave"), ("4", "direct", "leave"), ("3", "direct", "devices", "leave"))
+
+
+def case_storm():
+    """Three busy monitors: writers, discards, forks, parts that leave, reads by O_DIRECT and io_uring, signals: SECONDS=N."""
+    program, host, seconds = OUT / "storm", Host(memory="256M"), os.environ.get("SECONDS", "12")
+    found = [TOP / "checks/host/storm.c", TOP / "checks/host/breaker/ring.c"]
+    must(subprocess.run([CC, *FLAGS, "-o", program, *found]).returncode == 0, "storm.c doesn't compile")
+    ran = [subprocess.Popen([*AS_NOBODY, program, seconds, "32", *words], env=preloaded(host, {"PAGESHARE_PERIOD_MS": "50"}), text=True,
+                            stdout=subprocess.PIPE, stderr=subprocess.STDOUT) for words in STORMS]
+    time.sleep(int(seconds) * 0.7)
+    lends = host.status()["lent_pages_total"]
+    said = [it.communicate(timeout=int(seconds) + 120)[0] for it in ran]
+    for words, text in zip(STORMS, said):
+        print(f"  {' '.join(words[1:])}: {text.splitlines()[-1]}")
+    must(all(it.returncode == 0 for it in ran), "\n".join(said)[-3000:])
+    must(lends > 0, f"nothing was lent: {said}")
     all_released(host)
     host.stop()
