@@ -17,10 +17,6 @@
 #include <sys/wait.h>
 #include <time.h>
 
-#ifndef MADV_DONTNEED_LOCKED
-#define MADV_DONTNEED_LOCKED 24
-#endif
-
 enum { PAGE = 4096, PAGES = 1024, HALF = PAGES / 2, SECONDS = 30, LEFT_OUT = 77 };
 
 static unsigned wrong;
@@ -269,7 +265,8 @@ static void pinned_by(const char *way, bool is_seen) {
     check(is_full_of(page, PAGE, 'D'), "what the device has read is there");
     check(differing(at, 0, 300, 1) == 0 && differing(at, 301, PAGES, 1) == 0, "the others are there");
     check(ring_unpin(&ring), "the page is let go");
-    check(madvise(page, PAGE, MADV_DONTNEED_LOCKED) == 0 && is_full_of(page, PAGE, 0), "a discard shows zeros");
+    munlockall();
+    check(madvise(page, PAGE, MADV_DONTNEED) == 0 && is_full_of(page, PAGE, 0), "a discard shows zeros");
 }
 
 /* Pages that were written and are equal again are pinned just before they would be lent again. */

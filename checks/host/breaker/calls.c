@@ -152,6 +152,8 @@ static int discard(struct caller *caller, struct run run) {
     bool is_due = !first->is_locked || kind == MADV_DONTNEED_LOCKED;
     if (kind == MADV_FREE && first->is_pinned) return 0;
     int status = madvise(page_at(run.first), bytes_of(run), kind);
+    /* (the library refuses it where a device may have pinned pages whose copies stay over frames) */
+    if (status != 0 && errno == EINVAL && kind == MADV_DONTNEED_LOCKED && caller->device.is_there) return -1;
     if (is_due != (status == 0)) note_wrong(run.first, is_due ? strerror(errno) : "locked pages were discarded");
     if (status == 0 && kind != MADV_FREE) run_is_zero(run);
     for (size_t page = run.first; page < run.first + run.count && status == 0 && kind == MADV_FREE; page++)
