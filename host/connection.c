@@ -94,7 +94,7 @@ void connection_prepare(void) {
 /* Whether devices may pin pages by now, for all that can be seen. */
 static enum windows_pins find_pins(void *unused) {
     (void)unused;
-    return devices_open() < DEVICES_PIN_PAGES ? WINDOWS_PINS_NEVER : WINDOWS_PINS_POSSIBLE;
+    return devices_still_open() < DEVICES_PIN_PAGES ? WINDOWS_PINS_NEVER : WINDOWS_PINS_POSSIBLE;
 }
 
 /* Makes the set of windows, which needs the host's descriptor where the process may make no userfaultfd itself. */

@@ -188,7 +188,34 @@ static bool may_submit(void) {
     return has;
 }
 
+/* ---- all descriptors ---- */
+
+/* What was seen last; and of what that is, so that nothing has to be looked at again where nothing can have changed. */
+static struct {
+    atomic_int devices;
+    atomic_bool has_ring; /* then what is registered with it may change at any time */
+    atomic_long count;    /* of descriptors; 0 where the system doesn't tell */
+    atomic_uint closes;
+} last;
+static atomic_uint closes;
+
+void devices_closed(void) { atomic_fetch_add(&closes, 1); }
+
+/* How many descriptors there are (Linux 6.2), or 0. */
+static long descriptors_count(void) {
+    struct stat folder;
+    return stat("/proc/self/fd", &folder) == 0 ? (long)folder.st_size : 0;
+}
+
+static enum devices worst_of(const struct seen *seen, bool is_blind) {
+    if (seen->is_worst) return DEVICES_WRITE_ALL;
+    if (is_blind || seen->has_buffers || (seen->has_direct && (seen->has_ring || may_submit()))) return DEVICES_PIN_PAGES;
+    return seen->has_direct ? DEVICES_READ : DEVICES_NONE;
+}
+
 enum devices devices_open(void) {
+    unsigned closed = atomic_load(&closes);
+    long count = descriptors_count();
     struct seen seen = {.info = (int)syscall(SYS_openat, AT_FDCWD, "/proc/self/fdinfo", O_RDONLY | O_DIRECTORY | O_CLOEXEC, 0)};
     DIR *folder = opendir("/proc/self/fd");
     bool is_blind = seen.info < 0 || !folder; /* (what can't be seen may be there) */
@@ -196,7 +223,16 @@ enum devices devices_open(void) {
         if (*entry->d_name != '.') add(&seen, dirfd(folder), entry->d_name);
     if (folder) closedir(folder);
     if (seen.info >= 0) syscall(SYS_close, seen.info);
-    if (seen.is_worst) return DEVICES_WRITE_ALL;
-    if (is_blind || seen.has_buffers || (seen.has_direct && (seen.has_ring || may_submit()))) return DEVICES_PIN_PAGES;
-    return seen.has_direct ? DEVICES_READ : DEVICES_NONE;
+    enum devices devices = worst_of(&seen, is_blind);
+    atomic_store(&last.devices, (int)devices);
+    atomic_store(&last.has_ring, seen.has_ring);
+    atomic_store(&last.closes, closed);
+    atomic_store(&last.count, count);
+    return devices;
+}
+
+enum devices devices_still_open(void) {
+    long count = descriptors_count();
+    bool is_same = count > 0 && count == atomic_load(&last.count) && atomic_load(&closes) == atomic_load(&last.closes);
+    return is_same && !atomic_load(&last.has_ring) ? (enum devices)atomic_load(&last.devices) : devices_open();
 }

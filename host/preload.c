@@ -279,12 +279,15 @@ PUBLIC int fcntl64(int descriptor, int command, ...) {
 
 PUBLIC int close(int descriptor) {
     if (sharing_is_inside()) sharing_disown(descriptor);
-    return sharing_owns(descriptor) ? 0 : (int)syscall(SYS_close, descriptor);
+    if (sharing_owns(descriptor)) return 0;
+    devices_closed();
+    return (int)syscall(SYS_close, descriptor);
 }
 
 /* Closes a range of descriptors but for the library's own. */
 PUBLIC int close_range(unsigned first, unsigned last, int flags) {
     unsigned from = first;
+    devices_closed();
     for (unsigned at = first; at <= last && at < DESCRIPTORS_MOST; at++) {
         if (!sharing_owns((int)at)) continue;
         if (at > from && syscall(SYS_close_range, from, at - 1, flags) != 0) return -1;

@@ -13,6 +13,10 @@
 #include <time.h>
 #include <unistd.h>
 
+#ifndef MREMAP_DONTUNMAP
+#define MREMAP_DONTUNMAP 4
+#endif
+
 /* Tries of a call that the system asks to make again. */
 enum { TRIES = 64 };
 
@@ -193,6 +197,11 @@ int pagemap_find_copies(const struct pagemap *pagemap, const void *at, size_t pa
 bool pagemap_is_own(const struct pagemap *pagemap, const void *at) {
     uint64_t entry;
     return read_entries(pagemap->fd, at, 1, &entry) == 0 && kind_of(entry) != PAGE_NONE;
+}
+
+int mapping_copy(void *at, const void *from, size_t pages) {
+    const int how = MREMAP_MAYMOVE | MREMAP_FIXED | MREMAP_DONTUNMAP;
+    return mremap((void *)(uintptr_t)from, bytes_of(pages), bytes_of(pages), how, at) == MAP_FAILED ? errno : 0;
 }
 
 size_t locked_kib(void) {

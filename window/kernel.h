@@ -97,6 +97,12 @@ int advice_say(void *at, size_t pages, int advice);
 /* Whether `is_it` says so of any locked mapping of the process. It is called with the mapping's bounds. */
 bool locked_any(bool (*is_it)(void *opaque, const uint8_t *begin, const uint8_t *end), void *opaque);
 
+/*
+ * Puts a copy of a mapping that nobody has written to in the place of pages, in one step also for a fork of another thread: what was said
+ * of the mapping, such as MADV_DONTFORK, holds of the copy from the beginning. The mapping stays.
+ */
+int mapping_copy(void *at, const void *from, size_t pages);
+
 /* KiB of this process that are locked. */
 size_t locked_kib(void);
 /* KiB of this process that the kernel's KSM has merged, rounded up; 0 where the system doesn't tell. */

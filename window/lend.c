@@ -31,13 +31,14 @@ static uint32_t number_of(const struct hold *hold, size_t i) { return hold->wind
 
 /*
  * Guards pages against writes. What a device may have pinned isn't held by that: where pages may be pinned, only those are that show a
- * frame still, now that nobody can make a copy any more.
+ * frame still, now that nobody can make a copy any more. Devices are looked for only now, since who pins a page from now on waits.
  */
 static void guard(struct hold *hold) {
     struct windows *windows = hold->window->windows;
     void *at = address_of(hold->window, hold->first);
     bool own[HOLD_MOST] = {false};
     int cause = faults_protect(&windows->faults, at, hold->count);
+    find_pins(windows);
     if (cause == 0 && may_pin(windows)) cause = pagemap_find_copies(&windows->pagemap, at, hold->count, own);
     if (cause != 0) note_failure(windows, WINDOW_NO_MAPPING, cause);
     for (size_t i = 0; i < hold->count && cause == 0; i++) hold->held[i] = !own[i];
@@ -194,6 +195,16 @@ static void note_page(const struct hold *hold, size_t i) {
     }
 }
 
+/* No child of a fork may have frames that were mapped: it would go on showing them when they are released. */
+static void keep_from_children(const struct hold *hold) {
+    struct windows *windows = hold->window->windows;
+    int cause = advice_say(address_of(hold->window, hold->first), hold->count, MADV_DONTFORK);
+    if (cause == 0) return;
+    windows->advice_cause = cause;
+    struct window_result result = take_home(hold->window, hold->first, hold->count);
+    if (result.status != WINDOW_OK) note_failure(windows, result.status, result.cause);
+}
+
 /* Shows frames, or zeros, in place of pages in a row, where a page is equal to what is to be shown. With the lock. */
 static void settle(struct hold *hold) {
     struct windows *windows = hold->window->windows;
@@ -210,6 +221,7 @@ static void settle(struct hold *hold) {
         note_page(hold, i);
     }
     if (any_file) say_again(hold->window, hold->first, hold->count, true);
+    if (any_file) keep_from_children(hold);
     windows->counts.map_ns += clock_spent_ns() - spent;
 }
 
@@ -279,19 +291,9 @@ static void settle_all(struct windows *windows, struct batch *batch, const uint3
     batch->count = 0;
 }
 
-/* Pages with copies over frames are guarded where they are, so a device that may have pinned one is looked for before. */
-static void find_pins_for(struct windows *windows, const struct batch *batch) {
-    bool any_over = false;
-    lock_for_look(windows);
-    for (size_t i = 0; i < batch->count; i++) any_over = any_over || batch->window->pages[batch->pages[i]].over == 1;
-    if (any_over) find_pins(windows);
-    unlock_set(windows);
-}
-
 void give_zeros_back(struct windows *windows, struct batch *batch) {
     uint32_t targets[WINDOW_BATCH];
     for (size_t i = 0; i < batch->count; i++) targets[i] = ZEROS;
-    find_pins_for(windows, batch);
     settle_all(windows, batch, targets);
 }
 
@@ -420,6 +422,5 @@ void share(struct windows *windows, struct batch *batch) {
         return;
     }
     take_loans(windows, batch, loans, targets);
-    find_pins_for(windows, batch);
     settle_all(windows, batch, targets);
 }

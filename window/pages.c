@@ -93,14 +93,25 @@ void stop_showing(struct window *window, size_t number) {
     window->parts[number / PART].releases++;
 }
 
+/* Whether what is put in the place of pages can be a copy of a mapping that is there already, with all that was said of it. */
+static const uint8_t *source_of(const struct window *window, uint32_t frame, int protection) {
+    const struct windows *windows = window->windows;
+    if (!window->advice.dont_fork || protection != (PROT_READ | PROT_WRITE)) return NULL;
+    if (frame == ZEROS) return windows->zeros;
+    return windows->frames_are_given ? windows->frames_at + bytes_of(frame) : NULL;
+}
+
 int map_pages(struct window *window, size_t first, size_t count, uint32_t frame, int protection) {
-    struct windows *windows = window->windows;
-    bool is_file = frame != ZEROS;
-    int kind = MAP_PRIVATE | MAP_FIXED | MAP_NORESERVE | (is_file ? 0 : MAP_ANONYMOUS);
-    off_t from = is_file ? (off_t)bytes_of(frame) : 0;
+    bool is_file = frame != ZEROS, has_left = window->pages[first].out == 1;
+    const uint8_t *source = source_of(window, frame, protection);
     void *at = address_of(window, first);
-    if (mmap(at, bytes_of(count), protection, kind, is_file ? windows->frames_fd : NO_FILE, from) == MAP_FAILED) return errno;
-    bool has_left = window->pages[first].out == 1;
+    if (source == NULL || mapping_copy(at, source, count) != 0) {
+        /* (for a moment a child of a fork would have it) */
+        int kind = MAP_PRIVATE | MAP_FIXED | MAP_NORESERVE | (is_file ? 0 : MAP_ANONYMOUS);
+        off_t from = is_file ? (off_t)bytes_of(frame) : 0;
+        int file = is_file ? window->windows->frames_fd : NO_FILE;
+        if (mmap(at, bytes_of(count), protection, kind, file, from) == MAP_FAILED) return errno;
+    }
     note_memory(window, first, count, frame, false);
     if (!is_file && !has_left) say_again(window, first, count, false);
     return 0;

@@ -95,7 +95,8 @@ struct windows {
     struct window *first;
     struct faults faults;
     struct pagemap pagemap;
-    uint8_t *scratch; /* room for SCRATCH pages that are held, or were */
+    uint8_t *scratch; /* place for SCRATCH pages that are held, or were */
+    uint8_t *zeros;   /* PART pages that nobody touches, and no child has; NULL where there are none */
     size_t scratch_used;
     struct stuck stuck[HOME_MOST];
     size_t stuck_count;
@@ -121,7 +122,8 @@ struct windows {
     bool has_lender, lender_waits; /* waits: it didn't answer, and is left alone until the next look */
     struct turn turn;
     int frames_fd;
-    const uint8_t *frames_at; /* the frames' file, for reading */
+    uint8_t *frames_at;    /* the frames' file, for reading */
+    bool frames_are_given; /* it is mapped as windows show frames, and no child has it: parts of it can be put in a window */
     uint64_t fingerprint_of_zeros;
     struct window_result result; /* of the look under way: the first thing that went wrong */
 };

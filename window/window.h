@@ -70,9 +70,9 @@ enum windows_pins { WINDOWS_PINS_POSSIBLE, WINDOWS_PINS_NEVER };
 struct windows_config {
     enum windows_pins pins;
     /*
-     * Looks whether devices may pin pages by now; NULL: the set is told by windows_set_pins alone. It is called before pages with copies
-     * over frames are held or copied, also with the lock, so it calls nothing of windows. Once the answer was WINDOWS_PINS_POSSIBLE it
-     * isn't asked again.
+     * Looks whether devices may pin pages by now; NULL: the set hears of them by windows_set_pins alone. It is called at the beginning
+     * of a look, and when copies over frames are guarded, before these are held or copied. It calls nothing of windows. Once it has
+     * returned WINDOWS_PINS_POSSIBLE it isn't called again.
      */
     enum windows_pins (*find_pins)(void *opaque);
     void *find_pins_opaque;

@@ -34,12 +34,37 @@ const char *window_status_words(enum window_status status) {
     return (size_t)status < count && words[status] != NULL ? words[status] : "unknown";
 }
 
+/* Keeps a mapping from children of forks and from huge pages, as windows are kept. */
+static bool is_kept_back(void *at, size_t pages) {
+    return madvise(at, bytes_of(pages), MADV_DONTFORK) == 0 && advice_begin(at, pages) == 0;
+}
+
+/* Makes pages that nobody touches, between two that nobody can touch: joined with other memory they would join no window any more. */
+static void make_zeros(struct windows *windows) {
+    uint8_t *at = mmap(NULL, bytes_of(PART + 2), PROT_NONE, MAP_PRIVATE | MAP_ANONYMOUS | MAP_NORESERVE, NO_FILE, 0);
+    if (at == MAP_FAILED) return;
+    uint8_t *zeros = at + bytes_of(1);
+    if (is_kept_back(at, PART + 2) && mprotect(zeros, bytes_of(PART), PROT_READ | PROT_WRITE) == 0) windows->zeros = zeros;
+    else munmap(at, bytes_of(PART + 2));
+}
+
+/* Maps the frames' file; for reading alone where the system, which may count each byte that could be written, refuses it otherwise. */
+static uint8_t *map_frames(size_t frames, int fd, bool *are_given) {
+    void *at = mmap(NULL, bytes_of(frames), PROT_READ | PROT_WRITE, MAP_PRIVATE | MAP_NORESERVE, fd, 0);
+    *are_given = at != MAP_FAILED && is_kept_back(at, frames) && madvise(at, bytes_of(frames), MADV_DONTDUMP) == 0;
+    if (*are_given) return at;
+    if (at != MAP_FAILED) munmap(at, bytes_of(frames));
+    at = mmap(NULL, bytes_of(frames), PROT_READ, MAP_SHARED | MAP_NORESERVE, fd, 0);
+    return at == MAP_FAILED ? NULL : at;
+}
+
 static struct window_result open_parts(struct windows *windows, const struct windows_config *config) {
     struct range_facts facts;
     int cause = faults_open(&windows->faults, config->faults, config->never_move);
     if (cause != 0) return result_of(WINDOW_NO_FAULTS, cause);
     cause = pagemap_open(&windows->pagemap, config->never_scan);
     if (cause != 0) return result_of(WINDOW_NO_PAGEMAP, cause);
+    make_zeros(windows);
     int refused = make_scratch(windows);
     if (windows->scratch == NULL) return result_of(WINDOW_NO_MAPPING, refused);
     /* (with mlockall all new memory is locked, and refuses to be discarded) */
@@ -78,7 +103,7 @@ static void close_file(int fd) {
 }
 
 static void forget_frames(struct windows *windows) {
-    if (windows->frames_at != NULL) munmap((void *)(uintptr_t)windows->frames_at, bytes_of(windows->lender.frame_count));
+    if (windows->frames_at != NULL) munmap(windows->frames_at, bytes_of(windows->lender.frame_count));
     close_file(windows->frames_fd);
     windows->frames_at = NULL;
     windows->frames_fd = NO_FILE;
@@ -96,6 +121,7 @@ void windows_free(struct windows *windows) {
     close_file(windows->faults.fd);
     close_file(windows->pagemap.fd);
     if (windows->scratch != NULL) munmap(windows->scratch, bytes_of(SCRATCH));
+    if (windows->zeros != NULL) munmap(windows->zeros - bytes_of(1), bytes_of(PART + 2));
 #ifdef WINDOW_TRACE
     if (windows->trace != NULL) trace_close(windows->trace);
 #endif
@@ -118,8 +144,9 @@ struct window_result windows_attach(struct windows *windows, const struct window
         return result_of(WINDOW_BAD_LENDER, EINVAL);
     int fd = fcntl(lender->frames, F_DUPFD_CLOEXEC, 0);
     if (fd < 0) return result_of(WINDOW_BAD_LENDER, errno);
-    void *at = mmap(NULL, bytes_of(lender->frame_count), PROT_READ, MAP_SHARED | MAP_NORESERVE, fd, 0);
-    if (at == MAP_FAILED) {
+    bool are_given = false;
+    uint8_t *at = map_frames(lender->frame_count, fd, &are_given);
+    if (at == NULL) {
         int cause = errno;
         close(fd);
         return result_of(WINDOW_NO_MAPPING, cause);
@@ -128,6 +155,7 @@ struct window_result windows_attach(struct windows *windows, const struct window
     windows->lender = *lender;
     windows->frames_fd = fd;
     windows->frames_at = at;
+    windows->frames_are_given = are_given;
     windows->has_lender = true;
     windows->lender_waits = false;
 #ifdef WINDOW_TRACE
