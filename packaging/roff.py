@@ -9,6 +9,7 @@ CELL = re.compile(r"(?<!\\)\|")
 def plain(text):
     """A text that shows as it is."""
     shown = text.replace("\\", "\\e").replace("-", "\\-").replace("^", "\\(ha").replace("~", "\\(ti").replace("`", "\\(ga")
+    shown = re.sub(r"[^\x00-\x7f]", lambda found: f"\\[u{ord(found[0]):04X}]", shown)
     return re.sub(r"(?m)^(?=[.'])", r"\\&", shown)
 
 
@@ -32,7 +33,7 @@ def wrapped(text):
     """A text's lines, of at most 80 characters where it has spaces; none is taken for a request of roff."""
     lines = []
     for line in text.split("\n"):
-        lines += textwrap.wrap(line, 76, break_long_words=False, break_on_hyphens=False)
+        lines += textwrap.wrap(line, 78, break_long_words=False, break_on_hyphens=False)
     return [f"\\&{line}" if line[0] in ".'" else line for line in lines]
 
 
