@@ -90,11 +90,25 @@ void connection_prepare(void) {
 
 /* ---- the host ---- */
 
+/* Prints which of the files that looks need may not be read: the reasons that follow name what is missing, and not who denies it. */
+static void report_denied(void) {
+    static const char *const needed[] = {"/proc/self/pagemap", "/proc/self/smaps", "/proc/self/fd", "/proc/self/fdinfo"};
+    char denied[128] = "";
+    for (size_t i = 0; i < sizeof needed / sizeof *needed; i++) {
+        int file = (int)syscall(SYS_openat, AT_FDCWD, needed[i], O_RDONLY | O_CLOEXEC, 0);
+        bool is_denied = file < 0 && (errno == EACCES || errno == EPERM);
+        if (file >= 0) syscall(SYS_close, file);
+        if (is_denied) strcat(strcat(denied, *denied ? ", " : ""), needed[i]);
+    }
+    if (*denied) log_line("may not read %s: a profile of AppArmor or SELinux has to allow that (pageshare-host(8))", denied);
+}
+
 /* Makes the set of windows, which needs the host's descriptor where the process may make no userfaultfd itself. */
 static bool make_windows(void) {
     struct windows_config config = {.pins = ranges_devices() == DEVICES_NONE ? WINDOWS_PINS_NEVER : WINDOWS_PINS_POSSIBLE,
                                     .faults = my.remote.faults_device > 0 ? my.remote.faults_device : 0,
                                     .trace = *settings.trace ? settings.trace : NULL};
+    report_denied();
     struct window_result result = windows_make(&my.windows, &config);
     if (result.status == WINDOW_OK) {
         ranges_use(my.windows);
