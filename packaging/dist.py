@@ -50,6 +50,8 @@ Description: QEMU processes share equal pages of their guests' memory
  need to know of both. The monitors are not modified and need no privilege.
 """),
 }
+# Of the files in packaging/debian: what dpkg runs, and what lintian finds and is meant to be so.
+SCRIPTS, OVERRIDES = (".preinst", ".postinst", ".prerm", ".postrm"), ".lintian-overrides"
 CONTROL = """\
 Package: {name}
 Version: {version}
@@ -168,9 +170,10 @@ def write_control(room, part):
     sums = "".join(f"{hashlib.md5(it.read_bytes()).hexdigest()}  {it.relative_to(room)}\n" for it in files)
     (control / "md5sums").write_text(sums)
     (control / "triggers").write_text("activate-noawait ldconfig\n")
-    for script in sorted((TOP / "packaging/debian").glob(f"{name}.*")):
-        shutil.copyfile(script, control / script.suffix[1:])
-        (control / script.suffix[1:]).chmod(0o644 if script.suffix == ".conffiles" else 0o755)
+    for file in sorted((TOP / "packaging/debian").glob(f"{name}.*")):
+        if file.suffix != OVERRIDES:
+            shutil.copyfile(file, control / file.suffix[1:])
+            (control / file.suffix[1:]).chmod(0o755 if file.suffix in SCRIPTS else 0o644)
 
 
 def fill_debian(room, part):
@@ -180,6 +183,10 @@ def fill_debian(room, part):
     documents = tree / "share/doc" / name
     for licence in documents.glob("LICENSE-*"):
         licence.unlink()
+    overrides = TOP / f"packaging/debian/{name}{OVERRIDES}"
+    if overrides.is_file():
+        (tree / "share/lintian/overrides").mkdir(parents=True)
+        shutil.copyfile(overrides, tree / "share/lintian/overrides" / name)
     pack_manuals(tree / "share/man")
     write_notes(documents, name)
     if part == "host":
