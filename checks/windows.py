@@ -4,7 +4,8 @@
     checks/windows.py [LIBRARY [SECONDS]]
 
 LIBRARY is libpageshare.a, by default out/libpageshare.a (`make embed`); a stress runs for SECONDS at most, by default 10. All that is
-built goes to out/window. In turn: what becomes of pages (pages.c); what the system refuses (guards.c); a frames' file without memory
+built goes to out/window. In turn: what becomes of pages (pages.c), and of those that leave their window (leaves.c); what the system
+refuses (guards.c); a frames' file without memory
 (full.c); how long a write waits (stalls.c); and a stress (stress.c), by each way of holding and finding pages, under the address and
 the thread sanitizer, and with a record of its events that `out/window_trace` must play. What this machine can't do is left out, and so
 said. CC names another compiler than cc, and CFLAGS more words for it.
@@ -29,20 +30,19 @@ WRAPS = {
     "guards": ["ioctl", "madvise", "mremap", "fallocate"],
     "full": ["memfd_create", "fcntl"],
 }
-MORE = {"guards": ["faults"], "pages": ["ring"], "stress": ["ring"], "full": [], "stalls": []}
+MORE = {"guards": ["faults"], "pages": ["ring"], "leaves": ["ring"], "stress": ["ring"], "full": [], "stalls": []}
 SANITIZERS = ["address,undefined", "thread"]
 WAYS = [[], ["--move", "0"], ["--scan", "0"], ["--pins", "1", "--rest", "7"]]
 
 # Wrong bodies: file, a line's part that stands there once, what stands there instead, and words for the stress.
-PINS = "windows->pins != WINDOWS_PINS_NEVER"
 EQUAL = "are_equal(page, windows->frames_at + bytes_of(target))"
-ZEROED = "map_pages(window, first, count, ZEROS) != 0"
-DROPPED = "madvise(address_of(window, first), bytes_of(count), MADV_DONTNEED) != 0"
+ZEROED = "int cause = map_pages(window, first, count, ZEROS, protection);"
+DROPPED = "int cause = madvise(address_of(window, first), bytes_of(count), MADV_DONTNEED);"
 HELD = "hold->moves = false, memset(hold->held, 1, hold->count); return;"
 PINNED = ["--pins", "1", "--move", "0"]
 BODIES = {
     "lends without a comparison": ("lend.c", EQUAL, "true", []),
-    "holds nothing": ("lend.c", f"if (!hold->moves && {PINS}) return;", HELD, []),
+    "holds nothing": ("lend.c", "if (!hold->moves && !is_over && may_pin(windows)) return;", HELD, []),
     "takes what is shown for copies": ("kernel.c", "(ENTRY_FILE | ENTRY_GUARDED)", "ENTRY_GUARDED", ["--scan", "0"]),
     "discards over a frame": ("home.c", ZEROED, DROPPED, []),
     "guards what may be pinned": ("windows.c", "windows->pins = config->pins", "windows->pins = WINDOWS_PINS_NEVER", PINNED),
@@ -70,8 +70,8 @@ def sanitized(tally, name, library, seconds):
         raise LeftOut(f"the {name} sanitizer")
     suffix = "_" + name.split(",", maxsplit=1)[0]
     passes(tally, [build("stress", library, [f"-fsanitize={name}"], suffix), "--seconds", seconds])
-    if name != "thread":
-        passes(tally, [build("pages", library, [f"-fsanitize={name}"], suffix)])
+    for program in ["pages", "leaves"] if name != "thread" else []:
+        passes(tally, [build(program, library, [f"-fsanitize={name}"], suffix)])
 
 
 def record(tally, library, seconds):
@@ -117,7 +117,7 @@ def all_tests(tally, library, seconds):
     """Each test in turn."""
     needs_windows()
     OUT.mkdir(parents=True, exist_ok=True)
-    for name in ["pages", "guards", "full", "stalls"]:
+    for name in ["pages", "leaves", "guards", "full", "stalls"]:
         passes(tally, [build(name, library)])
     stress = build("stress", library)
     for way in WAYS:

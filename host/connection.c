@@ -11,18 +11,18 @@
 #include <unistd.h>
 
 enum {
-    PERIOD_MS = 1000,   /* between two looks */
-    BUSY_PART = 4,      /* while much is found it is so many times shorter */
-    CALM_PART = 2,      /* while nothing is found it is so many times longer */
-    CALM_LOOKS = 30,    /* looks that find nothing until then */
-    MUCH_PART = 128,    /* a look that finds one in so many pages, and MUCH of them, makes the next one come sooner */
+    PERIOD_MS = 1000, /* between two looks */
+    BUSY_PART = 4,    /* while much is found it is so many times shorter */
+    CALM_PART = 2,    /* while nothing is found it is so many times longer */
+    CALM_LOOKS = 30,  /* looks that find nothing until then */
+    MUCH_PART = 128,  /* a look that finds one in so many pages, and MUCH of them, makes the next one come sooner */
     MUCH = 256,
     LITTLE = 4,
-    EAGER_LOOKS = 8,    /* looks that come sooner after there is a new host or a new window */
-    FIRST_NICE = -10,   /* the nice value of the thread, where it may have it */
+    EAGER_LOOKS = 8,  /* looks that come sooner after there is a new host or a new window */
+    FIRST_NICE = -10, /* the nice value of the thread, where it may have it */
     PATH_ROOM = 256
 };
-static const uint64_t retry_ns = 1000000000, scan_ns = 1000000000;
+static const uint64_t retry_ns = 1000000000;
 
 /* What the environment says. */
 static struct {
@@ -37,8 +37,8 @@ static struct {
 static struct {
     struct remote remote;
     struct windows *windows;
-    bool is_attached, was_reported, is_refused;
-    uint64_t next_try_ns, next_scan_ns;
+    bool is_attached, was_reported, is_refused, was_crowded;
+    uint64_t next_try_ns;
     struct windows_counts before;
     unsigned period_ms, calm, eager;
     size_t windows_before;
@@ -83,32 +83,26 @@ void connection_prepare(void) {
     unsigned long asked = period ? strtoul(period, NULL, 10) : PERIOD_MS;
     settings.period_ms = asked >= 1 && asked <= 3600000 ? (unsigned)asked : PERIOD_MS;
     settings.flags = fork && strcmp(fork, "1") == 0 ? WINDOW_NO_CHILD : 0;
-    if (*counts) settings.counts = sharing_own((int)syscall(SYS_openat, AT_FDCWD, counts, O_WRONLY | O_CREAT | O_TRUNC | O_CLOEXEC, 0644));
+    if (*counts)
+        settings.counts = sharing_own((int)syscall(SYS_openat, AT_FDCWD, counts, O_WRONLY | O_CREAT | O_TRUNC | O_CLOEXEC, 0644));
     my.period_ms = settings.period_ms;
     end_preload();
 }
 
 /* ---- the host ---- */
 
-/* Prints which of the files that looks need may not be read: the reasons that follow name what is missing, and not who denies it. */
-static void report_denied(void) {
-    static const char *const needed[] = {"/proc/self/pagemap", "/proc/self/smaps", "/proc/self/fd", "/proc/self/fdinfo"};
-    char denied[128] = "";
-    for (size_t i = 0; i < sizeof needed / sizeof *needed; i++) {
-        int file = (int)syscall(SYS_openat, AT_FDCWD, needed[i], O_RDONLY | O_CLOEXEC, 0);
-        bool is_denied = file < 0 && (errno == EACCES || errno == EPERM);
-        if (file >= 0) syscall(SYS_close, file);
-        if (is_denied) strcat(strcat(denied, *denied ? ", " : ""), needed[i]);
-    }
-    if (*denied) log_line("may not read %s: a profile of AppArmor or SELinux has to allow that (pageshare-host(8))", denied);
+/* Whether devices may pin pages by now, for all that can be seen. */
+static enum windows_pins find_pins(void *unused) {
+    (void)unused;
+    return devices_open() < DEVICES_PIN_PAGES ? WINDOWS_PINS_NEVER : WINDOWS_PINS_POSSIBLE;
 }
 
 /* Makes the set of windows, which needs the host's descriptor where the process may make no userfaultfd itself. */
 static bool make_windows(void) {
-    struct windows_config config = {.pins = ranges_devices() == DEVICES_NONE ? WINDOWS_PINS_NEVER : WINDOWS_PINS_POSSIBLE,
+    struct windows_config config = {.pins = find_pins(NULL),
+                                    .find_pins = find_pins,
                                     .faults = my.remote.faults_device > 0 ? my.remote.faults_device : 0,
                                     .trace = *settings.trace ? settings.trace : NULL};
-    report_denied();
     struct window_result result = windows_make(&my.windows, &config);
     if (result.status == WINDOW_OK) {
         ranges_use(my.windows);
@@ -150,27 +144,27 @@ static bool connect_host(void) {
 
 /* ---- looks ---- */
 
-/* Descriptors that came by a socket are seen here alone. */
-static void scan_devices(void) {
-    if (now_ns() < my.next_scan_ns) return;
-    my.next_scan_ns = now_ns() + scan_ns;
-    enum devices found = devices_open();
-    if (found == DEVICES_PIN_PAGES && ranges_devices() == DEVICES_NONE) windows_set_pins(my.windows, WINDOWS_PINS_POSSIBLE);
-    if (found == DEVICES_WRITE_ALL) ranges_refuse("a device is given to the guest and writes to its memory (VFIO, vDPA)");
-}
-
 static void report_look(struct window_result result) {
     bool is_news = result.status != my.trouble && result.status != WINDOW_OK;
     my.trouble = result.status;
     if (result.status == WINDOW_LENDER_FAILED) {
         if (my.remote.socket < 0 && !my.was_reported) {
-            log_line("the host at %s doesn't answer (%s); what is shared stays, and it is tried again each second", settings.socket,
-                 strerror(result.cause));
+            log_line("the host at %s doesn't answer (%s); what is shared stays, and it is tried again each second",
+                     settings.socket, strerror(result.cause));
             my.was_reported = true;
         }
     } else if (is_news) {
-        log_line("a look: %s%s%s", window_status_words(result.status), result.cause ? ": " : "", result.cause ? strerror(result.cause) : "");
+        log_line("a look: %s%s%s", window_status_words(result.status), result.cause ? ": " : "",
+                 result.cause ? strerror(result.cause) : "");
     }
+}
+
+/* Says once that the system's limit of mappings keeps pages private. */
+static void report_crowd(const struct windows_counts *now) {
+    if (now->pause != WINDOWS_CROWDED || my.was_crowded) return;
+    my.was_crowded = true;
+    log_line("no more pages are lent: windows take %zu of the %zu mappings that they may; raise vm.max_map_count", now->mappings,
+             now->mappings_most);
 }
 
 /* The time until the next look. */
@@ -183,7 +177,8 @@ static void choose_period(const struct windows_counts *now) {
     my.eager -= is_eager;
     my.calm = found <= LITTLE && asked <= MUCH ? my.calm + 1 : 0;
     if (is_eager || (found >= MUCH && found >= now->pages / MUCH_PART)) my.period_ms = settings.period_ms / BUSY_PART;
-    else if (my.calm >= CALM_LOOKS) my.period_ms = my.period_ms < settings.period_ms * CALM_PART ? my.period_ms + settings.period_ms / 4 : my.period_ms;
+    else if (my.calm >= CALM_LOOKS)
+        my.period_ms = my.period_ms < settings.period_ms * CALM_PART ? my.period_ms + settings.period_ms / 4 : my.period_ms;
     else my.period_ms = settings.period_ms;
     if (my.period_ms == 0) my.period_ms = 1;
     my.before = *now;
@@ -202,21 +197,24 @@ static void write_counts(const struct windows_counts *now) {
     char text[2560], held[WINDOWS_TIMES * 21];
     if (settings.counts < 0) return;
     write_times(now->held, held, sizeof held);
-    int length = snprintf(
-        text, sizeof text,
-        "{\"connected\":%d,\"pause\":%d,\"windows\":%zu,\"pages\":%zu,\"lent\":%zu,\"zeros_now\":%zu,\"mappings\":%zu,"
-        "\"table_bytes\":%zu,\"looks\":%llu,"
-        "\"lends\":%llu,\"copied\":%llu,\"zeros\":%llu,\"discarded\":%llu,\"taken_home\":%llu,\"asked\":%llu,\"seen\":%llu,\"changed\":%llu,"
-        "\"pinned\":%llu,\"no_frame\":%llu,\"no_mapping\":%llu,\"lender_failures\":%llu,\"look_ns\":%llu,\"ask_ns\":%llu,\"lend_ns\":%llu,"
-        "\"map_ns\":%llu,\"hold_most_ns\":%llu,\"processor_ns\":%llu,\"period_ms\":%u,\"devices\":%d,\"held\":[%s]}\n",
-        my.remote.socket >= 0, (int)now->pause, now->windows, now->pages, now->lent, now->zeros_now, now->mappings, now->table_bytes,
-        (unsigned long long)now->looks, (unsigned long long)now->lends, (unsigned long long)now->copied, (unsigned long long)now->zeros,
-        (unsigned long long)now->discarded, (unsigned long long)now->taken_home, (unsigned long long)now->asked,
-        (unsigned long long)now->seen, (unsigned long long)now->changed, (unsigned long long)now->pinned,
-        (unsigned long long)now->no_frame, (unsigned long long)now->no_mapping, (unsigned long long)now->lender_failures,
-        (unsigned long long)now->look_ns, (unsigned long long)now->ask_ns, (unsigned long long)now->lend_ns,
-        (unsigned long long)now->map_ns, (unsigned long long)now->hold_most_ns,
-        (unsigned long long)clock_ns(CLOCK_THREAD_CPUTIME_ID), my.period_ms, (int)ranges_devices(), held);
+    int length =
+        snprintf(text, sizeof text,
+                 "{\"connected\":%d,\"pause\":%d,\"windows\":%zu,\"pages\":%zu,\"lent\":%zu,\"zeros_now\":%zu,\"mappings\":%zu,"
+                 "\"mappings_most\":%zu,\"table_bytes\":%zu,\"looks\":%llu,"
+                 "\"lends\":%llu,\"copied\":%llu,\"zeros\":%llu,\"discarded\":%llu,\"taken_home\":%llu,\"asked\":%llu,\"seen\":%"
+                 "llu,\"changed\":%llu,"
+                 "\"pinned\":%llu,\"no_frame\":%llu,\"no_mapping\":%llu,\"lender_failures\":%llu,\"look_ns\":%llu,\"ask_ns\":%"
+                 "llu,\"lend_ns\":%llu,"
+                 "\"map_ns\":%llu,\"hold_most_ns\":%llu,\"processor_ns\":%llu,\"period_ms\":%u,\"devices\":%d,\"held\":[%s]}\n",
+                 my.remote.socket >= 0, (int)now->pause, now->windows, now->pages, now->lent, now->zeros_now, now->mappings,
+                 now->mappings_most, now->table_bytes, (unsigned long long)now->looks, (unsigned long long)now->lends,
+                 (unsigned long long)now->copied, (unsigned long long)now->zeros, (unsigned long long)now->discarded,
+                 (unsigned long long)now->taken_home, (unsigned long long)now->asked, (unsigned long long)now->seen,
+                 (unsigned long long)now->changed, (unsigned long long)now->pinned, (unsigned long long)now->no_frame,
+                 (unsigned long long)now->no_mapping, (unsigned long long)now->lender_failures, (unsigned long long)now->look_ns,
+                 (unsigned long long)now->ask_ns, (unsigned long long)now->lend_ns, (unsigned long long)now->map_ns,
+                 (unsigned long long)now->hold_most_ns, (unsigned long long)clock_ns(CLOCK_THREAD_CPUTIME_ID), my.period_ms,
+                 (int)ranges_devices(), held);
     bool fits = length > 0 && (size_t)length < sizeof text;
     if (!fits || pwrite(settings.counts, text, (size_t)length, 0) != length || ftruncate(settings.counts, length) != 0) {
         close(settings.counts);
@@ -227,18 +225,33 @@ static void write_counts(const struct windows_counts *now) {
 /* One turn of the thread. */
 static void turn(void) {
     struct windows_counts counts;
-    if (connect_host()) ranges_open(settings.flags);
+    bool is_connected = connect_host();
+    if (my.windows) ranges_found(devices_open()); /* (descriptors that came by a socket are seen here alone) */
+    if (is_connected) ranges_open(settings.flags);
     if (!my.windows) return;
-    scan_devices();
     report_look(windows_look(my.windows));
     windows_count(my.windows, &counts);
+    report_crowd(&counts);
     choose_period(&counts);
     write_counts(&counts);
+}
+
+/* Says which of the files that the library reads are denied to it, for example by a profile of AppArmor. */
+static void report_denied(void) {
+    static const char *const paths[] = {
+        "/proc/self/pagemap", "/proc/self/smaps",  "/proc/self/maps",     "/proc/self/status",
+        "/proc/self/fd",      "/proc/self/fdinfo", "/proc/sys/fs/aio-nr", "/proc/sys/vm/max_map_count"};
+    for (size_t i = 0; i < sizeof paths / sizeof paths[0]; i++) {
+        int file = (int)syscall(SYS_openat, AT_FDCWD, paths[i], O_RDONLY | O_CLOEXEC);
+        if (file >= 0) syscall(SYS_close, file);
+        else log_line("%s: %s; less is lent for want of it, or nothing", paths[i], strerror(errno));
+    }
 }
 
 void *connection_thread(void *unused) {
     pthread_setname_np(pthread_self(), "pageshare");
     sharing_stay_inside();
+    report_denied();
     /* Who touches a page that is held waits for this thread. (Where a higher priority isn't allowed it has the monitor's.) */
     if (getpriority(PRIO_PROCESS, 0) > FIRST_NICE) setpriority(PRIO_PROCESS, 0, FIRST_NICE);
     ask_for_short_slices();

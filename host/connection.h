@@ -18,8 +18,9 @@ void *connection_thread(void *unused);
 /* The set that windows are made in. */
 void ranges_use(struct windows *set);
 void ranges_open(unsigned flags);
-bool ranges_any(void);
 enum devices ranges_devices(void);
+/* Devices that were found to be open. */
+void ranges_found(enum devices devices);
 /* Lending ends for good, since something is missing. */
 void ranges_refuse(const char *why);
 

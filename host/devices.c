@@ -3,9 +3,17 @@
 #include "trouble.h"
 #include <dirent.h>
 #include <fcntl.h>
+#include <linux/kvm.h>
+#include <linux/nvme_ioctl.h>
 #include <linux/vfio.h>
+#include <sched.h>
+#include <scsi/sg.h>
+#include <stdatomic.h>
 #include <stdlib.h>
+#include <sys/stat.h>
 #include <sys/syscall.h>
+#include <sys/utsname.h>
+#include <sys/vfs.h>
 #include <unistd.h>
 
 /* IOMMU_IOAS_MAP of linux/iommufd.h, which older systems' headers lack. */
@@ -13,58 +21,182 @@
 
 static bool begins(const char *text, const char *with) { return strncmp(text, with, strlen(with)) == 0; }
 
-static bool is_given_device(const char *path) {
-    return begins(path, "/dev/vfio/") || begins(path, "/dev/vhost-vdpa") || strcmp(path, "/dev/iommu") == 0;
+/* ---- paths ---- */
+
+/* Devices that write to all memory that they are given, and those of which it isn't known that they pin what they write to. */
+static bool writes_unnoticed(const char *path) {
+    static const char *const names[] = {"/dev/vfio/", "/dev/vhost-vdpa", "/dev/vhost-scsi", "/dev/sg",
+                                        "/dev/bsg/",  "/dev/ng",         "/dev/infiniband/"};
+    for (size_t i = 0; i < sizeof names / sizeof names[0]; i++)
+        if (begins(path, names[i])) return true;
+    if (strcmp(path, "/dev/iommu") == 0) return true;
+    /* (a controller, such as /dev/nvme0; /dev/nvme0n1 is a disk) */
+    return begins(path, "/dev/nvme") && !strchr(path + strlen("/dev/nvme"), 'n');
 }
 
-enum devices devices_of_path(const char *path, int flags) {
-    if (path && is_given_device(path)) return DEVICES_WRITE_ALL;
-    return flags & O_DIRECT ? DEVICES_PIN_PAGES : DEVICES_NONE;
+bool devices_may_be(const char *path, int flags) { return (flags & O_DIRECT) != 0 || (path && begins(path, "/dev/")); }
+
+/* ---- requests ---- */
+
+/* Whether a guest's processor has vmx or svm: it may run virtual machines of its own then. */
+static bool has_nesting(const struct kvm_cpuid2 *leaves) {
+    enum { FEATURES = 1, VMX = 1 << 5, SVM = 1 << 2 };
+    const uint32_t more_features = 0x80000001;
+    for (uint32_t i = 0; i < leaves->nent; i++) {
+        const struct kvm_cpuid_entry2 *leaf = &leaves->entries[i];
+        if ((leaf->function == FEATURES && (leaf->ecx & VMX)) || (leaf->function == more_features && (leaf->ecx & SVM)))
+            return true;
+    }
+    return false;
 }
 
-enum devices devices_of_request(unsigned long request) {
-    return request == VFIO_IOMMU_MAP_DMA || request == MAP_BY_IOMMUFD ? DEVICES_WRITE_ALL : DEVICES_NONE;
+/* Whether this kernel is of a version, or a later one. */
+static bool is_linux(unsigned major, unsigned minor) {
+    struct utsname name;
+    unsigned has_major = 0, has_minor = 0;
+    if (uname(&name) != 0 || sscanf(name.release, "%u.%u", &has_major, &has_minor) != 2) return false;
+    return has_major > major || (has_major == major && has_minor >= minor);
 }
 
-/* The number behind a word in /proc/self/fdinfo/NAME, or 0. */
-static unsigned long fdinfo_number(int folder, const char *name, const char *word, int base) {
-    char path[32], text[1024];
+/* KVM pins the pages of a guest's own virtual machines since Linux 6.13; before it writes to them unnoticed. */
+static enum devices of_processor(const struct kvm_cpuid2 *leaves) {
+    if (!leaves || !has_nesting(leaves)) return DEVICES_NONE;
+    return is_linux(6, 13) ? DEVICES_PIN_PAGES : DEVICES_WRITE_ALL;
+}
+
+enum devices devices_of_request(unsigned long request, const void *with) {
+    switch (request) {
+    case VFIO_IOMMU_MAP_DMA:
+    case MAP_BY_IOMMUFD:
+    case SG_IO:
+    case NVME_IOCTL_SUBMIT_IO:
+    case NVME_IOCTL_IO_CMD:
+    case NVME_IOCTL_IO64_CMD: return DEVICES_WRITE_ALL;
+    case KVM_SET_CPUID2: return of_processor(with);
+    default: return DEVICES_NONE;
+    }
+}
+
+/* ---- descriptors ---- */
+
+/* What descriptors are there, of those that matter. */
+struct seen {
+    int info;         /* /proc/self/fdinfo */
+    bool is_worst;    /* one that writes unnoticed */
+    bool has_direct;  /* a file by O_DIRECT, of a file system that is known to pin pages */
+    bool has_ring;    /* an io_uring, which may read by O_DIRECT */
+    bool has_buffers; /* one with registered buffers */
+};
+
+/* Reads /proc/self/fdinfo/NAME. Returns false where it can't be read. */
+static bool read_fdinfo(const struct seen *seen, const char *name, char *text, size_t room) {
+    char path[32];
     snprintf(path, sizeof path, "%.20s", name);
-    int file = (int)syscall(SYS_openat, folder, path, O_RDONLY | O_CLOEXEC, 0);
-    if (file < 0) return 0;
-    ssize_t got = read(file, text, sizeof text - 1);
+    int file = (int)syscall(SYS_openat, seen->info, path, O_RDONLY | O_CLOEXEC, 0);
+    if (file < 0) return false;
+    ssize_t got = syscall(SYS_read, file, text, room - 1);
     syscall(SYS_close, file);
-    if (got <= 0) return 0;
+    if (got <= 0) return false;
     text[got] = 0;
-    const char *at = strstr(text, word);
-    return at ? strtoul(at + strlen(word), NULL, base) : 0;
+    return true;
 }
 
-static enum devices of_descriptor(int folder, int info, const char *name) {
+/* Whether an io_uring has registered buffers. While it is being used the kernel doesn't say: then it may have some. */
+static bool has_buffers(const struct seen *seen, const char *name) {
+    enum { TRIES = 20 };
+    char text[4096];
+    for (int i = 0; i < TRIES; i++) {
+        const char *at = read_fdinfo(seen, name, text, sizeof text) ? strstr(text, "UserBufs:") : NULL;
+        if (at) return strtoul(at + strlen("UserBufs:"), NULL, 10) != 0;
+        sched_yield();
+    }
+    return true;
+}
+
+static bool is_direct(const struct seen *seen, const char *name) {
+    char text[1024];
+    const char *at = read_fdinfo(seen, name, text, sizeof text) ? strstr(text, "flags:") : NULL;
+    return at && (strtoul(at + strlen("flags:"), NULL, 8) & O_DIRECT) != 0;
+}
+
+/* Whether reads from a file by O_DIRECT are known to pin pages as UFFDIO_MOVE sees it: on disks and on these file systems, Linux 6.5. */
+static bool is_known_to_pin(int descriptor) {
+    static const unsigned long known[] = {0xef53 /* ext */, 0x58465342 /* xfs */, 0x9123683e /* btrfs */, 0xf2f52010 /* f2fs */,
+                                          0x01021994 /* tmpfs, which copies */};
+    struct stat file;
+    struct statfs system;
+    if (fstat(descriptor, &file) != 0 || fstatfs(descriptor, &system) != 0) return false;
+    if (S_ISBLK(file.st_mode)) return true;
+    for (size_t i = 0; i < sizeof known / sizeof known[0]; i++)
+        if ((unsigned long)system.f_type == known[i]) return true;
+    return false;
+}
+
+static void add(struct seen *seen, int folder, const char *name) {
     char target[64];
     ssize_t got = readlinkat(folder, name, target, sizeof target - 1);
-    if (got <= 0) return DEVICES_NONE;
+    if (got <= 0) return;
     target[got] = 0;
-    if (is_given_device(target)) return DEVICES_WRITE_ALL;
-    if (strcmp(target, "anon_inode:[io_uring]") == 0)
-        return fdinfo_number(info, name, "UserBufs:", 10) ? DEVICES_PIN_PAGES : DEVICES_NONE;
-    bool is_file = *target == '/' && (!begins(target, "/dev/") || begins(target, "/dev/mapper") || begins(target, "/dev/dm-") ||
-                                      begins(target, "/dev/sd") || begins(target, "/dev/nvme") || begins(target, "/dev/vd") ||
-                                      begins(target, "/dev/loop") || begins(target, "/dev/md") || begins(target, "/dev/rbd"));
-    return is_file && (fdinfo_number(info, name, "flags:", 8) & O_DIRECT) ? DEVICES_PIN_PAGES : DEVICES_NONE;
+    if (strcmp(target, "anon_inode:[io_uring]") == 0) {
+        seen->has_ring = true;
+        seen->has_buffers = seen->has_buffers || has_buffers(seen, name);
+    } else if (*target == '/') {
+        seen->is_worst = seen->is_worst || writes_unnoticed(target);
+        if (!is_direct(seen, name)) return;
+        bool is_known = is_known_to_pin((int)strtol(name, NULL, 10));
+        seen->has_direct = seen->has_direct || is_known;
+        seen->is_worst = seen->is_worst || !is_known;
+    }
+}
+
+/* ---- requests of io_submit ---- */
+
+/* The system's number of requests that io_setup has reserved, for all processes; -1 where it doesn't say. */
+static long reserved_requests(void) {
+    char text[32];
+    int file = (int)syscall(SYS_openat, AT_FDCWD, "/proc/sys/fs/aio-nr", O_RDONLY | O_CLOEXEC, 0);
+    if (file < 0) return -1;
+    ssize_t got = syscall(SYS_read, file, text, sizeof text - 1);
+    syscall(SYS_close, file);
+    if (got <= 0) return -1;
+    text[got] = 0;
+    return strtol(text, NULL, 10);
+}
+
+/* Whether this process has called io_setup: then it has a mapping of that name. */
+static bool has_requests_mapped(void) {
+    char line[512];
+    bool has = false;
+    FILE *file = fopen("/proc/self/maps", "re");
+    if (!file) return true;
+    while (!has && fgets(line, sizeof line, file) != NULL) has = strstr(line, "/[aio]") != NULL;
+    fclose(file);
+    return has;
+}
+
+/* The mappings are read only where the system's number has changed, since that takes long where there are many. */
+static bool may_submit(void) {
+    static atomic_long last;
+    static atomic_bool found;
+    long now = reserved_requests();
+    if (now < 0) return true;
+    if (now == 0) return false;
+    if (now == atomic_load(&last)) return atomic_load(&found);
+    bool has = has_requests_mapped();
+    atomic_store(&found, has);
+    atomic_store(&last, now);
+    return has;
 }
 
 enum devices devices_open(void) {
-    enum devices worst = DEVICES_NONE;
-    int info = (int)syscall(SYS_openat, AT_FDCWD, "/proc/self/fdinfo", O_RDONLY | O_DIRECTORY | O_CLOEXEC, 0);
+    struct seen seen = {.info = (int)syscall(SYS_openat, AT_FDCWD, "/proc/self/fdinfo", O_RDONLY | O_DIRECTORY | O_CLOEXEC, 0)};
     DIR *folder = opendir("/proc/self/fd");
-    /* What can't be seen may be there. */
-    if (info < 0 || !folder) worst = DEVICES_PIN_PAGES;
-    for (const struct dirent *entry; info >= 0 && folder && (entry = readdir(folder)) != NULL;) {
-        enum devices found = *entry->d_name == '.' ? DEVICES_NONE : of_descriptor(dirfd(folder), info, entry->d_name);
-        if (found > worst) worst = found;
-    }
+    bool is_blind = seen.info < 0 || !folder; /* (what can't be seen may be there) */
+    for (const struct dirent *entry; !is_blind && (entry = readdir(folder)) != NULL;)
+        if (*entry->d_name != '.') add(&seen, dirfd(folder), entry->d_name);
     if (folder) closedir(folder);
-    if (info >= 0) syscall(SYS_close, info);
-    return worst;
+    if (seen.info >= 0) syscall(SYS_close, seen.info);
+    if (seen.is_worst) return DEVICES_WRITE_ALL;
+    if (is_blind || seen.has_buffers || (seen.has_direct && (seen.has_ring || may_submit()))) return DEVICES_PIN_PAGES;
+    return seen.has_direct ? DEVICES_READ : DEVICES_NONE;
 }

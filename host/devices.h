@@ -5,16 +5,19 @@
 #ifndef HOST_DEVICES_H
 #define HOST_DEVICES_H
 
+#include <stdbool.h>
+
 enum devices {
     DEVICES_NONE,
-    DEVICES_PIN_PAGES, /* some pages, for as long as a request takes: the kernel refuses to move these */
-    DEVICES_WRITE_ALL  /* all of a guest's memory, at any time */
+    DEVICES_READ,      /* files by O_DIRECT, into which calls of the C library read: these are seen, and so is their end */
+    DEVICES_PIN_PAGES, /* some pages, at times that nobody tells: the kernel refuses to move these */
+    DEVICES_WRITE_ALL  /* all of a guest's memory, at any time; or it isn't known that what they write to is pinned */
 };
 
-/* What a file that is opened by this path with these flags may do. */
-enum devices devices_of_path(const char *path, int flags);
-/* What an ioctl(2) asks for. */
-enum devices devices_of_request(unsigned long request);
+/* Whether what is opened by this path, with these flags of open(2), may be a device: then devices_open is called after it was opened. */
+bool devices_may_be(const char *path, int flags);
+/* What an ioctl(2) asks for. `with` is what it is called with. */
+enum devices devices_of_request(unsigned long request, const void *with);
 /* What the process's descriptors may do, also those that came by a socket. The worst of them. */
 enum devices devices_open(void);
 

@@ -1,11 +1,12 @@
 #define _GNU_SOURCE
 /*
- * libpageshare-window.so, preloaded into a virtual machine monitor: the functions of the C library that it interposes, and nothing else.
+ * libpageshare-window.so, preloaded into a virtual machine monitor: the functions of the C library that it interposes, but for those that
+ * read and write files (transfers.c), and nothing else.
  * sharing.c has what they do. Where a call has nothing to do with a window it goes to the system as it is.
  *
  * Interposed are calls that would show what lies under a window (madvise, munmap, mmap, mremap), that a window's mappings can't follow
- * (mprotect, mlock, a userfaultfd of the monitor's own), that let devices write to memory (open with O_DIRECT, VFIO), and that close
- * descriptors of which the monitor doesn't know.
+ * (mprotect, mlock, a userfaultfd of the monitor's own), that let devices write to memory (open with O_DIRECT, VFIO), and that
+ * close descriptors of which the monitor doesn't know.
  */
 #include "sharing.h"
 #include "trouble.h"
@@ -26,22 +27,50 @@
 #ifndef MADV_COLLAPSE
 #define MADV_COLLAPSE 25
 #endif
+#ifndef MADV_DONTNEED_LOCKED
+#define MADV_DONTNEED_LOCKED 24
+#endif
 #ifndef MREMAP_DONTUNMAP
 #define MREMAP_DONTUNMAP 4
 #endif
 
 #define PUBLIC __attribute__((visibility("default")))
 
+/* ---- the C library's own functions ---- */
+
+typedef int fcntl_function(int, int, ...);
+
+/* Those that are called behind the ones here, since they do more than a call of the system. NULL before this library is loaded. */
+static struct { fcntl_function *fcntl, *fcntl64; } next;
+
+__attribute__((constructor)) static void find_next(void) {
+    next.fcntl = (fcntl_function *)(uintptr_t)dlsym(RTLD_NEXT, "fcntl");
+    next.fcntl64 = (fcntl_function *)(uintptr_t)dlsym(RTLD_NEXT, "fcntl64");
+}
+
 /* ---- advice ---- */
 
 static int system_madvise(void *at, size_t bytes, int advice) { return (int)syscall(SYS_madvise, at, bytes, advice); }
+
+/* Advice that may change what pages contain, or uncover what lies under them. */
+static int advise_otherwise(void *at, size_t bytes, int advice) {
+    switch (sharing_leave(at, bytes, advice == MADV_UNMERGEABLE ? "MADV_UNMERGEABLE" : "advice (madvise)")) {
+    case SHARING_REFUSED: return -1;
+    case SHARING_LEFT: break;
+    case SHARING_KEPT:
+        if (advice == MADV_UNMERGEABLE) break;
+        errno = EINVAL;
+        return -1;
+    }
+    return system_madvise(at, bytes, advice);
+}
 
 /* Advice on memory that is a window's, or may be. */
 static int advise_window(void *at, size_t bytes, int advice) {
     switch (advice) {
     case MADV_DONTNEED:
-    case MADV_FREE:
-    case MADV_REMOVE: return sharing_discard(at, bytes, advice);
+    case MADV_DONTNEED_LOCKED:
+    case MADV_FREE: return sharing_discard(at, bytes, advice);
     case MADV_DONTFORK:
     case MADV_DOFORK:
     case MADV_DONTDUMP:
@@ -52,14 +81,13 @@ static int advise_window(void *at, size_t bytes, int advice) {
     case MADV_RANDOM:
     case MADV_SEQUENTIAL:
     case MADV_WILLNEED:
+    case MADV_REMOVE: /* (of private memory the system refuses it) */
     case MADV_COLD:
     case MADV_PAGEOUT:
     case MADV_NOHUGEPAGE:
     case MADV_POPULATE_READ:
     case MADV_POPULATE_WRITE: return system_madvise(at, bytes, advice);
-    default: /* advice that may change what pages contain */
-        if (!sharing_leave(at, bytes, SHARING_KEEP, advice == MADV_UNMERGEABLE ? "MADV_UNMERGEABLE" : "advice (madvise)")) return -1;
-        return system_madvise(at, bytes, advice);
+    default: return advise_otherwise(at, bytes, advice);
     }
 }
 
@@ -70,15 +98,43 @@ PUBLIC int madvise(void *at, size_t bytes, int advice) {
 
 /* ---- mappings ---- */
 
+/* What a call of the system gets. */
+struct words {
+    long of[6];
+};
+
+static long call_mmap(void *with) {
+    const struct words *words = with;
+    return syscall(SYS_mmap, words->of[0], words->of[1], words->of[2], words->of[3], words->of[4], words->of[5]);
+}
+
 PUBLIC void *mmap(void *at, size_t bytes, int protection, int flags, int file, off_t offset) {
-    if (flags & MAP_FIXED && sharing_meets(at, bytes) && !sharing_leave(at, bytes, SHARING_LOSE, "mmap")) return MAP_FAILED;
-    return (void *)syscall(SYS_mmap, at, bytes, protection, flags, file, offset);
+    struct words words = {{(long)at, (long)bytes, protection, flags, file, offset}};
+    bool replaces = (flags & MAP_FIXED) != 0 && sharing_meets(at, bytes);
+    return (void *)(replaces ? sharing_replace(at, bytes, call_mmap, &words) : call_mmap(&words));
 }
 PUBLIC void *mmap64(void *at, size_t bytes, int protection, int flags, int file, off_t offset) __attribute__((alias("mmap")));
 
+static long call_munmap(void *with) {
+    const struct words *words = with;
+    return syscall(SYS_munmap, words->of[0], words->of[1]);
+}
+
 PUBLIC int munmap(void *at, size_t bytes) {
-    if (sharing_meets(at, bytes) && !sharing_leave(at, bytes, SHARING_LOSE, "munmap")) return -1;
-    return (int)syscall(SYS_munmap, at, bytes);
+    struct words words = {{(long)at, (long)bytes}};
+    return (int)(sharing_meets(at, bytes) ? sharing_replace(at, bytes, call_munmap, &words) : call_munmap(&words));
+}
+
+static long call_mremap(void *with) {
+    const struct words *words = with;
+    return syscall(SYS_mremap, words->of[0], words->of[1], words->of[2], words->of[3], words->of[4]);
+}
+
+/* Memory of a window that is to be moved leaves it first. Returns false, with errno, where it can't. */
+static bool leave_to_move(void *at, size_t bytes) {
+    enum sharing_left left = sharing_meets(at, bytes) ? sharing_leave(at, bytes, "mremap") : SHARING_LEFT;
+    if (left == SHARING_KEPT) errno = ENOMEM; /* (a device may have pinned pages of it) */
+    return left == SHARING_LEFT;
 }
 
 PUBLIC void *mremap(void *at, size_t bytes, size_t new_bytes, int flags, ...) {
@@ -89,71 +145,86 @@ PUBLIC void *mremap(void *at, size_t bytes, size_t new_bytes, int flags, ...) {
         to = va_arg(rest, void *);
         va_end(rest);
     }
-    if (sharing_meets(at, bytes) && !sharing_leave(at, bytes, SHARING_KEEP, "mremap")) return MAP_FAILED;
-    if (flags & MREMAP_FIXED && sharing_meets(to, new_bytes) && !sharing_leave(to, new_bytes, SHARING_LOSE, "mremap")) return MAP_FAILED;
-    return (void *)syscall(SYS_mremap, at, bytes, new_bytes, flags, to);
+    struct words words = {{(long)at, (long)bytes, (long)new_bytes, flags, (long)to}};
+    bool shrinks = (flags & (MREMAP_FIXED | MREMAP_DONTUNMAP)) == 0 && new_bytes > 0 && new_bytes < bytes;
+    uint8_t *rest_at = (uint8_t *)at + (new_bytes + PAGE - 1) / PAGE * PAGE, *end = (uint8_t *)at + bytes;
+    if (shrinks && rest_at < end && sharing_meets(rest_at, (size_t)(end - rest_at)))
+        return (void *)sharing_replace(rest_at, (size_t)(end - rest_at), call_mremap, &words);
+    if (!shrinks && !leave_to_move(at, bytes)) return MAP_FAILED;
+    bool replaces = (flags & MREMAP_FIXED) != 0 && sharing_meets(to, new_bytes);
+    return (void *)(replaces ? sharing_replace(to, new_bytes, call_mremap, &words) : call_mremap(&words));
+}
+
+/* Whether a range may be protected or locked: nothing of it is lent any more. */
+static bool leaves(const void *at, size_t bytes, const char *why) {
+    return !sharing_meets(at, bytes) || sharing_leave((void *)(uintptr_t)at, bytes, why) != SHARING_REFUSED;
 }
 
 PUBLIC int mprotect(void *at, size_t bytes, int protection) {
-    if (sharing_meets(at, bytes) && !sharing_leave(at, bytes, SHARING_KEEP, "mprotect")) return -1;
-    return (int)syscall(SYS_mprotect, at, bytes, protection);
+    return leaves(at, bytes, "mprotect") ? (int)syscall(SYS_mprotect, at, bytes, protection) : -1;
 }
 
 PUBLIC int pkey_mprotect(void *at, size_t bytes, int protection, int key) {
-    if (sharing_meets(at, bytes) && !sharing_leave(at, bytes, SHARING_KEEP, "pkey_mprotect")) return -1;
-    return (int)syscall(SYS_pkey_mprotect, at, bytes, protection, key);
+    return leaves(at, bytes, "pkey_mprotect") ? (int)syscall(SYS_pkey_mprotect, at, bytes, protection, key) : -1;
 }
 
 /* ---- locked memory ---- */
 
-PUBLIC int mlock(const void *at, size_t bytes) {
-    if (sharing_meets(at, bytes) && !sharing_leave((void *)(uintptr_t)at, bytes, SHARING_KEEP, "mlock")) return -1;
-    return (int)syscall(SYS_mlock, at, bytes);
-}
+PUBLIC int mlock(const void *at, size_t bytes) { return leaves(at, bytes, "mlock") ? (int)syscall(SYS_mlock, at, bytes) : -1; }
 
 PUBLIC int mlock2(const void *at, size_t bytes, unsigned flags) {
-    if (sharing_meets(at, bytes) && !sharing_leave((void *)(uintptr_t)at, bytes, SHARING_KEEP, "mlock2")) return -1;
-    return (int)syscall(SYS_mlock2, at, bytes, flags);
+    return leaves(at, bytes, "mlock2") ? (int)syscall(SYS_mlock2, at, bytes, flags) : -1;
 }
 
 PUBLIC int mlockall(int flags) {
-    sharing_end("the process locks its memory (mlockall)");
+    if (!sharing_end("the process locks its memory (mlockall)")) return -1;
     return (int)syscall(SYS_mlockall, flags);
 }
 
 /* ---- devices, and the monitor's own userfaultfd ---- */
+
+/* What a request needs of the windows before it is made. Returns false, with errno, where that can't be had. */
+static bool prepare_request(unsigned long request, const void *with) {
+    const struct uffdio_register *asked = with;
+    if (request == UFFDIO_REGISTER && with && sharing_meets((const void *)(uintptr_t)asked->range.start, asked->range.len))
+        return sharing_end("the process guards its memory by a userfaultfd of its own (postcopy migration, background snapshot)");
+    enum devices devices = devices_of_request(request, with);
+    return devices == DEVICES_NONE || sharing_devices(devices);
+}
 
 PUBLIC int ioctl(int descriptor, unsigned long request, ...) {
     va_list rest;
     va_start(rest, request);
     void *with = va_arg(rest, void *);
     va_end(rest);
-    if (request == UFFDIO_REGISTER && with) {
-        const struct uffdio_register *asked = with;
-        if (sharing_meets((const void *)(uintptr_t)asked->range.start, asked->range.len))
-            sharing_end("the process guards its memory by a userfaultfd of its own (postcopy migration, background snapshot)");
-    }
-    enum devices devices = devices_of_request(request);
-    if (devices != DEVICES_NONE) sharing_devices(devices);
+    if (!sharing_is_inside() && !prepare_request(request, with)) return -1;
     int status = (int)syscall(SYS_ioctl, descriptor, request, with);
     return request == USERFAULTFD_IOC_NEW && sharing_is_inside() ? sharing_own(status) : status;
 }
 
+/* Looks what a descriptor that was opened may do. It is closed again where lending would have to end for it, and can't. */
+static int opened(int descriptor, bool may_pin) {
+    if (descriptor < 0 || !may_pin || sharing_devices(devices_open())) return descriptor;
+    int cause = errno;
+    syscall(SYS_close, descriptor);
+    errno = cause;
+    return -1;
+}
+
 static int open_at(int folder, const char *path, int flags, mode_t mode) {
-    if (sharing_is_inside()) return sharing_own((int)syscall(SYS_openat, folder, path, flags, mode));
-    enum devices devices = devices_of_path(path, flags);
-    if (devices != DEVICES_NONE) sharing_devices(devices);
-    return (int)syscall(SYS_openat, folder, path, flags, mode);
+    int descriptor = (int)syscall(SYS_openat, folder, path, flags, mode);
+    if (sharing_is_inside()) return sharing_own(descriptor);
+    return opened(descriptor, devices_may_be(path, flags));
 }
 
 /* The mode is there only where a file may be made. */
-#define READ_MODE(FLAGS, MODE)                                         \
-    mode_t MODE = 0;                                                   \
-    if ((FLAGS) & O_CREAT || ((FLAGS) & O_TMPFILE) == O_TMPFILE) {     \
-        va_list rest;                                                  \
-        va_start(rest, FLAGS);                                         \
-        MODE = va_arg(rest, mode_t);                                   \
-        va_end(rest);                                                  \
+#define READ_MODE(FLAGS, MODE)                                                                                                   \
+    mode_t MODE = 0;                                                                                                             \
+    if ((FLAGS)&O_CREAT || ((FLAGS)&O_TMPFILE) == O_TMPFILE) {                                                                   \
+        va_list rest;                                                                                                            \
+        va_start(rest, FLAGS);                                                                                                   \
+        MODE = va_arg(rest, mode_t);                                                                                             \
+        va_end(rest);                                                                                                            \
     }
 
 PUBLIC int open(const char *path, int flags, ...) {
@@ -182,28 +253,30 @@ PUBLIC int __openat_2(int folder, const char *path, int flags) { return open_at(
 PUBLIC int __openat64_2(int folder, const char *path, int flags);
 PUBLIC int __openat64_2(int folder, const char *path, int flags) { return open_at(folder, path, flags, 0); }
 
-typedef int fcntl_function(int, int, ...);
-
 /* A file that is open already may be switched to O_DIRECT. */
-static int set_or_get(const char *name, int descriptor, int command, void *with) {
-    fcntl_function *next = (fcntl_function *)(uintptr_t)dlsym(RTLD_NEXT, name);
-    if (command == F_SETFL && (int)(intptr_t)with & O_DIRECT) sharing_devices(DEVICES_PIN_PAGES);
-    int status = next ? next(descriptor, command, with) : (int)syscall(SYS_fcntl, descriptor, command, with);
-    return command == F_DUPFD_CLOEXEC && sharing_is_inside() ? sharing_own(status) : status;
+static int set_or_get(fcntl_function *after, int descriptor, int command, void *with) {
+    int status = after ? after(descriptor, command, with) : (int)syscall(SYS_fcntl, descriptor, command, with);
+    if (sharing_is_inside()) return command == F_DUPFD_CLOEXEC ? sharing_own(status) : status;
+    if (status < 0 || command != F_SETFL || ((int)(intptr_t)with & O_DIRECT) == 0 || sharing_devices(devices_open()))
+        return status;
+    int cause = errno;
+    syscall(SYS_fcntl, descriptor, F_SETFL, (int)(intptr_t)with & ~O_DIRECT);
+    errno = cause;
+    return -1;
 }
 PUBLIC int fcntl(int descriptor, int command, ...) {
     va_list rest;
     va_start(rest, command);
     void *with = va_arg(rest, void *);
     va_end(rest);
-    return set_or_get("fcntl", descriptor, command, with);
+    return set_or_get(next.fcntl, descriptor, command, with);
 }
 PUBLIC int fcntl64(int descriptor, int command, ...) {
     va_list rest;
     va_start(rest, command);
     void *with = va_arg(rest, void *);
     va_end(rest);
-    return set_or_get("fcntl64", descriptor, command, with);
+    return set_or_get(next.fcntl64, descriptor, command, with);
 }
 
 /* ---- descriptors ---- */

@@ -1,6 +1,7 @@
 #define _GNU_SOURCE
 #include "sharing.h"
 #include "connection.h"
+#include "ranges.h"
 #include "trouble.h"
 #include "window.h"
 #include <fcntl.h>
@@ -14,32 +15,20 @@
 #include <unistd.h>
 
 enum {
-    RANGES_MOST = 256,
-    LEAST_BYTES = 65536,     /* a range that is smaller is no window: it saves nothing */
-    REPORT_BYTES = 1 << 20,  /* and of one that is smaller than that nothing is printed */
-    REPORTS_MOST = 16,       /* lines of the process on standard error in all */
-    SPARE_DESCRIPTORS = 32,  /* the library's descriptors are among so many last ones */
+    LEAST_BYTES = 65536,    /* a range that is smaller is no window: it saves nothing */
+    REPORT_BYTES = 1 << 20, /* and of one that is smaller than that nothing is printed */
+    REPORTS_MOST = 16,      /* lines of the process on standard error in all */
+    SPARE_DESCRIPTORS = 32, /* the library's descriptors are among so many last ones */
     BITS = 8
 };
 static const uint64_t settled_ns = 1000000000; /* a range is a window when nothing was said of it for so long */
 
-/* A range that was offered, or the part of it that is left. */
-struct range {
-    uint8_t *at;
-    size_t bytes;
-    struct window *window; /* NULL: it isn't one yet */
-    uint8_t *begin;        /* of the window */
-    uint64_t said_ns;      /* when something was said of it last */
-};
-
 static pthread_mutex_t lock = PTHREAD_MUTEX_INITIALIZER; /* round the ranges */
-static struct range ranges[RANGES_MOST];
-static size_t range_count;
-static atomic_uintptr_t lowest = UINTPTR_MAX, highest; /* all ranges lie between them */
 static _Atomic(struct windows *) windows;
-static atomic_int owner;  /* the process that shares, or 0 */
-static atomic_bool over;  /* lending has ended for good */
-static atomic_int worst;  /* an enum devices: the worst that was seen */
+static atomic_int owner;     /* the process that shares, or 0 */
+static atomic_bool over;     /* lending has ended for good */
+static atomic_bool all_home; /* and no page shows a frame */
+static atomic_int worst;     /* an enum devices: the worst that was seen */
 static atomic_int reported;
 static atomic_uchar owned[DESCRIPTORS_MOST / BITS];
 /* (the model needs no call of the C library, so this is right in any thread at any time) */
@@ -85,8 +74,9 @@ void sharing_disown(int descriptor) {
     atomic_fetch_and(&owned[descriptor / BITS], (unsigned char)~(1 << descriptor % BITS));
 }
 
-/* ---- ranges; all with the lock ---- */
+/* ---- ranges ---- */
 
+/* All that concerns ranges is done between these two. */
 static void enter(void) {
     inside++;
     pthread_mutex_lock(&lock);
@@ -97,192 +87,245 @@ static void leave(void) {
     inside--;
 }
 
-static void set_bounds(void) {
-    uintptr_t low = UINTPTR_MAX, high = 0;
-    for (size_t i = 0; i < range_count; i++) {
-        uintptr_t begin = (uintptr_t)ranges[i].at, end = begin + ranges[i].bytes;
-        low = begin < low ? begin : low;
-        high = end > high ? end : high;
-    }
-    atomic_store(&lowest, low);
-    atomic_store(&highest, high);
-}
+/* The end of a range of whole pages, as the system rounds it. */
+static uint8_t *end_of(uint8_t *at, size_t bytes) { return at + (bytes + PAGE - 1) / PAGE * PAGE; }
 
-/* The first range, by address, that ends behind `at` and begins before `end`; NULL: none. */
-static struct range *next_range(const uint8_t *at, const uint8_t *end) {
-    struct range *found = NULL;
-    for (size_t i = 0; i < range_count; i++) {
-        struct range *range = &ranges[i];
-        if (range->at < end && range->at + range->bytes > at && (!found || range->at < found->at)) found = range;
-    }
-    return found;
-}
-
-/* The part of a range that lies between two addresses. */
-struct piece {
-    uint8_t *at;
-    size_t bytes;
-};
-static struct piece piece_of(const struct range *range, uint8_t *at, uint8_t *end) {
-    uint8_t *begin = range->at > at ? range->at : at, *stop = range->at + range->bytes;
-    if (stop > end) stop = end;
-    return (struct piece){begin, (size_t)(stop - begin)};
-}
-static size_t first_of(const struct range *range, struct piece piece) { return (size_t)(piece.at - range->begin) / PAGE; }
-
-static void remove_range(struct range *range) {
-    *range = ranges[--range_count];
-    set_bounds();
-}
-
-/* How many ranges are left of a window. */
-static size_t parts_of(const struct window *window) {
-    size_t count = 0;
-    for (size_t i = 0; i < range_count; i++) count += ranges[i].window == window;
-    return count;
-}
-
-/* Takes a piece out of a range, of which one or two parts may be left. Returns false where there is no entry for the second. */
-static bool take_out(struct range *range, struct piece piece) {
-    uint8_t *end = range->at + range->bytes, *piece_end = piece.at + piece.bytes;
-    bool has_first = piece.at > range->at, has_last = piece_end < end;
-    if (has_first && has_last) {
-        if (range_count == RANGES_MOST) return false;
-        ranges[range_count] = *range;
-        ranges[range_count].at = piece_end;
-        ranges[range_count++].bytes = (size_t)(end - piece_end);
-    }
-    if (!has_first && !has_last) {
-        remove_range(range);
-        return true;
-    }
-    range->bytes = has_first ? (size_t)(piece.at - range->at) : (size_t)(end - piece_end);
-    if (!has_first) range->at = piece_end;
-    set_bounds();
-    return true;
-}
-
-/* A whole window ends, with all of its parts. */
-static struct window_result end_window(struct window *window, enum window_end end) {
-    struct window_result result = window_free(window, end);
-    if (result.status != WINDOW_OK) return result;
-    for (size_t i = range_count; i-- > 0;)
-        if (ranges[i].window == window) ranges[i] = ranges[--range_count];
-    set_bounds();
-    return result;
-}
+static bool is_aligned(const void *at) { return (uintptr_t)at % PAGE == 0; }
 
 bool sharing_meets(const void *at, size_t bytes) {
     const uint8_t *begin = at, *end = begin + bytes;
-    if (inside || (uintptr_t)end <= atomic_load(&lowest) || (uintptr_t)begin >= atomic_load(&highest) || end <= begin) return false;
+    if (inside || !ranges_near(begin, end)) return false;
     if (!is_owner()) return false; /* a child after a fork: it has no windows */
     enter();
-    bool meets = next_range(begin, end) != NULL;
+    bool meets = ranges_next(begin, end) != NULL;
     leave();
     return meets;
 }
 
-/* ---- what the monitor does ---- */
-
-int sharing_discard(void *from, size_t bytes, int advice) {
-    uint8_t *at = from, *end = at + (bytes + PAGE - 1) / PAGE * PAGE;
-    int status = 0, cause = 0;
-    if ((uintptr_t)at % PAGE != 0) return (errno = EINVAL, -1);
-    enter();
-    while (at < end) {
-        struct range *range = next_range(at, end);
-        struct piece piece = range ? piece_of(range, at, end) : (struct piece){end, 0};
-        if (piece.at > at && syscall(SYS_madvise, at, (size_t)(piece.at - at), advice) != 0) status = -1, cause = errno;
-        at = piece.at + piece.bytes;
-        if (piece.bytes == 0) continue;
-        if (!range->window) {
-            if (syscall(SYS_madvise, piece.at, piece.bytes, advice) != 0) status = -1, cause = errno;
-        } else if (window_discard(range->window, first_of(range, piece), piece.bytes / PAGE).status != WINDOW_OK) {
-            memset(piece.at, 0, piece.bytes); /* the system has no mapping to spare: zeros all the same */
-        }
-    }
-    leave();
-    if (status != 0) errno = cause;
-    return status;
+/* Ends a window of which no range is left. (One that can't end now has no page any more, and does nobody harm.) */
+static void end_unused(struct window *window) {
+    if (window && ranges_of(window) == 0) window_free(window, WINDOW_TAKE_HOME);
 }
 
-/* A piece of a window leaves it. */
-static struct window_result cut(struct range *range, struct piece piece, enum sharing_content content) {
+/* What a call that failed is to set errno to. */
+static int errno_of(struct window_result result) { return result.cause ? result.cause : ENOMEM; }
+
+/* ---- what the monitor does ---- */
+
+/* Gives up the content of a piece. Returns 0 or an errno. */
+static int discard_piece(const struct range *range, struct piece piece, int advice) {
+    size_t first = range->window ? range_first(range, piece) : 0, count = piece.bytes / PAGE;
+    int cause = 0;
+    if (!range->window) return syscall(SYS_madvise, piece.at, piece.bytes, advice) == 0 ? 0 : errno;
+    for (size_t done = 0, run = 0; done < count; done += run) {
+        bool is_its = false;
+        run = window_run(range->window, first + done, count - done, &is_its);
+        if (is_its) {
+            struct window_result result = window_discard(range->window, first + done, run);
+            if (result.status != WINDOW_OK) cause = errno_of(result);
+        } else if (syscall(SYS_madvise, piece.at + done * PAGE, run * PAGE, advice) != 0) {
+            cause = errno;
+        }
+    }
+    return cause;
+}
+
+int sharing_discard(void *from, size_t bytes, int advice) {
+    uint8_t *at = from, *end = end_of(at, bytes);
+    int cause = 0;
+    if (!is_aligned(at)) return (errno = EINVAL, -1);
+    enter();
+    while (at < end) {
+        const struct range *range = ranges_next(at, end);
+        struct piece piece = range ? range_piece(range, at, end) : (struct piece){end, 0};
+        if (piece.at > at && syscall(SYS_madvise, at, (size_t)(piece.at - at), advice) != 0) cause = errno;
+        int refused = range ? discard_piece(range, piece, advice) : 0;
+        if (refused != 0) cause = refused;
+        at = piece.at + piece.bytes;
+    }
+    leave();
+    if (cause == 0) return 0;
+    errno = cause;
+    return -1;
+}
+
+/* A piece of a range leaves its window. `*kept` counts pages whose copies stay over frames: then it stays a range. */
+static struct window_result cut(struct range *range, struct piece piece, size_t *kept) {
     struct window *window = range->window;
-    size_t first = first_of(range, piece), count = piece.bytes / PAGE;
-    bool is_all = piece.bytes == range->bytes && parts_of(window) == 1;
-    if (is_all) return end_window(window, content == SHARING_LOSE ? WINDOW_DROP : WINDOW_TAKE_HOME);
-    if (content == SHARING_LOSE) window_discard(window, first, count); /* so that nothing is copied that nobody wants */
-    struct window_result result = window_cut(window, first, count);
-    if (result.status == WINDOW_OK && !take_out(range, piece)) result = end_window(window, WINDOW_TAKE_HOME);
+    struct window_result result = {.status = WINDOW_OK};
+    *kept = 0;
+    if (!window) {
+        if (!range_take_out(range, piece)) ranges_remove(range);
+        return result;
+    }
+    result = window_cut(window, range_first(range, piece), piece.bytes / PAGE, kept);
+    /* (where there is no place for what is left, the range goes on with pages that aren't its window's) */
+    if (result.status == WINDOW_OK && *kept == 0 && range_take_out(range, piece)) end_unused(window);
     return result;
 }
 
-bool sharing_leave(void *from, size_t bytes, enum sharing_content content, const char *why) {
-    uint8_t *at = from, *end = at + (bytes + PAGE - 1) / PAGE * PAGE;
-    if ((uintptr_t)at % PAGE != 0) return true; /* the system refuses it */
+enum sharing_left sharing_leave(void *from, size_t bytes, const char *why) {
+    uint8_t *at = from, *end = end_of(at, bytes);
     struct window_result result = {.status = WINDOW_OK};
+    size_t kept = 0, all_kept = 0;
+    if (!is_aligned(at)) return SHARING_LEFT; /* the system refuses it */
     enter();
-    for (struct range *range; result.status == WINDOW_OK && (range = next_range(at, end)) != NULL;) {
-        struct piece piece = piece_of(range, at, end);
+    for (struct range *range; result.status == WINDOW_OK && (range = ranges_next(at, end)) != NULL; all_kept += kept) {
+        struct piece piece = range_piece(range, at, end);
         at = piece.at + piece.bytes;
-        if (content == SHARING_KEEP && piece.bytes >= REPORT_BYTES) say("lending ends", piece.bytes, why);
-        if (range->window) result = cut(range, piece, content);
-        else if (!take_out(range, piece)) remove_range(range);
+        if (piece.bytes >= REPORT_BYTES) say("lending ends", piece.bytes, why);
+        result = cut(range, piece, &kept);
     }
     leave();
-    if (result.status == WINDOW_OK) return true;
+    if (result.status == WINDOW_OK) return all_kept == 0 ? SHARING_LEFT : SHARING_KEPT;
     say("a part of a window can't leave it", bytes, window_status_words(result.status));
-    errno = result.cause ? result.cause : ENOMEM;
-    return false;
+    errno = errno_of(result);
+    return SHARING_REFUSED;
+}
+
+/* What is left of ranges and windows after something else was put in the place of a range. The windows are paused. */
+static size_t forget(uint8_t *at, uint8_t *end, struct window **unused) {
+    size_t count = 0;
+    for (struct range *range; (range = ranges_next(at, end)) != NULL;) {
+        struct piece piece = range_piece(range, at, end);
+        struct window *window = range->window;
+        at = piece.at + piece.bytes;
+        if (window) window_forget(window, range_first(range, piece), piece.bytes / PAGE);
+        bool is_out = range_take_out(range, piece);
+        if (!is_out && !window) ranges_remove(range);
+        if (window && ranges_of(window) == 0) unused[count++] = window;
+    }
+    return count;
+}
+
+long sharing_replace(void *from, size_t bytes, long (*call)(void *with), void *with) {
+    struct window *unused[RANGES_MOST];
+    size_t count = 0;
+    if (!is_aligned(from)) return call(with); /* the system refuses it */
+    enter();
+    struct windows *set = atomic_load(&windows);
+    int cause = set ? windows_pause(set) : 0;
+    if (cause != 0) {
+        leave();
+        errno = cause;
+        return -1;
+    }
+    long status = call(with);
+    cause = errno;
+    /* (before Linux 6.12 a call that fails may have unmapped what was there) */
+    bool is_gone = status != -1 || (msync(from, bytes, MS_ASYNC) != 0 && errno == ENOMEM);
+    if (is_gone) count = forget(from, end_of(from, bytes), unused);
+    if (set) windows_resume(set);
+    for (size_t i = 0; i < count; i++) end_unused(unused[i]);
+    leave();
+    errno = cause;
+    return status;
 }
 
 int sharing_advise(void *from, size_t bytes, int advice) {
-    uint8_t *at = from, *end = at + (bytes + PAGE - 1) / PAGE * PAGE;
+    uint8_t *at = from, *end = end_of(at, bytes);
     struct window_result result = {.status = WINDOW_OK};
     struct range *range;
+    size_t kept;
     enter();
-    while (result.status == WINDOW_OK && (range = next_range(at, end)) != NULL) {
-        struct piece piece = piece_of(range, at, end);
+    while (result.status == WINDOW_OK && (range = ranges_next(at, end)) != NULL) {
+        struct piece piece = range_piece(range, at, end);
         at = piece.at + piece.bytes;
         range->said_ns = now_ns();
         if (!range->window) continue;
-        bool is_all = piece.bytes == range->bytes && parts_of(range->window) == 1;
-        result = is_all ? window_advise(range->window, advice) : cut(range, piece, SHARING_KEEP);
+        bool is_all = piece.bytes == range->bytes && ranges_of(range->window) == 1;
+        result = is_all ? window_advise(range->window, advice) : cut(range, piece, &kept);
     }
     leave();
     if (advice == MADV_DOFORK) say("nothing is lent", bytes, "children inherit it (MADV_DOFORK)");
     if (result.status == WINDOW_OK) return (int)syscall(SYS_madvise, from, bytes, advice);
-    errno = result.cause ? result.cause : ENOMEM;
+    errno = errno_of(result);
     return -1;
 }
 
-void sharing_end(const char *why) {
-    bool none = false;
+/* All ranges leave their windows. With the lock. */
+static struct window_result leave_all(void) {
     struct window_result result = {.status = WINDOW_OK};
-    if (inside || !is_owner() || !atomic_compare_exchange_strong(&over, &none, true)) return;
-    enter();
-    size_t bytes = 0;
-    for (size_t i = 0; i < range_count; i++) bytes += ranges[i].bytes;
-    say("lending ends for good", bytes, why);
-    for (size_t i = range_count; i-- > 0;)
-        if (!ranges[i].window) remove_range(&ranges[i]);
-    while (range_count > 0 && result.status == WINDOW_OK) result = end_window(ranges[0].window, WINDOW_TAKE_HOME);
-    leave();
-    if (result.status != WINDOW_OK) say("pages can't get memory of their own", bytes, window_status_words(result.status));
+    size_t kept;
+    for (size_t i = ranges_count(); i-- > 0 && result.status == WINDOW_OK;) {
+        struct range *range = ranges_at(i);
+        result = cut(range, (struct piece){range->at, range->bytes}, &kept);
+    }
+    return result;
 }
 
-void sharing_devices(enum devices devices) {
-    int before = atomic_load(&worst);
-    if (inside) return;
-    while (before < (int)devices && !atomic_compare_exchange_weak(&worst, &before, (int)devices)) {}
+bool sharing_end(const char *why) {
+    bool none = false;
+    if (inside || !is_owner() || atomic_load(&all_home)) return true;
+    enter();
+    size_t bytes = 0;
+    for (size_t i = 0; i < ranges_count(); i++) bytes += ranges_at(i)->bytes;
+    if (atomic_compare_exchange_strong(&over, &none, true)) say("lending ends for good", bytes, why);
     struct windows *set = atomic_load(&windows);
-    if (devices == DEVICES_PIN_PAGES && set && is_owner()) {
-        inside++;
-        windows_set_pins(set, WINDOWS_PINS_POSSIBLE);
-        inside--;
+    if (set) windows_end(set);
+    struct window_result result = leave_all();
+    if (result.status == WINDOW_OK) atomic_store(&all_home, true);
+    leave();
+    if (result.status == WINDOW_OK) return true;
+    say("pages can't get memory of their own yet", bytes, window_status_words(result.status));
+    errno = errno_of(result);
+    return false;
+}
+
+/* ---- devices ---- */
+
+static enum windows_pins pins_of(enum devices devices) {
+    return devices < DEVICES_PIN_PAGES ? WINDOWS_PINS_NEVER : WINDOWS_PINS_POSSIBLE;
+}
+
+bool sharing_devices(enum devices devices) {
+    int before = atomic_load(&worst);
+    if (inside) return true;
+    while (before < (int)devices && !atomic_compare_exchange_weak(&worst, &before, (int)devices)) {
     }
-    if (devices == DEVICES_WRITE_ALL) sharing_end("a device is given to the guest and writes to its memory (VFIO, vDPA)");
+    struct windows *set = atomic_load(&windows);
+    if (devices == DEVICES_WRITE_ALL) return sharing_end("a device is given to the guest, or may write to its memory unnoticed");
+    if (pins_of(devices) != WINDOWS_PINS_POSSIBLE || !set || !is_owner()) return true;
+    inside++;
+    windows_set_pins(set, WINDOWS_PINS_POSSIBLE);
+    inside--;
+    if (before < (int)devices)
+        log_line(
+            "devices may have pinned pages (io_uring or io_submit with O_DIRECT, or vmx): those that were lent and written stay "
+            "private from now on");
+    return true;
+}
+
+/* The memory from the first byte of some buffers to the last. */
+static struct iovec around(const struct iovec *buffers, int count) {
+    uintptr_t low = UINTPTR_MAX, high = 0;
+    for (int i = 0; i < count; i++) {
+        uintptr_t at = (uintptr_t)buffers[i].iov_base;
+        low = at < low ? at : low;
+        high = at + buffers[i].iov_len > high ? at + buffers[i].iov_len : high;
+    }
+    return (struct iovec){.iov_base = (void *)low, .iov_len = high - low};
+}
+
+void sharing_transfers_begin(struct sharing_transfers *transfers, const struct iovec *buffers, int count) {
+    struct windows *set = atomic_load(&windows);
+    transfers->count = 0;
+    if (inside || !set || !is_owner()) return;
+    inside++;
+    for (int i = 0; i < count; i++) {
+        bool is_last = transfers->count == SHARING_TRANSFERS_MOST - 1;
+        struct iovec buffer = is_last ? around(buffers + i, count - i) : buffers[i];
+        transfers->transfers[transfers->count++] = windows_transfer_begin(set, buffer.iov_base, buffer.iov_len);
+        if (is_last) break;
+    }
+    inside--;
+}
+
+void sharing_transfers_end(const struct sharing_transfers *transfers) {
+    struct windows *set = atomic_load(&windows);
+    inside++;
+    for (size_t i = 0; i < transfers->count; i++) windows_transfer_end(set, transfers->transfers[i]);
+    inside--;
 }
 
 /* ---- windows ---- */
@@ -290,31 +333,37 @@ void sharing_devices(enum devices devices) {
 /* Makes windows of the ranges of which nothing was said for a while. */
 void ranges_open(unsigned flags) {
     enter();
-    for (size_t i = range_count; i-- > 0 && !atomic_load(&over);) {
-        struct range *range = &ranges[i];
+    bool may = !atomic_load(&over) && atomic_load(&worst) < DEVICES_WRITE_ALL;
+    for (size_t i = ranges_count(); i-- > 0 && may;) {
+        struct range *range = ranges_at(i);
         if (range->window || now_ns() - range->said_ns < settled_ns) continue;
         struct window_result result = window_make(&range->window, atomic_load(&windows), range->at, range->bytes, flags);
         range->begin = range->at;
         if (result.status == WINDOW_OK) continue;
         if (range->bytes >= REPORT_BYTES) say("nothing is lent", range->bytes, window_status_words(result.status));
         range->window = NULL;
-        remove_range(range);
+        ranges_remove(range);
     }
     leave();
 }
-
-bool ranges_any(void) { return atomic_load(&highest) != 0; }
 
 enum devices ranges_devices(void) { return (enum devices)atomic_load(&worst); }
 
 void ranges_use(struct windows *set) {
     atomic_store(&windows, set);
-    if (ranges_devices() == DEVICES_PIN_PAGES) windows_set_pins(set, WINDOWS_PINS_POSSIBLE);
+    if (pins_of(ranges_devices()) == WINDOWS_PINS_POSSIBLE) windows_set_pins(set, WINDOWS_PINS_POSSIBLE);
+}
+
+void ranges_found(enum devices devices) {
+    int before = inside;
+    inside = 0; /* (as the monitor's own threads call it) */
+    sharing_devices(devices);
+    inside = before;
 }
 
 void ranges_refuse(const char *why) {
     int before = inside;
-    inside = 0; /* (as the monitor's own threads call it) */
+    inside = 0;
     sharing_end(why);
     inside = before;
 }
@@ -332,21 +381,20 @@ static bool start(void) {
 }
 
 bool sharing_offer(void *at, size_t bytes) {
-    if (!connection_is_wanted() || atomic_load(&over) || (uintptr_t)at % PAGE != 0) return false;
+    if (!connection_is_wanted() || atomic_load(&over) || !is_aligned(at)) return false;
     bytes -= bytes % PAGE;
-    bool is_range = false, is_window = false, good = true;
-    enter();
     int none = 0;
     bool is_first = atomic_compare_exchange_strong(&owner, &none, getpid());
-    struct range *met = is_owner() ? next_range(at, (uint8_t *)at + bytes) : NULL;
+    if (!is_owner()) return false; /* a child after a fork, where the lock may be another thread's for ever */
+    bool is_range = false, is_window = false, good = true;
+    enter();
+    struct range *met = ranges_next(at, (uint8_t *)at + bytes);
     if (met) {
         is_range = true;
         is_window = met->window != NULL;
         met->said_ns = now_ns();
-    } else if (is_owner() && bytes >= LEAST_BYTES && range_count < RANGES_MOST) {
-        ranges[range_count++] = (struct range){.at = at, .bytes = bytes, .said_ns = now_ns()};
-        set_bounds();
-        is_range = true;
+    } else if (bytes >= LEAST_BYTES) {
+        is_range = ranges_add(at, bytes, now_ns());
     }
     leave();
     if (is_first) {

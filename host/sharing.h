@@ -10,6 +10,7 @@
 #include "devices.h"
 #include <stdbool.h>
 #include <stddef.h>
+#include <sys/uio.h>
 
 /* Whether a part of the range may be a window's, and the caller isn't this library itself. Cheap where there is no window near. */
 bool sharing_meets(const void *at, size_t bytes);
@@ -17,23 +18,46 @@ bool sharing_meets(const void *at, size_t bytes);
 /* The monitor offers a range (MADV_MERGEABLE). It becomes a window soon, if it can be one. Returns whether sharing is wanted at all. */
 bool sharing_offer(void *at, size_t bytes);
 
-/* The content of a range is given up. Returns 0, or -1 with errno as madvise(2). */
+/* The content of a range is given up, by advice of madvise(2). Returns 0, or -1 with errno as the system would. */
 int sharing_discard(void *at, size_t bytes, int advice);
 
 /* What is said of a range, and concerns no content: MADV_DONTFORK and the like. Returns 0, or -1 with errno. */
 int sharing_advise(void *at, size_t bytes, int advice);
 
-/* What happens to the content of pages that leave their windows. */
-enum sharing_content { SHARING_KEEP, SHARING_LOSE };
-/* A range leaves its windows, and is the monitor's alone afterwards. Returns false, with errno, where the system refuses: then the
- * range must stay as it is. `why` is printed where content is kept. */
-bool sharing_leave(void *at, size_t bytes, enum sharing_content content, const char *why);
+/* What became of a range that was to leave its windows. */
+enum sharing_left {
+    SHARING_REFUSED, /* the system had no memory for it; errno says so. The range must stay as it is */
+    SHARING_LEFT,    /* it is the monitor's alone */
+    SHARING_KEPT     /* nothing is lent of it any more. Devices may have pinned pages, whose copies stay over frames: it may be
+                        protected, locked and unmapped, but not moved */
+};
+/* A range leaves its windows with its content. `why` is printed. */
+enum sharing_left sharing_leave(void *at, size_t bytes, const char *why);
 
-/* Lending ends for good, and each page gets memory of its own. `why` is printed, once. */
-void sharing_end(const char *why);
+/*
+ * Makes a call of the system that puts something else, or nothing, in the place of a range, while nothing is held there. Where the call
+ * returns something else than -1 the range has left its windows. Returns what the call does; or -1 with errno, and no call was made.
+ */
+long sharing_replace(void *at, size_t bytes, long (*call)(void *with), void *with);
 
-/* Devices may write from now on. */
-void sharing_devices(enum devices devices);
+/*
+ * Lending ends for good, and each page gets memory of its own. `why` is printed, once. Returns false, with errno, where the system has no
+ * memory for that: nothing is lent any more, but pages show frames still.
+ */
+bool sharing_end(const char *why);
+
+/* Devices may write from now on. Returns false, with errno, where lending would have to end for them and can't. */
+bool sharing_devices(enum devices devices);
+
+/* Transfers by O_DIRECT between files and the monitor's memory that are under way, of one call. */
+enum { SHARING_TRANSFERS_MOST = 16 };
+struct sharing_transfers {
+    size_t count;
+    size_t transfers[SHARING_TRANSFERS_MOST];
+};
+/* A call by O_DIRECT with these buffers is about to begin, and has ended. */
+void sharing_transfers_begin(struct sharing_transfers *transfers, const struct iovec *buffers, int count);
+void sharing_transfers_end(const struct sharing_transfers *transfers);
 
 /* Whether the caller is this library: then a call goes to the system as it is. */
 bool sharing_is_inside(void);

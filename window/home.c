@@ -13,13 +13,6 @@ static bool is_in(const struct window *window, size_t first, size_t count) {
 
 static size_t least(size_t a, size_t b) { return a < b ? a : b; }
 
-/* How many pages from `first` on, of at most `most`, lie over frames as the first one does, or lie over none. */
-static size_t alike(const struct window *window, size_t first, size_t most) {
-    size_t count = 1;
-    while (count < most && window->pages[first + count].over == window->pages[first].over) count++;
-    return count;
-}
-
 /* Clears pages for which the system has no mapping: they are zeros all the same, in memory of their own. */
 static void clear(struct window *window, size_t first, size_t count) {
     for (size_t page = first; page < first + count; page++) {
@@ -28,16 +21,22 @@ static void clear(struct window *window, size_t first, size_t count) {
     }
 }
 
-/* Gives up pages that are alike. With the lock. */
-static struct window_result give_up(struct window *window, size_t first, size_t count) {
+/* Shows zeros in place of pages over frames, all with this protection. Returns 0 or an errno. `*is_cleared`: they take memory. */
+static int show_zeros(struct window *window, size_t first, size_t count, int protection, bool *is_cleared) {
+    int cause = map_pages(window, first, count, ZEROS, protection);
+    *is_cleared = cause != 0 && (protection & PROT_WRITE) != 0;
+    if (*is_cleared) clear(window, first, count);
+    return *is_cleared ? 0 : cause;
+}
+
+/* Gives up pages that are alike, and if they have left the window have one protection. With the lock. */
+static struct window_result give_up(struct window *window, size_t first, size_t count, int protection) {
     struct windows *windows = window->windows;
     bool is_over = window->pages[first].over == 1, is_cleared = false;
-    if (!is_over && madvise(address_of(window, first), bytes_of(count), MADV_DONTNEED) < 0)
-        return result_of(WINDOW_NO_MAPPING, errno);
-    if (is_over && map_pages(window, first, count, ZEROS) != 0) {
-        clear(window, first, count);
-        is_cleared = true;
-    }
+    int cause = 0;
+    if (is_over) cause = show_zeros(window, first, count, protection, &is_cleared);
+    else if (madvise(address_of(window, first), bytes_of(count), MADV_DONTNEED) < 0) cause = errno;
+    if (cause != 0) return result_of(WINDOW_NO_MAPPING, cause);
     for (size_t page = first; page < first + count; page++) {
         stop_showing(window, page);
         note_zero(window, page, false);
@@ -47,6 +46,17 @@ static struct window_result give_up(struct window *window, size_t first, size_t 
     }
     windows->counts.discarded += count;
     return result_of(WINDOW_OK, 0);
+}
+
+/* Gives up pages that have left the window, over frames, under whatever protection the caller gave them. With the lock. */
+static struct window_result give_up_left(struct window *window, size_t first, size_t count) {
+    struct window_result result = result_of(WINDOW_OK, 0);
+    for (size_t done = 0, run = 0; done < count && result.status == WINDOW_OK; done += run) {
+        int protection = 0;
+        int cause = protection_read(address_of(window, first + done), count - done, &protection, &run);
+        result = cause == 0 ? give_up(window, first + done, run, protection) : result_of(WINDOW_NO_MAPPING, cause);
+    }
+    return result;
 }
 
 struct window_result for_parts(struct window *window, size_t first, size_t count, step *one) {
@@ -65,7 +75,9 @@ static struct window_result discard_part(struct window *window, size_t first, si
     struct window_result result = result_of(WINDOW_OK, 0);
     for (size_t done = 0, run = 0; done < count && result.status == WINDOW_OK; done += run) {
         run = alike(window, first + done, count - done);
-        result = give_up(window, first + done, run);
+        if (!is_here(window, first + done)) continue;
+        result = window->pages[first + done].out == 0 ? give_up(window, first + done, run, PROT_READ | PROT_WRITE)
+                                                      : give_up_left(window, first + done, run);
     }
     return result;
 }
@@ -75,103 +87,188 @@ struct window_result window_discard(struct window *window, size_t first, size_t 
     return for_parts(window, first, count, discard_part);
 }
 
-/* Pages have memory of their own now. */
-static void note_home(struct window *window, size_t first, size_t count) {
-    struct windows *windows = window->windows;
-    windows->counts.mappings -= mappings_of(window, first, count);
-    for (size_t page = first; page < first + count; page++) {
-        window->pages[page].over = 0;
-        window->pages[page].looks = 0;
-        stop_showing(window, page);
-        window->pages[page].past = 0;
-        trace_copy(windows->trace, window->base + (uint32_t)page, address_of(window, page));
-    }
-    windows->counts.mappings += mappings_of(window, first, count);
-    windows->counts.taken_home += count;
+size_t window_run(struct window *window, size_t first, size_t most, bool *is_its) {
+    size_t count = 1;
+    lock_set(window->windows);
+    *is_its = is_here(window, first);
+    while (count < most && is_here(window, first + count) == *is_its) count++;
+    unlock_set(window->windows);
+    return count;
 }
 
-/* Copies pages over frames aside, guarded, and moves the copies to their place in one step for who reads or writes meanwhile. */
-static struct window_result bring_home(struct window *window, size_t first, size_t count) {
-    struct windows *windows = window->windows;
-    uint8_t *at = address_of(window, first);
+/* Pages over frames that are to get memory of their own elsewhere, which is moved to their place then. */
+struct home {
+    struct window *window;
+    size_t first, count;
+    uint8_t *at;           /* the memory elsewhere */
+    bool stays[HOME_MOST]; /* a device may have pinned its copy */
+};
+
+/* Takes memory for pages, and guards them. Returns 0 or an errno; where it isn't 0 nothing is guarded. */
+static int begin_home(struct home *home) {
+    const struct window *window = home->window;
     const int kind = MAP_PRIVATE | MAP_ANONYMOUS | MAP_NORESERVE;
-    uint8_t *home = mmap(NULL, bytes_of(count), PROT_READ | PROT_WRITE, kind, NO_FILE, 0);
-    if (home == MAP_FAILED) return result_of(WINDOW_NO_MAPPING, errno);
-    int cause = advice_begin(home, count);
-    if (cause == 0) cause = advice_set(&window->advice, home, count, false);
-    if (cause == 0) cause = faults_watch(&windows->faults, at, count, FAULTS_OF_WRITES);
-    if (cause != 0) {
-        munmap(home, bytes_of(count));
-        return result_of(WINDOW_NO_MAPPING, cause);
+    home->at = mmap(NULL, bytes_of(home->count), PROT_READ | PROT_WRITE, kind, NO_FILE, 0);
+    if (home->at == MAP_FAILED) return errno;
+    int cause = advice_begin(home->at, home->count);
+    if (cause == 0) cause = advice_set(&window->advice, home->at, home->count, false);
+    if (cause == 0)
+        cause = faults_watch(&window->windows->faults, address_of(window, home->first), home->count, FAULTS_OF_WRITES);
+    if (cause != 0) munmap(home->at, bytes_of(home->count));
+    return cause;
+}
+
+/*
+ * Finds which pages have to stay. They are guarded, so a copy that isn't pinned by now won't be: who pins a page to write to it waits as
+ * other writers do. Where nobody pins pages all can go; else only those that show their frame.
+ */
+static int find_staying(struct home *home) {
+    struct windows *windows = home->window->windows;
+    bool own[HOME_MOST];
+    find_pins(windows);
+    int cause = pagemap_find_copies(&windows->pagemap, address_of(home->window, home->first), home->count, own);
+    for (size_t i = 0; i < home->count && cause == 0; i++)
+        home->stays[i] = own[i] && (may_pin(windows) || is_pinned(home->window, home->first + i));
+    return cause;
+}
+
+/* Moves copies of pages in a row to their place, in one step for those who read or write meanwhile. Returns 0 or an errno. */
+static int bring(struct home *home, size_t from, size_t count) {
+    struct window *window = home->window;
+    uint8_t *to = address_of(window, home->first + from), *copies = home->at + bytes_of(from);
+    for (size_t i = 0; i < count; i++) copy_page(copies + bytes_of(i), to + bytes_of(i));
+    if (mremap(copies, bytes_of(count), bytes_of(count), MREMAP_MAYMOVE | MREMAP_FIXED, to) == MAP_FAILED) return errno;
+    note_moved(window, home->first + from, count);
+    for (size_t i = from; i < from + count; i++) {
+        window->pages[home->first + i].looks = 0;
+        trace_copy(window->windows->trace, window->base + (uint32_t)(home->first + i), to + bytes_of(i - from));
     }
-    cause = faults_protect(&windows->faults, at, count);
-    for (size_t i = 0; i < count && cause == 0; i++) copy_page(home + bytes_of(i), at + bytes_of(i));
-    if (cause == 0 && mremap(home, bytes_of(count), bytes_of(count), MREMAP_MAYMOVE | MREMAP_FIXED, at) == MAP_FAILED)
-        cause = errno;
-    if (cause != 0) munmap(home, bytes_of(count));
-    else note_home(window, first, count);
-    int kept = let_waiters_go(window, first, count);
-    if (cause != 0) return result_of(WINDOW_NO_MAPPING, cause);
-    return kept != 0 ? result_of(WINDOW_STUCK, kept) : result_of(WINDOW_OK, 0);
+    window->windows->counts.taken_home += count;
+    return 0;
+}
+
+/* Brings pages home but for those that stay. Returns 0, or the errno of what was refused: then some are still over frames. */
+static int bring_home(struct home *home) {
+    int cause = begin_home(home);
+    if (cause != 0) return cause;
+    struct window *window = home->window;
+    cause = faults_protect(&window->windows->faults, address_of(window, home->first), home->count);
+    if (cause == 0) cause = find_staying(home);
+    for (size_t i = 0, end = 0; i < home->count; i = end) {
+        for (end = i + 1; end < home->count && home->stays[end] == home->stays[i]; end++) {
+        }
+        if (cause == 0 && !home->stays[i]) cause = bring(home, i, end - i);
+        if (cause != 0 || home->stays[i]) munmap(home->at + bytes_of(i), bytes_of(end - i));
+    }
+    int kept = let_waiters_go(window, home->first, home->count);
+    return kept != 0 ? kept : cause;
+}
+
+/* Gives pages over frames a copy of their own, where they are. Returns 0 or an errno. */
+static int copy_in_place(struct window *window, size_t first, size_t count) {
+    if (madvise(address_of(window, first), bytes_of(count), MADV_POPULATE_WRITE) < 0) return errno;
+    for (size_t page = first; page < first + count; page++) {
+        if (window->pages[page].shows == 0) continue;
+        stop_showing(window, page);
+        trace_copy(window->windows->trace, window->base + (uint32_t)page, address_of(window, page));
+        window->windows->counts.taken_home++;
+    }
+    return 0;
+}
+
+/* What is over frames still gets a copy of its own there. */
+static struct window_result settle_home(struct window *window, size_t first, size_t count) {
+    for (size_t done = 0, run = 0; done < count; done += run) {
+        run = alike(window, first + done, count - done);
+        if (window->pages[first + done].over == 0 || window->pages[first + done].out == 1) continue;
+        int cause = copy_in_place(window, first + done, run);
+        if (cause != 0) return result_of(WINDOW_NO_MAPPING, cause);
+    }
+    return result_of(WINDOW_OK, 0);
 }
 
 struct window_result take_home(struct window *window, size_t first, size_t count) {
-    struct window_result result = result_of(WINDOW_OK, 0);
-    for (size_t page = first; page < first + count; page++)
-        if (is_pinned(window, page) && window->pages[page].over == 1) return result_of(WINDOW_PINNED, EBUSY);
-    for (size_t done = 0, run = 0; done < count && result.status == WINDOW_OK; done += run) {
+    struct windows *windows = window->windows;
+    for (size_t done = 0, run = 0; done < count; done += run) {
         run = least(alike(window, first + done, count - done), HOME_MOST);
-        if (window->pages[first + done].over == 0) continue;
-        result = bring_home(window, first + done, run);
+        const struct page *page = &window->pages[first + done];
+        if (page->over == 0 || page->out == 1) continue;
+        struct home home = {.window = window, .first = first + done, .count = run};
+        int cause = bring_home(&home);
+        if (windows->stuck_count > 0) return result_of(WINDOW_STUCK, cause);
+        struct window_result result = settle_home(window, first + done, run);
+        if (result.status != WINDOW_OK) return result;
     }
-    return result;
+    return result_of(WINDOW_OK, 0);
 }
 
 void take_all_home(struct windows *windows) {
     lock_for_look(windows);
+    int stuck = free_stuck(windows);
+    if (stuck != 0) {
+        note_failure(windows, WINDOW_STUCK, stuck);
+        unlock_set(windows);
+        return;
+    }
     for (struct window *window = windows->first; window != NULL; window = window->next) {
         for (size_t first = 0; first < window->count && !window->ended; first += PART) {
             struct window_result result = take_home(window, first, least(PART, window->count - first));
             if (result.status != WINDOW_OK) note_failure(windows, result.status, result.cause);
             unlock_set(windows);
+            if (result.status == WINDOW_STUCK) return;
             lock_for_look(windows);
         }
     }
     unlock_set(windows);
 }
 
+void end_advice(struct window *window, size_t first, size_t count) {
+    for (size_t done = 0, run = 0; done < count; done += run) {
+        run = alike(window, first + done, count - done);
+        if (window->pages[first + done].over == 1 || window->pages[first + done].out == 1) continue;
+        int cause = advice_end(&window->found, address_of(window, first + done), run);
+        if (cause != 0) window->windows->advice_cause = cause;
+    }
+}
+
 static struct window_result cut_part(struct window *window, size_t first, size_t count) {
     struct window_result result = take_home(window, first, count);
     if (result.status != WINDOW_OK) return result;
+    end_advice(window, first, count);
     for (size_t page = first; page < first + count; page++) {
         note_zero(window, page, false);
         window->pages[page].out = 1;
     }
-    int cause = advice_end(&window->found, address_of(window, first), count);
-    return cause == 0 ? result : result_of(WINDOW_ADVICE, cause);
-}
-
-struct window_result window_cut(struct window *window, size_t first, size_t count) {
-    if (!is_in(window, first, count)) return result_of(WINDOW_BAD_RANGE, EINVAL);
-    return for_parts(window, first, count, cut_part);
-}
-
-/* Gives pages that show frames a copy of their own, where they are. */
-static struct window_result pin_part(struct window *window, size_t first, size_t count) {
-    struct window_result result = result_of(WINDOW_OK, 0);
-    for (size_t done = 0, run = 0; done < count; done += run) {
-        run = alike(window, first + done, count - done);
-        if (window->pages[first + done].over == 0) continue;
-        if (madvise(address_of(window, first + done), bytes_of(run), MADV_POPULATE_WRITE) < 0)
-            return result_of(WINDOW_NO_MAPPING, errno);
-        for (size_t page = first + done; page < first + done + run; page++) {
-            if (window->pages[page].shows == 0) continue;
-            stop_showing(window, page);
-            trace_copy(window->windows->trace, window->base + (uint32_t)page, address_of(window, page));
-            window->windows->counts.taken_home++;
-        }
-    }
     return result;
+}
+
+struct window_result window_cut(struct window *window, size_t first, size_t count, size_t *kept) {
+    size_t found = 0;
+    if (!is_in(window, first, count)) return result_of(WINDOW_BAD_RANGE, EINVAL);
+    struct window_result result = for_parts(window, first, count, cut_part);
+    lock_set(window->windows);
+    for (size_t page = first; page < first + count; page++) found += window->pages[page].over;
+    unlock_set(window->windows);
+    if (kept != NULL) *kept = found;
+    return result;
+}
+
+void window_forget(struct window *window, size_t first, size_t count) {
+    struct windows *windows = window->windows;
+    windows->counts.mappings -= mappings_of(window, first, count);
+    for (size_t page = first; page < first + count; page++) {
+        if (is_here(window, page)) trace_discard(windows->trace, window->base + (uint32_t)page);
+        stop_showing(window, page);
+        note_zero(window, page, false);
+        window->pages[page].over = window->pages[page].past = 0;
+        window->pages[page].moved = window->pages[page].begins = 0;
+        window->pages[page].out = 1;
+    }
+    windows->counts.mappings += mappings_of(window, first, count);
+}
+
+static struct window_result pin_part(struct window *window, size_t first, size_t count) {
+    return settle_home(window, first, count);
 }
 
 /* Changes the pages' counts by one, if all can be. Takes the lock. */

@@ -100,16 +100,19 @@ int faults_protect(const struct faults *faults, void *at, size_t pages) {
 
 void faults_move(const struct faults *faults, void *to, void *from, size_t pages, bool *moved) {
     int tries = 0;
+    size_t most = pages; /* in one call */
     for (size_t done = 0; done < pages;) {
+        size_t asked = pages - done < most ? pages - done : most;
         struct move move = {.to = (uintptr_t)to + bytes_of(done),
                             .from = (uintptr_t)from + bytes_of(done),
-                            .bytes = bytes_of(pages - done),
+                            .bytes = bytes_of(asked),
                             .mode = MOVE_DONT_WAKE};
         int cause = error_of(ioctl(faults->fd, MOVE_PAGES, &move));
         size_t count = move.moved > 0 ? (size_t)move.moved / WINDOW_PAGE_BYTES : 0;
         for (size_t i = 0; i < count; i++) moved[done + i] = true;
         done += count;
         if (count > 0) tries = 0;
+        else if (cause == EINVAL && asked > 1) most = 1; /* (the pages may be in several mappings) */
         else if (cause != EAGAIN || ++tries == TRIES) moved[done++] = false, tries = 0;
     }
 }
@@ -180,6 +183,13 @@ int pagemap_find(const struct pagemap *pagemap, const void *at, size_t pages, ui
     return cause;
 }
 
+int pagemap_find_copies(const struct pagemap *pagemap, const void *at, size_t pages, bool *own) {
+    uint64_t entries[PAGEMAP_MOST];
+    int cause = read_entries(pagemap->fd, at, pages, entries);
+    for (size_t i = 0; i < pages && cause == 0; i++) own[i] = (entries[i] & (ENTRY_PRESENT | ENTRY_FILE)) == ENTRY_PRESENT;
+    return cause;
+}
+
 bool pagemap_is_own(const struct pagemap *pagemap, const void *at) {
     uint64_t entry;
     return read_entries(pagemap->fd, at, 1, &entry) == 0 && kind_of(entry) != PAGE_NONE;
@@ -194,6 +204,15 @@ size_t locked_kib(void) {
         if (sscanf(line, "VmLck: %zu", &kib) == 1) break;
     fclose(file);
     return kib;
+}
+
+size_t merged_kib(void) {
+    size_t pages = 0;
+    FILE *file = fopen("/proc/self/ksm_merging_pages", "re");
+    if (file == NULL) return 0;
+    if (fscanf(file, "%zu", &pages) != 1) pages = 0;
+    fclose(file);
+    return bytes_of(pages) / 1024;
 }
 
 size_t mappings_limit(void) {

@@ -50,6 +50,8 @@ int pagemap_open(struct pagemap *pagemap, bool never_scan);
 enum { PAGEMAP_MOST = 512 };
 /* Tells of up to PAGEMAP_MOST pages whether each has memory of its own: no file's page, not the page of zeros, no guard's mark. */
 int pagemap_find(const struct pagemap *pagemap, const void *at, size_t pages, uint8_t *found);
+/* Tells of up to PAGEMAP_MOST pages whether each has memory of its own that isn't swapped out. Pages may be guarded, but not missing. */
+int pagemap_find_copies(const struct pagemap *pagemap, const void *at, size_t pages, bool *own);
 /* Whether this page has memory of its own, asked in another way; false where that can't be known. */
 bool pagemap_is_own(const struct pagemap *pagemap, const void *at);
 
@@ -72,14 +74,24 @@ struct range_facts {
 };
 int range_read(struct range_facts *facts, const void *at, size_t pages);
 
+/* Reads the protection (PROT_READ ..) of a mapped page, and how many of `most` pages from there on are in the same mapping. */
+int protection_read(const void *at, size_t most, int *protection, size_t *pages);
+
 /* Says of a range that was mapped anew what was said of the window. `is_file`: frames are mapped there. */
 int advice_set(const struct advice *advice, void *at, size_t pages, bool is_file);
-/* Says that huge pages and KSM leave the range alone, or puts back what was said before. */
+/* Says that huge pages leave the range alone, or puts back what was said before, also of KSM. */
 int advice_begin(void *at, size_t pages);
 int advice_end(const struct advice *advice, void *at, size_t pages);
+/* Says one thing of a range. Returns 0 also where the kernel was built without it. */
+int advice_say(void *at, size_t pages, int advice);
+
+/* Whether `is_it` says so of any locked mapping of the process. It is called with the mapping's bounds. */
+bool locked_any(bool (*is_it)(void *opaque, const uint8_t *begin, const uint8_t *end), void *opaque);
 
 /* KiB of this process that are locked. */
 size_t locked_kib(void);
+/* KiB of this process that the kernel's KSM has merged, rounded up; 0 where the system doesn't tell. */
+size_t merged_kib(void);
 /* The system's limit of a process's mappings. */
 size_t mappings_limit(void);
 

@@ -29,13 +29,27 @@ static uint8_t *place_of(const struct hold *hold, size_t i) {
 
 static uint32_t number_of(const struct hold *hold, size_t i) { return hold->window->base + (uint32_t)(hold->first + i); }
 
+/*
+ * Guards pages against writes. What a device may have pinned isn't held by that: where pages may be pinned, only those are that show a
+ * frame still, now that nobody can make a copy any more.
+ */
+static void guard(struct hold *hold) {
+    struct windows *windows = hold->window->windows;
+    void *at = address_of(hold->window, hold->first);
+    bool own[HOLD_MOST] = {false};
+    int cause = faults_protect(&windows->faults, at, hold->count);
+    if (cause == 0 && may_pin(windows)) cause = pagemap_find_copies(&windows->pagemap, at, hold->count, own);
+    if (cause != 0) note_failure(windows, WINDOW_NO_MAPPING, cause);
+    for (size_t i = 0; i < hold->count && cause == 0; i++) hold->held[i] = !own[i];
+}
+
 /* The pages are held that can be, and none where the system refuses. */
 static void take(struct hold *hold) {
     struct windows *windows = hold->window->windows;
     void *at = address_of(hold->window, hold->first);
     bool is_over = hold->window->pages[hold->first].over == 1;
     hold->moves = windows->faults.moves && !is_over;
-    if (!hold->moves && windows->pins != WINDOWS_PINS_NEVER) return;
+    if (!hold->moves && !is_over && may_pin(windows)) return;
     if (!hold->moves) {
         /* (the kernel's KSM lifts a guard; and what is left of a huge page takes all its memory until it is split) */
         madvise(at, bytes_of(hold->count), MADV_UNMERGEABLE);
@@ -52,11 +66,9 @@ static void take(struct hold *hold) {
         hold->scratch = windows->scratch_used;
         windows->scratch_used += hold->count;
         faults_move(&windows->faults, place_of(hold, 0), at, hold->count, hold->held);
-        return;
+    } else {
+        guard(hold);
     }
-    cause = faults_protect(&windows->faults, at, hold->count);
-    if (cause != 0) note_failure(windows, WINDOW_NO_MAPPING, cause);
-    else memset(hold->held, true, hold->count * sizeof hold->held[0]);
 }
 
 /* Nobody can write a page that is held. */
@@ -89,7 +101,7 @@ static void note_held(struct hold *hold, size_t count) {
     size_t class = 0;
     if (count == 0) return;
     hold->left -= count;
-    while (class + 1 < WINDOWS_TIMES && took / 1000 >= (uint64_t)1 << class) class++;
+    while (class + 1 < WINDOWS_TIMES && took / 1000 >= (uint64_t)1 << class) class ++;
     counts->held[class] += count;
     if (took > counts->hold_most_ns) counts->hold_most_ns = took;
 }
@@ -102,7 +114,8 @@ static void map(struct hold *hold) {
         if (!hold->equal[i]) continue;
         /* (where a page was taken out of anonymous memory zeros are left) */
         bool is_mapped = hold->targets[i] != ZEROS || !hold->moves;
-        int cause = is_mapped ? map_pages(hold->window, hold->first + i, count, hold->targets[i]) : 0;
+        const int protection = PROT_READ | PROT_WRITE;
+        int cause = is_mapped ? map_pages(hold->window, hold->first + i, count, hold->targets[i], protection) : 0;
         if (cause != 0) {
             windows->counts.no_mapping += count;
             windows->counts.pause = WINDOWS_CROWDED;
@@ -111,7 +124,8 @@ static void map(struct hold *hold) {
         }
         memset(hold->shown + i, true, count * sizeof hold->shown[0]);
         /* (if nobody is woken here the end of the watch does it) */
-        if (is_mapped && faults_wake(&windows->faults, address_of(hold->window, hold->first + i), count) == 0) note_held(hold, count);
+        if (is_mapped && faults_wake(&windows->faults, address_of(hold->window, hold->first + i), count) == 0)
+            note_held(hold, count);
     }
 }
 
@@ -139,7 +153,10 @@ static void let_go(struct hold *hold) {
     for (size_t i = 0; i < hold->count && hold->moves; i++) {
         if (!hold->held[i] || hold->shown[i]) continue;
         int cause = faults_put(&windows->faults, address_of(hold->window, hold->first + i), place_of(hold, i), &remapped);
-        any_remapped = any_remapped || remapped;
+        if (cause == 0 && remapped) {
+            any_remapped = true;
+            note_moved(hold->window, hold->first + i, 1);
+        }
         if (cause == 0) continue;
         note_failure(windows, WINDOW_STUCK, cause);
         windows->stuck[windows->stuck_count++] =
@@ -177,18 +194,11 @@ static void note_page(const struct hold *hold, size_t i) {
     }
 }
 
-/*
- * Shows frames, or zeros, in place of pages in a row, where a page is equal to what is to be shown. With the lock. A page that showed
- * a frame of a lender that is gone shows a copy now, or the new lender's.
- */
+/* Shows frames, or zeros, in place of pages in a row, where a page is equal to what is to be shown. With the lock. */
 static void settle(struct hold *hold) {
     struct windows *windows = hold->window->windows;
     uint64_t spent = clock_spent_ns();
-    bool was_past[HOLD_MOST], any_file = false;
-    for (size_t i = 0; i < hold->count; i++) {
-        const struct page *page = &hold->window->pages[hold->first + i];
-        was_past[i] = page->shows == 1 && page->past == 1;
-    }
+    bool any_file = false;
     take(hold);
     compare(hold);
     trace_dawdle();
@@ -196,7 +206,6 @@ static void settle(struct hold *hold) {
     let_go(hold);
     note_held(hold, hold->left);
     for (size_t i = 0; i < hold->count; i++) {
-        if (was_past[i] && hold->shown[i]) windows->past--;
         any_file = any_file || (hold->shown[i] && hold->targets[i] != ZEROS);
         note_page(hold, i);
     }
@@ -204,11 +213,11 @@ static void settle(struct hold *hold) {
     windows->counts.map_ns += clock_spent_ns() - spent;
 }
 
-/* Whether a page may be held. With the lock. */
+/* Whether a page may be held. It is asked when it is found idle, and again when it is held, since all of it may have changed. With the lock. */
 static bool can_settle(const struct window *window, size_t number) {
     const struct page *page = &window->pages[number];
-    if (window->ends || page->out == 1 || is_pinned(window, number)) return false;
-    if (page->over == 1 && window->windows->pins != WINDOWS_PINS_NEVER) return false;
+    if (!can_lend(window) || page->out == 1 || is_pinned(window, number)) return false;
+    if (page->over == 1 && page->shows == 0 && may_pin(window->windows)) return false;
     return page->shows == 0 || page->past == 1;
 }
 
@@ -252,7 +261,8 @@ static size_t settle_run(struct windows *windows, const struct batch *batch, siz
         uint32_t target = targets[i + hold.count];
         if (page != hold.first + hold.count || target == WINDOW_NO_FRAME || windows->stuck_count > 0) break;
         if (!can_settle(window, page) || window->pages[page].over != window->pages[hold.first].over) break;
-        if (target == ZEROS && window->pages[page].holds == 1) break;
+        if ((target == ZEROS) == (window->pages[page].holds == 1))
+            break; /* (its loan was given up meanwhile, or is another one) */
         if (!seems_equal(window, page, target)) {
             if (hold.count == 0) note_changed(window, page);
             break;
@@ -269,9 +279,19 @@ static void settle_all(struct windows *windows, struct batch *batch, const uint3
     batch->count = 0;
 }
 
+/* Pages with copies over frames are guarded where they are, so a device that may have pinned one is looked for before. */
+static void find_pins_for(struct windows *windows, const struct batch *batch) {
+    bool any_over = false;
+    lock_for_look(windows);
+    for (size_t i = 0; i < batch->count; i++) any_over = any_over || batch->window->pages[batch->pages[i]].over == 1;
+    if (any_over) find_pins(windows);
+    unlock_set(windows);
+}
+
 void give_zeros_back(struct windows *windows, struct batch *batch) {
     uint32_t targets[WINDOW_BATCH];
     for (size_t i = 0; i < batch->count; i++) targets[i] = ZEROS;
+    find_pins_for(windows, batch);
     settle_all(windows, batch, targets);
 }
 
@@ -311,18 +331,43 @@ static bool ask(struct windows *windows, struct batch *batch) {
     return true;
 }
 
-/* Leaves those pages of the batch that can be lent, and copies them to the lender's buffer, with nothing guarded. */
+/* How many mappings more there may be when a page comes to show a frame: it may be one by itself, between two others. */
+static size_t mappings_added(const struct window *window, size_t page) {
+    size_t most = (page > 0 ? 1u : 0u) + (page + 1 < window->count ? 1u : 0u), now = mappings_of(window, page, 1);
+    return most - now;
+}
+
+/* Leaves those pages of the batch that can be lent, and for which the system has mappings. Takes the lock. */
+static void keep_lendable(struct windows *windows, struct batch *batch) {
+    size_t kept = 0;
+    lock_for_look(windows);
+    size_t mappings = windows->counts.mappings;
+    for (size_t i = 0; i < batch->count; i++) {
+        uint32_t number = batch->pages[i];
+        struct page *page = &batch->window->pages[number];
+        if (!can_settle(batch->window, number) || page->holds == 1) continue;
+        size_t added = mappings_added(batch->window, number);
+        if (added > 0 && mappings + added > windows->mappings_most) {
+            windows->counts.no_mapping++;
+            windows->counts.pause = WINDOWS_CROWDED;
+            page->asks = ASKS_APART_MOST;
+            continue;
+        }
+        mappings += added;
+        batch->fingerprints[kept] = batch->fingerprints[i];
+        batch->pages[kept++] = number;
+    }
+    unlock_set(windows);
+    batch->count = kept;
+}
+
+/* Leaves those pages of the batch that can be lent still, and copies them to the lender's buffer, with nothing guarded. */
 static void copy(struct windows *windows, struct batch *batch) {
     size_t kept = 0;
     lock_for_look(windows);
-    bool is_crowded = windows->counts.mappings + 2 * batch->count + 2 > windows->mappings_most;
-    if (is_crowded) {
-        windows->counts.no_mapping += batch->count;
-        windows->counts.pause = WINDOWS_CROWDED;
-    }
-    for (size_t i = 0; i < batch->count && !is_crowded; i++) {
+    for (size_t i = 0; i < batch->count; i++) {
         uint32_t page = batch->pages[i];
-        if (!can_settle(batch->window, page) || batch->window->pages[page].holds == 1) continue;
+        if (!can_settle(batch->window, page)) continue;
         copy_page(windows->lender.pages[kept], address_of(batch->window, page));
         if (!is_zero(windows->lender.pages[kept])) batch->pages[kept++] = page;
     }
@@ -335,14 +380,16 @@ static void take_loans(struct windows *windows, const struct batch *batch, const
     lock_for_look(windows);
     for (size_t i = 0; i < batch->count; i++) {
         uint32_t number = batch->pages[i];
+        struct page *page = &batch->window->pages[number];
         targets[i] = WINDOW_NO_FRAME;
         if (loans[i].frame == WINDOW_NO_FRAME) {
             windows->counts.no_frame++;
-            batch->window->pages[number].asks = ASKS_APART_MOST;
+            page->asks = ASKS_APART_MOST;
             continue;
         }
-        batch->window->pages[number].slot = loans[i].slot;
-        batch->window->pages[number].holds = 1;
+        /* (nothing but this thread gives a page a slot, so it has none) */
+        page->slot = loans[i].slot;
+        page->holds = 1;
         batch->window->parts[number / PART].releases++;
         if (loans[i].frame >= windows->lender.frame_count) {
             note_failure(windows, WINDOW_LENDER_FAILED, EPROTO);
@@ -358,7 +405,8 @@ void share(struct windows *windows, struct batch *batch) {
     uint32_t numbers[WINDOW_BATCH], targets[WINDOW_BATCH];
     struct window_loan loans[WINDOW_BATCH];
     bool can_ask = windows->has_lender && !windows->lender_waits && batch->count > 0;
-    if (can_ask && ask(windows, batch) && batch->count > 0) copy(windows, batch);
+    if (can_ask) keep_lendable(windows, batch);
+    if (can_ask && batch->count > 0 && ask(windows, batch) && batch->count > 0) copy(windows, batch);
     else batch->count = 0;
     if (batch->count == 0) return;
     for (size_t i = 0; i < batch->count; i++) numbers[i] = batch->window->base + batch->pages[i];
@@ -372,5 +420,6 @@ void share(struct windows *windows, struct batch *batch) {
         return;
     }
     take_loans(windows, batch, loans, targets);
+    find_pins_for(windows, batch);
     settle_all(windows, batch, targets);
 }

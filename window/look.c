@@ -3,6 +3,10 @@
 #include "bytes.h"
 #include "set.h"
 #include <errno.h>
+#include <sys/mman.h>
+
+/* Parts of which a look says MADV_UNMERGEABLE at most, while KSM has merged something. */
+enum { READY_PARTS = 64 };
 
 /* What a look makes of a page. */
 enum finding { FOUND_NOTHING, FOUND_IDLE, FOUND_ZERO };
@@ -57,9 +61,9 @@ static enum finding look_at(struct window *window, size_t number, uint8_t found,
         find_copy(window, number);
         return FOUND_NOTHING;
     }
-    bool can_be_lent = (found == PAGE_PRESENT || is_past) && page->holds == 0 && window->advice.dont_fork && !window->ends;
+    bool can_be_lent = (found == PAGE_PRESENT || is_past) && page->holds == 0 && can_lend(window) && number < window->ready;
     if (!can_be_lent || is_pinned(window, number)) return FOUND_NOTHING;
-    if (page->over == 1 && windows->pins != WINDOWS_PINS_NEVER) return FOUND_NOTHING;
+    if (page->over == 1 && page->shows == 0 && may_pin(windows)) return FOUND_NOTHING;
     return take_fingerprint(window, number, fingerprint);
 }
 
@@ -76,6 +80,22 @@ static void trace_part(struct window *window, size_t first, size_t count) {
     }
 }
 #endif
+
+/*
+ * Says of a part that KSM leaves it alone. That undoes what KSM has merged there, so a look does it for some parts only while there is
+ * something to undo. `*left`: for how many more. With the lock.
+ */
+static void make_ready(struct window *window, size_t first, size_t count, size_t *left) {
+    if (first + count <= window->ready || first > window->ready || *left == 0 || window->ended) return;
+    for (size_t done = 0, run = 0; done < count; done += run) {
+        run = alike(window, first + done, count - done);
+        if (!is_here(window, first + done)) continue;
+        int cause = advice_say(address_of(window, first + done), run, MADV_UNMERGEABLE);
+        if (cause != 0) window->windows->advice_cause = cause;
+    }
+    window->ready = first + count;
+    --*left;
+}
 
 /* Whether this look leaves a part out. */
 static bool rests(struct part *part) {
@@ -95,7 +115,7 @@ static void set_rest(const struct windows *windows, struct part *part, const str
 }
 
 /* Looks at a part. Returns false where the window has ended. Takes the lock. */
-static bool look_at_part(struct window *window, size_t first, size_t count, struct findings *findings) {
+static bool look_at_part(struct window *window, size_t first, size_t count, struct findings *findings, size_t *unready) {
     struct windows *windows = window->windows;
     uint8_t found[PART];
     uint16_t own = 0;
@@ -107,6 +127,7 @@ static bool look_at_part(struct window *window, size_t first, size_t count, stru
         unlock_set(windows);
         return true;
     }
+    make_ready(window, first, count, unready);
     int cause = goes_on ? pagemap_find(&windows->pagemap, address_of(window, first), count, found) : 0;
     if (cause != 0) note_failure(windows, WINDOW_NO_PAGEMAP, cause);
     for (size_t i = 0; i < count && goes_on && cause == 0; i++) {
@@ -137,13 +158,13 @@ static void add(struct batch *batch, const struct findings *findings, size_t i) 
     batch->fingerprints[batch->count++] = findings->fingerprints[i];
 }
 
-static void look_at_window(struct windows *windows, struct window *window) {
+static void look_at_window(struct windows *windows, struct window *window, size_t *unready) {
     struct findings findings;
     struct batch zeros = {.window = window}, idle = {.window = window};
     bool goes_on = true;
     for (size_t first = 0; first < window->count && goes_on; first += PART) {
         size_t count = window->count - first < PART ? window->count - first : PART;
-        goes_on = look_at_part(window, first, count, &findings);
+        goes_on = look_at_part(window, first, count, &findings, unready);
         for (size_t i = 0; i < findings.count; i++) {
             struct batch *batch = findings.zero[i] ? &zeros : &idle;
             add(batch, &findings, i);
@@ -166,7 +187,9 @@ struct slots {
 
 static void collect_part(struct slots *slots, struct window *window, size_t first) {
     for (size_t page = first; page < window->count && page < first + PART && slots->count < WINDOW_BATCH; page++) {
-        if (window->pages[page].holds == 0 || window->pages[page].shows == 1) continue;
+        const struct page *its = &window->pages[page];
+        if (its->holds == 0 || (its->shows == 1 && its->past == 0)) continue;
+        if (is_in_transfer(window, page)) continue; /* (a device may be reading the frame, as the page showed it when it began) */
         slots->slots[slots->count] = window->pages[page].slot;
         slots->windows[slots->count] = window;
         slots->pages[slots->count++] = (uint32_t)page;
@@ -223,24 +246,33 @@ static void free_ended(struct windows *windows) {
     unlock_set(windows);
 }
 
-/* Whether memory of a window is locked. */
-static bool is_any_locked(struct windows *windows) {
-    bool is_locked = false;
+/* Whether a page between two addresses is in a window. Takes the lock. */
+static bool has_page_between(void *set, const uint8_t *begin, const uint8_t *end) {
+    struct windows *windows = set;
+    bool has = false;
     lock_for_look(windows);
-    for (struct window *window = windows->first; window != NULL && !is_locked; window = window->next) {
-        struct range_facts facts;
-        if (!window->ended && range_read(&facts, window->at, window->count) == 0) is_locked = facts.is_locked;
+    for (struct window *window = windows->first; window != NULL && !has; window = window->next) {
+        const uint8_t *at = window->at, *stop = address_of(window, window->count);
+        if (window->ended || begin >= stop || end <= at) continue;
+        size_t page = begin > at ? (size_t)(begin - at) / WINDOW_PAGE_BYTES : 0;
+        for (; page < window->count && address_of(window, page) < end && !has; page++) has = window->pages[page].out == 0;
     }
     unlock_set(windows);
-    return is_locked;
+    return has;
 }
 
-/* Looks whether memory was locked since the last look. */
+/*
+ * Looks whether memory of a window was locked since the last look. That takes reading smaps, long where there are many mappings, so it is
+ * done for a small part of the time only, and never with the lock.
+ */
 static void look_for_locks(struct windows *windows) {
+    enum { TIMES = 50 };
     size_t kib = locked_kib();
-    if (kib == windows->locked_kib) return;
+    uint64_t begun = clock_now_ns();
+    if (kib == windows->locked_kib || (kib > 0 && begun < windows->locks_after_ns)) return;
     windows->locked_kib = kib;
-    windows->is_locked = kib > 0 && is_any_locked(windows);
+    windows->is_locked = kib > 0 && locked_any(has_page_between, windows);
+    windows->locks_after_ns = begun + TIMES * (clock_now_ns() - begun);
     if (windows->is_locked) {
         take_all_home(windows);
         return;
@@ -258,6 +290,7 @@ static bool begin(struct windows *windows) {
     lock_for_look(windows);
     int cause = free_stuck(windows);
     windows->counts.looks++;
+    find_pins(windows);
     windows->counts.pause = !windows->has_lender ? WINDOWS_NO_LENDER : WINDOWS_LENDING;
     if (windows->is_locked) windows->counts.pause = WINDOWS_LOCKED;
     if (cause != 0) windows->counts.pause = WINDOWS_HELD;
@@ -276,11 +309,12 @@ struct window_result windows_look(struct windows *windows) {
     windows->lender_waits = false;
     windows->fingerprint_of_zeros = fingerprint_of(windows->lender.salt, zeros);
     bool can_look = begin(windows);
+    size_t unready = merged_kib() > 0 ? READY_PARTS : SIZE_MAX;
     release_slots(windows);
     lock_for_look(windows);
     struct window *window = windows->first;
     unlock_set(windows);
-    for (; window != NULL && can_look && !windows->is_locked; window = window->next) look_at_window(windows, window);
+    for (; window != NULL && can_look && !windows->is_locked; window = window->next) look_at_window(windows, window, &unready);
     release_slots(windows);
     free_ended(windows);
     lock_for_look(windows);

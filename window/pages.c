@@ -16,10 +16,60 @@ void lock_for_look(struct windows *windows) {
     pthread_mutex_lock(&windows->lock);
 }
 
+bool is_in_transfer(const struct window *window, size_t page) {
+    const struct windows *windows = window->windows;
+    const uint8_t *at = address_of(window, page);
+    for (size_t i = 0, left = windows->transfers_count; left > 0 && i < TRANSFERS_MOST; i++) {
+        const struct transfer *transfer = &windows->transfers[i];
+        if (transfer->begin == NULL) continue;
+        if (at < transfer->end && transfer->begin < at + WINDOW_PAGE_BYTES) return true;
+        left--;
+    }
+    return false;
+}
+
+bool is_pinned(const struct window *window, size_t page) {
+    return (window->pins != NULL && window->pins[page] > 0) || is_in_transfer(window, page);
+}
+
+void find_pins(struct windows *windows) {
+    if (windows->find_pins == NULL || windows->pins != WINDOWS_PINS_NEVER) return;
+    if (windows->find_pins(windows->find_pins_opaque) != WINDOWS_PINS_NEVER) windows->pins = WINDOWS_PINS_POSSIBLE;
+}
+
+size_t alike(const struct window *window, size_t first, size_t most) {
+    const struct page *pages = window->pages + first;
+    size_t count = 1;
+    while (count < most && pages[count].over == pages[0].over && pages[count].out == pages[0].out) count++;
+    return count;
+}
+
 bool are_one_mapping(const struct page *before, const struct page *after) {
-    if (before->over == 0 || after->over == 0) return before->over == after->over;
+    if (before->over != after->over) return false;
+    if (before->over == 0) return before->moved == after->moved && after->begins == 0;
     return before->past == after->past && before->frame + 1 == after->frame;
 }
+
+/* Notes what lies at the place of pages in a row since now: frames, or memory of their own. What they showed before they don't show. */
+static void note_memory(struct window *window, size_t first, size_t count, uint32_t frame, bool is_moved) {
+    struct windows *windows = window->windows;
+    bool is_file = frame != ZEROS;
+    windows->counts.mappings -= mappings_of(window, first, count);
+    for (size_t i = 0; i < count; i++) {
+        struct page *page = &window->pages[first + i];
+        stop_showing(window, first + i);
+        page->over = is_file ? 1 : 0;
+        page->past = 0;
+        page->frame = is_file ? (frame + (uint32_t)i) & (WINDOW_FRAMES_MOST - 1) : 0;
+        page->moved = is_moved ? 1 : 0;
+        page->begins = is_moved && i == 0 ? 1 : 0;
+    }
+    /* (what was moved before and lost its first page begins here) */
+    if (first + count < window->count && window->pages[first + count].moved == 1) window->pages[first + count].begins = 1;
+    windows->counts.mappings += mappings_of(window, first, count);
+}
+
+void note_moved(struct window *window, size_t first, size_t count) { note_memory(window, first, count, ZEROS, true); }
 
 size_t mappings_of(const struct window *window, size_t first, size_t count) {
     size_t found = 0;
@@ -34,28 +84,23 @@ void stop_showing(struct window *window, size_t number) {
     page->shows = 0;
     page->looks = 0;
     page->asks = 0;
-    if (page->past == 1) window->windows->past--;
-    if (page->holds == 0) return;
+    if (page->past == 1) {
+        /* (a slot that it holds is another lender's, and is to be released already) */
+        window->windows->past--;
+        return;
+    }
     window->windows->counts.lent--;
     window->parts[number / PART].releases++;
 }
 
-int map_pages(struct window *window, size_t first, size_t count, uint32_t frame) {
+int map_pages(struct window *window, size_t first, size_t count, uint32_t frame, int protection) {
     struct windows *windows = window->windows;
     bool is_file = frame != ZEROS;
     int kind = MAP_PRIVATE | MAP_FIXED | MAP_NORESERVE | (is_file ? 0 : MAP_ANONYMOUS);
     off_t from = is_file ? (off_t)bytes_of(frame) : 0;
     void *at = address_of(window, first);
-    if (mmap(at, bytes_of(count), PROT_READ | PROT_WRITE, kind, is_file ? windows->frames_fd : NO_FILE, from) == MAP_FAILED)
-        return errno;
-    windows->counts.mappings -= mappings_of(window, first, count);
-    for (size_t i = 0; i < count; i++) {
-        struct page *page = &window->pages[first + i];
-        page->over = is_file ? 1 : 0;
-        page->past = 0;
-        page->frame = is_file ? (frame + (uint32_t)i) & (WINDOW_FRAMES_MOST - 1) : 0;
-    }
-    windows->counts.mappings += mappings_of(window, first, count);
+    if (mmap(at, bytes_of(count), protection, kind, is_file ? windows->frames_fd : NO_FILE, from) == MAP_FAILED) return errno;
+    note_memory(window, first, count, frame, false);
     if (!is_file) say_again(window, first, count, false);
     return 0;
 }
@@ -106,8 +151,9 @@ int free_stuck(struct windows *windows) {
         int failed = 0;
         if (stuck.scratch != NOWHERE) {
             failed = faults_put(&windows->faults, at, windows->scratch + bytes_of(stuck.scratch), &remapped);
-            any = any || remapped;
+            any = any || (failed == 0 && remapped);
             if (failed == 0) stuck.scratch = NOWHERE;
+            if (failed == 0 && remapped) note_moved(stuck.window, stuck.page, 1);
         }
         if (failed == 0) failed = faults_end_watch(&windows->faults, at, 1);
         if (failed == 0) {

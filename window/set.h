@@ -16,6 +16,7 @@ enum {
     STILL = 3,           /* looks with the same fingerprint that make a page idle */
     ASKS_APART_MOST = 3, /* a page that nobody else has is asked about at each 2^n-th look, n up to this */
     PINS_MOST = UINT16_MAX,
+    TRANSFERS_MOST = 128, /* transfers under way that are kept by their places */
     FINGERPRINT_BITS = 24
 };
 
@@ -23,8 +24,11 @@ enum {
 static const uint32_t ZEROS = WINDOW_NO_FRAME - 1;
 
 /*
- * A page. It is lent if it shows; it was copied, or given up, and its slot is to be released, if it holds a slot and doesn't show;
- * it shows and holds none if its lender is gone.
+ * A page. It is lent if it shows a frame that is not of the past. A slot that it holds otherwise is to be released: the page was copied
+ * or given up, or shows a frame of the past still.
+ *
+ * A page that has left its window is the caller's alone, unless a frame is mapped at its place still: then its own copy, which a device
+ * may have pinned, stays where it is. Nothing is lent of it any more, but a discard must not uncover the frame.
  */
 struct page {
     uint64_t slot;
@@ -38,6 +42,8 @@ struct page {
     uint32_t fingerprint : FINGERPRINT_BITS; /* its last bits, at the last look */
     uint32_t looks : 2;                      /* looks with that fingerprint, at most STILL */
     uint32_t asks : 3;                       /* how often it was asked about in vain, at most ASKS_APART_MOST */
+    uint32_t moved : 1;  /* its memory was moved to its place, and so is in no mapping with what is beside it */
+    uint32_t begins : 1; /* it is the first page of what was moved */
 };
 
 /* PART pages of a window. */
@@ -59,8 +65,14 @@ struct window {
     uint16_t *pins;      /* of each page; NULL: none was pinned yet */
     struct advice found; /* what was said of the range before it was a window */
     struct advice advice;
-    bool ends;  /* nothing is lent of it any more */
-    bool ended; /* the range is the caller's again; only slots are left to release */
+    size_t ready; /* its pages before this one are left alone by KSM */
+    bool ends;    /* nothing is lent of it any more */
+    bool ended;   /* the range is the caller's again; only slots are left to release */
+};
+
+/* Memory of which a transfer by O_DIRECT is under way, which may have pinned its pages. `begin` is NULL where there is none. */
+struct transfer {
+    const uint8_t *begin, *end;
 };
 
 /* A page that was held and could not be let go. `scratch`: its place in the scratch area, or NOWHERE if it is at its own. */
@@ -89,9 +101,16 @@ struct windows {
     size_t stuck_count;
     size_t past; /* pages that show frames of a lender that is gone */
     enum windows_pins pins;
+    enum windows_pins (*find_pins)(void *opaque);
+    void *find_pins_opaque;
+    struct transfer transfers[TRANSFERS_MOST];
+    size_t transfers_count;     /* how many places have one */
+    size_t transfers_elsewhere; /* transfers under way that have no place there */
     size_t mappings_most, locked_kib;
+    uint64_t locks_after_ns; /* smaps isn't read before this time */
     unsigned rest_most;
     bool is_locked;
+    bool is_over;     /* nothing is lent any more, for good */
     int advice_cause; /* what the system refused advice with, since the last look; or 0 */
     struct windows_counts counts;
     const char *trace_path;
@@ -113,7 +132,26 @@ static inline struct window_result result_of(enum window_status status, int caus
     return (struct window_result){.status = status, .cause = cause};
 }
 
-static inline bool is_pinned(const struct window *window, size_t page) { return window->pins != NULL && window->pins[page] > 0; }
+/* Whether a page is the window's: no other may be touched. */
+static inline bool is_here(const struct window *window, size_t page) {
+    return window->pages[page].out == 0 || window->pages[page].over == 1;
+}
+
+/* Whether anything of a window may be lent. A child of a fork would go on showing frames that are released. With the lock. */
+static inline bool can_lend(const struct window *window) {
+    return window->advice.dont_fork && !window->ends && !window->windows->is_over;
+}
+
+/* Whether a transfer of a page is under way. With the lock. */
+bool is_in_transfer(const struct window *window, size_t page);
+/* Whether that, or window_pin, says that a page may be pinned. With the lock. */
+bool is_pinned(const struct window *window, size_t page);
+/* Whether any page with a copy over a frame may be pinned, for all that is known. With the lock. */
+static inline bool may_pin(const struct windows *windows) {
+    return windows->pins != WINDOWS_PINS_NEVER || windows->transfers_elsewhere > 0;
+}
+/* Asks whether devices may pin pages by now. With the lock, or by the looking thread. */
+void find_pins(struct windows *windows);
 
 /* For all threads but the looking one. */
 static inline void lock_set(struct windows *windows) {
@@ -147,8 +185,11 @@ int make_scratch(struct windows *windows);
 /* Discards what is in the scratch area, unless something is stuck there. Returns 0 or an errno. With the lock. */
 int clear_scratch(struct windows *windows);
 
-/* Maps frames in a row in place of pages, or zeros. Returns 0 or an errno, and then nothing has changed. */
-int map_pages(struct window *window, size_t first, size_t count, uint32_t frame);
+/* Notes that pages in a row have memory of their own at their place, which was moved there. */
+void note_moved(struct window *window, size_t first, size_t count);
+
+/* Maps frames in a row in place of pages, or zeros, with this protection. Returns 0 or an errno, and then nothing has changed. */
+int map_pages(struct window *window, size_t first, size_t count, uint32_t frame, int protection);
 
 /* Says of pages that were mapped anew what was said of the window; frames are among them, or only memory of their own. With the lock. */
 void say_again(struct window *window, size_t first, size_t count, bool is_file);
@@ -167,8 +208,16 @@ struct window_result for_parts(struct window *window, size_t first, size_t count
 /* Frees a window's tables. */
 void free_window(struct window *window);
 
-/* Gives pages, at most PART, memory of their own in place of frames and copies of frames. With the lock. */
+/* How many pages from `first` on, of at most `most`, are in the window, or not, and over frames, or not, as the first one is. */
+size_t alike(const struct window *window, size_t first, size_t most);
+
+/*
+ * Gives pages, at most PART, memory of their own in place of frames and of copies of frames. A copy that a device may have pinned stays
+ * where it is, over its frame. With the lock.
+ */
 struct window_result take_home(struct window *window, size_t first, size_t count);
+/* Says of pages in the window, but for those over frames, what was said of them before. What the system refuses the next look reports. */
+void end_advice(struct window *window, size_t first, size_t count);
 /* Takes everything home, in parts, since the windows' memory is locked. Takes the lock. */
 void take_all_home(struct windows *windows);
 

@@ -24,9 +24,15 @@ static bool find_numbers(const struct windows *windows, size_t count, uint32_t *
     return from + count <= UINT32_MAX;
 }
 
+/* Whether a page of the range is another window's. Pages that have left one may become a new one's. */
 static bool meets_other(const struct windows *windows, const uint8_t *at, size_t pages) {
-    for (const struct window *window = windows->first; window != NULL; window = window->next)
-        if (!window->ended && at < window->at + bytes_of(window->count) && window->at < at + bytes_of(pages)) return true;
+    const uint8_t *end = at + bytes_of(pages);
+    for (const struct window *window = windows->first; window != NULL; window = window->next) {
+        if (window->ended || at >= address_of(window, window->count) || end <= window->at) continue;
+        size_t page = at > window->at ? (size_t)(at - window->at) / WINDOW_PAGE_BYTES : 0;
+        for (; page < window->count && address_of(window, page) < end; page++)
+            if (is_here(window, page)) return true;
+    }
     return false;
 }
 
@@ -56,6 +62,10 @@ static struct window *make_tables(struct windows *windows, void *at, size_t page
 static struct window_result prepare(struct window *window, const struct range_facts *facts, unsigned flags) {
     window->found = window->advice = facts->advice;
     int cause = advice_begin(window->at, window->count);
+    if (cause == 0 && merged_kib() == 0) {
+        cause = advice_say(window->at, window->count, MADV_UNMERGEABLE);
+        window->ready = window->count;
+    }
     if (cause == 0 && (flags & WINDOW_NO_CHILD) != 0) {
         window->advice.dont_fork = true;
         if (madvise(window->at, bytes_of(window->count), MADV_DONTFORK) < 0) cause = errno;
@@ -94,28 +104,47 @@ static void set_ends(struct window *window, bool ends) {
     unlock_set(window->windows);
 }
 
+/* Whether frames lie under pages of a window, or of those that have left it. Takes the lock. */
+static bool has_frames(struct window *window) {
+    bool has = false;
+    lock_set(window->windows);
+    for (size_t page = 0; page < window->count && !has; page++) has = window->pages[page].over == 1;
+    unlock_set(window->windows);
+    return has;
+}
+
 struct window_result window_free(struct window *window, enum window_end end) {
     if (window == NULL) return result_of(WINDOW_OK, 0);
     struct windows *windows = window->windows;
     set_ends(window, true);
     struct window_result result =
         end == WINDOW_TAKE_HOME ? for_parts(window, 0, window->count, take_home) : window_discard(window, 0, window->count);
+    if (result.status == WINDOW_OK && end == WINDOW_TAKE_HOME && has_frames(window)) result = result_of(WINDOW_PINNED, EBUSY);
     if (result.status != WINDOW_OK) {
         set_ends(window, false);
         return result;
     }
-    uint8_t *at = window->at;
-    size_t count = window->count;
-    struct advice found = window->found;
     lock_set(windows);
     windows->counts.windows--;
-    windows->counts.pages -= count;
-    windows->counts.mappings -= 1 + mappings_of(window, 0, count);
-    for (size_t page = 0; page < count; page++) note_zero(window, page, false);
-    window->ended = window->ends = true;
+    windows->counts.pages -= window->count;
+    windows->counts.mappings -= 1 + mappings_of(window, 0, window->count);
+    for (size_t page = 0; page < window->count; page++) note_zero(window, page, false);
+    end_advice(window, 0, window->count);
+    window->ended = window->ends = true; /* (the looking thread may free it from now on) */
     unlock_set(windows);
-    int cause = advice_end(&found, at, count);
-    return cause == 0 ? result : result_of(WINDOW_ADVICE, cause);
+    return result;
+}
+
+/* Says something of all pages that are the window's. Returns 0 or the first errno. With the lock. */
+static int say_everywhere(struct window *window, int advice) {
+    int cause = 0;
+    for (size_t page = 0, end = 0; page < window->count; page = end) {
+        for (end = page + 1; end < window->count && is_here(window, end) == is_here(window, page); end++) {
+        }
+        if (is_here(window, page) && madvise(address_of(window, page), bytes_of(end - page), advice) < 0 && cause == 0)
+            cause = errno;
+    }
+    return cause;
 }
 
 struct window_result window_advise(struct window *window, int advice) {
@@ -130,11 +159,11 @@ struct window_result window_advise(struct window *window, int advice) {
     /* (a child would go on showing frames that are released) */
     if (advice == MADV_DOFORK) result = for_parts(window, 0, window->count, take_home);
     if (result.status != WINDOW_OK) return result;
-    if (madvise(window->at, bytes_of(window->count), advice) < 0) return result_of(WINDOW_ADVICE, errno);
     lock_set(windows);
-    if (advice == MADV_DONTFORK) window->advice.dont_fork = true;
+    int cause = say_everywhere(window, advice);
+    if (advice == MADV_DONTFORK && cause == 0) window->advice.dont_fork = true;
     unlock_set(windows);
-    return result;
+    return cause == 0 ? result : result_of(WINDOW_ADVICE, cause);
 }
 
 enum window_page window_page_is(struct window *window, size_t page) {

@@ -5,7 +5,9 @@
  *   private: memory of its own;
  *   lent:    a frame of the lender's file is mapped in its place, privately, and nothing guards it;
  *   copied:  it was lent and somebody wrote to it, so the kernel made a private copy over the frame. A later look finds the copy, and
- *            only then is the page's slot released.
+ *            only then is the page's slot released;
+ *   out:     it has left the window. Nothing is lent of it again. Where a device may have pinned its copy, the copy stays over the frame:
+ *            then the page is the window's for discards still.
  * So a write waits for nobody: to a lent page it costs the kernel's own copy. A page is held only for the moment in which it is
  * compared with its frame, byte by byte, and the frame is mapped. No lender is called meanwhile.
  *
@@ -13,8 +15,8 @@
  * time, but windows_free. Nobody waits long: the lock inside is never held while a lender is called, nor over a long run of pages.
  *
  * What whoever uses the memory owes:
- * - Nobody discards (madvise), maps, unmaps, moves or protects a part of a window: window_discard and window_cut are there for it. A
- *   private page can be the copy of a frame, and a discard would uncover the frame.
+ * - Nobody discards (madvise), maps, unmaps, moves or protects a part of a window: window_discard, window_cut and window_forget are
+ *   there for it. A private page can be the copy of a frame, and a discard would uncover the frame.
  * - Nobody else registers a part of a window with a userfaultfd, or locks its memory (mlock): window_cut or window_free first.
  * - Devices that write to pages by their physical addresses: see enum windows_pins.
  */
@@ -37,9 +39,9 @@ enum window_status {
     WINDOW_BAD_MEMORY,    /* not private anonymous memory that is readable and writable, or not of one kind throughout */
     WINDOW_BAD_LENDER,    /* a lender's parts are missing or out of range, or its file isn't that large */
     WINDOW_HAS_LENDER,    /* windows_attach without windows_detach */
-    WINDOW_PINNED,        /* pages that window_pin counts would have to leave their memory */
+    WINDOW_PINNED,        /* pages that a device may have pinned would have to leave their memory */
     WINDOW_TOO_MANY_PINS, /* a page is pinned 65,535 times */
-    WINDOW_NO_MAPPING,    /* the system has no mapping, or no memory for one: nothing has changed */
+    WINDOW_NO_MAPPING,    /* the system has no mapping, or no memory: the pages show what they showed */
     WINDOW_STUCK, /* the system refused to put pages back that were held: the next look tries again. Whoever uses them waits */
     WINDOW_LENDER_FAILED, /* the lender returned `cause` */
     WINDOW_ADVICE,        /* the system refused to set a range's advice or memory policy again */
@@ -57,15 +59,23 @@ struct windows;
 struct window;
 
 /*
- * Whether a device, or the kernel for one, may write to pages by their physical addresses: O_DIRECT, io_uring's buffers, VFIO,
- * vhost with pinned pages. Where it may, only pages are lent that UFFDIO_MOVE takes (Linux 6.8), which refuses pinned pages. A page
- * that was lent once and copied can't be moved, and so stays private from then on.
+ * Whether a device, or the kernel for one, may write to pages by their physical addresses: io_uring's buffers, io_submit on files that
+ * were opened with O_DIRECT, VFIO, vhost with pinned pages. Where it may, only pages are lent that UFFDIO_MOVE takes (Linux 6.8), which
+ * refuses pinned pages, and pages that show a frame. A page that was lent once and copied can't be moved, and so stays private from
+ * then on; and it is never copied to other memory. Transfers of windows_transfer_begin aren't counted as such.
  */
 enum windows_pins { WINDOWS_PINS_POSSIBLE, WINDOWS_PINS_NEVER };
 
 /* Zeros are good defaults. */
 struct windows_config {
     enum windows_pins pins;
+    /*
+     * Looks whether devices may pin pages by now; NULL: the set is told by windows_set_pins alone. It is called before pages with copies
+     * over frames are held or copied, also with the lock, so it calls nothing of windows. Once the answer was WINDOWS_PINS_POSSIBLE it
+     * isn't asked again.
+     */
+    enum windows_pins (*find_pins)(void *opaque);
+    void *find_pins_opaque;
     int faults;           /* a descriptor of /dev/userfaultfd, for who may not open it; 0: it is opened. Stays the caller's */
     size_t mappings_most; /* mappings that windows may need in all; 0: the system's limit less 2,000 */
     uint8_t
@@ -94,6 +104,25 @@ int windows_each_slot(struct windows *windows, int (*each)(void *opaque, uint32_
 /* Devices may pin from now on, or no longer. */
 void windows_set_pins(struct windows *windows, enum windows_pins pins);
 
+/*
+ * A transfer from a file to `bytes` of memory, or back, is about to begin that may pin pages (O_DIRECT) until it ends. Meanwhile pages
+ * there aren't held, copies aren't copied to other memory, and slots aren't released. Returns what windows_transfer_end takes. The
+ * memory may be a window's, in part or not at all.
+ */
+size_t windows_transfer_begin(struct windows *windows, const void *at, size_t bytes);
+void windows_transfer_end(struct windows *windows, size_t transfer);
+
+/* Nothing is lent any more, for good. Pages that show frames go on showing them until they are taken home. */
+void windows_end(struct windows *windows);
+
+/*
+ * Between these two calls nothing is held, mapped or taken home, so that the caller may unmap pages of windows, or map something else in
+ * their place: by one call of the system and window_forget for each part of a window, by the same thread. Returns 0, or an errno where
+ * pages are stuck: then windows_resume isn't called.
+ */
+int windows_pause(struct windows *windows);
+void windows_resume(struct windows *windows);
+
 enum {
     WINDOW_NO_CHILD = 1 /* no child of a fork needs the range, so MADV_DONTFORK is said for it */
 };
@@ -112,16 +141,23 @@ enum window_end {
 };
 /*
  * Ends a window; the range is the caller's again, and window means nothing any more. Slots are released by later looks. Where the
- * status isn't WINDOW_OK the window is as it was, but that some pages may be private. NULL is no window.
+ * status isn't WINDOW_OK the window is as it was, but that some pages may be private: WINDOW_PINNED where copies have to stay over
+ * their frames. Pages that have left the window are left alone. NULL is no window.
  */
 struct window_result window_free(struct window *window, enum window_end end);
 
-/* Says `advice` for the whole window, now and for frames that are mapped later: MADV_DONTFORK, MADV_DOFORK, MADV_DONTDUMP or
+/* Says `advice` for all pages of the window, now and for frames that are mapped later: MADV_DONTFORK, MADV_DOFORK, MADV_DONTDUMP or
  * MADV_DODUMP; else WINDOW_ADVICE with EINVAL. */
 struct window_result window_advise(struct window *window, int advice);
 
-/* The pages' content is given up: they are zeros and take no memory. Those that leave a window are zeroed, too. */
+/*
+ * The pages' content is given up: they are zeros and take no memory. Pages that aren't the window's any more are left alone. Where the
+ * status isn't WINDOW_OK some pages may still have their content.
+ */
 struct window_result window_discard(struct window *window, size_t first, size_t count);
+
+/* How many pages from `first` on, of at most `most` (at least 1), are all the window's or all not; and which: see window_cut. */
+size_t window_run(struct window *window, size_t first, size_t most, bool *is_its);
 
 /*
  * Pages are about to be pinned by a device, and get memory of their own until window_unpin was called as often as window_pin. A page
@@ -130,8 +166,15 @@ struct window_result window_discard(struct window *window, size_t first, size_t 
 struct window_result window_pin(struct window *window, size_t first, size_t count);
 struct window_result window_unpin(struct window *window, size_t first, size_t count);
 
-/* Pages get memory of their own and leave the window for good: their range is the caller's to unmap, protect, lock or move. */
-struct window_result window_cut(struct window *window, size_t first, size_t count);
+/*
+ * Pages get memory of their own and leave the window for good. `*kept` counts those of them whose copies have to stay over frames, since
+ * a device may have pinned them. If it is 0 the range is the caller's. Otherwise the caller may protect and lock the range, but discards
+ * pages by window_discard alone, unmaps them by windows_pause, and doesn't move them. `kept` may be NULL.
+ */
+struct window_result window_cut(struct window *window, size_t first, size_t count, size_t *kept);
+
+/* Pages were unmapped, or something else was mapped in their place. They have left the window. Between windows_pause and _resume. */
+void window_forget(struct window *window, size_t first, size_t count);
 
 /*
  * A look at all windows, to be called once a second or so:
@@ -155,13 +198,14 @@ enum windows_pause {
 
 enum { WINDOWS_TIMES = 24 };
 
-/* Counts of a set, since it was made, but for the first seven. */
+/* Counts of a set, since it was made, but for the first eight. */
 struct windows_counts {
     enum windows_pause pause;
     size_t windows, pages;
-    size_t lent;        /* pages that show a frame, and weren't found copied */
-    size_t zeros_now;   /* pages that were given back as zeros, and weren't found written */
-    size_t mappings;    /* of the system, that windows take */
+    size_t lent;      /* pages that show a frame, and weren't found copied */
+    size_t zeros_now; /* pages that were given back as zeros, and weren't found written */
+    size_t mappings;  /* of the system, that windows take */
+    size_t mappings_most;
     size_t table_bytes; /* of tables */
     uint64_t looks, lends, copied, zeros, discarded, taken_home;
     uint64_t asked, seen;          /* questions, and those of pages that were seen elsewhere */

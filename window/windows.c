@@ -56,6 +56,8 @@ struct window_result windows_make(struct windows **made, const struct windows_co
     pthread_mutex_init(&windows->lock, NULL);
     windows->faults.fd = windows->pagemap.fd = windows->frames_fd = NO_FILE;
     windows->pins = config->pins;
+    windows->find_pins = config->find_pins;
+    windows->find_pins_opaque = config->find_pins_opaque;
     windows->trace_path = config->trace;
     windows->mappings_most = config->mappings_most;
     windows->rest_most = config->rest_most;
@@ -63,6 +65,7 @@ struct window_result windows_make(struct windows **made, const struct windows_co
         size_t limit = mappings_limit();
         windows->mappings_most = limit > MAPPINGS_SPARE ? limit - MAPPINGS_SPARE : 0;
     }
+    windows->counts.mappings_most = windows->mappings_most;
     windows->counts.pause = WINDOWS_NO_LENDER;
     struct window_result result = open_parts(windows, config);
     if (result.status == WINDOW_OK) *made = windows;
@@ -140,11 +143,10 @@ static void detach_window(struct window *window) {
     struct windows *windows = window->windows;
     for (size_t i = 0; i < window->count; i++) {
         struct page *page = &window->pages[i];
-        if (page->over == 1) {
-            if (page->shows == 1 && page->past == 0) windows->past++;
-            page->past = 1;
-        }
-        if (page->shows == 1 && page->holds == 1) windows->counts.lent--;
+        bool is_lent = page->shows == 1 && page->past == 0;
+        if (is_lent) windows->past++;
+        if (is_lent) windows->counts.lent--;
+        if (page->over == 1) page->past = 1;
         page->holds = 0;
         page->looks = 0;
     }
@@ -167,7 +169,8 @@ int windows_each_slot(struct windows *windows, int (*each)(void *opaque, uint32_
     for (struct window *window = windows->first; window != NULL && stopped == 0; window = window->next)
         for (size_t i = 0; i < window->count && stopped == 0; i++) {
             const struct page *page = &window->pages[i];
-            if (page->holds == 1) stopped = each(opaque, window->base + (uint32_t)i, page->slot, page->shows == 1);
+            bool is_lent = page->shows == 1 && page->past == 0;
+            if (page->holds == 1) stopped = each(opaque, window->base + (uint32_t)i, page->slot, is_lent);
         }
     unlock_set(windows);
     return stopped;
@@ -178,6 +181,46 @@ void windows_set_pins(struct windows *windows, enum windows_pins pins) {
     windows->pins = pins;
     unlock_set(windows);
 }
+
+size_t windows_transfer_begin(struct windows *windows, const void *at, size_t bytes) {
+    size_t place = 0;
+    lock_set(windows);
+    while (place < TRANSFERS_MOST && windows->transfers[place].begin != NULL) place++;
+    if (place < TRANSFERS_MOST) {
+        windows->transfers[place] = (struct transfer){.begin = at, .end = (const uint8_t *)at + bytes};
+        windows->transfers_count++;
+    } else {
+        windows->transfers_elsewhere++;
+    }
+    unlock_set(windows);
+    return place;
+}
+
+void windows_transfer_end(struct windows *windows, size_t transfer) {
+    lock_set(windows);
+    if (transfer < TRANSFERS_MOST) {
+        windows->transfers[transfer].begin = NULL;
+        windows->transfers_count--;
+    } else {
+        windows->transfers_elsewhere--;
+    }
+    unlock_set(windows);
+}
+
+void windows_end(struct windows *windows) {
+    lock_set(windows);
+    windows->is_over = true;
+    unlock_set(windows);
+}
+
+int windows_pause(struct windows *windows) {
+    lock_set(windows);
+    int cause = free_stuck(windows);
+    if (cause != 0) unlock_set(windows);
+    return cause;
+}
+
+void windows_resume(struct windows *windows) { unlock_set(windows); }
 
 void windows_count(struct windows *windows, struct windows_counts *counts) {
     lock_set(windows);

@@ -70,6 +70,33 @@ static inline void look_often(struct fixture *fixture, int looks) {
     for (int i = 0; i < looks; i++) windows_look(fixture->windows);
 }
 
+static inline bool are_bytes(const uint8_t *at, int byte) {
+    for (size_t i = 0; i < PAGE; i++)
+        if (at[i] != byte) return false;
+    return true;
+}
+
+/* Mappings of the system that meet pages. */
+static inline size_t mappings_in(const uint8_t *at, size_t pages) {
+    char line[512];
+    uintptr_t begin, end;
+    size_t count = 0;
+    FILE *file = fopen("/proc/self/maps", "r");
+    while (file != NULL && fgets(line, sizeof line, file) != NULL)
+        if (sscanf(line, "%lx-%lx ", &begin, &end) == 2 && begin < (uintptr_t)at + pages * PAGE && end > (uintptr_t)at) count++;
+    if (file != NULL) fclose(file);
+    return count;
+}
+
+/* A file of a page that is full of a byte. */
+static inline int file_of(int byte) {
+    char bytes[PAGE];
+    int fd = memfd_create("disk", MFD_CLOEXEC);
+    memset(bytes, byte, sizeof bytes);
+    check(fd >= 0 && write(fd, bytes, sizeof bytes) == PAGE, "a file");
+    return fd;
+}
+
 /* A number behind a word of a file such as /proc/self/status; -1 where there is none. */
 static inline long number_in(const char *path, const char *word) {
     char line[256];

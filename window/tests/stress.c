@@ -131,11 +131,13 @@ static void pin(struct guest *guest, uint64_t *state) {
     must(window_unpin(guest->window, first, count), "window_unpin");
 }
 
-/* Ends a window under its writers, with its content, and makes it anew; or without. */
+/* Ends a window under its writers, with its content, and makes it anew; or without. With copies that may be pinned it goes on. */
 static void renew(struct guest *guest, uint64_t *state) {
     bool drops = draw(state, 2) == 0;
     if (drops) pthread_rwlock_wrlock(&guest->lock);
-    must(window_free(guest->window, drops ? WINDOW_DROP : WINDOW_TAKE_HOME), "window_free");
+    struct window_result freed = window_free(guest->window, drops ? WINDOW_DROP : WINDOW_TAKE_HOME);
+    if (!drops && pins_unknown && freed.status == WINDOW_PINNED) return;
+    must(freed, "window_free");
     must(window_make(&guest->window, windows, guest->at, (size_t)pages * WINDOW_PAGE_BYTES, WINDOW_NO_CHILD), "window_make");
     for (unsigned i = 0; i < WRITERS && drops; i++)
         memset(writers[guest - guests][i].values, 0, sizeof writers[guest - guests][i].values);

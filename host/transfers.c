@@ -1,0 +1,159 @@
+#define _GNU_SOURCE
+/*
+ * The functions of the C library that read and write files, interposed in a virtual machine monitor. A call on a file that was opened with
+ * O_DIRECT pins the pages of its buffers until it ends; of those the windows hear. All other calls go on as they are.
+ */
+#include "sharing.h"
+#include "trouble.h"
+#include <dlfcn.h>
+#include <fcntl.h>
+#include <stdlib.h>
+#include <sys/syscall.h>
+#include <sys/uio.h>
+#include <unistd.h>
+
+#define PUBLIC __attribute__((visibility("default")))
+
+typedef ssize_t read_function(int, void *, size_t);
+typedef ssize_t write_function(int, const void *, size_t);
+typedef ssize_t pread_function(int, void *, size_t, off_t);
+typedef ssize_t pwrite_function(int, const void *, size_t, off_t);
+typedef ssize_t vector_function(int, const struct iovec *, int);
+typedef ssize_t at_vector_function(int, const struct iovec *, int, off_t);
+typedef ssize_t at_vector2_function(int, const struct iovec *, int, off_t, int);
+
+/* The C library's own, which threads can be cancelled in. NULL before this library is loaded. */
+static struct {
+    read_function *read;
+    write_function *write;
+    pread_function *pread;
+    pwrite_function *pwrite;
+    vector_function *readv, *writev;
+    at_vector_function *preadv, *pwritev;
+    at_vector2_function *preadv2, *pwritev2;
+} next;
+
+static void *next_of(const char *name) { return dlsym(RTLD_NEXT, name); }
+
+__attribute__((constructor)) static void find_next(void) {
+    next.read = (read_function *)(uintptr_t)next_of("read");
+    next.write = (write_function *)(uintptr_t)next_of("write");
+    next.pread = (pread_function *)(uintptr_t)next_of("pread64");
+    next.pwrite = (pwrite_function *)(uintptr_t)next_of("pwrite64");
+    next.readv = (vector_function *)(uintptr_t)next_of("readv");
+    next.writev = (vector_function *)(uintptr_t)next_of("writev");
+    next.preadv = (at_vector_function *)(uintptr_t)next_of("preadv64");
+    next.pwritev = (at_vector_function *)(uintptr_t)next_of("pwritev64");
+    next.preadv2 = (at_vector2_function *)(uintptr_t)next_of("preadv64v2");
+    next.pwritev2 = (at_vector2_function *)(uintptr_t)next_of("pwritev64v2");
+}
+
+/* ---- what the windows hear ---- */
+
+/* Counts a call, if it is one by O_DIRECT on memory of a window. */
+static struct sharing_transfers begin_vector(int descriptor, const struct iovec *buffers, int count) {
+    struct sharing_transfers transfers = {.count = 0};
+    bool meets = false;
+    for (int i = 0; i < count && !meets; i++) meets = sharing_meets(buffers[i].iov_base, buffers[i].iov_len);
+    if (!meets) return transfers;
+    int cause = errno, flags = (int)syscall(SYS_fcntl, descriptor, F_GETFL);
+    if (flags >= 0 && (flags & O_DIRECT) != 0) sharing_transfers_begin(&transfers, buffers, count);
+    errno = cause;
+    return transfers;
+}
+
+static struct sharing_transfers begin(int descriptor, const void *buffer, size_t bytes) {
+    const struct iovec whole = {(void *)(uintptr_t)buffer, bytes};
+    return begin_vector(descriptor, &whole, 1);
+}
+
+static ssize_t end(const struct sharing_transfers *transfers, ssize_t status) {
+    int cause = errno;
+    if (transfers->count > 0) sharing_transfers_end(transfers);
+    errno = cause;
+    return status;
+}
+
+/* ---- one buffer ---- */
+
+PUBLIC ssize_t read(int file, void *buffer, size_t bytes) {
+    struct sharing_transfers transfers = begin(file, buffer, bytes);
+    return end(&transfers, next.read ? next.read(file, buffer, bytes) : syscall(SYS_read, file, buffer, bytes));
+}
+
+PUBLIC ssize_t write(int file, const void *buffer, size_t bytes) {
+    struct sharing_transfers transfers = begin(file, buffer, bytes);
+    return end(&transfers, next.write ? next.write(file, buffer, bytes) : syscall(SYS_write, file, buffer, bytes));
+}
+
+PUBLIC ssize_t pread64(int file, void *buffer, size_t bytes, off_t from) {
+    struct sharing_transfers transfers = begin(file, buffer, bytes);
+    return end(&transfers, next.pread ? next.pread(file, buffer, bytes, from) : syscall(SYS_pread64, file, buffer, bytes, from));
+}
+PUBLIC ssize_t pread(int file, void *buffer, size_t bytes, off_t from) __attribute__((alias("pread64")));
+
+PUBLIC ssize_t pwrite64(int file, const void *buffer, size_t bytes, off_t to) {
+    struct sharing_transfers transfers = begin(file, buffer, bytes);
+    return end(&transfers, next.pwrite ? next.pwrite(file, buffer, bytes, to) : syscall(SYS_pwrite64, file, buffer, bytes, to));
+}
+PUBLIC ssize_t pwrite(int file, const void *buffer, size_t bytes, off_t to) __attribute__((alias("pwrite64")));
+
+/* ---- several buffers ---- */
+
+PUBLIC ssize_t readv(int file, const struct iovec *buffers, int count) {
+    struct sharing_transfers transfers = begin_vector(file, buffers, count);
+    return end(&transfers, next.readv ? next.readv(file, buffers, count) : syscall(SYS_readv, file, buffers, count));
+}
+
+PUBLIC ssize_t writev(int file, const struct iovec *buffers, int count) {
+    struct sharing_transfers transfers = begin_vector(file, buffers, count);
+    return end(&transfers, next.writev ? next.writev(file, buffers, count) : syscall(SYS_writev, file, buffers, count));
+}
+
+PUBLIC ssize_t preadv64(int file, const struct iovec *buffers, int count, off_t from) {
+    struct sharing_transfers transfers = begin_vector(file, buffers, count);
+    return end(&transfers,
+               next.preadv ? next.preadv(file, buffers, count, from) : syscall(SYS_preadv, file, buffers, count, from, 0L));
+}
+PUBLIC ssize_t preadv(int file, const struct iovec *buffers, int count, off_t from) __attribute__((alias("preadv64")));
+
+PUBLIC ssize_t pwritev64(int file, const struct iovec *buffers, int count, off_t to) {
+    struct sharing_transfers transfers = begin_vector(file, buffers, count);
+    return end(&transfers,
+               next.pwritev ? next.pwritev(file, buffers, count, to) : syscall(SYS_pwritev, file, buffers, count, to, 0L));
+}
+PUBLIC ssize_t pwritev(int file, const struct iovec *buffers, int count, off_t to) __attribute__((alias("pwritev64")));
+
+PUBLIC ssize_t preadv64v2(int file, const struct iovec *buffers, int count, off_t from, int flags) {
+    struct sharing_transfers transfers = begin_vector(file, buffers, count);
+    return end(&transfers, next.preadv2 ? next.preadv2(file, buffers, count, from, flags)
+                                        : syscall(SYS_preadv2, file, buffers, count, from, 0L, flags));
+}
+PUBLIC ssize_t preadv2(int file, const struct iovec *buffers, int count, off_t from, int flags)
+    __attribute__((alias("preadv64v2")));
+
+PUBLIC ssize_t pwritev64v2(int file, const struct iovec *buffers, int count, off_t to, int flags) {
+    struct sharing_transfers transfers = begin_vector(file, buffers, count);
+    return end(&transfers, next.pwritev2 ? next.pwritev2(file, buffers, count, to, flags)
+                                         : syscall(SYS_pwritev2, file, buffers, count, to, 0L, flags));
+}
+PUBLIC ssize_t pwritev2(int file, const struct iovec *buffers, int count, off_t to, int flags)
+    __attribute__((alias("pwritev64v2")));
+
+/* ---- what programs call that were built with checks (_FORTIFY_SOURCE) ---- */
+
+PUBLIC ssize_t __read_chk(int file, void *buffer, size_t bytes, size_t most);
+PUBLIC ssize_t __read_chk(int file, void *buffer, size_t bytes, size_t most) {
+    if (bytes > most) abort();
+    return read(file, buffer, bytes);
+}
+
+PUBLIC ssize_t __pread64_chk(int file, void *buffer, size_t bytes, off_t from, size_t most);
+PUBLIC ssize_t __pread64_chk(int file, void *buffer, size_t bytes, off_t from, size_t most) {
+    if (bytes > most) abort();
+    return pread64(file, buffer, bytes, from);
+}
+PUBLIC ssize_t __pread_chk(int file, void *buffer, size_t bytes, off_t from, size_t most);
+PUBLIC ssize_t __pread_chk(int file, void *buffer, size_t bytes, off_t from, size_t most) {
+    return __pread64_chk(file, buffer, bytes, from, most);
+}
