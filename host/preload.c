@@ -27,9 +27,6 @@
 #ifndef MADV_COLLAPSE
 #define MADV_COLLAPSE 25
 #endif
-#ifndef MADV_DONTNEED_LOCKED
-#define MADV_DONTNEED_LOCKED 24
-#endif
 #ifndef MREMAP_DONTUNMAP
 #define MREMAP_DONTUNMAP 4
 #endif
@@ -69,7 +66,6 @@ static int advise_otherwise(void *at, size_t bytes, int advice) {
 static int advise_window(void *at, size_t bytes, int advice) {
     switch (advice) {
     case MADV_DONTNEED:
-    case MADV_DONTNEED_LOCKED:
     case MADV_FREE: return sharing_discard(at, bytes, advice);
     case MADV_DONTFORK:
     case MADV_DOFORK:

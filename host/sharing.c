@@ -226,7 +226,7 @@ int sharing_advise(void *from, size_t bytes, int advice) {
     uint8_t *at = from, *end = end_of(at, bytes);
     struct window_result result = {.status = WINDOW_OK};
     struct range *range;
-    size_t kept;
+    size_t kept = 0;
     enter();
     while (result.status == WINDOW_OK && (range = ranges_next(at, end)) != NULL) {
         struct piece piece = range_piece(range, at, end);
@@ -235,6 +235,9 @@ int sharing_advise(void *from, size_t bytes, int advice) {
         if (!range->window) continue;
         bool is_all = piece.bytes == range->bytes && ranges_of(range->window) == 1;
         result = is_all ? window_advise(range->window, advice) : cut(range, piece, &kept);
+        /* (a child may not have pages over frames: nobody would keep it from uncovering them) */
+        if (!is_all && advice == MADV_DOFORK && kept > 0)
+            result = (struct window_result){.status = WINDOW_PINNED, .cause = EAGAIN};
     }
     leave();
     if (advice == MADV_DOFORK) say("nothing is lent", bytes, "children inherit it (MADV_DOFORK)");

@@ -21,22 +21,9 @@ static void clear(struct window *window, size_t first, size_t count) {
     }
 }
 
-/* Shows zeros in place of pages over frames, all with this protection. Returns 0 or an errno. `*is_cleared`: they take memory. */
-static int show_zeros(struct window *window, size_t first, size_t count, int protection, bool *is_cleared) {
-    int cause = map_pages(window, first, count, ZEROS, protection);
-    *is_cleared = cause != 0 && (protection & PROT_WRITE) != 0;
-    if (*is_cleared) clear(window, first, count);
-    return *is_cleared ? 0 : cause;
-}
-
-/* Gives up pages that are alike, and if they have left the window have one protection. With the lock. */
-static struct window_result give_up(struct window *window, size_t first, size_t count, int protection) {
+/* Notes that pages were given up: they are zeros, and take no memory, unless they had to be cleared. */
+static void note_given_up(struct window *window, size_t first, size_t count, bool is_cleared) {
     struct windows *windows = window->windows;
-    bool is_over = window->pages[first].over == 1, is_cleared = false;
-    int cause = 0;
-    if (is_over) cause = show_zeros(window, first, count, protection, &is_cleared);
-    else if (madvise(address_of(window, first), bytes_of(count), MADV_DONTNEED) < 0) cause = errno;
-    if (cause != 0) return result_of(WINDOW_NO_MAPPING, cause);
     for (size_t page = first; page < first + count; page++) {
         stop_showing(window, page);
         note_zero(window, page, false);
@@ -45,16 +32,40 @@ static struct window_result give_up(struct window *window, size_t first, size_t 
         else trace_discard(windows->trace, window->base + (uint32_t)page);
     }
     windows->counts.discarded += count;
+}
+
+/* Gives up pages in the window that are alike. With the lock. */
+static struct window_result give_up(struct window *window, size_t first, size_t count) {
+    bool is_over = window->pages[first].over == 1, is_cleared = false;
+    if (!is_over && madvise(address_of(window, first), bytes_of(count), MADV_DONTNEED) < 0)
+        return result_of(WINDOW_NO_MAPPING, errno);
+    if (is_over && map_pages(window, first, count, ZEROS, PROT_READ | PROT_WRITE) != 0) {
+        clear(window, first, count);
+        is_cleared = true;
+    }
+    note_given_up(window, first, count, is_cleared);
     return result_of(WINDOW_OK, 0);
 }
 
-/* Gives up pages that have left the window, over frames, under whatever protection the caller gave them. With the lock. */
-static struct window_result give_up_left(struct window *window, size_t first, size_t count) {
+/* Gives up pages in one mapping that have left the window, over frames. What the caller said of them since holds on. With the lock. */
+static struct window_result give_up_left(struct window *window, size_t first, const struct mapping_facts *facts) {
+    if (facts->is_locked) return result_of(WINDOW_LOCKED, EINVAL); /* (as the system refuses it) */
+    int cause = map_pages(window, first, facts->pages, ZEROS, facts->protection);
+    bool is_cleared = cause != 0 && (facts->protection & PROT_WRITE) != 0;
+    if (cause != 0 && !is_cleared) return result_of(WINDOW_NO_MAPPING, cause);
+    if (is_cleared) clear(window, first, facts->pages);
+    else cause = advice_give(&facts->advice, &window->found, address_of(window, first), facts->pages);
+    if (!is_cleared && cause != 0) window->windows->advice_cause = cause;
+    note_given_up(window, first, facts->pages, is_cleared);
+    return result_of(WINDOW_OK, 0);
+}
+
+static struct window_result give_up_all_left(struct window *window, size_t first, size_t count) {
     struct window_result result = result_of(WINDOW_OK, 0);
-    for (size_t done = 0, run = 0; done < count && result.status == WINDOW_OK; done += run) {
-        int protection = 0;
-        int cause = protection_read(address_of(window, first + done), count - done, &protection, &run);
-        result = cause == 0 ? give_up(window, first + done, run, protection) : result_of(WINDOW_NO_MAPPING, cause);
+    struct mapping_facts facts = {.pages = 0};
+    for (size_t done = 0; done < count && result.status == WINDOW_OK; done += facts.pages) {
+        int cause = mapping_read(&facts, address_of(window, first + done), count - done);
+        result = cause == 0 ? give_up_left(window, first + done, &facts) : result_of(WINDOW_NO_MAPPING, cause);
     }
     return result;
 }
@@ -76,8 +87,8 @@ static struct window_result discard_part(struct window *window, size_t first, si
     for (size_t done = 0, run = 0; done < count && result.status == WINDOW_OK; done += run) {
         run = alike(window, first + done, count - done);
         if (!is_here(window, first + done)) continue;
-        result = window->pages[first + done].out == 0 ? give_up(window, first + done, run, PROT_READ | PROT_WRITE)
-                                                      : give_up_left(window, first + done, run);
+        result = window->pages[first + done].out == 0 ? give_up(window, first + done, run)
+                                                      : give_up_all_left(window, first + done, run);
     }
     return result;
 }

@@ -74,14 +74,23 @@ struct range_facts {
 };
 int range_read(struct range_facts *facts, const void *at, size_t pages);
 
-/* Reads the protection (PROT_READ ..) of a mapped page, and how many of `most` pages from there on are in the same mapping. */
-int protection_read(const void *at, size_t most, int *protection, size_t *pages);
+/* A mapping of the system. */
+struct mapping_facts {
+    size_t pages;   /* how many of those that were asked about are in it */
+    int protection; /* PROT_READ .. */
+    bool is_locked;
+    struct advice advice;
+};
+/* Reads in which mapping a page is, of `most` pages from there on. */
+int mapping_read(struct mapping_facts *facts, const void *at, size_t most);
 
 /* Says of a range that was mapped anew what was said of the window. `is_file`: frames are mapped there. */
 int advice_set(const struct advice *advice, void *at, size_t pages, bool is_file);
 /* Says that huge pages leave the range alone, or puts back what was said before, also of KSM. */
 int advice_begin(void *at, size_t pages);
 int advice_end(const struct advice *advice, void *at, size_t pages);
+/* Says of memory of its own, which was mapped in the place of frames, what was `now` said there, and of huge pages and KSM `before`. */
+int advice_give(const struct advice *now, const struct advice *before, void *at, size_t pages);
 /* Says one thing of a range. Returns 0 also where the kernel was built without it. */
 int advice_say(void *at, size_t pages, int advice);
 

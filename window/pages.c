@@ -100,8 +100,9 @@ int map_pages(struct window *window, size_t first, size_t count, uint32_t frame,
     off_t from = is_file ? (off_t)bytes_of(frame) : 0;
     void *at = address_of(window, first);
     if (mmap(at, bytes_of(count), protection, kind, is_file ? windows->frames_fd : NO_FILE, from) == MAP_FAILED) return errno;
+    bool has_left = window->pages[first].out == 1;
     note_memory(window, first, count, frame, false);
-    if (!is_file) say_again(window, first, count, false);
+    if (!is_file && !has_left) say_again(window, first, count, false);
     return 0;
 }
 

@@ -153,17 +153,21 @@ struct window_result window_advise(struct window *window, int advice) {
     bool is_known = advice == MADV_DONTFORK || advice == MADV_DOFORK || advice == MADV_DONTDUMP || advice == MADV_DODUMP;
     if (!is_known) return result_of(WINDOW_ADVICE, EINVAL);
     lock_set(windows);
+    bool was_dont_fork = window->advice.dont_fork;
     if (advice == MADV_DOFORK) window->advice.dont_fork = false;
     if (advice == MADV_DONTDUMP || advice == MADV_DODUMP) window->advice.dont_dump = advice == MADV_DONTDUMP;
     unlock_set(windows);
     /* (a child would go on showing frames that are released) */
     if (advice == MADV_DOFORK) result = for_parts(window, 0, window->count, take_home);
-    if (result.status != WINDOW_OK) return result;
+    /* (nobody would keep a child from uncovering a frame) */
+    if (advice == MADV_DOFORK && result.status == WINDOW_OK && has_frames(window)) result = result_of(WINDOW_PINNED, EAGAIN);
     lock_set(windows);
-    int cause = say_everywhere(window, advice);
-    if (advice == MADV_DONTFORK && cause == 0) window->advice.dont_fork = true;
+    int cause = result.status == WINDOW_OK ? say_everywhere(window, advice) : 0;
+    if (cause != 0) result = result_of(WINDOW_ADVICE, cause);
+    if (advice == MADV_DOFORK && result.status != WINDOW_OK) window->advice.dont_fork = was_dont_fork;
+    if (advice == MADV_DONTFORK && result.status == WINDOW_OK) window->advice.dont_fork = true;
     unlock_set(windows);
-    return cause == 0 ? result : result_of(WINDOW_ADVICE, cause);
+    return result;
 }
 
 enum window_page window_page_is(struct window *window, size_t page) {

@@ -147,7 +147,7 @@ enum window_end {
 struct window_result window_free(struct window *window, enum window_end end);
 
 /* Says `advice` for all pages of the window, now and for frames that are mapped later: MADV_DONTFORK, MADV_DOFORK, MADV_DONTDUMP or
- * MADV_DODUMP; else WINDOW_ADVICE with EINVAL. */
+ * MADV_DODUMP; else WINDOW_ADVICE with EINVAL. MADV_DOFORK is refused with WINDOW_PINNED where copies have to stay over frames. */
 struct window_result window_advise(struct window *window, int advice);
 
 /*
@@ -169,7 +169,7 @@ struct window_result window_unpin(struct window *window, size_t first, size_t co
 /*
  * Pages get memory of their own and leave the window for good. `*kept` counts those of them whose copies have to stay over frames, since
  * a device may have pinned them. If it is 0 the range is the caller's. Otherwise the caller may protect and lock the range, but discards
- * pages by window_discard alone, unmaps them by windows_pause, and doesn't move them. `kept` may be NULL.
+ * pages by window_discard alone, unmaps them by windows_pause, and doesn't move them or let a child have them. `kept` may be NULL.
  */
 struct window_result window_cut(struct window *window, size_t first, size_t count, size_t *kept);
 

@@ -87,6 +87,11 @@ static void device_reads(void) {
         must(window_cut(window, 0, HALF, &kept), "window_cut");
         check(kept == 1, "one page stays over its frame: the pinned one");
         check(window_free(window, WINDOW_TAKE_HOME).status == WINDOW_PINNED, "the window can't end");
+        check(window_advise(window, MADV_DOFORK).status == WINDOW_PINNED, "and no child may have it");
+        if (mlock(at + 8 * PAGE, PAGE) == 0) {
+            check(window_discard(window, 8, 1).status == WINDOW_LOCKED, "locked pages aren't discarded, as by the system");
+            check(munlock(at + 8 * PAGE, PAGE) == 0, "munlock");
+        }
         check(mprotect(at + 8 * PAGE, PAGE, PROT_READ) == 0 && mprotect(at + 8 * PAGE, PAGE, PROT_READ | PROT_WRITE) == 0,
               "it may be protected");
         check(ring_read(&ring, disk, at + 8 * PAGE, PAGE) && are_bytes(at + 8 * PAGE, 'd'), "what the device reads arrives");
