@@ -387,10 +387,18 @@ def files_of(root):
     return found
 
 
+def unmount_below(root):
+    """Unmounts what is mounted below a folder, which otherwise could not be removed."""
+    mounted = [line.split()[1] for line in pathlib.Path("/proc/mounts").read_text().splitlines()]
+    for place in reversed([it for it in mounted if it.startswith(f"{root}/")]):
+        run("umount", place)
+
+
 def new_debian(root):
     """A Debian that has systemd and udev, which the host needs, and nothing else; and what runs a program inside."""
     env = {**PLAIN, "PATH": "/usr/sbin:/usr/bin:/sbin:/bin"}
     made = run("debootstrap", "--variant=minbase", "--include=systemd,udev", SUITE, root, env=env)
+    unmount_below(root)  # (debootstrap leaves /proc mounted where systemd is among the packages)
     if made[0] != 0:
         raise LeftOut(f"the Debian packages, since debootstrap failed: {(made[1] + made[2]).strip().splitlines()[-1:]}")
     return lambda *words: run("chroot", root, *words, env=env)
