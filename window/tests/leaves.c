@@ -7,6 +7,7 @@
 #include "fixture.h"
 #include "ring.h"
 #include <errno.h>
+#include <sys/syscall.h>
 
 enum { PAGES = 64, HALF = PAGES / 2 };
 
@@ -88,9 +89,9 @@ static void device_reads(void) {
         check(kept == 1, "one page stays over its frame: the pinned one");
         check(window_free(window, WINDOW_TAKE_HOME).status == WINDOW_PINNED, "the window can't end");
         check(window_advise(window, MADV_DOFORK).status == WINDOW_PINNED, "and no child may have it");
-        if (mlock(at + 8 * PAGE, PAGE) == 0) {
+        if (syscall(SYS_mlock, at + 8 * PAGE, PAGE) == 0) { /* (a sanitizer makes mlock do nothing) */
             check(window_discard(window, 8, 1).status == WINDOW_LOCKED, "locked pages aren't discarded, as by the system");
-            check(munlock(at + 8 * PAGE, PAGE) == 0, "munlock");
+            check(syscall(SYS_munlock, at + 8 * PAGE, PAGE) == 0, "munlock");
         }
         check(mprotect(at + 8 * PAGE, PAGE, PROT_READ) == 0 && mprotect(at + 8 * PAGE, PAGE, PROT_READ | PROT_WRITE) == 0,
               "it may be protected");
@@ -179,7 +180,6 @@ static void mappings(void) {
     struct window *window = window_over(&fixture, at, MANY);
     for (uint32_t i = 0; i < MANY; i++) memcpy(at + i * PAGE, &(uint32_t){i % 2 == 0 ? 1 : i + 1000}, 4);
     look_often(&fixture, 12);
-    for (size_t i = 0; i < MANY; i += 16) must(window_pin(window, i, 1), "window_pin");
     must(window_advise(window, MADV_DOFORK), "window_advise");
     size_t counted = counts_of(&fixture).mappings, there = mappings_in(at, MANY);
     check(there > MANY / 2 && counted <= there + 2 && there <= counted + 2, "as many are counted as there are");

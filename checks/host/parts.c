@@ -1,0 +1,455 @@
+/*
+ * A stand-in for a monitor, to be run under libpageshare-window.so: one thing after the other that is hard for a library that maps frames
+ * in a monitor's memory, each by its name. Words: WAY, see `ways`; or pinned-WAY or at-once-WAY, see do_to_pinned. Prints what isn't so, and at last "WAY: good" (status 0) or "WAY: WRONG" (1); or
+ * "WAY: left out" (77).
+ */
+#define _GNU_SOURCE
+#include "breaker/ring.h"
+#include "offered.h"
+#include <errno.h>
+#include <fcntl.h>
+#include <linux/vfio.h>
+#include <pthread.h>
+#include <signal.h>
+#include <stdatomic.h>
+#include <sys/ioctl.h>
+#include <sys/resource.h>
+#include <sys/wait.h>
+#include <time.h>
+
+enum { PAGE = 4096, PAGES = 1024, HALF = PAGES / 2, SECONDS = 30, LEFT_OUT = 77 };
+
+static unsigned wrong;
+static bool is_left_out;
+
+static void check(bool is_so, const char *what) {
+    if (is_so) return;
+    printf("not so: %s\n", what);
+    fflush(stdout);
+    wrong++;
+}
+
+static void left_out(const char *why) {
+    printf("left out: %s\n", why);
+    is_left_out = true;
+}
+
+/* ---- memory ---- */
+
+static void fill(uint8_t *at, size_t pages, unsigned first) {
+    for (size_t i = 0; i < pages; i++) memset(at + i * PAGE, (int)(first + i / 2 % 100), PAGE);
+}
+
+/* Pages of a range that aren't as `fill` has filled them. */
+static size_t differing(const uint8_t *at, size_t from, size_t to, unsigned first) {
+    size_t count = 0;
+    for (size_t i = from; i < to; i++) {
+        const uint8_t byte = (uint8_t)(first + i / 2 % 100);
+        size_t b = 0;
+        while (b < PAGE && at[i * PAGE + b] == byte) b++;
+        count += b < PAGE;
+    }
+    return count;
+}
+
+static bool is_full_of(const uint8_t *at, size_t bytes, int byte) {
+    for (size_t i = 0; i < bytes; i++)
+        if (at[i] != byte) return false;
+    return true;
+}
+
+static uint8_t *offered(size_t pages) {
+    uint8_t *at = mmap(NULL, pages * PAGE, PROT_READ | PROT_WRITE, MAP_PRIVATE | MAP_ANONYMOUS, -1, 0);
+    if (at == MAP_FAILED) perror("mmap"), exit(2);
+    fill(at, pages, 1);
+    madvise(at, pages * PAGE, MADV_MERGEABLE);
+    madvise(at, pages * PAGE, MADV_DONTFORK);
+    return at;
+}
+
+static uint8_t *lent(size_t pages) {
+    uint8_t *at = offered(pages);
+    check(wait_for_count("lent", (long)pages, SECONDS), "all pages are lent");
+    return at;
+}
+
+static long now_us(void) {
+    struct timespec now;
+    clock_gettime(CLOCK_MONOTONIC, &now);
+    return now.tv_sec * 1000000 + now.tv_nsec / 1000;
+}
+
+/* ---- parts that leave ---- */
+
+/* The first half is protected, the second unmapped: the first keeps its content. */
+static void kept(void) {
+    uint8_t *at = lent(PAGES);
+    check(mprotect(at, HALF * PAGE, PROT_READ | PROT_WRITE) == 0, "mprotect");
+    check(munmap(at + HALF * PAGE, HALF * PAGE) == 0, "munmap");
+    check(differing(at, 0, HALF, 1) == 0, "pages that had left keep their content");
+}
+
+/* The first half is unmapped, and something else is mapped there: the end of the second half doesn't touch it. */
+static void foreign(void) {
+    uint8_t *at = lent(PAGES);
+    check(munmap(at, HALF * PAGE) == 0, "munmap");
+    uint8_t *other = mmap(at, HALF * PAGE, PROT_READ | PROT_WRITE, MAP_PRIVATE | MAP_ANONYMOUS | MAP_FIXED_NOREPLACE, -1, 0);
+    if (other != at) return left_out("the place is taken");
+    memset(other, 'X', HALF * PAGE);
+    check(munmap(at + HALF * PAGE, HALF * PAGE) == 0, "munmap");
+    check(is_full_of(other, HALF * PAGE, 'X'), "memory that was never offered keeps its content");
+}
+
+/* A range with a hole is unmapped. */
+static void hole(void) {
+    uint8_t *at = lent(PAGES);
+    check(munmap(at + 100 * PAGE, 50 * PAGE) == 0, "munmap");
+    check(madvise(at, 100 * PAGE, MADV_DONTNEED) == 0 && is_full_of(at, 100 * PAGE, 0), "a discard before the hole");
+    check(munmap(at, PAGES * PAGE) == 0, "munmap of all, with the hole");
+    unsigned char there;
+    check(mincore(at, PAGE, &there) == -1 && errno == ENOMEM, "nothing is left");
+}
+
+/* A window of which nothing is left is used no more. */
+static void used_later(void) {
+    uint8_t *at = lent(PAGES);
+    check(munmap(at, HALF * PAGE) == 0, "munmap");
+    check(mprotect(at + HALF * PAGE, HALF * PAGE, PROT_READ | PROT_WRITE) == 0, "mprotect of the rest");
+    sleep(1);
+    check(madvise(at + HALF * PAGE, HALF * PAGE, MADV_DONTNEED) == 0, "a discard of the rest");
+    check(is_full_of(at + HALF * PAGE, HALF * PAGE, 0), "it is zeros");
+    check(munmap(at + HALF * PAGE, HALF * PAGE) == 0, "munmap of the rest");
+}
+
+/* Part of a range is moved, and moved back into its hole, when the rest is gone. */
+static void moved(void) {
+    uint8_t *at = lent(PAGES), *to = mmap(NULL, HALF * PAGE, PROT_NONE, MAP_PRIVATE | MAP_ANONYMOUS, -1, 0);
+    check(mremap(at, HALF * PAGE, HALF * PAGE, MREMAP_MAYMOVE | MREMAP_FIXED, to) == to, "mremap");
+    check(munmap(at + HALF * PAGE, HALF * PAGE) == 0, "munmap of the rest");
+    check(mremap(to, HALF * PAGE, HALF * PAGE, MREMAP_MAYMOVE | MREMAP_FIXED, at) == at, "mremap back");
+    check(differing(at, 0, HALF, 1) == 0, "what was moved has its content");
+}
+
+/* Something is said of a part of a range that is no window yet. */
+static void advised(void) {
+    static const int kinds[] = {MADV_DONTDUMP, MADV_DODUMP, MADV_DONTFORK, MADV_DOFORK};
+    uint8_t *at = offered(PAGES);
+    alarm(SECONDS);
+    for (size_t i = 0; i < 4; i++) check(madvise(at + i * 10 * PAGE, 20 * PAGE, kinds[i]) == 0, "advice on a part");
+    check(differing(at, 0, PAGES, 1) == 0, "all is there");
+}
+
+/* Calls that the kernel refuses lose nothing. */
+static void refused(void) {
+    uint8_t *at = lent(PAGES), *none = mmap(NULL, PAGE, PROT_NONE, MAP_PRIVATE | MAP_ANONYMOUS, -1, 0);
+    munmap(none, PAGE);
+    check(mmap(at, HALF * PAGE, PROT_READ, MAP_PRIVATE | MAP_FIXED, 9999, 0) == MAP_FAILED && errno == EBADF, "mmap of no file");
+    check(mmap(at, HALF * PAGE, PROT_READ, MAP_FIXED, -1, 0) == MAP_FAILED, "mmap of no kind");
+    check(mremap(none, PAGE, PAGE, MREMAP_MAYMOVE | MREMAP_FIXED, at) == MAP_FAILED, "mremap of nothing");
+    check(mremap(at, PAGE, PAGE, MREMAP_FIXED, at + PAGE) == MAP_FAILED && errno == EINVAL,
+          "mremap to a place without MREMAP_MAYMOVE");
+    check(munmap(at + 1, PAGE) == -1 && errno == EINVAL, "munmap of no page");
+    check(madvise(at + 1, PAGE, MADV_DONTNEED) == -1 && errno == EINVAL, "a discard of no page");
+    check(mprotect(at, PAGES * PAGE, 0x1000000) == -1, "mprotect of no kind");
+    check(differing(at, 0, PAGES, 1) == 0, "all is there");
+    check(munmap(at, PAGES * PAGE) == 0, "munmap");
+}
+
+/* ---- forks ---- */
+
+static atomic_bool over;
+static void *offer_always(void *unused) {
+    uint8_t *at = mmap(NULL, 64 * PAGE, PROT_READ | PROT_WRITE, MAP_PRIVATE | MAP_ANONYMOUS, -1, 0);
+    while (!atomic_load(&over)) {
+        madvise(at, 64 * PAGE, MADV_MERGEABLE);
+        madvise(at, PAGE, MADV_DONTNEED);
+    }
+    return unused;
+}
+
+/* Children of forks make their calls, while threads of the parent are in theirs. */
+static void children(void) {
+    pthread_t threads[2];
+    unsigned hung = 0;
+    uint8_t *at = lent(PAGES);
+    for (size_t i = 0; i < 2; i++)
+        if (pthread_create(&threads[i], NULL, offer_always, NULL) != 0) exit(2);
+    for (int i = 0; i < 300; i++) {
+        int status = 0;
+        pid_t child = fork();
+        if (child == 0) {
+            alarm(5);
+            uint8_t *own = mmap(NULL, 64 * PAGE, PROT_READ | PROT_WRITE, MAP_PRIVATE | MAP_ANONYMOUS, -1, 0);
+            madvise(own, 64 * PAGE, MADV_MERGEABLE);
+            madvise(own, 64 * PAGE, MADV_DONTNEED);
+            munmap(own, 64 * PAGE);
+            _exit(0);
+        }
+        if (child > 0 && waitpid(child, &status, 0) == child) hung += WIFSIGNALED(status);
+        if (hung > 2) break;
+    }
+    atomic_store(&over, true);
+    for (size_t i = 0; i < 2; i++) pthread_join(threads[i], NULL);
+    check(hung == 0, "no child hangs");
+    check(differing(at, 0, PAGES, 1) == 0, "all is there");
+}
+
+static int child_waits(uint8_t *at, int go) {
+    char byte;
+    if (read(go, &byte, 1) != 1) return 2;
+    return differing(at, 0, PAGES, 1) != 0;
+}
+
+/* The host stands still between a question and its answer; meanwhile children are to have the range. Who runs this stops the host after
+ * the line "stop", and lets it go on after "go", and answers each by a line. */
+static void inherited(void) {
+    int ends[2], status = 0;
+    uint8_t *at = offered(PAGES);
+    check(wait_for_count("windows", 1, SECONDS), "there is a window");
+    puts("stop"), fflush(stdout), getchar();
+    sleep(2);
+    check(madvise(at, PAGES * PAGE, MADV_DOFORK) == 0, "MADV_DOFORK");
+    puts("go"), fflush(stdout), getchar();
+    sleep(2);
+    check(library_count("lent") == 0, "nothing is lent of what a child is to have");
+    if (pipe(ends) != 0) exit(2);
+    pid_t child = fork();
+    if (child == 0) _exit(child_waits(at, ends[0]));
+    fill(at, PAGES, 120);
+    sleep(2);
+    check(write(ends[1], "x", 1) == 1 && waitpid(child, &status, 0) == child && status == 0, "the child has what was there");
+}
+
+/* ---- devices ---- */
+
+static int with_direct(void) {
+    char name[] = "/var/tmp/parts-XXXXXX";
+    int file = mkstemp(name);
+    uint8_t page[PAGE];
+    memset(page, 'd', PAGE);
+    for (int i = 0; i < 16; i++)
+        if (write(file, page, PAGE) != PAGE) exit(2);
+    fsync(file), close(file);
+    file = open(name, O_RDONLY | O_DIRECT | O_CLOEXEC);
+    unlink(name);
+    return file;
+}
+
+/* What is done to a page that a device has pinned, before the device writes to it: none of it may lose what the device writes. */
+static void do_to_pinned(const char *way, uint8_t *at, uint8_t *page) {
+    struct vfio_iommu_type1_dma_map map = {.argsz = sizeof map, .vaddr = (uintptr_t)at, .size = PAGES * PAGE};
+    int file = open("/dev/null", O_RDWR);
+    if (!strcmp(way, "mprotect")) mprotect(page, PAGE, PROT_READ | PROT_WRITE);
+    if (!strcmp(way, "mlock")) mlock(page, PAGE);
+    if (!strcmp(way, "mlockall")) mlockall(MCL_CURRENT);
+    if (!strcmp(way, "unmergeable")) madvise(at, PAGES * PAGE, MADV_UNMERGEABLE);
+    if (!strcmp(way, "dofork")) madvise(at, PAGES * PAGE, MADV_DOFORK);
+    if (!strcmp(way, "dofork-part")) madvise(page, PAGE, MADV_DOFORK);
+    if (!strcmp(way, "dma")) ioctl(file, VFIO_IOMMU_MAP_DMA, &map);
+    if (!strcmp(way, "look")) sleep(2);
+    close(file);
+}
+
+static void pinned_by(const char *way, bool is_seen) {
+    struct ring ring;
+    int ends[2];
+    static uint8_t data[PAGE];
+    uint8_t *at = lent(PAGES), *page = at + 300 * PAGE;
+    if (!ring_make(&ring) || pipe(ends) != 0) return left_out("there is no io_uring");
+    if (!ring_pin(&ring, page, PAGE) || !ring_begin_read(&ring, ends[0], page, PAGE, -1))
+        return left_out("io_uring pins no page");
+    if (is_seen) sleep(1);
+    do_to_pinned(way, at, page);
+    memset(data, 'D', PAGE);
+    check(write(ends[1], data, PAGE) == PAGE && ring_end_read(&ring) == PAGE, "the device has read");
+    check(is_full_of(page, PAGE, 'D'), "what the device has read is there");
+    check(differing(at, 0, 300, 1) == 0 && differing(at, 301, PAGES, 1) == 0, "the others are there");
+    check(ring_unpin(&ring), "the page is let go");
+    munlockall();
+    check(madvise(page, PAGE, MADV_DONTNEED) == 0 && is_full_of(page, PAGE, 0), "a discard shows zeros");
+}
+
+/* Pages that were written and are equal again are pinned just before they would be lent again. */
+static void noticed_late(void) {
+    struct ring ring;
+    int ends[2];
+    static uint8_t data[PAGE];
+    uint8_t *at = lent(PAGES);
+    if (!ring_make(&ring) || pipe(ends) != 0) return left_out("there is no io_uring");
+    for (unsigned i = 0; i < 5; i++) {
+        uint8_t *page = at + (100 + i) * PAGE;
+        memset(page, 'y', PAGE);
+        usleep(300000);
+        memset(page, (int)(1 + (100 + i) / 2), PAGE);
+        usleep(20000 * i);
+        if (!ring_pin(&ring, page, PAGE) || !ring_begin_read(&ring, ends[0], page, PAGE, -1))
+            return left_out("io_uring pins no page");
+        usleep(400000);
+        memset(data, 'D', PAGE);
+        check(write(ends[1], data, PAGE) == PAGE && ring_end_read(&ring) == PAGE, "the device has read");
+        check(is_full_of(page, PAGE, 'D'), "what the device has read is there");
+        ring_unpin(&ring);
+    }
+}
+
+static int direct_file = -1;
+static void *read_always(void *aside) {
+    while (!atomic_load(&over))
+        if (pread(direct_file, aside, PAGE, 0) != PAGE) exit(2);
+    return NULL;
+}
+
+/* With a file by O_DIRECT, pages that were lent and written are lent again, also while it is read all the time. */
+static void direct(void) {
+    pthread_t thread;
+    uint8_t *at = offered(PAGES + 16);
+    direct_file = with_direct();
+    if (direct_file < 0) return left_out("there is no O_DIRECT on /var/tmp");
+    if (pthread_create(&thread, NULL, read_always, at + PAGES * PAGE) != 0) exit(2);
+    for (unsigned i = 0; i < 3; i++) {
+        check(wait_for_count("lent", PAGES, SECONDS), "all pages are lent again but for those that are read to");
+        check(differing(at, 0, PAGES, 1 + i * 20) == 0, "all is there");
+        fill(at, PAGES, 21 + i * 20);
+        usleep(500000);
+    }
+    atomic_store(&over, true);
+    pthread_join(thread, NULL);
+    check(is_full_of(at + PAGES * PAGE, PAGE, 'd'), "what was read is there");
+}
+
+/* ---- locks, mappings, and an end ---- */
+
+/* Pages that had left are locked: the others go on being lent. */
+static void locked(void) {
+    uint8_t *at = lent(PAGES), *own = mmap(NULL, PAGE, PROT_READ | PROT_WRITE, MAP_PRIVATE | MAP_ANONYMOUS, -1, 0);
+    check(mprotect(at, PAGE, PROT_READ | PROT_WRITE) == 0 && mlock(at, PAGE) == 0, "a page that had left is locked");
+    check(mlock(own, PAGE) == 0, "so is one that was never offered");
+    sleep(2);
+    check(library_count("lent") >= PAGES - 2, "the others are lent still");
+    fill(at + HALF * PAGE, HALF, 1);
+    usleep(300000);
+    check(wait_for_count("lent", PAGES - 2, 10), "and lent again after they were written");
+}
+
+static size_t mappings(void) {
+    FILE *file = fopen("/proc/self/maps", "r");
+    size_t count = 0;
+    for (int c; file && (c = fgetc(file)) != EOF;) count += c == '\n';
+    if (file) fclose(file);
+    return count;
+}
+
+static void fill_apart(uint8_t *at, size_t pages) {
+    for (size_t i = 0; i < pages; i++) {
+        uint64_t *words = (uint64_t *)(void *)(at + i * PAGE);
+        for (size_t w = 0; w < PAGE / 8; w++) words[w] = i % 2 ? 1000000 + i : 7000 + i * 7919 % pages / 4;
+    }
+}
+
+/* Many mappings: they are counted as they are, and what a look costs doesn't depend on locks of the monitor's own. */
+static void many_mappings(void) {
+    enum { MANY = 20000 };
+    size_t before = mappings();
+    uint8_t *at = mmap(NULL, MANY * PAGE, PROT_READ | PROT_WRITE, MAP_PRIVATE | MAP_ANONYMOUS, -1, 0);
+    uint8_t *own = mmap(NULL, 64 * PAGE, PROT_READ | PROT_WRITE, MAP_PRIVATE | MAP_ANONYMOUS, -1, 0);
+    fill_apart(at, MANY);
+    madvise(at, MANY * PAGE, MADV_MERGEABLE);
+    madvise(at, MANY * PAGE, MADV_DONTFORK);
+    check(wait_for_count("lent", MANY / 2, 2 * SECONDS), "every second page is lent");
+    sleep(2);
+    long counted = library_count("mappings"), there = (long)(mappings() - before), longest = 0;
+    printf("  %ld mappings are counted, and %ld are there\n", counted, there);
+    check(counted > there - there / 20 - 20 && counted < there + there / 20 + 20, "mappings are counted as there are");
+    long looks = library_count("looks"), spent = library_count("processor_ns");
+    sleep(4);
+    double quiet = (double)(library_count("processor_ns") - spent) / (double)(library_count("looks") - looks) / 1e6;
+    looks = library_count("looks"), spent = library_count("processor_ns");
+    for (int i = 0; i < 80; i++) {
+        mlock(own, (size_t)(1 + i % 32) * PAGE);
+        usleep(50000);
+        long begin = now_us();
+        madvise(at + (size_t)(i * 2 + 1) * PAGE, PAGE, MADV_DONTNEED);
+        if (now_us() - begin > longest) longest = now_us() - begin;
+        munlock(own, 64 * PAGE);
+    }
+    double locks = (double)(library_count("processor_ns") - spent) / (double)(library_count("looks") - looks) / 1e6;
+    printf("  a look takes %.1f ms, with locks %.1f ms; the longest madvise %.1f ms\n", quiet, locks, (double)longest / 1e3);
+    check(locks < 2 * quiet + 5, "a look takes no longer when the monitor locks memory of its own");
+    check(longest < 200000, "no call waits long");
+}
+
+/* Lending ends where the system has no memory for it: nothing is lent any more. */
+static void ended(void) {
+    struct rlimit old, all;
+    long size = 0;
+    uint8_t *at = lent(PAGES);
+    FILE *file = fopen("/proc/self/statm", "r");
+    if (!file || fscanf(file, "%ld", &size) != 1) exit(2);
+    fclose(file);
+    getrlimit(RLIMIT_AS, &old);
+    all = (struct rlimit){(rlim_t)size * PAGE, old.rlim_max};
+    setrlimit(RLIMIT_AS, &all);
+    struct vfio_iommu_type1_dma_map map = {.argsz = sizeof map, .vaddr = (uintptr_t)at, .size = PAGES * PAGE};
+    int null = open("/dev/null", O_RDWR);
+    int status = ioctl(null, VFIO_IOMMU_MAP_DMA, &map), cause = errno;
+    setrlimit(RLIMIT_AS, &old);
+    usleep(300000);
+    long lends = library_count("lends");
+    check(status == -1 && (cause != ENOTTY || library_count("lent") == 0),
+          "the call goes to the system only when no frame is shown");
+    check(differing(at, 0, PAGES, 1) == 0, "all is there");
+    fill(at, PAGES, 50);
+    sleep(2);
+    check(library_count("lends") == lends, "nothing is lent after lending has ended");
+    check(differing(at, 0, PAGES, 50) == 0, "all is there");
+    check(ioctl(null, VFIO_IOMMU_MAP_DMA, &map) == -1 && errno == ENOTTY, "later the call goes to the system");
+}
+
+/* A device that can't be opened ends nothing. */
+static void not_opened(void) {
+    uint8_t *at = lent(PAGES);
+    check(open("/dev/vfio/not-there", O_RDWR) == -1 && errno == ENOENT, "there is no such device");
+    check(openat(AT_FDCWD, "/dev/vhost-vdpa-not-there", O_RDWR) == -1, "nor such one");
+    fill(at, HALF, 1);
+    sleep(1);
+    check(wait_for_count("lent", PAGES, 10), "all pages are lent still");
+}
+
+/* ---- */
+
+static const struct way {
+    const char *name;
+    void (*run)(void);
+} ways[] = {
+    {"kept", kept},
+    {"foreign", foreign},
+    {"hole", hole},
+    {"used-later", used_later},
+    {"moved", moved},
+    {"advised", advised},
+    {"refused", refused},
+    {"children", children},
+    {"inherited", inherited},
+    {"late", noticed_late},
+    {"direct", direct},
+    {"locked", locked},
+    {"mappings", many_mappings},
+    {"ended", ended},
+    {"not-opened", not_opened},
+};
+
+int main(int count, char **words) {
+    const char *name = count > 1 ? words[1] : "";
+    bool is_known = strncmp(name, "pinned-", 7) == 0;
+    library_count("lent"); /* (so that memory for it is there) */
+    if (is_known) pinned_by(name + 7, true);
+    if (strncmp(name, "at-once-", 8) == 0) is_known = true, pinned_by(name + 8, false);
+    for (size_t i = 0; i < sizeof ways / sizeof ways[0]; i++) {
+        if (strcmp(name, ways[i].name) != 0) continue;
+        is_known = true;
+        ways[i].run();
+    }
+    if (!is_known) return fputs("parts: no such way\n", stderr), 2;
+    printf("%s: %s\n", name, wrong > 0 ? "WRONG" : is_left_out ? "left out" : "good");
+    return wrong > 0 ? 1 : is_left_out ? LEFT_OUT : 0;
+}

@@ -1,0 +1,79 @@
+"""Cases of single things that are hard for a library that maps frames in a monitor's memory: checks/host/parts.c."""
+import signal
+import subprocess
+import threading
+
+from places import AS_NOBODY, CC, FLAGS, HERE, OUT, TOP, Host, LeftOut, all_released, must, preloaded
+
+LEFT_OUT, PATIENCE_SECONDS = 77, 150
+PINS = ("mprotect", "mlock", "mlockall", "unmergeable", "dofork", "dofork-part", "dma", "look")
+
+
+def run_parts(ways, during=None):
+    """Runs parts.c for each way, one after the other, beside a host."""
+    program, host = OUT / "parts", Host(memory="512M")
+    found = [TOP / "checks/host/parts.c", TOP / "checks/host/breaker/ring.c"]
+    must(subprocess.run([CC, *FLAGS, "-o", program, *found]).returncode == 0, "parts.c doesn't compile")
+    failed, left = [], []
+    for way in ways:
+        counts = {"PAGESHARE_PERIOD_MS": "50", "PAGESHARE_COUNTS": str(HERE.place.room / f"{way}.json"), "MALLOC_PERTURB_": "165"}
+        ran = subprocess.Popen([*AS_NOBODY, program, way], env=preloaded(host, counts), text=True, stdin=subprocess.PIPE, stdout=subprocess.PIPE,
+                               stderr=subprocess.STDOUT)
+        status, said = follow(ran, host, during or {})
+        print(f"  {way}: {'good' if status == 0 else 'left out' if status == LEFT_OUT else f'WRONG, status {status}'}", flush=True)
+        for line in said:
+            if line.startswith(("  ", "left out: ")):
+                print(f"  {line.rstrip()}")
+        if status not in (0, LEFT_OUT):
+            failed.append(f"{way}: status {status}: {''.join(said)[-1500:]}")
+        left += [way] if status == LEFT_OUT else []
+    must(not failed, "\n".join(failed))
+    all_released(host)
+    host.stop()
+    if len(left) == len(ways):
+        raise LeftOut(f"all of it: {said}")
+
+
+def follow(ran, host, during):
+    """Does what a program asks for by a line of its own, and takes all that it says. One that takes too long is killed."""
+    said = []
+    timer = threading.Timer(PATIENCE_SECONDS, ran.kill)
+    timer.start()
+    for line in ran.stdout:
+        said.append(line)
+        if line.strip() in during:
+            during[line.strip()](host)
+            ran.stdin.write("\n")
+            ran.stdin.flush()
+    timer.cancel()
+    return ran.wait(), said
+
+
+def case_parts():
+    """Parts of a window leave it, in each order; advice on a part; calls that the kernel refuses."""
+    run_parts(("kept", "foreign", "hole", "used-later", "moved", "advised", "refused"))
+
+
+def case_forks():
+    """Children of forks: those that begin amid other calls, and a range that they are to have while the host stands still."""
+    run_parts(("children", "inherited"), {"stop": lambda host: host.signal(signal.SIGSTOP), "go": lambda host: host.signal(signal.SIGCONT)})
+
+
+def case_pins():
+    """A page is pinned, and all kinds of things are done to it before the device writes: what it writes is there."""
+    run_parts([f"{first}-{way}" for first in ("pinned", "at-once") for way in PINS] + ["late"])
+
+
+def case_lent_again():
+    """With files by O_DIRECT pages go on being lent."""
+    run_parts(("direct",))
+
+
+def case_locks():
+    """Memory that is locked beside windows, and many mappings: what is lent, and what a look costs."""
+    run_parts(("locked", "mappings"))
+
+
+def case_endings():
+    """Lending ends where the system has no memory for it, and doesn't where a device isn't opened."""
+    run_parts(("ended", "not-opened"))
