@@ -2,6 +2,7 @@
 """Looks whether the packages that `make dist` made install, run and go away again.
 
     checks/package.py [FOLDER]
+    checks/package.py --installed
     checks/package.py --host
 
 FOLDER is by default out/dist; nothing is built here but programs that use the library. The tarball is unpacked in a new folder, and
@@ -13,8 +14,9 @@ read their rules, a host is started and its numbers are checked, and the emulato
 second `packaging/dist.py` of the same tree has to make the same bytes. lintian finds no error in the Debian packages. Then they are
 installed, upgraded, run, removed and purged in an empty Debian that debootstrap makes, which needs root and the network.
 
-With --host the host alone, from what `make host` left in out/host, is installed below a prefix and tried. That needs no network and
-no package.
+With --installed, `make install` puts everything below a prefix in a new folder, where the same is tried, and `make uninstall` has to
+leave nothing. With --host the host alone, from what `make host` left in out/host, is installed below a prefix and tried. Neither needs
+the network or a package.
 
 What this machine has no program for is left out, and named. Prints each case that went wrong, and last `N passed, M failed` (status 0
 where all passed, else 1).
@@ -339,6 +341,19 @@ def try_host(tally, prefix, room):
     try_completions(tally, prefix, "pageshare-host", "pageshare-host --prom", "--prometheus\n")
 
 
+def try_prefix(tally, prefix, room):
+    """What is installed below a prefix."""
+    try_program(tally, prefix / "bin/pageshare")
+    tally.part(try_c, prefix, room)
+    tally.part(try_rust, prefix, room)
+    tally.part(try_exports, prefix)
+    pages = ("pageshare.1", "pageshare-estimate.1", "pageshare.3", "pageshare-journal.5", "pageshare-digest.5", "pageshare-host.8")
+    try_pages(tally, prefix, pages)
+    tally.equal("pageshare_make.3 is pageshare.3", (prefix / "share/man/man3/pageshare_make.3").resolve().name, "pageshare.3")
+    try_completions(tally, prefix, "pageshare", "pageshare estimate --sv", "--svg\n")
+    try_host(tally, prefix, room)
+
+
 def try_tarball(tally, file, room):
     """The tarball: unpacked, installed twice, tried, and uninstalled."""
     tally.equal("the tarball unpacks", run("tar", "xf", file, "-C", room)[0], 0)
@@ -349,17 +364,25 @@ def try_tarball(tally, file, room):
     for times in ("once", "twice"):
         said = run(tree / "install.sh", f"--prefix={prefix}")
         tally.holds(f"install.sh, {times}", said[0] == 0, said)
-    try_program(tally, prefix / "bin/pageshare")
-    tally.part(try_c, prefix, room)
-    tally.part(try_rust, prefix, room)
-    tally.part(try_exports, prefix)
-    pages = ("pageshare.1", "pageshare-estimate.1", "pageshare.3", "pageshare-journal.5", "pageshare-digest.5", "pageshare-host.8")
-    try_pages(tally, prefix, pages)
-    tally.equal("pageshare_make.3 is pageshare.3", (prefix / "share/man/man3/pageshare_make.3").resolve().name, "pageshare.3")
-    try_completions(tally, prefix, "pageshare", "pageshare estimate --sv", "--svg\n")
-    try_host(tally, prefix, room)
+    try_prefix(tally, prefix, room)
     said = run(tree / "install.sh", f"--prefix={prefix}", "--uninstall")
     tally.holds("install.sh --uninstall leaves nothing", said[0] == 0 and not root.exists(), said)
+
+
+def try_make(tally, room):
+    """`make install` into a new folder, as a packager and as a user call it, what is installed there, and `make uninstall`."""
+    for destination, prefix in [("", room / "below/prefix"), (room / "destination", pathlib.Path("/opt/pageshare"))]:
+        words = [f"PREFIX={prefix}", f"DESTDIR={destination}"]
+        root = pathlib.Path(f"{destination}{prefix}")
+        said = run("make", "--no-print-directory", "install", *words, env=dict(os.environ), folder=TOP)
+        if not tally.holds(f"make install {' '.join(words)}", said[0] == 0, said):
+            continue
+        if not destination:
+            try_prefix(tally, root, room)
+        unit = (root / "lib/systemd/system/pageshare-host@.service").read_text()
+        tally.holds("the unit names the prefix alone", f"ExecStart={prefix}/bin/pageshare-host " in unit, unit)
+        said = run("make", "--no-print-directory", "uninstall", *words, env=dict(os.environ), folder=TOP)
+        tally.holds("make uninstall leaves nothing", said[0] == 0 and not root.parent.exists(), said)
 
 
 def try_sums(tally, folder):
@@ -488,6 +511,8 @@ def main(what=OUT / "dist"):
     with new_folder() as room:
         if what == "--host":
             host_alone(tally, room)
+        elif what == "--installed":
+            try_make(tally, room)
         else:
             try_packages(tally, pathlib.Path(what).resolve(), room)
     return tally.close()
