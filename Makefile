@@ -29,18 +29,20 @@ out/pageshare: $(SOURCES)
 out/pageshare-v3: $(SOURCES)
 	checks/build.py pageshare_v3 $@ --cpu x86-64-v3
 
-# The program and the library for both levels, with man pages, completions, headers and documents, below DESTDIR and PREFIX;
-# `make uninstall` with the same words removes them. LIBDIR is the libraries' folder below PREFIX. docs/INSTALL.md lists all.
+# The program and the library for both levels, and the host with the library that monitors preload and its units, with man pages,
+# completions, headers and documents, below DESTDIR and PREFIX; `make uninstall` with the same words removes them. LIBDIR is the
+# libraries' folder below PREFIX. docs/INSTALL.md lists all.
 PREFIX = /usr/local
 LIBDIR = lib
-PRODUCTS = out/pageshare out/pageshare-v3 out/libpageshare.a out/v3/libpageshare.a
+HOST_PRODUCTS = out/host/pageshare-host out/host/libpageshare-window.so
+PRODUCTS = out/pageshare out/pageshare-v3 out/libpageshare.a out/v3/libpageshare.a $(HOST_PRODUCTS)
 install: $(PRODUCTS)
 	packaging/stage.py out/stage --libdir $(LIBDIR)
 	packaging/install.sh --from=out/stage --prefix=$(PREFIX) --destdir=$(DESTDIR)
 uninstall:
 	packaging/install.sh --uninstall --prefix=$(PREFIX) --destdir=$(DESTDIR)
 
-# A tarball and a Debian package of the same, with their sums, in out/dist; `make package` tries both where nothing else is.
+# A tarball and two Debian packages of the same, with their sums, in out/dist; `make package` tries them where nothing else is.
 dist: $(PRODUCTS)
 	packaging/dist.py out/dist
 package: dist
@@ -144,7 +146,7 @@ out/v3/proved.a: $(SOURCES)
 
 # Outside the gate: a host for processes of virtual machine monitors (docs/HOST.md), and the library that is preloaded into them.
 # `make host CHECK=1` (root) runs checks/host.py over them, and `make host FIGURE=1` draws what 1 to 8 guests share.
-host: out/host/pageshare-host out/host/libpageshare-window.so
+host: $(HOST_PRODUCTS)
 	$(if $(CHECK),checks/host.py)
 	$(if $(FIGURE),checks/host.py figure)
 
@@ -161,7 +163,7 @@ out/host/pageshare-host: $(HOST_SOURCES) $(HOST_HEADERS) $(HOST_LIBRARY)
 
 out/host/libpageshare-window.so: $(WINDOW_SOURCES) $(HOST_HEADERS)
 	@mkdir -p $(@D)
-	$(CC) $(HOST_FLAGS) -fPIC -shared -fvisibility=hidden -o $@ $(WINDOW_SOURCES) -ldl
+	$(CC) $(HOST_FLAGS) -fPIC -shared -fvisibility=hidden -Wl,-soname,$(@F) -Wl,-z,relro,-z,now -o $@ $(WINDOW_SOURCES) -ldl
 
 out/libpageshare_host.a: $(SOURCES)
 	checks/build.py pageshare_host_c $(@D)/proved_host.a

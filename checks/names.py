@@ -26,9 +26,10 @@ FOLDERS = (
     ".ci",
 )
 TARGET = re.compile(r"(?m)^([a-z][\w-]*):")
-# What is named and isn't of this tree: names of ELF, of Linux, of other monitors and of the kit.
+# What is named and isn't of this tree: names of ELF, of Linux, of SELinux, of other monitors and of the kit.
 OTHERS = set(
-    "e_type e_shoff e_phentsize e_shentsize use_zero_pages kvm_pvm memory_region_get_ram_ptr memory_region_get_fd ram_block_discard_range"
+    "svirt_t lib_t pageshare_host_t"
+    " e_type e_shoff e_phentsize e_shentsize use_zero_pages kvm_pvm memory_region_get_ram_ptr memory_region_get_fd ram_block_discard_range"
     " ram_block_discard_disable GuestMemory GuestMemoryMmap MmapRegion build_raw for_each_mut".split()
 )
 

@@ -2,24 +2,35 @@
 """Looks whether the packages that `make dist` made install, run and go away again.
 
     checks/package.py [FOLDER]
+    checks/package.py --installed
+    checks/package.py --host
 
 FOLDER is by default out/dist; nothing is built here but programs that use the library. The tarball is unpacked in a new folder, and
 its program run with nothing of this repository or the kit on PATH: at both levels, on images whose estimate is known. It is installed
 below a prefix, where C and Rust programs are linked by pkg-config, shared and static; man pages and completions are read by the
-programs that show them; systemd rates the host's unit; the library of x86-64-v3 is run on an emulated processor without AVX2, where
-it has to refuse; and what is uninstalled leaves no file. A second `packaging/dist.py` of the same tree has to make the same bytes.
-Then the Debian package is installed, run and removed in an empty Debian that debootstrap makes, which needs root and the network.
+programs that show them; the library of x86-64-v3 is run on an emulated processor without AVX2, where it has to refuse; and what is
+uninstalled leaves no file. The host's files are read by those who use them: systemd verifies and rates the units, udev and Prometheus
+read their rules, a host is started and its numbers are checked, and the emulator for libvirt starts a QEMU whatever is missing. A
+second `packaging/dist.py` of the same tree has to make the same bytes. lintian finds no error in the Debian packages. Then they are
+installed, upgraded, run, removed and purged in an empty Debian that debootstrap makes, which needs root and the network.
+
+With --installed, `make install` puts everything below a prefix in a new folder, where the same is tried, and `make uninstall` has to
+leave nothing. With --host the host alone, from what `make host` left in out/host, is installed below a prefix and tried. Neither needs
+the network or a package.
 
 What this machine has no program for is left out, and named. Prints each case that went wrong, and last `N passed, M failed` (status 0
 where all passed, else 1).
 """
+import functools
 import hashlib
 import json
 import os
 import pathlib
 import re
 import shutil
+import subprocess
 import sys
+import time
 
 import harness
 from harness import OUT, TOP, LeftOut, Tally, needs, new_folder
@@ -34,9 +45,13 @@ SUITE = "bookworm"
 VERSION = r"pageshare [\d.]+, .*\ncommit .+\nproved and compiled by .+\n"
 MAN_READERS = {"mandoc": ["mandoc", "-Tlint"], "man": ["man", "--warnings", "-l"]}
 COMPLETIONS = {
-    "bash": "bash-completion/completions/pageshare", "zsh": "zsh/site-functions/_pageshare",
-    "fish": "fish/vendor_completions.d/pageshare.fish",
+    "bash": "bash-completion/completions/{}", "zsh": "zsh/site-functions/_{}", "fish": "fish/vendor_completions.d/{}.fish",
 }
+UNITS = ("pageshare-host@.service", "pageshare-host-metrics.service", "pageshare-host-metrics.timer")
+# systemd rates what a unit may do from 0 to 10.
+EXPOSURE_MOST = 1.5
+# What systemd-sysusers leaves of the files of users that it changed.
+BACKUPS = {"etc/passwd-", "etc/group-", "etc/shadow-", "etc/gshadow-", "etc/.pwd.lock"}
 PROGRAM = """\
 #include <pageshare.h>
 #include <stdio.h>
@@ -174,14 +189,12 @@ def try_exports(tally, prefix):
         tally.holds(f"{file.name} exports pageshare_* alone", is_right, names)
 
 
-def try_pages(tally, prefix):
+def try_pages(tally, prefix, wanted):
     """The man pages that there should be."""
     pages = sorted(it for it in (prefix / "share/man").rglob("*.[0-9]") if not it.is_symlink())
     names = [it.name for it in pages]
-    for name in ("pageshare.1", "pageshare-estimate.1", "pageshare.3", "pageshare-journal.5", "pageshare-digest.5"):
+    for name in wanted:
         tally.holds(f"there is {name}", name in names, names)
-    same = (prefix / "share/man/man3/pageshare_make.3").resolve().name
-    tally.equal("pageshare_make.3 is pageshare.3", same, "pageshare.3")
     for reader in MAN_READERS:
         tally.part(try_reader, reader, pages)
 
@@ -201,13 +214,14 @@ def try_shell(tally, shell, file):
     tally.equal(f"the completion for {shell}", run(shell, "-n", file), (0, "", ""))
 
 
-def try_completions(tally, prefix):
-    """The completions of each shell, and what bash completes."""
+def try_completions(tally, prefix, name, words, wanted):
+    """The completions of a program for each shell, and what bash completes behind these words."""
     for shell, path in COMPLETIONS.items():
-        tally.part(try_shell, shell, prefix / "share" / path)
-    script = """. "$1"; COMP_WORDS=(pageshare estimate --sv); COMP_CWORD=2; _pageshare; echo "${COMPREPLY[*]}" """
-    said = run("bash", "-c", script, "bash", prefix / "share" / COMPLETIONS["bash"])
-    tally.equal("bash completes --sv of estimate", said[1], "--svg\n")
+        tally.part(try_shell, shell, prefix / "share" / path.format(name))
+    function = "_" + name.replace("-", "_")
+    script = f""". "$1"; COMP_WORDS=({words}); COMP_CWORD=$((${{#COMP_WORDS[@]}} - 1)); {function}; echo "${{COMPREPLY[*]}}" """
+    said = run("bash", "-c", script, "bash", prefix / "share" / COMPLETIONS["bash"].format(name))
+    tally.equal(f"bash completes {words}", said[1], wanted)
 
 
 def try_rules(tally, folder):
@@ -217,14 +231,127 @@ def try_rules(tally, folder):
     tally.holds("the rules for Prometheus", said[0] == 0, said)
 
 
-def try_unit(tally, folder):
-    """What systemd says of the host's unit."""
-    needs("the unit of systemd", "systemd-analyze")
-    code, out, err = run("systemd-analyze", "security", "--offline=true", folder / "pageshare-host@.service")
+def try_dashboard(tally, folder):
+    """Each number that Grafana's dashboard shows is one that a status has."""
+    text = (folder / "grafana.json").read_text()
+    panels = json.loads(text)["panels"]
+    tally.holds("the dashboard has panels with a title and a query", panels and all(it["title"] and it["targets"] for it in panels), panels)
+    names = set(re.findall(r"pageshare_\w+", "".join(target["expr"] for it in panels for target in it["targets"])))
+    source = (TOP / "host/status.c").read_text()
+    missing = sorted(it for it in names if f'"{it.removeprefix("pageshare_")}"' not in source)
+    tally.equal("numbers of the dashboard that no status has", missing, [])
+
+
+def try_unit(tally, folder, name):
+    """What systemd says of a unit: it can be loaded, and what it may do."""
+    needs("the units of systemd", "systemd-analyze")
+    said = run("systemd-analyze", "verify", "--man=no", folder / name)
+    tally.equal(f"systemd-analyze verify {name}", (said[0], [it for it in said[2].splitlines() if name in it]), (0, []))
+    if name.endswith(".timer"):
+        return
+    code, out, err = run("systemd-analyze", "security", "--offline=true", folder / name)
     if "--offline" in err:
-        raise LeftOut("the unit of systemd, since this systemd-analyze needs a running one")
+        raise LeftOut("the rating of units, since this systemd-analyze needs a running one")
     level = re.search(r"exposure level for \S+: ([\d.]+)", out)
-    tally.holds("the unit's exposure is at most 3", code == 0 and level and float(level[1]) <= 3, out[-200:] + err)
+    tally.holds(f"the exposure of {name} is at most {EXPOSURE_MOST}", code == 0 and level and float(level[1]) <= EXPOSURE_MOST, out[-200:] + err)
+
+
+def try_udev(tally, prefix):
+    """What udev says of the rule. (Its group need not be here.)"""
+    needs("the rule for udev", "udevadm")
+    code, out, err = run("udevadm", "verify", "--resolve-names=never", prefix / "lib/udev/rules.d/60-pageshare-host.rules")
+    if "Unknown command" in err:
+        raise LeftOut("the rule for udev, since this udevadm has no verify")
+    tally.holds("udevadm verify", code == 0, out + err)
+
+
+def try_users(tally, prefix, room):
+    """The users and groups that the host needs, made below an empty folder."""
+    needs("the host's user", "systemd-sysusers")
+    root = room / "users"
+    (root / "etc").mkdir(parents=True)
+    said = run("systemd-sysusers", f"--root={root}", prefix / "lib/sysusers.d/pageshare-host.conf")
+    if said[0] != 0 and os.geteuid() != 0:
+        raise LeftOut("the host's user, since making one takes root")
+    made = (root / "etc/passwd").read_text() + (root / "etc/group").read_text() if said[0] == 0 else ""
+    tally.holds("systemd-sysusers makes the user and the group", re.findall(r"(?m)^pageshare-host:|^kvm:", made), (said, made))
+
+
+def try_names(tally, prefix):
+    """No text that is installed has a word that should have been replaced, and each names this prefix alone."""
+    folders = [prefix / "lib", prefix / "bin", prefix / "libexec", prefix / "share/pageshare"]
+    texts = [it for folder in folders for it in folder.rglob("*") if it.is_file() and b"\x7fELF" not in it.read_bytes()[:4]]
+    left = [str(it) for it in texts if re.search(rb"@[A-Z]+@", it.read_bytes())]
+    tally.equal("texts with a word that is to be replaced", left, [])
+    for name in UNITS[:2]:
+        text = (prefix / "lib/systemd/system" / name).read_text()
+        program = re.search(r"(?m)^ExecStart=(\S+)", text)[1]
+        tally.holds(f"{name} starts what is installed", program.startswith(f"{prefix}/") and os.access(program, os.X_OK), program)
+
+
+def try_soname(tally, library):
+    """The library that monitors preload has its own name."""
+    needs("the name of libpageshare-window.so", "objdump")
+    said = run("objdump", "-p", library)
+    tally.holds("libpageshare-window.so has its soname", "SONAME               libpageshare-window.so\n" in said[1], said)
+
+
+def try_metrics(tally, prefix, room):
+    """A host is started, and Prometheus reads its numbers."""
+    host, socket = prefix / "bin/pageshare-host", room / "web.sock"
+    with subprocess.Popen([host, "--domain", f"web={socket}", "--memory", "16M"], stderr=subprocess.DEVNULL) as ran:
+        said, late = (1, "", ""), time.monotonic() + 20
+        while said[0] != 0 and time.monotonic() < late:
+            time.sleep(0.1)
+            said = run(host, "--status", socket, "--prometheus")
+        ran.terminate()
+    tally.holds("a started host prints its numbers", 'pageshare_uptime_seconds{domain="web"}' in said[1], said)
+    needs("the numbers for Prometheus", "promtool")
+    checked = harness.run(["promtool", "check", "metrics"], said[1])
+    tally.equal("promtool check metrics", (checked.returncode, checked.stdout, checked.stderr), (0, b"", b""))
+
+
+def try_emulator(tally, prefix):
+    """The emulator for libvirt starts a QEMU whatever is missing, and says what that is."""
+    emulator, settings = prefix / "bin/pageshare-qemu", pathlib.Path("/etc/pageshare/guests.conf")
+    tally.equal("sh reads pageshare-qemu and write-metrics", [run("sh", "-n", it)[0] for it in (emulator, prefix / "libexec/pageshare/write-metrics")], [0, 0])
+    needs("the emulator for libvirt", "qemu-system-x86_64")
+    said = run(emulator, "--version")
+    tally.holds("without a guest it is QEMU", said[0] == 0 and "QEMU" in said[1] and not said[2], said)
+    if not settings.exists():
+        said = run(emulator, "-name", "guest=web1,debug-threads=on", "--version")
+        reason = f"pageshare: guest web1 shares no memory: {settings} can't be read\n"
+        tally.holds("without settings QEMU starts", said[0] == 0 and "QEMU" in said[1] and said[2] == reason, said)
+    said = run(emulator, "-name", "web1", "--version", env={**PLAIN, "PAGESHARE_SOCKET": "/nonexistent/web.sock"})
+    tally.holds("without a host QEMU starts", said[0] == 0 and "QEMU" in said[1] and "ld.so" not in said[2], said)
+
+
+def try_host(tally, prefix, room):
+    """What is installed of the host, as its users read it."""
+    tally.part(try_soname, prefix / "lib/libpageshare-window.so")
+    try_names(tally, prefix)
+    for name in UNITS:
+        tally.part(try_unit, prefix / "lib/systemd/system", name)
+    tally.part(try_udev, prefix)
+    tally.part(try_users, prefix, room)
+    for part in (try_rules, try_dashboard):
+        tally.part(part, prefix / "share/doc/pageshare/examples/host")
+    tally.part(try_metrics, prefix, room)
+    tally.part(try_emulator, prefix)
+    try_completions(tally, prefix, "pageshare-host", "pageshare-host --prom", "--prometheus\n")
+
+
+def try_prefix(tally, prefix, room):
+    """What is installed below a prefix."""
+    try_program(tally, prefix / "bin/pageshare")
+    tally.part(try_c, prefix, room)
+    tally.part(try_rust, prefix, room)
+    tally.part(try_exports, prefix)
+    pages = ("pageshare.1", "pageshare-estimate.1", "pageshare.3", "pageshare-journal.5", "pageshare-digest.5", "pageshare-host.8")
+    try_pages(tally, prefix, pages)
+    tally.equal("pageshare_make.3 is pageshare.3", (prefix / "share/man/man3/pageshare_make.3").resolve().name, "pageshare.3")
+    try_completions(tally, prefix, "pageshare", "pageshare estimate --sv", "--svg\n")
+    try_host(tally, prefix, room)
 
 
 def try_tarball(tally, file, room):
@@ -237,16 +364,25 @@ def try_tarball(tally, file, room):
     for times in ("once", "twice"):
         said = run(tree / "install.sh", f"--prefix={prefix}")
         tally.holds(f"install.sh, {times}", said[0] == 0, said)
-    try_program(tally, prefix / "bin/pageshare")
-    tally.part(try_c, prefix, room)
-    tally.part(try_rust, prefix, room)
-    tally.part(try_exports, prefix)
-    try_pages(tally, prefix)
-    try_completions(tally, prefix)
-    for part in (try_rules, try_unit):
-        tally.part(part, prefix / "share/doc/pageshare/examples/host")
+    try_prefix(tally, prefix, room)
     said = run(tree / "install.sh", f"--prefix={prefix}", "--uninstall")
     tally.holds("install.sh --uninstall leaves nothing", said[0] == 0 and not root.exists(), said)
+
+
+def try_make(tally, room):
+    """`make install` into a new folder, as a packager and as a user call it, what is installed there, and `make uninstall`."""
+    for destination, prefix in [("", room / "below/prefix"), (room / "destination", pathlib.Path("/opt/pageshare"))]:
+        words = [f"PREFIX={prefix}", f"DESTDIR={destination}"]
+        root = pathlib.Path(f"{destination}{prefix}")
+        said = run("make", "--no-print-directory", "install", *words, env=dict(os.environ), folder=TOP)
+        if not tally.holds(f"make install {' '.join(words)}", said[0] == 0, said):
+            continue
+        if not destination:
+            try_prefix(tally, root, room)
+        unit = (root / "lib/systemd/system/pageshare-host@.service").read_text()
+        tally.holds("the unit names the prefix alone", f"ExecStart={prefix}/bin/pageshare-host " in unit, unit)
+        said = run("make", "--no-print-directory", "uninstall", *words, env=dict(os.environ), folder=TOP)
+        tally.holds("make uninstall leaves nothing", said[0] == 0 and not root.parent.exists(), said)
 
 
 def try_sums(tally, folder):
@@ -274,12 +410,20 @@ def files_of(root):
     return found
 
 
+def unmount_below(root):
+    """Unmounts what is mounted below a folder, which otherwise could not be removed."""
+    mounted = [line.split()[1] for line in pathlib.Path("/proc/mounts").read_text().splitlines()]
+    for place in reversed([it for it in mounted if it.startswith(f"{root}/")]):
+        run("umount", place)
+
+
 def new_debian(root):
-    """A Debian that has nothing else, and what runs a program inside."""
+    """A Debian that has systemd and udev, which the host needs, and nothing else; and what runs a program inside."""
     env = {**PLAIN, "PATH": "/usr/sbin:/usr/bin:/sbin:/bin"}
-    made = run("debootstrap", "--variant=minbase", SUITE, root, env=env)
+    made = run("debootstrap", "--variant=minbase", "--include=systemd,udev", SUITE, root, env=env)
+    unmount_below(root)  # (debootstrap leaves /proc mounted where systemd is among the packages)
     if made[0] != 0:
-        raise LeftOut(f"the Debian package, since debootstrap failed: {(made[1] + made[2]).strip().splitlines()[-1:]}")
+        raise LeftOut(f"the Debian packages, since debootstrap failed: {(made[1] + made[2]).strip().splitlines()[-1:]}")
     return lambda *words: run("chroot", root, *words, env=env)
 
 
@@ -295,33 +439,82 @@ def try_inside(tally, inside, root, room):
         tally.holds("a C program finds the shared library", said[0] == 0 and said[1].startswith("paired\n"), said)
 
 
-def try_debian(tally, file, room):
-    """The Debian package: installed, tried and removed in a Debian that has nothing else."""
-    if file is None or not has("debootstrap") or os.geteuid() != 0:
-        raise LeftOut("the Debian package: it needs dpkg-deb, debootstrap and root")
+def try_host_inside(tally, inside, root):
+    """What the installed host has made, and what an upgrade keeps."""
+    said = inside("id", "-nu", "pageshare-host")
+    tally.equal("the host's user", said[:2], (0, "pageshare-host\n"))
+    tally.equal("--version of the host in an empty Debian", inside("pageshare-host", "--version")[0], 0)
+    (root / "etc/pageshare/web.conf").write_text("memory 64M\n")
+    said = inside("dpkg", "-i", "/tmp/pageshare-host.deb")
+    tally.holds("an upgrade keeps the settings", said[0] == 0 and (root / "etc/pageshare/web.conf").exists(), said)
+    said = inside("dpkg", "-r", "pageshare-host")
+    tally.holds("a removal keeps the settings", said[0] == 0 and (root / "etc/pageshare/web.conf").exists(), said)
+    tally.holds("a removal takes the program", not (root / "usr/bin/pageshare-host").exists(), said)
+
+
+def try_lintian(tally, file):
+    """What Debian's own check says of a package."""
+    needs("lintian", "lintian")
+    said = run("lintian", "--allow-root", "--fail-on", "error", file)
+    tally.holds(f"lintian finds no error in {file.name}", said[0] == 0, said)
+
+
+def try_debian(tally, files, room):
+    """The Debian packages: installed, tried, upgraded and removed in a Debian that has nothing else."""
+    if not files or not has("debootstrap") or os.geteuid() != 0:
+        raise LeftOut("the Debian packages: they need dpkg-deb, debootstrap and root")
     root = room / "debian"
     inside = new_debian(root)
     before = files_of(root)
-    shutil.copy(file, root / "tmp/pageshare.deb")
+    for file in files:
+        shutil.copy(file, root / "tmp" / f"{file.name.split('_')[0]}.deb")
     for name in ("first.raw", "second.core"):
         shutil.copy(ROWS / name, root / "tmp")
-    said = inside("dpkg", "-i", "/tmp/pageshare.deb")
+    said = inside("dpkg", "-i", "/tmp/pageshare.deb", "/tmp/pageshare-host.deb")
     if not tally.holds("dpkg -i", said[0] == 0, said):
         return
     try_inside(tally, inside, root, room)
-    said = inside("dpkg", "-P", "pageshare")
+    try_host_inside(tally, inside, root)
+    said = inside("dpkg", "-P", "pageshare", "pageshare-host")
     tally.holds("dpkg -P", said[0] == 0, said)
-    tally.equal("dpkg -P leaves nothing", sorted(files_of(root) ^ before), [])
+    tally.equal("dpkg -P leaves nothing", sorted((files_of(root) ^ before) - BACKUPS), [])
 
 
-def main(folder=OUT / "dist"):
-    folder, tally = pathlib.Path(folder).resolve(), Tally()
-    tarball = next(folder.glob("pageshare-*-x86_64-linux.tar.gz"))
+def host_alone(tally, room):
+    """The host below a prefix, from what `make host` left."""
+    root, staged = room / "installed", room / "stage"
+    prefix = root / "opt/pageshare"
+    said = run(sys.executable, TOP / "packaging/stage.py", staged, "--part", "host", env=dict(os.environ))
+    if not tally.holds("packaging/stage.py --part host", said[0] == 0, said):
+        return
+    install = functools.partial(run, TOP / "packaging/install.sh", f"--from={staged}", f"--prefix={prefix}")
+    tally.equal("install.sh", install()[0], 0)
+    try_pages(tally, prefix, ("pageshare-host.8",))
+    try_host(tally, prefix, room)
+    said = install("--uninstall")
+    tally.holds("install.sh --uninstall leaves nothing", said[0] == 0 and not root.exists(), said)
+
+
+def try_packages(tally, folder, room):
+    """What `make dist` left in this folder."""
+    debian = sorted(folder.glob("*_amd64.deb"))
+    try_sums(tally, folder)
+    try_tarball(tally, next(folder.glob("pageshare-*-x86_64-linux.tar.gz")), room)
+    try_again(tally, folder, room)
+    for file in debian:
+        tally.part(try_lintian, file)
+    tally.part(try_debian, debian, room)
+
+
+def main(what=OUT / "dist"):
+    tally = Tally()
     with new_folder() as room:
-        try_sums(tally, folder)
-        try_tarball(tally, tarball, room)
-        try_again(tally, folder, room)
-        tally.part(try_debian, next(folder.glob("pageshare_*_amd64.deb"), None), room)
+        if what == "--host":
+            host_alone(tally, room)
+        elif what == "--installed":
+            try_make(tally, room)
+        else:
+            try_packages(tally, pathlib.Path(what).resolve(), room)
     return tally.close()
 
 

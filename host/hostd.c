@@ -1,7 +1,8 @@
 #define _GNU_SOURCE
 /*
  * pageshare-host: owns the memory that processes of virtual machine monitors share, and decides by the proved library which of their
- * pages share a frame. One thread serves one domain. This file reads the options, makes the domains and waits for a signal.
+ * pages share a frame. One thread serves one domain. This file reads the options, makes the domains and waits for a signal. SIGHUP lets
+ * the host begin anew with its settings as they are by then.
  */
 #include "domain.h"
 #include "pageshare.h"
@@ -55,27 +56,51 @@ static bool start_all(struct domain *domains, const struct settings *settings, s
     return true;
 }
 
-/* Serves until a signal asks it to end. */
-static int serve_all(const struct settings *settings) {
+enum outcome { OUTCOME_END, OUTCOME_FAILED, OUTCOME_ANEW };
+
+/* Waits for a signal that ends the host, or lets it begin anew. Settings that are wrong by then change nothing. */
+static enum outcome wait_for(const sigset_t *signals, const struct settings *settings, int count, char **words) {
+    static struct settings later;
+    for (int got; sigwait(signals, &got) == 0;) {
+        if (got != SIGHUP) return OUTCOME_END;
+        if (*settings->user) log_line("SIGHUP: a host with --user can't begin anew; restart it");
+        else if (settings_read(&later, count, words)) return OUTCOME_ANEW;
+        else log_line("SIGHUP: the settings stay as they were");
+    }
+    return OUTCOME_FAILED;
+}
+
+/* Serves until a signal comes. */
+static enum outcome serve_all(const struct settings *settings, int count, char **words) {
     static struct domain domains[DOMAINS_MOST];
     size_t begun = 0;
     sigset_t ends;
-    int got, faults_device = open_faults_device();
+    int faults_device = open_faults_device();
     sigemptyset(&ends);
     sigaddset(&ends, SIGINT);
     sigaddset(&ends, SIGTERM);
     sigaddset(&ends, SIGHUP);
-    if (sigprocmask(SIG_BLOCK, &ends, NULL) != 0 || signal(SIGPIPE, SIG_IGN) == SIG_ERR) return trouble("signals"), 1;
+    if (sigprocmask(SIG_BLOCK, &ends, NULL) != 0 || signal(SIGPIPE, SIG_IGN) == SIG_ERR)
+        return trouble("signals"), OUTCOME_FAILED;
     raise_limits();
     if (prctl(PR_SET_THP_DISABLE, 1, 0, 0, 0) != 0) trouble("prctl"); /* a huge page would take memory for 512 pages of zeros */
     bool good = start_all(domains, settings, &begun, faults_device);
     for (size_t i = 0; good && i < begun; i++)
-        log_line("domain %s serves at %s: up to %u clients, %llu MiB of frames", settings->domains[i].name, settings->domains[i].socket,
-             settings->domains[i].clients, (unsigned long long)(settings->domains[i].memory >> 20));
-    if (good && sigwait(&ends, &got) != 0) good = false;
+        log_line("domain %s serves at %s: up to %u clients, %llu MiB of frames", settings->domains[i].name,
+                 settings->domains[i].socket, settings->domains[i].clients,
+                 (unsigned long long)(settings->domains[i].memory >> 20));
+    enum outcome outcome = good ? wait_for(&ends, settings, count, words) : OUTCOME_FAILED;
     for (size_t i = 0; i < begun; i++) domain_end(&domains[i]);
     if (faults_device >= 0) close(faults_device);
-    return good ? 0 : 1;
+    return outcome;
+}
+
+/* Begins anew in the same process, of which nothing is left: each descriptor closes by itself. Returns only where that fails. */
+static int begin_anew(char **words) {
+    log_line("SIGHUP: the host begins anew");
+    execv("/proc/self/exe", words);
+    trouble("/proc/self/exe");
+    return 1;
 }
 
 int main(int count, char **words) {
@@ -87,5 +112,6 @@ int main(int count, char **words) {
     case TASK_STATUS: return status_show(settings.status, settings.form, settings.watch);
     case TASK_SERVE: break;
     }
-    return serve_all(&settings);
+    enum outcome outcome = serve_all(&settings, count, words);
+    return outcome == OUTCOME_ANEW ? begin_anew(words) : outcome == OUTCOME_FAILED;
 }

@@ -1,13 +1,14 @@
 #!/usr/bin/env python3
-"""Makes the packages: a tarball and a Debian package, with their sums.
+"""Makes the packages: a tarball and two Debian packages, with their sums.
 
     packaging/dist.py [FOLDER]
 
 FOLDER is by default out/dist. It gets pageshare-VERSION-x86_64-linux.tar.gz, whose program runs where it is unpacked and whose
-install.sh installs it; pageshare_VERSION_amd64.deb, where there is dpkg-deb; and SHA256SUMS. What `packaging/stage.py` needs has to be
-in out/. The same tree gives the same bytes: files are in order, belong to root, and have the last commit's time (or
-SOURCE_DATE_EPOCH).
+install.sh installs it; pageshare_VERSION_amd64.deb with the program and its library and pageshare-host_VERSION_amd64.deb with the
+host, where there is dpkg-deb; and SHA256SUMS. What `packaging/stage.py` needs has to be in out/. The same tree gives the same bytes:
+files are in order, belong to root, and have the last commit's time (or SOURCE_DATE_EPOCH).
 """
+import email.utils
 import gzip
 import hashlib
 import os
@@ -27,19 +28,60 @@ MULTIARCH = "x86_64-linux-gnu"
 # In which package of Debian a needed library is.
 LIBC = ("libc.so.6", "libm.so.6", "libpthread.so.0", "libdl.so.2", "librt.so.1", "ld-linux-x86-64.so.2")
 PACKAGES = {**dict.fromkeys(LIBC, "libc6"), "libgcc_s.so.1": "libgcc-s1"}
-CONTROL = """\
-Package: pageshare
-Version: {version}
-Architecture: amd64
-Maintainer: The pageshare authors <maintainers@pageshare.invalid>
-Installed-Size: {size}
+MAINTAINER = "The pageshare authors <maintainers@pageshare.invalid>"
+# The Debian package of each part: its name, and the fields of its control file that aren't common to both.
+DEBIAN = {
+    "program": ("pageshare", """\
 Depends: {depends}
-Suggests: qemu-system-x86
-Section: admin
-Priority: optional
+Suggests: pageshare-host
 Description: content-based page sharing for virtual machines
  Finds out how much memory virtual machines would save by sharing equal
  pages, and has a library that shares them, for monitors in C and Rust.
+"""),
+    "host": ("pageshare-host", """\
+Depends: {depends}, systemd
+Recommends: udev
+Suggests: pageshare, qemu-system-x86, libvirt-daemon-system, prometheus-node-exporter
+Breaks: pageshare (<< {version})
+Replaces: pageshare (<< {version})
+Description: QEMU processes share equal pages of their guests' memory
+ A host that monitors of virtual machines connect to, the library that is
+ preloaded into them, units of systemd, and what udev, AppArmor and libvirt
+ need to know of both. The monitors are not modified and need no privilege.
+"""),
+}
+# Of the files in packaging/debian: what dpkg runs, and what lintian finds and is meant to be so.
+SCRIPTS, OVERRIDES = (".preinst", ".postinst", ".prerm", ".postrm"), ".lintian-overrides"
+CONTROL = """\
+Package: {name}
+Version: {version}
+Architecture: amd64
+Maintainer: {maintainer}
+Installed-Size: {size}
+Section: admin
+Priority: optional
+"""
+CHANGELOG = """\
+{name} ({version}) unstable; urgency=medium
+
+  * Changes of this version: {changes}.
+
+ -- {maintainer}  {date}
+"""
+COPYRIGHT = """\
+Format: https://www.debian.org/doc/packaging-manuals/copyright-format/1.0/
+Upstream-Name: pageshare
+
+Files: *
+Copyright: {owner}
+License: Expat or Apache-2.0
+
+License: Expat
+{expat}
+
+License: Apache-2.0
+ On Debian systems the text of the Apache License, version 2.0, is in
+ /usr/share/common-licenses/Apache-2.0.
 """
 
 
@@ -88,28 +130,81 @@ def depends(tree):
     return ", ".join([libc, *sorted(packages - {"libc6"})])
 
 
-def write_control(room, tree):
-    """The package's own files."""
-    control = room / "DEBIAN"
+def pack(file, text):
+    """Writes what a Debian package has compressed."""
+    file.parent.mkdir(parents=True, exist_ok=True)
+    file.write_bytes(gzip.compress(text, 9, mtime=0))
+
+
+def pack_manuals(folder):
+    """Compresses the man pages, and lets their other names lead to the compressed ones."""
+    for page in sorted(folder.rglob("*.[0-9]")):
+        packed = page.with_name(page.name + ".gz")
+        if page.is_symlink():
+            packed.symlink_to(f"{page.readlink()}.gz")
+        else:
+            pack(packed, page.read_bytes())
+        page.unlink()
+
+
+def write_notes(documents, name):
+    """The changelog and the licences, as Debian has them."""
+    date = email.utils.formatdate(stage.commit_time())
+    changes = "see CHANGELOG.md beside this file" if name == "pageshare" else "see CHANGELOG.md of the package pageshare"
+    words = {"name": name, "version": stage.VERSION, "maintainer": MAINTAINER, "date": date, "changes": changes}
+    pack(documents / "changelog.gz", CHANGELOG.format(**words).encode())
+    licence = (TOP / "LICENSE-MIT").read_text().strip()
+    owner = re.search(r"^Copyright \(c\) (.*)$", licence, re.M)[1]
+    expat = "\n".join(f" {it.strip() or '.'}" for it in licence.split("\n"))
+    (documents / "copyright").write_text(COPYRIGHT.format(owner=owner, expat=expat))
+
+
+def write_control(room, part):
+    """The package's own files: what it is called and needs, its sums, and the scripts that dpkg runs."""
+    (name, more), control = DEBIAN[part], room / "DEBIAN"
     control.mkdir()
-    files = sorted(it for it in tree.rglob("*") if it.is_file() and not it.is_symlink())
+    files = sorted(it for it in room.rglob("*") if it.is_file() and not it.is_symlink())
     size = sum(-(-it.stat().st_size // 1024) for it in files)
-    (control / "control").write_text(CONTROL.format(version=stage.VERSION, size=size, depends=depends(tree)))
+    words = {"name": name, "version": stage.VERSION, "maintainer": MAINTAINER, "size": size, "depends": depends(room / "usr")}
+    (control / "control").write_text((CONTROL + more).format(**words))
     sums = "".join(f"{hashlib.md5(it.read_bytes()).hexdigest()}  {it.relative_to(room)}\n" for it in files)
     (control / "md5sums").write_text(sums)
     (control / "triggers").write_text("activate-noawait ldconfig\n")
+    for file in sorted((TOP / "packaging/debian").glob(f"{name}.*")):
+        if file.suffix != OVERRIDES:
+            shutil.copyfile(file, control / file.suffix[1:])
+            (control / file.suffix[1:]).chmod(0o755 if file.suffix in SCRIPTS else 0o644)
 
 
-def make_debian(folder):
-    """The Debian package; returns its path."""
-    file = folder / f"pageshare_{stage.VERSION}_amd64.deb"
+def fill_debian(room, part):
+    """The files of the Debian package of a part."""
+    name, tree = DEBIAN[part][0], room / "usr"
+    stage.stage(tree, f"lib/{MULTIARCH}", "/usr", "share/zsh/vendor-completions", (part,), name)
+    documents = tree / "share/doc" / name
+    for licence in documents.glob("LICENSE-*"):
+        licence.unlink()
+    overrides = TOP / f"packaging/debian/{name}{OVERRIDES}"
+    if overrides.is_file():
+        (tree / "share/lintian/overrides").mkdir(parents=True)
+        shutil.copyfile(overrides, tree / "share/lintian/overrides" / name)
+    pack_manuals(tree / "share/man")
+    write_notes(documents, name)
+    if part == "host":
+        (room / "etc/pageshare").mkdir(parents=True)
+        profile = room / "etc/apparmor.d/abstractions/libvirt-qemu.d/pageshare"
+        profile.parent.mkdir(parents=True)
+        shutil.move(tree / "share/pageshare/libvirt-qemu.apparmor", profile)
+        (tree / "share/pageshare").rmdir()
+
+
+def make_debian(folder, part):
+    """The Debian package of a part; returns its path."""
+    file = folder / f"{DEBIAN[part][0]}_{stage.VERSION}_amd64.deb"
     with tempfile.TemporaryDirectory(prefix="dist-") as name:
         room = pathlib.Path(name) / "root"
-        tree = room / "usr"
-        stage.stage(tree, f"lib/{MULTIARCH}", "/usr", "share/zsh/vendor-completions")
-        documents = tree / "share/doc/pageshare"
-        (documents / "copyright").write_text("".join((TOP / it).read_text() + "\n" for it in ("LICENSE-MIT", "LICENSE-APACHE")))
-        write_control(room, tree)
+        room.mkdir()
+        fill_debian(room, part)
+        write_control(room, part)
         seconds = stage.commit_time()
         for path in [room, *room.rglob("*")]:
             if not path.is_symlink():
@@ -126,9 +221,9 @@ def main(folder=TOP / "out/dist"):
     folder.mkdir(parents=True)
     made = [make_tarball(folder)]
     if shutil.which("dpkg-deb"):
-        made.append(make_debian(folder))
+        made += [make_debian(folder, part) for part in stage.PARTS]
     else:
-        print("left out: the Debian package, since there is no dpkg-deb")
+        print("left out: the Debian packages, since there is no dpkg-deb")
     sums = [f"{hashlib.sha256(it.read_bytes()).hexdigest()}  {it.name}\n" for it in made]
     (folder / "SHA256SUMS").write_text("".join(sums))
     print("".join(sums), end="")

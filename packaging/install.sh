@@ -5,7 +5,7 @@
 #
 # PREFIX is by default /usr/local. With --destdir everything is put below that folder, for packages. What was installed is listed in
 # PREFIX/share/pageshare/installed: each file, and each folder that wasn't there before, so that --uninstall leaves nothing. An older
-# installation at the same place is removed first.
+# installation at the same place is removed first. The host's unit and other texts that name the prefix get it here.
 set -eu
 
 prefix=/usr/local destdir='' from=$(cd "$(dirname "$0")" && pwd) action=install
@@ -61,6 +61,16 @@ make_folder() {
     printf '%s/\n' "${1#"$destdir"}" >> "$room/folders"
 }
 
+# The texts that have the word @PREFIX@ get the prefix in its place.
+name_prefix() {
+    named=$(printf '%s' "$prefix" | sed 's/[&|\\]/\\&/g')
+    grep -v -e '\.a$' -e '\.so' "$room/files" | while IFS= read -r file; do
+        if [ -L "$root/$file" ] || ! grep -q -I '@PREFIX@' "$root/$file"; then continue; fi
+        sed "s|@PREFIX@|$named|g" "$from/$file" > "$room/text"
+        cat "$room/text" > "$root/$file"
+    done
+}
+
 install_all() {
     room=$(mktemp -d)
     trap 'rm -rf "$room"' EXIT
@@ -77,6 +87,7 @@ install_all() {
             if [ -x "$from/$file" ]; then chmod 755 "$root/$file"; else chmod 644 "$root/$file"; fi
         fi
     done < "$room/files"
+    name_prefix
     make_folder "$(dirname "$root/$list")"
     { cat "$room/files" && printf '%s\n' "$list" && cat "$room/folders"; } > "$root/$list"
     chmod 644 "$root/$list"

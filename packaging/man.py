@@ -1,10 +1,11 @@
 #!/usr/bin/env python3
 """Writes the man pages, from what the programs print for --help, the header and the documents.
 
-    packaging/man.py PROGRAM FOLDER [--host PROGRAM] [--date YYYY-MM-DD]
+    packaging/man.py FOLDER [--program PROGRAM] [--host PROGRAM] [--date YYYY-MM-DD]
 
-PROGRAM is the program pageshare. FOLDER gets man1/pageshare.1 and a page for each command, man3/pageshare.3 and a name for each
-function, and man5/pageshare-journal.5 and pageshare-digest.5; with --host, and where docs/HOST.md is there, man8/pageshare-host.8.
+With --program, which is the program pageshare, FOLDER gets man1/pageshare.1 and a page for each command, man3/pageshare.3 and a name
+for each function, and man5/pageshare-journal.5 and pageshare-digest.5. With --host, which is pageshare-host, it gets
+man8/pageshare-host.8 and the name pageshare-qemu.8.
 The date is that of the pages, by default the last commit's. Nothing is written twice: a page says what its source says.
 """
 import argparse
@@ -77,6 +78,12 @@ class Writer:
         file = self.folder / f"man{section}" / f"{name}.{section}"
         file.parent.mkdir(parents=True, exist_ok=True)
         file.write_text(page.text())
+
+    def name(self, name, of, section):
+        """Another name of a page."""
+        link = self.folder / f"man{section}" / f"{name}.{section}"
+        link.unlink(missing_ok=True)
+        link.symlink_to(f"{of}.{section}")
 
 
 def first_sentence(text):
@@ -155,36 +162,33 @@ def write_library(writer):
     see_also(page, [("pageshare", 1), ("pageshare-journal", 5)])
     writer.keep(page, "pageshare", 3)
     for name in names:
-        link = writer.folder / "man3" / f"{name}.3"
-        link.unlink(missing_ok=True)
-        link.symlink_to("pageshare.3")
+        writer.name(name, "pageshare", 3)
 
 
 def write_host(writer, program):
-    """The host's page, where the document on it is there: what it prints for help, and the document."""
-    document = TOP / "docs/HOST.md"
-    if not document.is_file():
-        return
+    """The host's page: what it prints for help, and the document on it."""
     help_ = helptext.of(program)
     page = writer.page("pageshare-host", 8)
     write_help(page, "pageshare-host", help_, first_sentence(help_.about) or "shares memory between the monitors of one machine")
-    for _, lines in sections_of(document.read_text(), 2)[1:]:
+    for _, lines in sections_of((TOP / "docs/HOST.md").read_text(), 2)[1:]:
         roff.write_markdown(page, lines)
     see_also(page, [("pageshare", 1), ("pageshare", 3)])
     writer.keep(page, "pageshare-host", 8)
+    writer.name("pageshare-qemu", "pageshare-host", 8)
 
 
 def main():
     options = argparse.ArgumentParser(description=__doc__.splitlines()[0])
-    options.add_argument("program")
     options.add_argument("folder", type=pathlib.Path)
+    options.add_argument("--program")
     options.add_argument("--host")
     options.add_argument("--date", default=None)
     given = options.parse_args()
     writer = Writer(given.folder, given.date or last_commit(), header.version((TOP / "include/pageshare.h").read_text()))
-    write_commands(writer, given.program)
-    write_formats(writer)
-    write_library(writer)
+    if given.program:
+        write_commands(writer, given.program)
+        write_formats(writer)
+        write_library(writer)
     if given.host:
         write_host(writer, given.host)
 

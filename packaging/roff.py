@@ -3,12 +3,14 @@ import re
 import textwrap
 
 CODE = re.compile(r"`([^`\n]+)`|\*\*([^*\n]+)\*\*|(?<![\w*])\*([^*\n]+)\*(?![\w*])|\[([^\]\n]+)\]\([^)\n]*\)")
+LINE_MOST = 78
 CELL = re.compile(r"(?<!\\)\|")
 
 
 def plain(text):
     """A text that shows as it is."""
     shown = text.replace("\\", "\\e").replace("-", "\\-").replace("^", "\\(ha").replace("~", "\\(ti").replace("`", "\\(ga")
+    shown = re.sub(r"[^\x00-\x7f]", lambda found: f"\\[u{ord(found[0]):04X}]", shown)
     return re.sub(r"(?m)^(?=[.'])", r"\\&", shown)
 
 
@@ -32,7 +34,7 @@ def wrapped(text):
     """A text's lines, of at most 80 characters where it has spaces; none is taken for a request of roff."""
     lines = []
     for line in text.split("\n"):
-        lines += textwrap.wrap(line, 78, break_long_words=False, break_on_hyphens=False)
+        lines += textwrap.wrap(line, LINE_MOST, break_long_words=False, break_on_hyphens=False)
     return [f"\\&{line}" if line[0] in ".'" else line for line in lines]
 
 
@@ -58,9 +60,12 @@ class Page:
         self.is_fresh = False
 
     def entry(self, term, text, is_plain=True):
-        """A term, and indented behind it what is said of it."""
-        self.lines += [".TP", f"\\fB{plain(term)}\\fR" if is_plain else marked(term)]
-        self.lines += wrapped(marked(text)) or ["\\&"]
+        """A term, and indented behind it what is said of it. A long term is a paragraph, since .TP has one line for it."""
+        shown, said = f"\\fB{plain(term)}\\fR" if is_plain else marked(term), wrapped(marked(text)) or ["\\&"]
+        if len(shown) > LINE_MOST:
+            self.lines += [".PP", *wrapped(shown), ".RS 7", *said, ".RE"]
+        else:
+            self.lines += [".TP", shown, *said]
         self.is_fresh = False
 
     def item(self, mark, text):

@@ -1,12 +1,14 @@
 #!/usr/bin/env python3
 """Puts all that is installed into a folder, as it lies below a prefix.
 
-    packaging/stage.py FOLDER [--libdir LIBDIR] [--prefix PREFIX] [--zsh FOLDER]
+    packaging/stage.py FOLDER [--libdir LIBDIR] [--prefix PREFIX] [--zsh FOLDER] [--part program|host]
 
-What `make build` and `make embed` leave in out/ for x86-64-v2 and x86-64-v3 has to be there. The host is put beside it where
-out/host/pageshare-host and out/host/libpageshare-window.so are. LIBDIR is the libraries' folder below the prefix, by default lib.
-With --prefix the pkg-config file names that prefix; else it finds the files from where it lies, so that the folder can be moved.
---zsh is where zsh looks below the prefix, by default share/zsh/site-functions.
+What `make build` and `make embed` leave in out/ for x86-64-v2 and x86-64-v3 has to be there for the part `program`, and what
+`make host` leaves in out/host for the part `host`; both parts are put there unless --part names one. LIBDIR is the libraries' folder
+below the prefix, by default lib. --zsh is where zsh looks below the prefix, by default share/zsh/site-functions.
+
+With --prefix the files name that prefix. Without it the pkg-config file finds the library from where it lies itself, and the host's
+files keep the word @PREFIX@, which packaging/install.sh replaces: programs and the library can be moved, a unit can't.
 """
 import argparse
 import os
@@ -18,8 +20,24 @@ import header
 
 TOP = pathlib.Path(__file__).resolve().parent.parent
 OUT = TOP / "out"
+HOST = OUT / "host/pageshare-host"
 VERSION = header.version((TOP / "include/pageshare.h").read_text())
 SONAME = f"libpageshare.so.{VERSION.split('.', maxsplit=1)[0]}"
+# What may be installed: `program` is pageshare with its library, `host` is pageshare-host with the library that monitors preload.
+PARTS = ("program", "host")
+# The files that the host needs of a system: each of packaging/host, where it lies below the prefix, and its mode.
+HOST_FILES = {
+    "pageshare-host@.service": ("lib/systemd/system/pageshare-host@.service", 0o644),
+    "pageshare-host-metrics.service": ("lib/systemd/system/pageshare-host-metrics.service", 0o644),
+    "pageshare-host-metrics.timer": ("lib/systemd/system/pageshare-host-metrics.timer", 0o644),
+    "pageshare-host.sysusers": ("lib/sysusers.d/pageshare-host.conf", 0o644),
+    "pageshare-host.tmpfiles": ("lib/tmpfiles.d/pageshare-host.conf", 0o644),
+    "60-pageshare-host.rules": ("lib/udev/rules.d/60-pageshare-host.rules", 0o644),
+    "60-pageshare-host.sysctl": ("lib/sysctl.d/60-pageshare-host.conf", 0o644),
+    "libvirt-qemu.apparmor": ("share/pageshare/libvirt-qemu.apparmor", 0o644),
+    "pageshare-qemu": ("bin/pageshare-qemu", 0o755),
+    "write-metrics": ("libexec/pageshare/write-metrics", 0o755),
+}
 PACKAGE = """\
 {prefix}
 libdir={libdir}
@@ -53,6 +71,11 @@ def commit_time():
     return int(os.environ.get("SOURCE_DATE_EPOCH") or said("git", "log", "-1", "--format=%ct") or 0)
 
 
+def files_below(folder, skipped):
+    """The files below a folder, but for those of folders of this name."""
+    return sorted(it for it in folder.rglob("*") if it.is_file() and skipped not in it.parts)
+
+
 class Stage:
     """A folder that is being filled."""
 
@@ -65,6 +88,19 @@ class Stage:
         shutil.copyfile(source, file)
         file.chmod(mode)
 
+    def put_code(self, source, path, mode=0o755):
+        """A program or a library, without what only a debugger reads."""
+        self.put(source, path, mode)
+        kept = "--strip-debug" if source.suffix == ".a" else "--strip-unneeded"
+        words = [os.environ.get("STRIP", "strip"), kept, "--enable-deterministic-archives", self.folder / path]
+        subprocess.run(words, check=True)
+
+    def put_named(self, source, path, mode=0o644):
+        """A text that names what is installed."""
+        text = source.read_text().replace("@LIBDIR@", self.libdir)
+        self.write(path, text.replace("@PREFIX@", self.prefix) if self.prefix else text)
+        (self.folder / path).chmod(mode)
+
     def link(self, path, target):
         file = self.folder / path
         file.parent.mkdir(parents=True, exist_ok=True)
@@ -76,8 +112,8 @@ class Stage:
         file.write_text(text)
 
     def program(self):
-        self.put(OUT / "pageshare", "libexec/pageshare/pageshare-v2", 0o755)
-        self.put(OUT / "pageshare-v3", "libexec/pageshare/pageshare-v3", 0o755)
+        self.put_code(OUT / "pageshare", "libexec/pageshare/pageshare-v2")
+        self.put_code(OUT / "pageshare-v3", "libexec/pageshare/pageshare-v3")
         defines = [f'-DPAGESHARE_COMMIT="{commit()}"', f'-DPAGESHARE_KIT="{said("rt", "version") or "an unknown kit"}"']
         words = [os.environ.get("CC", "cc"), "-std=c11", "-O2", "-march=x86-64", "-Wall", "-Wextra", "-Werror", "-s", "-Wl,--build-id=none"]
         (self.folder / "bin").mkdir(parents=True)
@@ -85,11 +121,11 @@ class Stage:
 
     def library(self):
         for source, path in [(OUT, self.libdir), (OUT / "v3", f"{self.libdir}/glibc-hwcaps/x86-64-v3")]:
-            self.put(source / f"libpageshare.so.{VERSION}", f"{path}/libpageshare.so.{VERSION}", 0o755)
+            self.put_code(source / f"libpageshare.so.{VERSION}", f"{path}/libpageshare.so.{VERSION}", 0o644)
             self.link(f"{path}/{SONAME}", f"libpageshare.so.{VERSION}")
         self.link(f"{self.libdir}/libpageshare.so", SONAME)
-        self.put(OUT / "libpageshare.a", f"{self.libdir}/libpageshare.a")
-        self.put(OUT / "v3/libpageshare.a", f"{self.libdir}/pageshare/x86-64-v3/libpageshare.a")
+        self.put_code(OUT / "libpageshare.a", f"{self.libdir}/libpageshare.a", 0o644)
+        self.put_code(OUT / "v3/libpageshare.a", f"{self.libdir}/pageshare/x86-64-v3/libpageshare.a", 0o644)
         for file in sorted((TOP / "include").glob("*.h")):
             self.put(file, f"include/{file.name}")
         up = "/".join([".."] * (len(pathlib.PurePath(self.libdir).parts) + 1))
@@ -98,50 +134,57 @@ class Stage:
         self.write(f"{self.libdir}/pkgconfig/pageshare.pc", PACKAGE.format(prefix=prefix, **places))
 
     def host(self):
-        """The host and the library that monitors preload, where they were built. Returns the host's program, or None."""
-        program, preloaded = OUT / "host/pageshare-host", OUT / "host/libpageshare-window.so"
-        if not program.is_file() or not preloaded.is_file():
-            return None
-        self.put(program, "bin/pageshare-host", 0o755)
-        self.put(preloaded, f"{self.libdir}/libpageshare-window.so", 0o755)
-        return program
+        """The host, the library that monitors preload, and what the system reads of them."""
+        self.put_code(HOST, "bin/pageshare-host")
+        self.put_code(OUT / "host/libpageshare-window.so", f"{self.libdir}/libpageshare-window.so", 0o644)
+        for name, (path, mode) in HOST_FILES.items():
+            self.put_named(TOP / "packaging/host" / name, path, mode)
 
-    def texts(self, host):
-        share = self.folder / "share"
-        scripts = TOP / "packaging"
-        words = [scripts / "man.py", OUT / "pageshare", share / "man", *(["--host", host] if host else [])]
-        subprocess.run(words, check=True)
-        for name, program in [("pageshare", OUT / "pageshare"), *([("pageshare-host", host)] if host else [])]:
+    def texts(self, parts):
+        """Man pages and completions of these parts."""
+        share, scripts = self.folder / "share", TOP / "packaging"
+        programs = {"program": ("pageshare", OUT / "pageshare"), "host": ("pageshare-host", HOST)}
+        words = [word for part in parts for word in (f"--{part}", programs[part][1])]
+        subprocess.run([scripts / "man.py", share / "man", *words], check=True)
+        for name, program in (programs[part] for part in parts):
             subprocess.run([scripts / "completions.py", name, program, share], check=True)
         if self.zsh != "share/zsh/site-functions":
             shutil.move(share / "zsh/site-functions", self.folder / self.zsh)
 
-    def documents(self):
-        at = "share/doc/pageshare"
+    def documents(self, at):
+        """What the program and its library are documented by, and the Rust crate."""
         for name in ("README.md", "CHANGELOG.md", "LICENSE-MIT", "LICENSE-APACHE"):
             self.put(TOP / name, f"{at}/{name}")
         for file in sorted((TOP / "docs").iterdir()):
             self.put(file, f"{at}/docs/{file.name}")
-        for file in sorted(it for it in (TOP / "examples").rglob("*") if it.is_file() and "__pycache__" not in it.parts):
-            path = f"{at}/examples/{file.relative_to(TOP / 'examples')}"
-            self.put(file, path, file.stat().st_mode & 0o755)
-            if file.parent.name == "host" and self.prefix:
-                text = file.read_text().replace("/usr/local/lib/", f"{self.prefix}/{self.libdir}/")
-                self.write(path, text.replace("/usr/local", self.prefix))
+        for file in files_below(TOP / "examples", "__pycache__"):
+            if file.parent.name != "host":
+                self.put(file, f"{at}/examples/{file.relative_to(TOP / 'examples')}", file.stat().st_mode & 0o755)
         rust = TOP / "bindings/rust"
-        for file in sorted(it for it in rust.rglob("*") if it.is_file() and "target" not in it.parts):
+        for file in files_below(rust, "target"):
             self.put(file, f"share/pageshare/rust/{file.relative_to(rust)}")
 
+    def host_documents(self, at):
+        """What the host is documented by, and examples of its settings."""
+        for name in ("HOST.md", "SECURITY.md"):
+            self.put(TOP / "docs" / name, f"{at}/docs/{name}")
+        for file in files_below(TOP / "examples/host", "__pycache__"):
+            self.put_named(file, f"{at}/examples/host/{file.name}")
 
-def stage(folder, libdir="lib", prefix=None, zsh="share/zsh/site-functions"):
-    """Fills a folder, which is emptied before."""
+
+def stage(folder, libdir="lib", prefix=None, zsh="share/zsh/site-functions", parts=PARTS, document="pageshare"):
+    """Fills a folder, which is emptied before, with these parts. Their documents lie below share/doc/DOCUMENT."""
     shutil.rmtree(folder, ignore_errors=True)
     folder.mkdir(parents=True)
-    made = Stage(folder, libdir, prefix, zsh)
-    made.program()
-    made.library()
-    made.texts(made.host())
-    made.documents()
+    made, at = Stage(folder, libdir, prefix, zsh), f"share/doc/{document}"
+    if "program" in parts:
+        made.program()
+        made.library()
+        made.documents(at)
+    if "host" in parts:
+        made.host()
+        made.host_documents(at)
+    made.texts(parts)
 
 
 def main():
@@ -150,8 +193,9 @@ def main():
     options.add_argument("--libdir", default="lib")
     options.add_argument("--prefix", default=None)
     options.add_argument("--zsh", default="share/zsh/site-functions")
+    options.add_argument("--part", choices=PARTS, default=None)
     given = options.parse_args()
-    stage(given.folder, given.libdir, given.prefix, given.zsh)
+    stage(given.folder, given.libdir, given.prefix, given.zsh, (given.part,) if given.part else PARTS)
 
 
 if __name__ == "__main__":
