@@ -24,6 +24,7 @@
 enum { RIGHTS = PROT_READ | PROT_WRITE, KIND = MAP_PRIVATE | MAP_ANONYMOUS };
 
 struct files files;
+bool calls_may_be_refused;
 
 bool files_make(const char *folder, bool is_direct) {
     char name[256];
@@ -154,10 +155,13 @@ static int discard(struct caller *caller, struct run run) {
     int status = madvise(page_at(run.first), bytes_of(run), kind);
     /* (the library refuses it where a device may have pinned pages whose copies stay over frames) */
     if (status != 0 && errno == EINVAL && kind == MADV_DONTNEED_LOCKED && caller->device.is_there) return -1;
-    if (is_due != (status == 0)) note_wrong(run.first, is_due ? strerror(errno) : "locked pages were discarded");
+    bool is_excused = status != 0 && is_due && calls_may_be_refused;
+    if (is_due != (status == 0) && !is_excused) note_wrong(run.first, is_due ? strerror(errno) : "locked pages were discarded");
     if (status == 0 && kind != MADV_FREE) run_is_zero(run);
-    for (size_t page = run.first; page < run.first + run.count && status == 0 && kind == MADV_FREE; page++)
+    for (size_t page = run.first; page < run.first + run.count && ((status == 0 && kind == MADV_FREE) || is_excused); page++) {
         shadow.pages[page].may_be_zero = true;
+        if (is_excused) shadow.pages[page].is_pinned = false;
+    }
     return is_due ? status : 0;
 }
 
@@ -477,7 +481,8 @@ static void withdraw(struct run all) {
 static void begin_anew(struct caller *caller, struct run all) {
     for (size_t page = 0; page < shadow.count; page++)
         if (shadow.pages[page].place == AWAY && munmap(page_at(page), PAGE) == 0) run_is_gone((struct run){page, 1});
-    if (munmap(shadow.range, bytes_of(all)) == 0) run_is_gone(all);
+    if (munmap(shadow.range, bytes_of(all)) != 0) return;
+    run_is_gone(all);
     put_back(caller, all);
 }
 

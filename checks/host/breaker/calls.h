@@ -35,6 +35,8 @@ struct files {
     int plain, direct;
 };
 extern struct files files;
+/* The system may refuse any call: then pages that are discarded may be zeros. */
+extern bool calls_may_be_refused;
 /* Makes the files in a folder. `is_direct`: O_DIRECT, too. Returns false, with errno. */
 bool files_make(const char *folder, bool is_direct);
 
