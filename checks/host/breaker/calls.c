@@ -165,11 +165,25 @@ static int discard(struct caller *caller, struct run run) {
     return is_due ? status : 0;
 }
 
+/* Whether a child of a fork has pages from now on. */
+static void note_child(struct run run, bool has_child) {
+    for (size_t page = run.first; page < run.first + run.count; page++) {
+        shadow.pages[page].has_child = has_child;
+        shadow.pages[page].is_unsure = false;
+    }
+}
+
+static int let_inherit(struct caller *caller, struct run run) {
+    (void)caller;
+    if (madvise(page_at(run.first), bytes_of(run), MADV_DOFORK) == 0) return note_child(run, true), 0;
+    for (size_t page = run.first; page < run.first + run.count; page++) shadow.pages[page].is_unsure = true;
+    return -1;
+}
+
 static void offer(struct run run) {
     uint8_t *at = page_at(run.first);
     madvise(at, bytes_of(run), MADV_MERGEABLE);
-    if (madvise(at, bytes_of(run), MADV_DONTFORK) != 0) return;
-    for (size_t page = run.first; page < run.first + run.count; page++) shadow.pages[page].has_child = false;
+    if (madvise(at, bytes_of(run), MADV_DONTFORK) == 0) note_child(run, false);
 }
 
 static int unmap(struct caller *caller, struct run run) {
@@ -232,6 +246,7 @@ static int grow(struct caller *caller, struct run run) {
     for (size_t page = run.first; page < run.first + run.count; page++) {
         shadow.pages[page].protection = before->protection;
         shadow.pages[page].has_child = before->has_child;
+        shadow.pages[page].is_unsure = before->is_unsure;
         shadow.pages[page].is_wiped = before->is_wiped;
     }
     return 0;
@@ -286,24 +301,14 @@ static int unlock(struct caller *caller, struct run run) {
 }
 
 static int advise(struct caller *caller, struct run run) {
-    static const int kinds[] = {MADV_DONTFORK,   MADV_DONTDUMP,    MADV_DODUMP,        MADV_HUGEPAGE,
-                                MADV_NOHUGEPAGE, MADV_UNMERGEABLE, MADV_COLD,          MADV_MERGEABLE,
-                                MADV_NORMAL,     MADV_PAGEOUT,     MADV_POPULATE_READ, MADV_POPULATE_WRITE,
-                                MADV_WILLNEED,   MADV_WIPEONFORK,  MADV_DOFORK,        MADV_KEEPONFORK};
+    static const int kinds[] = {MADV_DONTFORK,      MADV_DONTDUMP,       MADV_DODUMP,    MADV_HUGEPAGE,   MADV_NOHUGEPAGE,
+                                MADV_UNMERGEABLE,   MADV_COLD,           MADV_MERGEABLE, MADV_NORMAL,     MADV_PAGEOUT,
+                                MADV_POPULATE_READ, MADV_POPULATE_WRITE, MADV_WILLNEED,  MADV_WIPEONFORK, MADV_KEEPONFORK};
     int kind = kinds[draw(&caller->seed, sizeof kinds / sizeof kinds[0])];
     if (madvise(page_at(run.first), bytes_of(run), kind) != 0) return -1;
-    for (size_t page = run.first; page < run.first + run.count; page++) {
-        struct page *its = &shadow.pages[page];
-        if (kind == MADV_DONTFORK || kind == MADV_DOFORK) its->has_child = kind == MADV_DOFORK;
-        if (kind == MADV_WIPEONFORK || kind == MADV_KEEPONFORK) its->is_wiped = kind == MADV_WIPEONFORK;
-    }
-    return 0;
-}
-
-static int let_inherit(struct caller *caller, struct run run) {
-    (void)caller;
-    if (madvise(page_at(run.first), bytes_of(run), MADV_DOFORK) != 0) return -1;
-    for (size_t page = run.first; page < run.first + run.count; page++) shadow.pages[page].has_child = true;
+    if (kind == MADV_DONTFORK) note_child(run, false);
+    for (size_t page = run.first; page < run.first + run.count; page++)
+        if (kind == MADV_WIPEONFORK || kind == MADV_KEEPONFORK) shadow.pages[page].is_wiped = kind == MADV_WIPEONFORK;
     return 0;
 }
 
