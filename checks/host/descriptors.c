@@ -60,12 +60,13 @@ static enum devices of_request(const char *name) {
     exit(2);
 }
 
+static aio_context_t context;
+
 /* Opens what a word names. Returns its descriptor, or -1 where the system has none. */
 static int open_one(const char *word) {
     static struct ring rings[OPEN_MOST];
     static size_t count;
     static uint8_t page[PAGE] __attribute__((aligned(PAGE)));
-    aio_context_t context = 0;
     if (strncmp(word, "file:", 5) == 0) return open(word + 5, O_RDONLY | O_CLOEXEC);
     if (strncmp(word, "direct:", 7) == 0) return open(word + 7, O_RDONLY | O_DIRECT | O_CLOEXEC);
     if (strcmp(word, "memory") == 0) return memfd_create("memory", MFD_CLOEXEC);
@@ -87,6 +88,8 @@ static const char *of_descriptors(char *words) {
     const char *found = is_there ? names[devices_open()] : "left out";
     for (size_t i = 0; i < count; i++)
         if (open_ones[i] >= 0) close(open_ones[i]);
+    if (context != 0) syscall(SYS_io_destroy, context);
+    context = 0;
     return found;
 }
 
