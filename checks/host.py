@@ -9,7 +9,8 @@ of another user; each checks all that it reads. With INSTALL=1 in the environmen
 the kernel, which is only unpacked. What the machine lacks is left out, and so said.
 
 KSM=0 leaves out the kernel's KSM beside it (its settings are put back, however the check ends), GUESTS=N takes another number of
-guests than 3, SECONDS=N another length of `memory`, `fuzz` and `soak`. Everything runs on this machine, over sockets in a folder of
+guests than 3, SECONDS=N another length of `memory`, `fuzz`, `soak`, `breaker`, `storm` and `refusals`. SEEDS=N takes another number of
+seeds than 4 for `breaker` and 16 for `refusals`; with SANITIZE=1 `breaker` runs under a library with sanitizers. Everything runs on this machine, over sockets in a folder of
 its own, which is removed afterwards. The status is 1 where a case failed.
 """
 import atexit
