@@ -1,6 +1,7 @@
 """Cases of programs that do all that a monitor may do of its memory, beside a shadow of each byte."""
 import os
 import re
+import signal
 import subprocess
 import time
 
@@ -31,18 +32,19 @@ def sanitized():
     return {"LD_PRELOAD": f"{first} {library}", "ASAN_OPTIONS": "detect_leaks=0"}
 
 
-def breakers(program, host, seeds, seconds, words=(), more=lambda seed: {}):
-    """Runs a breaker for each seed beside each other. Answers all that each said."""
-    def start(seed):
-        counts = HERE.place.room / f"breaker-{seed}.json"
-        all_words = [*AS_NOBODY, program, "--seed", str(seed), "--seconds", str(seconds), *WAYS[seed % len(WAYS)], *words]
-        env = preloaded(host, {"PAGESHARE_PERIOD_MS": "50", "PAGESHARE_COUNTS": str(counts), **more(seed)})
-        return subprocess.Popen(all_words, env=env, text=True, stdout=subprocess.PIPE, stderr=subprocess.STDOUT)
+def start_breaker(program, host, seed, seconds, words=(), more=()):
+    counts = HERE.place.room / f"breaker-{seed}.json"
+    all_words = [*AS_NOBODY, program, "--seed", str(seed), "--seconds", str(seconds), *WAYS[seed % len(WAYS)], *words]
+    env = preloaded(host, {"PAGESHARE_PERIOD_MS": "50", "PAGESHARE_COUNTS": str(counts), **dict(more)})
+    return seed, subprocess.Popen(all_words, env=env, text=True, stdout=subprocess.PIPE, stderr=subprocess.STDOUT)
 
-    ran = [(seed, start(seed)) for seed in seeds]
+
+def end_breakers(ran, seconds):
+    """Waits for breakers. Answers all that each said."""
     said = [(seed, it, it.communicate(timeout=seconds + 120)[0]) for seed, it in ran]
     for seed, it, text in said:
         must(it.returncode == 0 and "Sanitizer" not in text, f"seed {seed}: status {it.returncode}: {text[-3000:]}")
+        print(f"  {re.search('seed .* wrong [0-9]+', text)[0]}", flush=True)
     return [text for _, _, text in said]
 
 
@@ -56,9 +58,7 @@ def in_fours(program, host, seeds, seconds, words=(), more=lambda seed: {}):
     """Breakers for these seeds, some at once. Answers all that each said."""
     said = []
     for first in range(0, len(seeds), BESIDE):
-        for text in breakers(program, host, seeds[first:first + BESIDE], seconds, words, more):
-            print(f"  {re.search('seed .* wrong [0-9]+', text)[0]}", flush=True)
-            said.append(text)
+        said += end_breakers([start_breaker(program, host, it, seconds, words, more(it)) for it in seeds[first:first + BESIDE]], seconds)
     return said
 
 
@@ -69,6 +69,27 @@ def case_breaker():
     env = sanitized() if os.environ.get("SANITIZE") == "1" else {}
     said = in_fours(program, host, range(seeds), seconds, more=lambda _: env)
     must(sum(number_after("lends", text) for text in said) > 0, "nothing was lent")
+    all_released(host)
+    host.stop()
+
+
+def case_breaker_restarts():
+    """The same while the host is killed, stopped and started anew."""
+    program, host, seconds = compile_folder("breaker"), Host(memory="256M"), int(os.environ.get("SECONDS", "20"))
+    ran = [start_breaker(program, host, seed, seconds) for seed in range(1, BESIDE + 1)]
+    end, turn = time.time() + seconds - 2, 0
+    while time.time() < end:
+        time.sleep(1.7 + 0.3 * (turn % 5))
+        turn += 1
+        if turn % 3 == 2:
+            host.signal(signal.SIGSTOP)
+            time.sleep(1.5)
+            host.signal(signal.SIGCONT)
+        else:
+            host.kill()
+            time.sleep(0.2 * (turn % 4))
+            host.start()
+    end_breakers(ran, seconds)
     all_released(host)
     host.stop()
 
