@@ -144,6 +144,17 @@ static int copy_out(struct caller *caller, struct run run) {
     return 0;
 }
 
+/* Writes to pages as another process would. */
+static int copy_in(struct caller *caller, struct run run) {
+    const struct iovec from = {caller->aside, bytes_of(run)}, to = {page_at(run.first), bytes_of(run)};
+    for (size_t i = 0; i < run.count; i++) content_fill(caller->aside + i * PAGE, draw(&caller->seed, CONTENTS));
+    if (process_vm_writev(getpid(), &from, 1, &to, 1, 0) != (ssize_t)bytes_of(run)) {
+        note_wrong(run.first, "process_vm_writev is short");
+        return -1;
+    }
+    return took(run, caller->aside, bytes_of(run)), 0;
+}
+
 /* ---- discards and places ---- */
 
 static int discard(struct caller *caller, struct run run) {
@@ -377,6 +388,7 @@ static const struct kind {
     {"read-direct", read_direct, RANGE, 6},
     {"write-direct", write_direct, READ | WRITE, 3},
     {"copy-out", copy_out, READ, 2},
+    {"copy-in", copy_in, READ | WRITE, 3},
     {"discard", discard, 0, 6},
     {"munmap", unmap, RANGE, 3},
     {"mmap", map_hole, HOLE, 12},
