@@ -81,7 +81,9 @@ static void call_alone(struct caller *caller) {
         call_fork(caller);
     } else {
         size_t first = draw(&caller->seed, shadow.count);
+        caller->is_alone = true;
         call_random(caller, first, shadow.count - first);
+        caller->is_alone = false;
     }
     run_check((struct run){0, shadow.count}, "alone");
     pthread_rwlock_unlock(&alone);

@@ -426,7 +426,7 @@ static bool fits(const struct caller *caller, const struct kind *kind, struct ru
     unsigned needs = kind->needs;
     if (kind->make == use_device)
         return caller->device.is_there &&
-               (caller->device.step != DEVICE_IDLE || (page->place == HERE && page_is_writable(run.first)));
+               (caller->device.step != DEVICE_IDLE || (!caller->is_alone && page->place == HERE && page_is_writable(run.first)));
     if ((kind->make == read_direct || kind->make == write_direct) && files.direct < 0) return false;
     if ((needs & HOLE) != 0) {
         if (page->place != GONE) return false;

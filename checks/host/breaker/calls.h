@@ -22,6 +22,7 @@ struct device {
 struct caller {
     uint64_t seed;
     unsigned number;
+    bool is_alone;  /* no other thread makes calls: pages may be another thread's */
     uint8_t *aside; /* CALL_PAGES of memory that isn't offered */
     struct device device;
     _Atomic(const char *) now; /* the call that it makes, or NULL */
