@@ -9,7 +9,8 @@ of another user; each checks all that it reads. With INSTALL=1 in the environmen
 the kernel, which is only unpacked. What the machine lacks is left out, and so said.
 
 KSM=0 leaves out the kernel's KSM beside it (its settings are put back, however the check ends), GUESTS=N takes another number of
-guests than 3, SECONDS=N another length of `memory`, `fuzz` and `soak`. Everything runs on this machine, over sockets in a folder of
+guests than 3, SECONDS=N another length of `memory`, `fuzz`, `soak`, `breaker`, `storm` and `refusals`. SEEDS=N takes another number of
+seeds than 4 for `breaker` and 16 for `refusals`; with SANITIZE=1 `breaker` runs under a library with sanitizers. Everything runs on this machine, over sockets in a folder of
 its own, which is removed afterwards. The status is 1 where a case failed.
 """
 import atexit
@@ -25,6 +26,7 @@ sys.path.insert(0, str(pathlib.Path(__file__).resolve().parent / "host"))
 
 import breaker_cases  # noqa: E402
 import client_cases  # noqa: E402
+import device_cases  # noqa: E402
 import guest_cases  # noqa: E402
 import hostile  # noqa: E402
 import measures  # noqa: E402
@@ -33,7 +35,7 @@ from places import HERE, LeftOut, Place, Wrong  # noqa: E402
 
 CASES = {
     name.removeprefix("case_").replace("_", "-"): run
-    for module in (client_cases, breaker_cases, parts_cases, measures, guest_cases)
+    for module in (client_cases, breaker_cases, parts_cases, device_cases, measures, guest_cases)
     for name, run in vars(module).items()
     if name.startswith("case_")
 }

@@ -1,5 +1,7 @@
 """Cases of programs that do all that a monitor may do of its memory, beside a shadow of each byte."""
 import os
+import re
+import signal
 import subprocess
 import time
 
@@ -30,32 +32,85 @@ def sanitized():
     return {"LD_PRELOAD": f"{first} {library}", "ASAN_OPTIONS": "detect_leaks=0"}
 
 
-def breakers(program, host, seeds, seconds, more):
-    """Runs a breaker for each seed beside each other. Answers the last line of each."""
-    def start(seed):
-        counts = HERE.place.room / f"breaker-{seed}.json"
-        words = [*AS_NOBODY, program, "--seed", str(seed), "--seconds", str(seconds), *WAYS[seed % len(WAYS)]]
-        env = preloaded(host, {"PAGESHARE_PERIOD_MS": "50", "PAGESHARE_COUNTS": str(counts), **more})
-        return subprocess.Popen(words, env=env, text=True, stdout=subprocess.PIPE, stderr=subprocess.STDOUT)
+def start_breaker(program, host, seed, seconds, words=(), more=()):
+    counts = HERE.place.room / f"breaker-{seed}.json"
+    all_words = [*AS_NOBODY, program, "--seed", str(seed), "--seconds", str(seconds), *WAYS[seed % len(WAYS)], *words]
+    env = preloaded(host, {"PAGESHARE_PERIOD_MS": "50", "PAGESHARE_COUNTS": str(counts), **dict(more)})
+    return seed, subprocess.Popen(all_words, env=env, text=True, stdout=subprocess.PIPE, stderr=subprocess.STDOUT)
 
-    ran = [(seed, start(seed)) for seed in seeds]
+
+def end_breakers(ran, seconds):
+    """Waits for breakers. Answers all that each said."""
     said = [(seed, it, it.communicate(timeout=seconds + 120)[0]) for seed, it in ran]
     for seed, it, text in said:
         must(it.returncode == 0 and "Sanitizer" not in text, f"seed {seed}: status {it.returncode}: {text[-3000:]}")
-    return [text.splitlines()[-1] for _, _, text in said]
+        print(f"  {re.search('seed .* wrong [0-9]+', text)[0]}", flush=True)
+    return [text for _, _, text in said]
+
+
+def number_after(word, text):
+    """The last number behind a word."""
+    found = re.findall(rf"\b{word} (-?\d+)", text)
+    return int(found[-1]) if found else 0
+
+
+def in_fours(program, host, seeds, seconds, words=(), more=lambda seed: {}):
+    """Breakers for these seeds, some at once. Answers all that each said."""
+    said = []
+    for first in range(0, len(seeds), BESIDE):
+        said += end_breakers([start_breaker(program, host, it, seconds, words, more(it)) for it in seeds[first:first + BESIDE]], seconds)
+    return said
 
 
 def case_breaker():
     """Random calls of a monitor on parts of its memory, beside a shadow of each byte: SEEDS=N seeds, SANITIZE=1 with sanitizers."""
     program, host = compile_folder("breaker"), Host(memory="256M")
     seeds, seconds = int(os.environ.get("SEEDS", "4")), int(os.environ.get("SECONDS", "12"))
-    more = sanitized() if os.environ.get("SANITIZE") == "1" else {}
-    lends = 0
-    for first in range(0, seeds, BESIDE):
-        for line in breakers(program, host, range(first, min(first + BESIDE, seeds)), seconds, more):
-            print(f"  {line}", flush=True)
-            lends += int(line.split(" lends ")[1].split()[0])
-    must(lends > 0, "nothing was lent")
+    env = sanitized() if os.environ.get("SANITIZE") == "1" else {}
+    said = in_fours(program, host, range(seeds), seconds, more=lambda _: env)
+    must(sum(number_after("lends", text) for text in said) > 0, "nothing was lent")
+    all_released(host)
+    host.stop()
+
+
+def case_breaker_restarts():
+    """The same while the host is killed, stopped and started anew."""
+    program, host, seconds = compile_folder("breaker"), Host(memory="256M"), int(os.environ.get("SECONDS", "20"))
+    ran = [start_breaker(program, host, seed, seconds) for seed in range(1, BESIDE + 1)]
+    end, turn = time.time() + seconds - 2, 0
+    while time.time() < end:
+        time.sleep(1.7 + 0.3 * (turn % 5))
+        turn += 1
+        if turn % 3 == 2:
+            host.signal(signal.SIGSTOP)
+            time.sleep(1.5)
+            host.signal(signal.SIGCONT)
+        else:
+            host.kill()
+            time.sleep(0.2 * (turn % 4))
+            host.start()
+    end_breakers(ran, seconds)
+    all_released(host)
+    host.stop()
+
+
+REFUSE_EACH = 61  # (a prime, so that calls that come again and again are refused in turn)
+
+
+def case_refusals():
+    """Each call of the system by the library is refused in turn, and each 61st one after it: SEEDS=N first ones."""
+    program, host, shim = compile_folder("breaker"), Host(memory="256M"), OUT / "refuse.so"
+    words = [CC, *FLAGS, "-fPIC", "-shared", "-fvisibility=hidden", "-o", shim, TOP / "checks/host/refuse.c", "-ldl"]
+    must(subprocess.run(words).returncode == 0, "refuse.c doesn't compile")
+    firsts, seconds = int(os.environ.get("SEEDS", "16")), int(os.environ.get("SECONDS", "6"))
+
+    def refuse(seed):
+        return {"LD_PRELOAD": f"{shim} {HERE.library}", "REFUSE_FIRST": str(seed), "REFUSE_EACH": str(REFUSE_EACH)}
+
+    said = in_fours(program, host, range(1, firsts + 1), seconds, ("--refusals",), refuse)
+    calls, refused, lends = (sum(number_after(word, text) for text in said) for word in ("calls", "refused", "lends"))
+    print(f"  {calls} calls of the library, {refused} of them refused, {lends} pages lent")
+    must(refused >= firsts and lends > 0, "nothing was refused, or nothing lent")
     all_released(host)
     host.stop()
 

@@ -194,6 +194,43 @@ static void children(void) {
     check(differing(at, 0, PAGES, 1) == 0, "all is there");
 }
 
+static void *write_always(void *of) {
+    uint8_t *at = of;
+    for (unsigned i = 0; !atomic_load(&over); i = (i + 1) % 8) {
+        fill(at, PAGES / 8 * (i + 1), 1);
+        usleep(60000);
+    }
+    return NULL;
+}
+
+static size_t mapped(uint8_t *at) {
+    size_t count = 0;
+    unsigned char there;
+    for (size_t page = 0; page < PAGES; page++) count += mincore(at + page * PAGE, PAGE, &there) == 0;
+    return count;
+}
+
+/* Children are forked all the time while pages are lent: none has a page of a range that no child is to have. */
+static void forked(void) {
+    enum { FORKS = 6000 };
+    pthread_t thread;
+    size_t found = 0;
+    uint8_t *at = lent(PAGES);
+    long lends = library_count("lends");
+    if (pthread_create(&thread, NULL, write_always, at) != 0) exit(2);
+    for (long begin = now_us(), i = 0; i < FORKS && now_us() - begin < 15000000; i++) {
+        int status = 0;
+        pid_t child = fork();
+        if (child == 0) _exit(mapped(at) > 0);
+        if (child > 0 && waitpid(child, &status, 0) == child) found += status != 0;
+    }
+    atomic_store(&over, true);
+    pthread_join(thread, NULL);
+    printf("  %ld lends meanwhile, %zu children had pages\n", library_count("lends") - lends, found);
+    check(found == 0, "no child has a page");
+    check(differing(at, 0, PAGES, 1) == 0, "all is there");
+}
+
 static int child_waits(uint8_t *at, int go) {
     char byte;
     if (read(go, &byte, 1) != 1) return 2;
@@ -421,21 +458,10 @@ static const struct way {
     const char *name;
     void (*run)(void);
 } ways[] = {
-    {"kept", kept},
-    {"foreign", foreign},
-    {"hole", hole},
-    {"used-later", used_later},
-    {"moved", moved},
-    {"advised", advised},
-    {"refused", refused},
-    {"children", children},
-    {"inherited", inherited},
-    {"late", noticed_late},
-    {"direct", direct},
-    {"locked", locked},
-    {"mappings", many_mappings},
-    {"ended", ended},
-    {"not-opened", not_opened},
+    {"kept", kept},     {"foreign", foreign},        {"hole", hole},         {"used-later", used_later},
+    {"moved", moved},   {"advised", advised},        {"refused", refused},   {"children", children},
+    {"forked", forked}, {"inherited", inherited},    {"late", noticed_late}, {"direct", direct},
+    {"locked", locked}, {"mappings", many_mappings}, {"ended", ended},       {"not-opened", not_opened},
 };
 
 int main(int count, char **words) {

@@ -56,7 +56,7 @@ def case_parts():
 
 def case_forks():
     """Children of forks: those that begin amid other calls, and a range that they are to have while the host stands still."""
-    run_parts(("children", "inherited"), {"stop": lambda host: host.signal(signal.SIGSTOP), "go": lambda host: host.signal(signal.SIGCONT)})
+    run_parts(("children", "forked", "inherited"), {"stop": lambda host: host.signal(signal.SIGSTOP), "go": lambda host: host.signal(signal.SIGCONT)})
 
 
 def case_pins():

@@ -2,9 +2,10 @@
  * A stand-in for a monitor that does all that a monitor may, to be run under libpageshare-window.so beside others of its kind: threads make
  * random calls of random parts of a range that is offered, and compare it with a shadow of each byte. Words:
  *
- *     breaker [--seed N] [--seconds N] [--pages N] [--threads N] [--folder PATH] [--direct] [--devices]
+ *     breaker [--seed N] [--seconds N] [--pages N] [--threads N] [--folder PATH] [--direct] [--devices] [--refusals]
  *
- * --direct: a file in the folder is also read and written by O_DIRECT; --devices: io_uring reads to registered buffers. The last line says
+ * --direct: a file in the folder is also read and written by O_DIRECT; --devices: io_uring reads to registered buffers; --refusals: the system
+ * may refuse any call. The last line says
  * how often each call was made, how many pages were lent, and what was wrong. The status is 0 if nothing was, 3 where a call doesn't return,
  * 2 where it can't run.
  */
@@ -80,7 +81,9 @@ static void call_alone(struct caller *caller) {
         call_fork(caller);
     } else {
         size_t first = draw(&caller->seed, shadow.count);
+        caller->is_alone = true;
         call_random(caller, first, shadow.count - first);
+        caller->is_alone = false;
     }
     run_check((struct run){0, shadow.count}, "alone");
     pthread_rwlock_unlock(&alone);
@@ -164,9 +167,9 @@ static void watch_end(int number) {
 /* ---- */
 
 static bool read_words(int count, char **words) {
-    static const struct option options[] = {{"seed", 1, NULL, 's'},    {"seconds", 1, NULL, 't'}, {"pages", 1, NULL, 'p'},
-                                            {"threads", 1, NULL, 'n'}, {"folder", 1, NULL, 'f'},  {"direct", 0, NULL, 'd'},
-                                            {"devices", 0, NULL, 'v'}, {NULL, 0, NULL, 0}};
+    static const struct option options[] = {{"seed", 1, NULL, 's'},    {"seconds", 1, NULL, 't'},  {"pages", 1, NULL, 'p'},
+                                            {"threads", 1, NULL, 'n'}, {"folder", 1, NULL, 'f'},   {"direct", 0, NULL, 'd'},
+                                            {"devices", 0, NULL, 'v'}, {"refusals", 0, NULL, 'r'}, {NULL, 0, NULL, 0}};
     for (int option; (option = getopt_long(count, words, "", options, NULL)) != -1;) {
         switch (option) {
         case 's': settings.seed = strtoul(optarg, NULL, 10); break;
@@ -176,6 +179,7 @@ static bool read_words(int count, char **words) {
         case 'f': settings.folder = optarg; break;
         case 'd': settings.is_direct = true; break;
         case 'v': settings.has_devices = true; break;
+        case 'r': calls_may_be_refused = true; break;
         default: return false;
         }
     }

@@ -24,6 +24,7 @@
 enum { RIGHTS = PROT_READ | PROT_WRITE, KIND = MAP_PRIVATE | MAP_ANONYMOUS };
 
 struct files files;
+bool calls_may_be_refused;
 
 bool files_make(const char *folder, bool is_direct) {
     char name[256];
@@ -143,6 +144,17 @@ static int copy_out(struct caller *caller, struct run run) {
     return 0;
 }
 
+/* Writes to pages as another process would. */
+static int copy_in(struct caller *caller, struct run run) {
+    const struct iovec from = {caller->aside, bytes_of(run)}, to = {page_at(run.first), bytes_of(run)};
+    for (size_t i = 0; i < run.count; i++) content_fill(caller->aside + i * PAGE, draw(&caller->seed, CONTENTS));
+    if (process_vm_writev(getpid(), &from, 1, &to, 1, 0) != (ssize_t)bytes_of(run)) {
+        note_wrong(run.first, "process_vm_writev is short");
+        return -1;
+    }
+    return took(run, caller->aside, bytes_of(run)), 0;
+}
+
 /* ---- discards and places ---- */
 
 static int discard(struct caller *caller, struct run run) {
@@ -154,18 +166,35 @@ static int discard(struct caller *caller, struct run run) {
     int status = madvise(page_at(run.first), bytes_of(run), kind);
     /* (the library refuses it where a device may have pinned pages whose copies stay over frames) */
     if (status != 0 && errno == EINVAL && kind == MADV_DONTNEED_LOCKED && caller->device.is_there) return -1;
-    if (is_due != (status == 0)) note_wrong(run.first, is_due ? strerror(errno) : "locked pages were discarded");
+    bool is_excused = status != 0 && is_due && calls_may_be_refused;
+    if (is_due != (status == 0) && !is_excused) note_wrong(run.first, is_due ? strerror(errno) : "locked pages were discarded");
     if (status == 0 && kind != MADV_FREE) run_is_zero(run);
-    for (size_t page = run.first; page < run.first + run.count && status == 0 && kind == MADV_FREE; page++)
+    for (size_t page = run.first; page < run.first + run.count && ((status == 0 && kind == MADV_FREE) || is_excused); page++) {
         shadow.pages[page].may_be_zero = true;
+        if (is_excused) shadow.pages[page].is_pinned = false;
+    }
     return is_due ? status : 0;
+}
+
+/* Whether a child of a fork has pages from now on. */
+static void note_child(struct run run, bool has_child) {
+    for (size_t page = run.first; page < run.first + run.count; page++) {
+        shadow.pages[page].has_child = has_child;
+        shadow.pages[page].is_unsure = false;
+    }
+}
+
+static int let_inherit(struct caller *caller, struct run run) {
+    (void)caller;
+    if (madvise(page_at(run.first), bytes_of(run), MADV_DOFORK) == 0) return note_child(run, true), 0;
+    for (size_t page = run.first; page < run.first + run.count; page++) shadow.pages[page].is_unsure = true;
+    return -1;
 }
 
 static void offer(struct run run) {
     uint8_t *at = page_at(run.first);
     madvise(at, bytes_of(run), MADV_MERGEABLE);
-    if (madvise(at, bytes_of(run), MADV_DONTFORK) != 0) return;
-    for (size_t page = run.first; page < run.first + run.count; page++) shadow.pages[page].has_child = false;
+    if (madvise(at, bytes_of(run), MADV_DONTFORK) == 0) note_child(run, false);
 }
 
 static int unmap(struct caller *caller, struct run run) {
@@ -228,6 +257,7 @@ static int grow(struct caller *caller, struct run run) {
     for (size_t page = run.first; page < run.first + run.count; page++) {
         shadow.pages[page].protection = before->protection;
         shadow.pages[page].has_child = before->has_child;
+        shadow.pages[page].is_unsure = before->is_unsure;
         shadow.pages[page].is_wiped = before->is_wiped;
     }
     return 0;
@@ -282,24 +312,14 @@ static int unlock(struct caller *caller, struct run run) {
 }
 
 static int advise(struct caller *caller, struct run run) {
-    static const int kinds[] = {MADV_DONTFORK,   MADV_DONTDUMP,    MADV_DODUMP,        MADV_HUGEPAGE,
-                                MADV_NOHUGEPAGE, MADV_UNMERGEABLE, MADV_COLD,          MADV_MERGEABLE,
-                                MADV_NORMAL,     MADV_PAGEOUT,     MADV_POPULATE_READ, MADV_POPULATE_WRITE,
-                                MADV_WILLNEED,   MADV_WIPEONFORK,  MADV_DOFORK,        MADV_KEEPONFORK};
+    static const int kinds[] = {MADV_DONTFORK,      MADV_DONTDUMP,       MADV_DODUMP,    MADV_HUGEPAGE,   MADV_NOHUGEPAGE,
+                                MADV_UNMERGEABLE,   MADV_COLD,           MADV_MERGEABLE, MADV_NORMAL,     MADV_PAGEOUT,
+                                MADV_POPULATE_READ, MADV_POPULATE_WRITE, MADV_WILLNEED,  MADV_WIPEONFORK, MADV_KEEPONFORK};
     int kind = kinds[draw(&caller->seed, sizeof kinds / sizeof kinds[0])];
     if (madvise(page_at(run.first), bytes_of(run), kind) != 0) return -1;
-    for (size_t page = run.first; page < run.first + run.count; page++) {
-        struct page *its = &shadow.pages[page];
-        if (kind == MADV_DONTFORK || kind == MADV_DOFORK) its->has_child = kind == MADV_DOFORK;
-        if (kind == MADV_WIPEONFORK || kind == MADV_KEEPONFORK) its->is_wiped = kind == MADV_WIPEONFORK;
-    }
-    return 0;
-}
-
-static int let_inherit(struct caller *caller, struct run run) {
-    (void)caller;
-    if (madvise(page_at(run.first), bytes_of(run), MADV_DOFORK) != 0) return -1;
-    for (size_t page = run.first; page < run.first + run.count; page++) shadow.pages[page].has_child = true;
+    if (kind == MADV_DONTFORK) note_child(run, false);
+    for (size_t page = run.first; page < run.first + run.count; page++)
+        if (kind == MADV_WIPEONFORK || kind == MADV_KEEPONFORK) shadow.pages[page].is_wiped = kind == MADV_WIPEONFORK;
     return 0;
 }
 
@@ -368,6 +388,7 @@ static const struct kind {
     {"read-direct", read_direct, RANGE, 6},
     {"write-direct", write_direct, READ | WRITE, 3},
     {"copy-out", copy_out, READ, 2},
+    {"copy-in", copy_in, READ | WRITE, 3},
     {"discard", discard, 0, 6},
     {"munmap", unmap, RANGE, 3},
     {"mmap", map_hole, HOLE, 12},
@@ -405,7 +426,7 @@ static bool fits(const struct caller *caller, const struct kind *kind, struct ru
     unsigned needs = kind->needs;
     if (kind->make == use_device)
         return caller->device.is_there &&
-               (caller->device.step != DEVICE_IDLE || (page->place == HERE && page_is_writable(run.first)));
+               (caller->device.step != DEVICE_IDLE || (!caller->is_alone && page->place == HERE && page_is_writable(run.first)));
     if ((kind->make == read_direct || kind->make == write_direct) && files.direct < 0) return false;
     if ((needs & HOLE) != 0) {
         if (page->place != GONE) return false;
@@ -477,7 +498,8 @@ static void withdraw(struct run all) {
 static void begin_anew(struct caller *caller, struct run all) {
     for (size_t page = 0; page < shadow.count; page++)
         if (shadow.pages[page].place == AWAY && munmap(page_at(page), PAGE) == 0) run_is_gone((struct run){page, 1});
-    if (munmap(shadow.range, bytes_of(all)) == 0) run_is_gone(all);
+    if (munmap(shadow.range, bytes_of(all)) != 0) return;
+    run_is_gone(all);
     put_back(caller, all);
 }
 

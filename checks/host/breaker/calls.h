@@ -22,6 +22,7 @@ struct device {
 struct caller {
     uint64_t seed;
     unsigned number;
+    bool is_alone;  /* no other thread makes calls: pages may be another thread's */
     uint8_t *aside; /* CALL_PAGES of memory that isn't offered */
     struct device device;
     _Atomic(const char *) now; /* the call that it makes, or NULL */
@@ -35,6 +36,8 @@ struct files {
     int plain, direct;
 };
 extern struct files files;
+/* The system may refuse any call: then pages that are discarded may be zeros. */
+extern bool calls_may_be_refused;
 /* Makes the files in a folder. `is_direct`: O_DIRECT, too. Returns false, with errno. */
 bool files_make(const char *folder, bool is_direct);
 

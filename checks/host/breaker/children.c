@@ -21,12 +21,12 @@ static void compare(const char *when) {
     for (size_t page = 0; page < shadow.count; page++) {
         const struct page *its = &shadow.pages[page];
         if (its->place == GONE) continue;
-        if (is_mapped(page_at(page)) != its->has_child)
-            note_wrong(page, its->has_child ? "a child lacks a page" : "a child has a page in spite of MADV_DONTFORK");
-        else if (its->has_child && page_is_readable(page))
-            bytes_check(
-                page, page_at(page),
-                its->is_wiped || (its->may_be_zero && memcmp(page_at(page), zeros, PAGE) == 0) ? zeros : page_wanted(page), when);
+        bool has = is_mapped(page_at(page));
+        if (has != its->has_child && !its->is_unsure)
+            note_wrong(page, has ? "a child has a page in spite of MADV_DONTFORK" : "a child lacks a page");
+        if (!has || !page_is_readable(page)) continue;
+        bool is_zero = its->is_wiped || (its->may_be_zero && memcmp(page_at(page), zeros, PAGE) == 0);
+        bytes_check(page, page_at(page), is_zero ? zeros : page_wanted(page), when);
     }
 }
 
@@ -34,7 +34,7 @@ static void compare(const char *when) {
 static void discard(void) {
     for (size_t page = 0; page < shadow.count; page++) {
         const struct page *its = &shadow.pages[page];
-        if (its->place == GONE || !its->has_child || !page_is_readable(page)) continue;
+        if (its->place == GONE || !is_mapped(page_at(page)) || !page_is_readable(page)) continue;
         if (madvise(page_at(page), PAGE, MADV_DONTNEED_LOCKED) != 0) continue;
         bytes_check(page, page_at(page), zeros, "discarded in a child");
     }

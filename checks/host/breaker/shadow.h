@@ -23,6 +23,7 @@ struct page {
     int protection;
     bool is_locked;
     bool has_child;   /* a child of a fork has it (no MADV_DONTFORK) */
+    bool is_unsure;   /* or not: MADV_DOFORK was refused, perhaps after it was said of some pages */
     bool is_wiped;    /* and finds zeros there (MADV_WIPEONFORK) */
     bool may_be_zero; /* it is what the shadow says, or zeros (MADV_FREE) */
     bool is_pinned;   /* a device has pinned the memory that it has now */
