@@ -37,7 +37,7 @@ static struct {
 static struct {
     struct remote remote;
     struct windows *windows;
-    bool is_attached, was_reported, is_refused, was_crowded;
+    bool is_attached, was_reported, is_refused, was_crowded, was_short;
     uint64_t next_try_ns;
     struct windows_counts before;
     unsigned period_ms, calm, eager;
@@ -108,9 +108,15 @@ static bool make_windows(void) {
         ranges_use(my.windows);
         return true;
     }
-    errno = result.cause;
-    my.is_refused = true;
+    bool is_short = result.status == WINDOW_NO_MEMORY || result.status == WINDOW_NO_MAPPING;
     remote_disconnect(&my.remote);
+    if (is_short) {
+        if (!my.was_short)
+            log_line("%s: %s; it is tried again each second", window_status_words(result.status), strerror(result.cause));
+        my.was_short = true;
+        return false;
+    }
+    my.is_refused = true;
     ranges_refuse(window_status_words(result.status));
     return false;
 }
