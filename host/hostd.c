@@ -46,6 +46,7 @@ static bool start_all(struct domain *domains, const struct settings *settings, s
     for (; *begun < settings->domain_count; ++*begun)
         if (!domain_bind(&domains[*begun], &settings->domains[*begun], faults_device)) return ++*begun, false;
     if (*settings->user && !become(settings->user)) return false;
+    if (prctl(PR_SET_NO_NEW_PRIVS, 1, 0, 0, 0) != 0) return trouble("prctl"); /* no program that it could run has more rights */
     if (prctl(PR_SET_DUMPABLE, 0) != 0) trouble("prctl"); /* processes of the same user can't reach into this one */
     for (size_t i = 0; i < settings->domain_count; i++)
         if (!domain_make(&domains[i])) return false;
@@ -70,8 +71,9 @@ static int serve_all(const struct settings *settings) {
     if (prctl(PR_SET_THP_DISABLE, 1, 0, 0, 0) != 0) trouble("prctl"); /* a huge page would take memory for 512 pages of zeros */
     bool good = start_all(domains, settings, &begun, faults_device);
     for (size_t i = 0; good && i < begun; i++)
-        log_line("domain %s serves at %s: up to %u clients, %llu MiB of frames", settings->domains[i].name, settings->domains[i].socket,
-             settings->domains[i].clients, (unsigned long long)(settings->domains[i].memory >> 20));
+        log_line("domain %s serves at %s: up to %u clients, %llu MiB of frames", settings->domains[i].name,
+                 settings->domains[i].socket, settings->domains[i].clients,
+                 (unsigned long long)(settings->domains[i].memory >> 20));
     if (good && sigwait(&ends, &got) != 0) good = false;
     for (size_t i = 0; i < begun; i++) domain_end(&domains[i]);
     if (faults_device >= 0) close(faults_device);

@@ -23,7 +23,7 @@ const char settings_help[] =
     "\n"
     "Of the host:\n"
     "  --user NAME            becomes this user after it has opened /dev/userfaultfd\n"
-    "  --settings FILE        reads options from a file: one in a line, without the dashes; # begins a comment\n"
+    "  --settings FILE        reads options from a file: NAME VALUE or NAME = VALUE in a line, and comments behind a #\n"
     "  --help, --version\n"
     "\n"
     "A client is a monitor that was started with PAGESHARE_SOCKET=SOCKET LD_PRELOAD=libpageshare-window.so.\n";
@@ -152,8 +152,7 @@ static bool read_numbers(struct domain_settings *domain, const char *option, con
 
 /* One option. `value` is NULL where none follows; `used` says whether it was one of the option's. */
 static bool read_option(struct settings *settings, const char *option, const char *value, bool *used) {
-    struct domain_settings *domain =
-        settings->domain_count ? &settings->domains[settings->domain_count - 1] : &settings->usual;
+    struct domain_settings *domain = settings->domain_count ? &settings->domains[settings->domain_count - 1] : &settings->usual;
     bool known;
     *used = false;
     read_switch(settings, domain, option, &known);
@@ -171,20 +170,34 @@ static bool read_option(struct settings *settings, const char *option, const cha
     return read_text(option, value, settings->status, sizeof settings->status);
 }
 
-/* A line of the settings file, without its comment: an option, and its value behind blanks or '='. */
+static const char blanks[] = " \t\r\n";
+
+/* Cuts a comment off a line: it begins with a '#' that is the line's first character, or that blanks stand before. */
+static void cut_comment(char *line) {
+    for (char *at = strchr(line, '#'); at; at = strchr(at + 1, '#'))
+        if (at == line || strchr(blanks, at[-1])) {
+            *at = 0;
+            return;
+        }
+}
+
+/* A line of the settings file: an option, and its value behind blanks, or behind a '=' that may have blanks around it. */
 static bool read_line(struct settings *settings, char *line) {
-    static const char blanks[] = " \t\r\n";
-    char *option, *value, *end = strchr(line, '#');
+    char *option, *value, *end;
     bool used;
-    if (end) *end = 0;
+    cut_comment(line);
     option = line + strspn(line, blanks);
-    for (end = option + strlen(option); end > option && strchr(blanks, end[-1]); end--) {}
+    for (end = option + strlen(option); end > option && strchr(blanks, end[-1]); end--) {
+    }
     *end = 0;
     if (!*option) return true;
-    value = option + strcspn(option, blanks);
-    if (*value) *value++ = 0;
-    value += strspn(value, blanks);
+    end = option + strcspn(option, " \t\r\n=");
+    value = end + strspn(end, blanks);
+    bool has_equals = *value == '=';
+    if (has_equals) value += 1 + strspn(value + 1, blanks);
+    *end = 0;
     if (strcmp(option, "settings") == 0) return wrong(option, value, "not in a settings file");
+    if (has_equals && !*value) return wrong(option, "=", "its value is missing");
     if (!read_option(settings, option, *value ? value : NULL, &used)) return false;
     return used || !*value || wrong(option, value, "takes no value");
 }
@@ -212,6 +225,7 @@ bool settings_read(struct settings *settings, int count, char **words) {
         if (!read_option(settings, words[i] + 2, i + 1 < count ? words[i + 1] : NULL, &used)) return false;
         i += used;
     }
-    if (settings->task == TASK_SERVE && settings->domain_count == 0) return wrong("domain", "NAME=SOCKET", "is missing (see --help)");
+    if (settings->task == TASK_SERVE && settings->domain_count == 0)
+        return wrong("domain", "NAME=SOCKET", "is missing (see --help)");
     return true;
 }
