@@ -17,6 +17,7 @@ const char settings_help[] =
     "  --clients N            the most clients at a time (default 64)\n"
     "  --client-memory SIZE   the most memory that one client may have lent (default: no limit)\n"
     "  --client-rate N        the most messages that are taken of one client in a second (default 20000)\n"
+    "  --connection-rate N    the most connections that are taken of one user in a second (default 64)\n"
     "  --group NAME           the group of the socket\n"
     "  --mode OCTAL           the mode of the socket (default 0660)\n"
     "  --trust-peers          takes clients that are root or the host's own user, although these could write shared pages\n"
@@ -29,7 +30,7 @@ const char settings_help[] =
     "A client is a monitor that was started with PAGESHARE_SOCKET=SOCKET LD_PRELOAD=libpageshare-window.so.\n";
 
 static const struct domain_settings usual = {
-    .memory = UINT64_C(1) << 30, .clients = 64, .client_rate = 20000, .mode = 0660, .group = (gid_t)-1};
+    .memory = UINT64_C(1) << 30, .clients = 64, .client_rate = 20000, .connection_rate = 64, .mode = 0660, .group = (gid_t)-1};
 
 enum { LINE_MOST = 512 };
 static const uint64_t memory_least = 1 << 20, memory_most = UINT64_C(1) << 38; /* 1 MiB, 256 GiB: frames of 64 machines */
@@ -141,6 +142,9 @@ static bool read_numbers(struct domain_settings *domain, const char *option, con
     } else if (strcmp(option, "client-rate") == 0) {
         if (!read_number(option, value, 10, 1, UINT32_MAX, &number)) return false;
         domain->client_rate = (uint32_t)number;
+    } else if (strcmp(option, "connection-rate") == 0) {
+        if (!read_number(option, value, 10, 1, UINT32_MAX, &number)) return false;
+        domain->connection_rate = (uint32_t)number;
     } else if (strcmp(option, "mode") == 0) {
         if (!read_number(option, value, 8, 0, 0777, &number)) return false;
         domain->mode = (mode_t)number;

@@ -19,8 +19,10 @@ struct number {
     size_t at;
     uint64_t unit; /* what it is multiplied by */
 };
-#define OF_TOTALS(NAME, MEMBER, IS_COUNTER, UNIT, HELP) {NAME, HELP, IS_COUNTER, offsetof(struct status_totals, MEMBER), UNIT}
-#define OF_CLIENT(NAME, MEMBER, IS_COUNTER, UNIT, HELP) {NAME, HELP, IS_COUNTER, offsetof(struct status_client, MEMBER), UNIT}
+#define OF_TOTALS(NAME, MEMBER, IS_COUNTER, UNIT, HELP)                                                                          \
+    { NAME, HELP, IS_COUNTER, offsetof(struct status_totals, MEMBER), UNIT }
+#define OF_CLIENT(NAME, MEMBER, IS_COUNTER, UNIT, HELP)                                                                          \
+    { NAME, HELP, IS_COUNTER, offsetof(struct status_client, MEMBER), UNIT }
 
 static const struct number of_totals[] = {
     OF_TOTALS("clients", clients, false, 1, "Processes that have lent pages or may"),
@@ -30,6 +32,7 @@ static const struct number of_totals[] = {
     OF_TOTALS("reclaimed_bytes", reclaimed_pages, false, PAGE, "Lent memory less frames: what sharing gives back"),
     OF_TOTALS("limit_bytes", frames_most, false, PAGE, "The most that frames may take"),
     OF_TOTALS("file_bytes", frame_bytes, false, 1, "Memory of the file of frames"),
+    OF_TOTALS("free_bytes", free_bytes, false, 1, "The part of it that belongs to no frame in use"),
     OF_TOTALS("host_bytes", host_bytes, false, 1, "Memory of the host process itself"),
     OF_TOTALS("messages_total", messages, true, 1, "Messages taken"),
     OF_TOTALS("asked_pages_total", pages_asked, true, 1, "Pages that clients asked about"),
@@ -38,7 +41,7 @@ static const struct number of_totals[] = {
     OF_TOTALS("refused_pages_total", refused, true, 1, "Pages for which there was no slot or no frame"),
     OF_TOTALS("faults_total", faults, true, 1, "Clients that sent what is no message"),
     OF_TOTALS("turned_away_total", turned_away, true, 1, "Connections that were not taken"),
-    OF_TOTALS("processor_nanoseconds_total", machine_ns, true, 1, "Processor time of the domain's thread"),
+    OF_TOTALS("processor_nanoseconds_total", machine_ns, true, 1, "Processor time of the domain's threads"),
     OF_TOTALS("uptime_nanoseconds", uptime_ns, false, 1, "How long the domain has been served"),
 };
 static const struct number of_client[] = {
@@ -73,7 +76,8 @@ static bool receive(const char *socket_path, struct report *report) {
     close(from);
     if (got < 0) return (errno = cause, trouble(name.sun_path));
     size_t totals = sizeof report->totals;
-    bool is_whole = (size_t)got >= totals && report->totals.version == STATUS_VERSION && report->totals.listed <= STATUS_CLIENTS_MOST &&
+    bool is_whole = (size_t)got >= totals && report->totals.version == STATUS_VERSION &&
+                    report->totals.listed <= STATUS_CLIENTS_MOST &&
                     (size_t)got == totals + report->totals.listed * sizeof *report->clients;
     if (!is_whole) log_line("%s: not a status of this version", name.sun_path);
     report->totals.domain[NAME_MOST - 1] = 0;
@@ -84,22 +88,25 @@ static double mib(uint64_t pages) { return (double)pages * PAGE / (1 << 20); }
 
 static void show_table(const struct report *report) {
     const struct status_totals *totals = &report->totals;
-    printf("domain %s: %llu clients, up %llu s, %.1f %% of one processor since\n", totals->domain, (unsigned long long)totals->clients,
-           (unsigned long long)(totals->uptime_ns / 1000000000u), 100.0 * (double)totals->machine_ns / (double)(totals->uptime_ns + 1));
+    printf("domain %s: %llu clients, up %llu s, %.1f %% of one processor since\n", totals->domain,
+           (unsigned long long)totals->clients, (unsigned long long)(totals->uptime_ns / 1000000000u),
+           100.0 * (double)totals->machine_ns / (double)(totals->uptime_ns + 1));
     printf("%12s %12s %12s %12s %12s\n", "lent MiB", "shared", "frames", "reclaimed", "frames most");
     printf("%12.1f %12.1f %12.1f %12.1f %12.1f\n", mib(totals->lent_pages), mib(totals->shared_pages), mib(totals->frames),
            mib(totals->reclaimed_pages), mib(totals->frames_most));
-    printf("file of frames %.1f MiB, host %.1f MiB; pages lent %llu, released %llu, refused %llu; faults %llu, turned away %llu\n",
-           (double)totals->frame_bytes / (1 << 20), (double)totals->host_bytes / (1 << 20), (unsigned long long)totals->lends,
-           (unsigned long long)totals->releases, (unsigned long long)totals->refused, (unsigned long long)totals->faults,
-           (unsigned long long)totals->turned_away);
+    printf("file of frames %.1f MiB, %.1f of it free; host %.1f MiB; pages lent %llu, released %llu, refused %llu; faults %llu, "
+           "turned away %llu\n",
+           (double)totals->frame_bytes / (1 << 20), (double)totals->free_bytes / (1 << 20),
+           (double)totals->host_bytes / (1 << 20), (unsigned long long)totals->lends, (unsigned long long)totals->releases,
+           (unsigned long long)totals->refused, (unsigned long long)totals->faults, (unsigned long long)totals->turned_away);
     if (totals->listed) printf("%12s %12s %12s %12s  %s\n", "process", "user", "lent MiB", "messages", "connected");
     for (size_t i = 0; i < totals->listed; i++) {
         const struct status_client *client = &report->clients[i];
         printf("%12llu %12llu %12.1f %12llu  %s\n", (unsigned long long)client->pid, (unsigned long long)client->uid,
                mib(client->lent_pages), (unsigned long long)client->messages, client->connected ? "yes" : "no");
     }
-    if (totals->listed < totals->clients) printf("%12s and %llu more\n", "", (unsigned long long)(totals->clients - totals->listed));
+    if (totals->listed < totals->clients)
+        printf("%12s and %llu more\n", "", (unsigned long long)(totals->clients - totals->listed));
 }
 
 static void show_json(const struct report *report) {
@@ -109,8 +116,12 @@ static void show_json(const struct report *report) {
     printf(",\"processes\":[");
     for (size_t c = 0; c < report->totals.listed; c++)
         for (size_t i = 0; i < CLIENT_COUNT; i++)
-            printf("%s\"%s\":%llu%s", i ? "," : c ? ",{" : "{", of_client[i].name,
-                   (unsigned long long)value_of(&of_client[i], &report->clients[c]), i + 1 == CLIENT_COUNT ? "}" : "");
+            printf("%s\"%s\":%llu%s",
+                   i   ? ","
+                   : c ? ",{"
+                       : "{",
+                   of_client[i].name, (unsigned long long)value_of(&of_client[i], &report->clients[c]),
+                   i + 1 == CLIENT_COUNT ? "}" : "");
     printf("]}\n");
 }
 
@@ -125,7 +136,8 @@ static void show_prometheus(const struct report *report) {
     for (size_t i = LABELS - 1; i < CLIENT_COUNT; i++) {
         const struct number *number = &of_client[i];
         const char *name = i < LABELS ? "client_connected" : number->name;
-        printf("# HELP pageshare_%s %s\n# TYPE pageshare_%s %s\n", name, number->help, name, number->is_counter ? "counter" : "gauge");
+        printf("# HELP pageshare_%s %s\n# TYPE pageshare_%s %s\n", name, number->help, name,
+               number->is_counter ? "counter" : "gauge");
         for (size_t c = 0; c < report->totals.listed; c++)
             printf("pageshare_%s{domain=\"%s\",pid=\"%llu\",uid=\"%llu\"} %llu\n", name, domain,
                    (unsigned long long)report->clients[c].pid, (unsigned long long)report->clients[c].uid,
