@@ -153,13 +153,14 @@ host: $(HOST_PRODUCTS)
 # (HOST_LIBRARY names another library than the proved one)
 HOST_LIBRARY = out/libpageshare_host.a
 HOST_FLAGS = -std=c11 -O2 -g -Wall -Wextra -Wconversion -Werror -pthread -Iinclude -Iwindow -Ihost $(CFLAGS)
-HOST_SOURCES = $(addprefix host/,hostd.c settings.c domain.c clients.c frames.c tables.c report.c status.c)
+HOST_LINK = -Wl,--wrap=memset
+HOST_SOURCES = $(addprefix host/,hostd.c settings.c domain.c clients.c closing.c frames.c punching.c tables.c report.c status.c)
 WINDOW_SOURCES = $(addprefix host/,preload.c transfers.c sharing.c ranges.c connection.c remote.c devices.c) $(wildcard window/*.c)
 HOST_HEADERS = $(wildcard host/*.h window/*.h include/*.h)
 
 out/host/pageshare-host: $(HOST_SOURCES) $(HOST_HEADERS) $(HOST_LIBRARY)
 	@mkdir -p $(@D)
-	$(CC) $(HOST_FLAGS) -o $@ $(HOST_SOURCES) $(HOST_LIBRARY)
+	$(CC) $(HOST_FLAGS) $(HOST_LINK) -o $@ $(HOST_SOURCES) $(HOST_LIBRARY)
 
 out/host/libpageshare-window.so: $(WINDOW_SOURCES) $(HOST_HEADERS)
 	@mkdir -p $(@D)

@@ -24,6 +24,7 @@ import time
 
 sys.path.insert(0, str(pathlib.Path(__file__).resolve().parent / "host"))
 
+import bounds_cases  # noqa: E402
 import breaker_cases  # noqa: E402
 import client_cases  # noqa: E402
 import device_cases  # noqa: E402
@@ -35,7 +36,7 @@ from places import HERE, LeftOut, Place, Wrong  # noqa: E402
 
 CASES = {
     name.removeprefix("case_").replace("_", "-"): run
-    for module in (client_cases, breaker_cases, parts_cases, device_cases, measures, guest_cases)
+    for module in (client_cases, bounds_cases, breaker_cases, parts_cases, device_cases, measures, guest_cases)
     for name, run in vars(module).items()
     if name.startswith("case_")
 }

@@ -4,6 +4,7 @@
 #include <poll.h>
 #include <stdlib.h>
 #include <sys/epoll.h>
+#include <sys/eventfd.h>
 #include <sys/mman.h>
 #include <sys/random.h>
 #include <sys/socket.h>
@@ -18,9 +19,13 @@ enum {
     TURN_MESSAGES = 4,          /* of one client in one turn */
     RELEASED_AT_ONCE = 512,     /* slots of a process that has ended, in one turn */
     CONNECTIONS_OF_PROCESS = 2, /* an old one, and the one that takes its session up */
+    PROCESS_PART = 32,    /* of the connections of a user in a second, how many of one process are taken: one part in so many */
+    ACCEPTS_IN_TICK = 50, /* connections that are taken or turned away until the next tick */
+    FIRST_PART = 100,     /* a new connection may send one part in so many of its messages of a second until the next tick */
     TICKS_IN_SECOND = 10,
     BUFFER_BYTES = PAGESHARE_HOST_MAX_PAGES * PAGE
 };
+static const uint64_t connecting_most_ns = 25000000; /* what connections that come and go may take of a tick: a quarter of it */
 static const uint64_t silence_ns = UINT64_C(10000000000); /* who connects says hello within 10 seconds */
 
 bool poll_add(const struct domain *domain, int descriptor, union event_key key) {
@@ -42,31 +47,42 @@ static struct client *client_of(struct domain *domain, union event_key key) {
 }
 
 /* Lets an entry go whose session is no more. */
-static void forget(struct client *client) {
-    if (client->socket >= 0) close(client->socket);
+static void forget(struct domain *domain, struct client *client) {
+    if (client->socket >= 0) closing_close(&domain->closing, client->socket);
     if (client->process >= 0) close(client->process);
     if (client->buffer) munmap((void *)(uintptr_t)client->buffer, BUFFER_BYTES);
+    if (client->sibling) client->sibling->sibling = NULL;
     *client = (struct client){.generation = client->generation + 1, .socket = NOTHING, .process = NOTHING};
+}
+
+/* How many slots a client's session has. */
+static uint32_t slots_of(struct domain *domain, const struct client *client) {
+    struct pageshare_host_session session;
+    return pageshare_host_session(&domain->host, client->session, &session) == PAGESHARE_HOST_OK ? session.slots : 0;
 }
 
 /*
  * A client's connection has ended, by whichever side. A session that has slots stays until its process has ended. One that has none
- * ends at once: its process shows no frame for it.
+ * ends at once, by one call: its process shows no frame for it. (That call may look at each slot of the domain once, and counts as time
+ * that connections take.)
  */
 static void part(struct domain *domain, struct client *client) {
     struct pageshare_host_session session;
     uint32_t freed;
     size_t count;
-    if (client->socket >= 0) close(client->socket);
+    uint64_t begin = now_ns();
+    if (client->socket >= 0) closing_close(&domain->closing, client->socket);
     client->socket = NOTHING;
     client->state = CLIENT_APART;
+    client->waiting_pages = 0;
     pageshare_host_disconnect(&domain->host, client->session);
     bool is_there = pageshare_host_session(&domain->host, client->session, &session) == PAGESHARE_HOST_OK;
     if (is_there && session.slots == 0) {
         pageshare_host_end(&domain->host, client->session, &freed, 1, &count);
         is_there = false;
     }
-    if (!is_there) forget(client);
+    if (!is_there) forget(domain, client);
+    domain->connecting_ns += now_ns() - begin;
 }
 
 /* ---- who connects ---- */
@@ -108,6 +124,37 @@ static struct client *free_entry(struct domain *domain, pid_t pid) {
     return its < CONNECTIONS_OF_PROCESS && (its > 0 || others < domain->settings.clients) ? found : NULL;
 }
 
+/* The other connection of a client's process, or NULL. */
+static struct client *find_sibling(const struct domain *domain, const struct client *client) {
+    for (uint32_t i = 0; i < domain->client_most; i++) {
+        struct client *other = &domain->clients[i];
+        bool may_be = other != client && other->state != CLIENT_NONE && other->pid == client->pid;
+        if (may_be && is_same_process(other, client)) return other;
+    }
+    return NULL;
+}
+
+/* A process may send so many messages until the next tick, by whichever of its connections. */
+static void put_budget(struct client *client, uint32_t budget) {
+    client->budget = budget;
+    if (client->sibling) client->sibling->budget = budget;
+}
+
+/* A client that has a session is watched, and meets the other connection of its process. */
+static bool watch(struct domain *domain, struct client *client) {
+    uint32_t budget = domain->settings.client_rate / FIRST_PART + 1;
+    client->state = CLIENT_CONNECTED;
+    client->sibling = find_sibling(domain, client);
+    if (client->sibling) {
+        client->sibling->sibling = client;
+        budget =
+            client->sibling->state == CLIENT_CONNECTED && client->sibling->budget < budget ? client->sibling->budget : budget;
+    }
+    put_budget(client, budget);
+    return poll_add(domain, client->socket, key_of(domain, client, EVENT_SOCKET)) &&
+           poll_add(domain, client->process, key_of(domain, client, EVENT_PROCESS));
+}
+
 /* Fills an entry for a connection: with a session, and watched. Returns false where something is refused; the entry is free then. */
 static bool enter(struct domain *domain, struct client *client, int socket, const struct ucred *peer) {
     *client = (struct client){.generation = client->generation,
@@ -115,50 +162,102 @@ static bool enter(struct domain *domain, struct client *client, int socket, cons
                               .process = process_of(socket, peer->pid),
                               .pid = peer->pid,
                               .uid = peer->uid,
-                              .budget = domain->settings.client_rate,
                               .since_ns = now_ns()};
-    bool good = client->process >= 0 && getrandom(client->name, sizeof client->name, 0) == sizeof client->name &&
-                pageshare_host_connect(&domain->host, client->name, &client->session) == PAGESHARE_HOST_OK;
+    bool good = (client->process >= 0 && getrandom(client->name, sizeof client->name, 0) == sizeof client->name) ||
+                seldom_trouble(&domain->no_connection, "a connection can't be taken");
+    good = good && pageshare_host_connect(&domain->host, client->name, &client->session) == PAGESHARE_HOST_OK;
     if (!good) {
-        forget(client);
+        forget(domain, client);
         return false;
     }
-    client->state = CLIENT_CONNECTED;
-    good = poll_add(domain, client->socket, key_of(domain, client, EVENT_SOCKET)) &&
-           poll_add(domain, client->process, key_of(domain, client, EVENT_PROCESS));
+    good = watch(domain, client);
     if (!good) part(domain, client);
     return good;
 }
 
-/* No connection is taken for a while: the system has no descriptors or memory. */
-static void be_deaf(struct domain *domain) {
-    struct epoll_event none = {.events = 0, .data.u64 = (union event_key){.of = EVENT_LISTENER}.key};
-    trouble("a connection can't be taken");
-    domain->is_deaf = epoll_ctl(domain->poll, EPOLL_CTL_MOD, domain->listener, &none) == 0;
+/* Takes connections of a listener, or takes none until the next tick. Returns false where the system refuses. */
+static bool hear(const struct domain *domain, int listener, enum event_of of, bool to_it) {
+    struct epoll_event event = {.events = to_it ? EPOLLIN : 0, .data.u64 = (union event_key){.of = (uint16_t)of}.key};
+    return epoll_ctl(domain->poll, EPOLL_CTL_MOD, listener, &event) == 0;
 }
 
-void clients_accept(struct domain *domain) {
+static void be_deaf(struct domain *domain) { domain->is_deaf = hear(domain, domain->listener, EVENT_LISTENER, false); }
+
+void clients_defer_status(struct domain *domain) {
+    domain->is_status_deaf = hear(domain, domain->status_listener, EVENT_STATUS, false);
+}
+
+/* Counts a connection of somebody, and returns how many there are in this second. Who finds no room is counted together with others. */
+static uint32_t connects_of(struct connects *counted, size_t most, uint32_t who) {
+    size_t i = 0;
+    while (i + 1 < most && counted[i].times != 0 && counted[i].who != who) i++;
+    counted[i].who = who;
+    return ++counted[i].times;
+}
+
+/* Whether a process or its user connects too often. What is too much of a process doesn't count for its user's other processes. */
+static bool comes_too_often(struct domain *domain, const struct ucred *peer) {
+    uint32_t rate = domain->settings.connection_rate, of_process = rate / PROCESS_PART;
+    if (of_process < CONNECTIONS_OF_PROCESS) of_process = CONNECTIONS_OF_PROCESS;
+    if (connects_of(domain->processes, PROCESSES_COUNTED, (uint32_t)peer->pid) > of_process) return true;
+    return connects_of(domain->users, USERS_COUNTED, peer->uid) > rate;
+}
+
+/* Why a peer isn't taken, or NULL with an entry for it. */
+static const char *why_not(struct domain *domain, const struct ucred *peer, struct client **client) {
+    if (!is_trusted(domain, peer)) return "it could write shared pages (see --trust-peers)";
+    if (comes_too_often(domain, peer)) return "it or its user connects too often (see --connection-rate)";
+    *client = free_entry(domain, peer->pid);
+    return *client ? NULL : "there are as many clients, or connections of it, as may be (see --clients)";
+}
+
+static void turn_away(struct domain *domain, int socket, const struct ucred *peer, const char *why) {
+    uint64_t left_out;
+    domain->turned_away++;
+    closing_close(&domain->closing, socket);
+    if (!seldom_is_due(&domain->not_taken, &left_out)) return;
+    log_line("domain %s: process %d of user %u isn't taken: %s", domain->settings.name, (int)peer->pid, (unsigned)peer->uid, why);
+    if (left_out)
+        log_line("domain %s: %llu more weren't since the last such line", domain->settings.name, (unsigned long long)left_out);
+}
+
+/* Whether the other end was closed while the connection waited. */
+static bool has_left(int socket) {
+    struct pollfd asked = {.fd = socket};
+    return poll(&asked, 1, 0) > 0 && (asked.revents & POLLHUP) != 0;
+}
+
+/* Takes the connection of a socket, or turns it away. */
+static void take(struct domain *domain, int socket) {
     struct ucred peer;
+    struct client *client = NULL;
     socklen_t size = sizeof peer;
-    int socket = accept4(domain->listener, NULL, NULL, SOCK_CLOEXEC | SOCK_NONBLOCK);
-    if (socket < 0) {
-        if (errno != EAGAIN && errno != EINTR && errno != ECONNABORTED) be_deaf(domain);
+    if (has_left(socket)) {
+        closing_close(&domain->closing, socket);
         return;
     }
     if (getsockopt(socket, SOL_SOCKET, SO_PEERCRED, &peer, &size) != 0) peer = (struct ucred){0};
-    struct client *client = NULL;
-    if (!is_trusted(domain, &peer)) {
-        if (domain->turned_away++ == 0)
-            log_line("domain %s: process %d of user %u isn't taken: it could write shared pages (see --trust-peers)", domain->settings.name,
-                 (int)peer.pid, (unsigned)peer.uid);
-    } else {
-        client = free_entry(domain, peer.pid);
-        if (!client && domain->turned_away++ == 0)
-            log_line("domain %s: process %d isn't taken: there are as many clients, or connections of it, as may be (see --clients)",
-                 domain->settings.name, (int)peer.pid);
-    }
-    if (!client) close(socket);
+    const char *why = why_not(domain, &peer, &client);
+    if (why) turn_away(domain, socket, &peer, why);
     else if (!enter(domain, client, socket, &peer)) domain->turned_away++;
+}
+
+void clients_accept(struct domain *domain) {
+    uint64_t begin = now_ns();
+    if (domain->accepts == 0 || domain->connecting_ns > connecting_most_ns || closing_is_full(&domain->closing)) {
+        be_deaf(domain);
+        return;
+    }
+    int socket = accept4(domain->listener, NULL, NULL, SOCK_CLOEXEC | SOCK_NONBLOCK);
+    if (socket < 0) {
+        if (errno == EAGAIN || errno == EINTR || errno == ECONNABORTED) return;
+        seldom_trouble(&domain->no_connection, "a connection can't be taken"); /* the system has no descriptors or memory */
+        be_deaf(domain);
+        return;
+    }
+    domain->accepts--;
+    take(domain, socket);
+    domain->connecting_ns += now_ns() - begin;
 }
 
 /* ---- messages ---- */
@@ -203,7 +302,7 @@ static void take_up(struct domain *domain, struct client *client, uint32_t sessi
         if (older == client || older->state == CLIENT_NONE || older->session != session) continue;
         memcpy(client->name, older->name, sizeof client->name);
         client->lends += older->lends;
-        forget(older);
+        forget(domain, older);
         return;
     }
 }
@@ -220,16 +319,17 @@ static bool reply(const struct client *client, const uint8_t *bytes, size_t leng
     if (count > 0 && count <= MOST) {
         message.msg_control = &control;
         message.msg_controllen = CMSG_SPACE(count * sizeof(int));
-        control.head = (struct cmsghdr){.cmsg_len = CMSG_LEN(count * sizeof(int)), .cmsg_level = SOL_SOCKET, .cmsg_type = SCM_RIGHTS};
+        control.head =
+            (struct cmsghdr){.cmsg_len = CMSG_LEN(count * sizeof(int)), .cmsg_level = SOL_SOCKET, .cmsg_type = SCM_RIGHTS};
         memcpy(CMSG_DATA(&control.head), descriptors, count * sizeof(int));
     }
     return sendmsg(client->socket, &message, MSG_DONTWAIT | MSG_NOSIGNAL) == (ssize_t)length;
 }
 
 /* WELCOME goes with the file of frames, a buffer for the client's pages and the device for its userfaultfd. */
-static bool reply_welcome(const struct domain *domain, struct client *client, const uint8_t *bytes, size_t length) {
+static bool reply_welcome(struct domain *domain, struct client *client, const uint8_t *bytes, size_t length) {
     int buffer = frames_buffer(BUFFER_BYTES, &client->buffer);
-    if (buffer < 0) return trouble("a client's buffer");
+    if (buffer < 0) return seldom_trouble(&domain->no_buffer, "a client's buffer");
     int descriptors[] = {domain->frames.file_for_clients, buffer, domain->faults_device};
     bool good = reply(client, bytes, length, descriptors, domain->faults_device >= 0 ? 3 : 2);
     close(buffer);
@@ -254,36 +354,103 @@ static void count_reply(struct domain *domain, struct client *client, const uint
     }
 }
 
-/* Takes one packet of a client. Returns false where the connection is to end. */
-static bool take_packet(struct domain *domain, struct client *client, uint8_t *bytes, size_t length) {
-    static _Thread_local uint8_t pages[PAGESHARE_HOST_MAX_PAGES][PAGE], answer[PAGESHARE_HOST_MAX_MESSAGE];
-    static _Thread_local uint32_t freed[PAGESHARE_HOST_MAX_PAGES];
-    uint32_t count = client->buffer ? pages_lent(bytes, length) : 0;
-    check_name(domain, client, bytes, length);
-    if (count) memcpy(pages, client->buffer, (size_t)count * PAGE); /* the client may write to its buffer at any time */
-    struct pageshare_host_received got =
-        pageshare_host_receive(&domain->host, client->session, bytes, length, (const uint8_t(*)[PAGE])pages, count, answer,
-                               sizeof answer, freed, PAGESHARE_HOST_MAX_PAGES);
-    domain->messages++;
-    if (got.status != PAGESHARE_HOST_OK) {
-        if (domain->faults++ < 10)
-            log_line("domain %s: process %d sent what is no message (%u); its connection ends", domain->settings.name, (int)client->pid,
-                 (unsigned)got.status);
-        return false;
-    }
-    if (got.resumed != PAGESHARE_HOST_NO_FRAME) take_up(domain, client, got.resumed);
-    domain->releases += got.freed;
-    frames_freed(&domain->frames, freed, got.freed);
-    count_reply(domain, client, answer, got.reply_bytes);
-    if (got.reply_bytes == 0) return true;
-    if (kind_of(answer, got.reply_bytes) == PAGESHARE_HOST_WELCOME) return reply_welcome(domain, client, answer, got.reply_bytes);
-    return reply(client, answer, got.reply_bytes, NULL, 0);
+/* The first pages of a lend that a process may have lent. (One that has one session is kept to its quota by the library.) */
+static uint32_t within_quota(struct domain *domain, const struct client *client, uint32_t count) {
+    if (!client->sibling) return count;
+    uint64_t has = (uint64_t)slots_of(domain, client) + slots_of(domain, client->sibling);
+    uint64_t left = domain->quota > has ? domain->quota - has : 0;
+    return count < left ? count : (uint32_t)left;
 }
 
-static void listen_to(const struct domain *domain, struct client *client, bool to_it) {
+/* Makes the reply to a lend of the first pages one to a lend of `count` pages: the others aren't lent. Returns its length. */
+static size_t extend_loans(uint8_t *reply, size_t length, uint32_t count) {
+    const struct pageshare_host_lent none = {.frame = PAGESHARE_HOST_NO_FRAME};
+    uint32_t head[2];
+    memcpy(head, reply, sizeof head);
+    if (length < sizeof head || head[0] != PAGESHARE_HOST_LOANS) return length;
+    for (; head[1] < count; head[1]++, length += sizeof none) memcpy(reply + length, &none, sizeof none);
+    memcpy(reply, head, sizeof head);
+    return length;
+}
+
+static bool is_fault(struct domain *domain, const struct client *client, uint32_t status) {
+    if (status == PAGESHARE_HOST_OK) return false;
+    if (domain->faults++ < 10)
+        log_line("domain %s: process %d sent what is no message (%u); its connection ends", domain->settings.name,
+                 (int)client->pid, (unsigned)status);
+    return true;
+}
+
+/* Serves one packet of a client, which lends `count` pages or does something else. Returns false where the connection is to end. */
+static bool serve_packet(struct domain *domain, struct client *client, uint8_t *bytes, size_t length, uint32_t count) {
+    struct serving *with = domain->serving;
+    uint32_t served = count ? within_quota(domain, client, count) : 0;
+    check_name(domain, client, bytes, length);
+    if (served < count) memcpy(bytes + offsetof(struct pageshare_host_lend, count), &served, sizeof served);
+    if (served) memcpy(with->pages, client->buffer, (size_t)served * PAGE); /* the client may write to its buffer at any time */
+    struct pageshare_host_received got =
+        pageshare_host_receive(&domain->host, client->session, bytes, length, (const uint8_t(*)[PAGE])with->pages, served,
+                               with->answer, sizeof with->answer, with->freed, PAGESHARE_HOST_MAX_PAGES);
+    domain->messages++;
+    if (is_fault(domain, client, got.status)) return false;
+    if (got.resumed != PAGESHARE_HOST_NO_FRAME) take_up(domain, client, got.resumed);
+    domain->releases += got.freed;
+    frames_freed(&domain->frames, with->freed, got.freed);
+    size_t replied = served < count ? extend_loans(with->answer, got.reply_bytes, count) : got.reply_bytes;
+    count_reply(domain, client, with->answer, replied);
+    if (replied == 0) return true;
+    if (kind_of(with->answer, replied) == PAGESHARE_HOST_WELCOME) return reply_welcome(domain, client, with->answer, replied);
+    return reply(client, with->answer, replied, NULL, 0);
+}
+
+/* Reads what a client sends, or nothing. Where the system refuses, it is tried again at the next tick or event. */
+static void listen_to(struct domain *domain, struct client *client, bool to_it) {
     struct epoll_event event = {.events = to_it ? EPOLLIN : 0, .data.u64 = key_of(domain, client, EVENT_SOCKET).key};
-    client->is_paused = !to_it;
-    if (epoll_ctl(domain->poll, EPOLL_CTL_MOD, client->socket, &event) != 0) trouble("epoll_ctl");
+    if (epoll_ctl(domain->poll, EPOLL_CTL_MOD, client->socket, &event) == 0) client->is_paused = !to_it;
+    else seldom_trouble(&domain->no_connection, "epoll_ctl");
+}
+
+/*
+ * Takes one packet of a client. Returns false where the connection is to end. A lend may take any frame that is free, so it waits while
+ * memory of free frames is given back (frames.h). Then nothing more is read of this client, and others are served.
+ */
+static bool take_packet(struct domain *domain, struct client *client, uint8_t *bytes, size_t length) {
+    uint32_t count = client->buffer ? pages_lent(bytes, length) : 0;
+    if (count == 0) return serve_packet(domain, client, bytes, length, 0);
+    client->waiting_pages = 0;
+    if (domain->is_lend_waiting || !frames_begin_lend(&domain->frames)) {
+        domain->is_lend_waiting = true; /* (and no other lend tries for the lock meanwhile: that takes time) */
+        client->waiting_pages = count;
+        listen_to(domain, client, false);
+        return true;
+    }
+    bool good = serve_packet(domain, client, bytes, length, count);
+    frames_end_lend(&domain->frames);
+    return good;
+}
+
+/* Serves the lend of a client that waited. */
+static void lend_again(struct domain *domain, struct client *client) {
+    struct pageshare_host_lend lend = {.kind = PAGESHARE_HOST_LEND, .count = client->waiting_pages};
+    uint8_t packet[sizeof lend];
+    memcpy(packet, &lend, sizeof lend);
+    if (!take_packet(domain, client, packet, sizeof packet)) part(domain, client);
+    else if (client->waiting_pages == 0) listen_to(domain, client, true);
+}
+
+void clients_lend_again(struct domain *domain) {
+    eventfd_t times;
+    if (eventfd_read(domain->frames.free_again, &times) != 0 && errno != EAGAIN) trouble("eventfd");
+    domain->is_lend_waiting = false;
+    for (uint32_t i = 0; i < domain->client_most; i++)
+        if (domain->clients[i].waiting_pages > 0) lend_again(domain, &domain->clients[i]);
+}
+
+/* Nothing more is read of a client; only its connection's end is seen. */
+static bool is_silenced(struct domain *domain, struct client *client) {
+    if (client->budget > 0 && client->waiting_pages == 0) return false;
+    if (!client->is_paused) listen_to(domain, client, false);
+    return true;
 }
 
 void clients_readable(struct domain *domain, union event_key key) {
@@ -294,14 +461,10 @@ void clients_readable(struct domain *domain, union event_key key) {
         part(domain, client);
         return;
     }
-    for (int turn = 0; turn < TURN_MESSAGES; turn++) {
-        if (client->budget == 0) {
-            listen_to(domain, client, false);
-            return;
-        }
-        ssize_t got = recv(client->socket, packet, sizeof packet, MSG_DONTWAIT);
+    for (int turn = 0; turn < TURN_MESSAGES && !is_silenced(domain, client); turn++) {
+        ssize_t got = closing_receive(&domain->closing, client->socket, packet, sizeof packet);
         if (got < 0 && (errno == EAGAIN || errno == EINTR)) return;
-        client->budget--;
+        put_budget(client, client->budget - 1);
         if (got <= 0 || !take_packet(domain, client, packet, (size_t)got)) {
             part(domain, client);
             return;
@@ -340,32 +503,42 @@ void clients_release_some(struct domain *domain) {
         frames_freed(&domain->frames, freed, count);
         return;
     }
-    if (status != PAGESHARE_HOST_OK) log_line("domain %s: a session can't be ended (%u)", domain->settings.name, (unsigned)status);
-    forget(client);
+    if (status != PAGESHARE_HOST_OK)
+        log_line("domain %s: a session can't be ended (%u)", domain->settings.name, (unsigned)status);
+    forget(domain, client);
     domain->ending--;
 }
 
 /* ---- time ---- */
 
+/* Connections are taken again, and counted anew each second. */
+static void hear_connections(struct domain *domain) {
+    domain->accepts = ACCEPTS_IN_TICK;
+    domain->connecting_ns -= domain->connecting_ns < connecting_most_ns ? domain->connecting_ns : connecting_most_ns;
+    if (domain->is_deaf) domain->is_deaf = !hear(domain, domain->listener, EVENT_LISTENER, true);
+    if (domain->is_status_deaf) domain->is_status_deaf = !hear(domain, domain->status_listener, EVENT_STATUS, true);
+    if (++domain->ticks < TICKS_IN_SECOND) return;
+    domain->ticks = 0;
+    memset(domain->users, 0, sizeof domain->users);
+    memset(domain->processes, 0, sizeof domain->processes);
+}
+
 void clients_tick(struct domain *domain) {
     uint64_t now = now_ns();
-    uint32_t more = domain->settings.client_rate / TICKS_IN_SECOND + 1;
-    if (domain->is_deaf) {
-        struct epoll_event event = {.events = EPOLLIN, .data.u64 = (union event_key){.of = EVENT_LISTENER}.key};
-        domain->is_deaf = epoll_ctl(domain->poll, EPOLL_CTL_MOD, domain->listener, &event) != 0;
-    }
+    hear_connections(domain);
+    if (domain->is_lend_waiting) clients_lend_again(domain);
     for (uint32_t i = 0; i < domain->client_most; i++) {
         struct client *client = &domain->clients[i];
         if (client->state != CLIENT_CONNECTED) continue;
-        client->budget = more;
-        if (client->is_paused) listen_to(domain, client, true);
+        client->budget = domain->settings.client_rate / TICKS_IN_SECOND + 1;
+        if (client->is_paused && client->waiting_pages == 0) listen_to(domain, client, true);
         if (!client->buffer && now - client->since_ns > silence_ns) part(domain, client);
     }
 }
 
 void clients_free(struct domain *domain) {
     for (uint32_t i = 0; domain->clients && i < domain->client_most; i++)
-        if (domain->clients[i].state != CLIENT_NONE) forget(&domain->clients[i]);
+        if (domain->clients[i].state != CLIENT_NONE) forget(domain, &domain->clients[i]);
     free(domain->clients);
     domain->clients = NULL;
 }

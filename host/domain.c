@@ -45,14 +45,15 @@ static bool clear_path(const struct sockaddr_un *name) {
     return unlink(name->sun_path) == 0 || trouble(name->sun_path);
 }
 
-/* Listens at a path, which only `mode` and `group` may connect to. */
-static int listen_at(const char *path, const char *suffix, mode_t mode, gid_t group) {
+/* Listens at a path, which only `mode` and `group` may connect to. `*takes_descriptors`: whether clients can pass descriptors to it. */
+static int listen_at(const char *path, const char *suffix, mode_t mode, gid_t group, bool *takes_descriptors) {
     struct sockaddr_un name = {.sun_family = AF_UNIX};
     int length = snprintf(name.sun_path, sizeof name.sun_path, "%s%s", path, suffix);
     if (length < 0 || (size_t)length >= sizeof name.sun_path) return (errno = ENAMETOOLONG, trouble(path), NOTHING);
     if (!clear_path(&name)) return NOTHING;
     int listener = socket(AF_UNIX, SOCK_SEQPACKET | SOCK_CLOEXEC | SOCK_NONBLOCK, 0);
     if (listener < 0) return (trouble("socket"), NOTHING);
+    *takes_descriptors = !closing_refuses_descriptors(listener);
     mode_t before = umask(0177); /* nobody else connects before the mode and the group are set */
     bool good = bind(listener, (const struct sockaddr *)&name, sizeof name) == 0;
     umask(before);
@@ -65,17 +66,21 @@ static int listen_at(const char *path, const char *suffix, mode_t mode, gid_t gr
 }
 
 bool domain_bind(struct domain *domain, const struct domain_settings *settings, int faults_device) {
+    bool takes_descriptors[2];
     *domain = (struct domain){.settings = *settings,
-                              .frames = {.file = NOTHING, .file_for_clients = NOTHING, .at = (void *)-1},
+                              .frames = FRAMES_NONE,
+                              .closing = CLOSING_NONE,
+                              .punching = PUNCHING_NONE,
                               .host = PAGESHARE_HOST_NONE,
                               .listener = NOTHING,
                               .status_listener = NOTHING,
                               .poll = NOTHING,
                               .wake = NOTHING,
                               .faults_device = faults_device};
-    domain->listener = listen_at(settings->socket, "", settings->mode, settings->group);
+    domain->listener = listen_at(settings->socket, "", settings->mode, settings->group, &takes_descriptors[0]);
     if (domain->listener < 0) return false;
-    domain->status_listener = listen_at(settings->socket, STATUS_SUFFIX, 0600, (gid_t)-1);
+    domain->status_listener = listen_at(settings->socket, STATUS_SUFFIX, 0600, (gid_t)-1, &takes_descriptors[1]);
+    domain->closing.is_needed = takes_descriptors[0] || takes_descriptors[1];
     return domain->status_listener >= 0;
 }
 
@@ -100,27 +105,31 @@ static struct pageshare_host_shape shape_of(const struct domain_settings *settin
 static bool make_host(struct domain *domain) {
     struct pageshare_host_shape shape = shape_of(&domain->settings, domain->client_most);
     uint64_t drawn[2];
+    domain->quota = shape.quota;
     if (getrandom(drawn, sizeof drawn, 0) != sizeof drawn) return trouble("random numbers");
     shape.salt = (uint32_t)drawn[0];
     shape.fingerprints = (uint32_t)(drawn[0] >> 32);
     shape.seed = drawn[1];
     if (!frames_make(&domain->frames, shape.machines * shape.frames)) return false;
     uint32_t status = pageshare_host_make(&domain->host, &shape, domain->frames.at, (size_t)domain->frames.count * PAGE);
-    if (status != PAGESHARE_HOST_OK) log_line("domain %s: the library refuses its numbers or its memory (%u)", domain->settings.name, (unsigned)status);
+    if (status != PAGESHARE_HOST_OK)
+        log_line("domain %s: the library refuses its numbers or its memory (%u)", domain->settings.name, (unsigned)status);
     return status == PAGESHARE_HOST_OK;
 }
 
 bool domain_make(struct domain *domain) {
     domain->client_most = domain->settings.clients * 2;
     domain->clients = calloc(domain->client_most, sizeof *domain->clients);
-    if (!domain->clients) return trouble("memory for clients");
+    domain->serving = calloc(1, sizeof *domain->serving);
+    if (!domain->clients || !domain->serving) return trouble("memory for clients");
     for (uint32_t i = 0; i < domain->client_most; i++) domain->clients[i].socket = domain->clients[i].process = NOTHING;
     domain->poll = epoll_create1(EPOLL_CLOEXEC);
     domain->wake = eventfd(0, EFD_CLOEXEC | EFD_NONBLOCK);
     if (domain->poll < 0 || domain->wake < 0) return trouble("epoll");
-    return poll_add(domain, domain->wake, (union event_key){.of = EVENT_WAKE}) &&
+    return make_host(domain) && poll_add(domain, domain->wake, (union event_key){.of = EVENT_WAKE}) &&
            poll_add(domain, domain->listener, (union event_key){.of = EVENT_LISTENER}) &&
-           poll_add(domain, domain->status_listener, (union event_key){.of = EVENT_STATUS}) && make_host(domain);
+           poll_add(domain, domain->status_listener, (union event_key){.of = EVENT_STATUS}) &&
+           poll_add(domain, domain->frames.free_again, (union event_key){.of = EVENT_LEND});
 }
 
 /* ---- the thread ---- */
@@ -133,49 +142,68 @@ static bool handle(struct domain *domain, union event_key key) {
     case EVENT_STATUS: status_send(domain); break;
     case EVENT_SOCKET: clients_readable(domain, key); break;
     case EVENT_PROCESS: clients_ended(domain, key); break;
+    case EVENT_LEND: clients_lend_again(domain); break;
     }
     return true;
+}
+
+/* How many milliseconds are left until the next tick. */
+static int until_tick_ms(const struct domain *domain) {
+    uint64_t now = now_ns();
+    return now < domain->next_tick_ns ? (int)((domain->next_tick_ns - now) / 1000000) + 1 : 0;
 }
 
 static void *serve(void *of) {
     struct domain *domain = of;
     struct epoll_event events[EVENTS];
     ask_for_short_slices(); /* all clients wait for this thread */
-    for (bool goes_on = true; goes_on;) {
-        int wait_ms = domain->ending ? 0 : (int)(tick_ns / 1000000);
-        int count = epoll_wait(domain->poll, events, EVENTS, wait_ms);
+    for (bool goes_on = true; goes_on && !atomic_load(&domain->must_end);) {
+        int count = epoll_wait(domain->poll, events, EVENTS, domain->ending ? 0 : until_tick_ms(domain));
         for (int i = 0; i < count && goes_on; i++) goes_on = handle(domain, (union event_key){.key = events[i].data.u64});
         if (domain->ending) clients_release_some(domain);
         if (now_ns() < domain->next_tick_ns) continue;
         domain->next_tick_ns = now_ns() + tick_ns;
         clients_tick(domain);
-        frames_trim(&domain->frames);
     }
     return NULL;
 }
 
 bool domain_start(struct domain *domain) {
     domain->start_ns = now_ns();
+    if (domain->closing.is_needed && !closing_start(&domain->closing)) return false;
+    if (!punching_start(&domain->punching, &domain->frames)) return false;
     int cause = pthread_create(&domain->thread, NULL, serve, domain);
     domain->has_thread = cause == 0;
     return cause == 0 || (errno = cause, trouble("a domain's thread"));
 }
 
+/* Takes the sockets' files away; they stay where the folder isn't the host's, and the next host takes them away. */
+static void unlink_sockets(const struct domain *domain) {
+    if (domain->listener >= 0) unlink(domain->settings.socket);
+    if (domain->status_listener < 0) return;
+    char path[PATH_MOST + sizeof STATUS_SUFFIX];
+    snprintf(path, sizeof path, "%s%s", domain->settings.socket, STATUS_SUFFIX);
+    unlink(path);
+}
+
 void domain_end(struct domain *domain) {
-    int *descriptors[] = {&domain->listener, &domain->status_listener, &domain->poll, &domain->wake};
+    int *descriptors[] = {&domain->poll, &domain->wake};
     if (domain->has_thread) {
+        atomic_store(&domain->must_end, true); /* (seen at the next tick, if not before) */
         if (eventfd_write(domain->wake, 1) != 0) trouble("eventfd");
         pthread_join(domain->thread, NULL);
     }
-    if (domain->listener >= 0) unlink(domain->settings.socket); /* (it stays where the folder isn't the host's; the next one takes it away) */
-    if (domain->status_listener >= 0) {
-        char path[PATH_MOST + sizeof STATUS_SUFFIX];
-        snprintf(path, sizeof path, "%s%s", domain->settings.socket, STATUS_SUFFIX);
-        unlink(path);
-    }
+    punching_end(&domain->punching);
+    unlink_sockets(domain);
     clients_free(domain);
+    if (domain->listener >= 0)
+        closing_close(&domain->closing, domain->listener); /* (and what was sent to connections that wait) */
+    if (domain->status_listener >= 0) closing_close(&domain->closing, domain->status_listener);
+    closing_end(&domain->closing);
     for (size_t i = 0; i < sizeof descriptors / sizeof *descriptors; i++)
         if (*descriptors[i] >= 0) close(*descriptors[i]);
     pageshare_host_free(&domain->host);
     frames_free(&domain->frames);
+    free(domain->serving);
+    domain->serving = NULL;
 }

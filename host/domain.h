@@ -2,10 +2,14 @@
 #ifndef HOST_DOMAIN_H
 #define HOST_DOMAIN_H
 
+#include "closing.h"
 #include "frames.h"
 #include "pageshare_host.h"
+#include "punching.h"
+#include "seldom.h"
 #include "settings.h"
 #include "status.h"
+#include "trouble.h"
 #include <pthread.h>
 #include <stdatomic.h>
 
@@ -24,31 +28,58 @@ struct client {
     int process;         /* a descriptor of the process: readable when the process has ended */
     pid_t pid;
     uid_t uid;
-    uint32_t session;    /* the library's number */
+    uint32_t session; /* the library's number */
     uint8_t name[PAGESHARE_HOST_NAME_BYTES];
-    const uint8_t *buffer; /* pages that it lends, which it may write at any time; NULL before its first message */
-    bool is_paused;        /* it has sent as many messages as it may in this part of a second */
-    uint32_t budget;       /* how many more are taken until the next tick */
-    uint64_t since_ns;     /* when it connected */
+    const uint8_t *buffer;  /* pages that it lends, which it may write at any time; NULL before its first message */
+    struct client *sibling; /* the other connection of its process, or NULL */
+    bool is_paused;         /* nothing is read of it until the next tick, or until its lend is served */
+    uint32_t waiting_pages; /* a lend of so many pages waits while memory is given back; 0: none does */
+    uint32_t budget;        /* how many more messages of its process are taken until the next tick */
+    uint64_t since_ns;      /* when it connected */
     uint64_t lends;
 };
+
+/* What a packet of a client is served with. (It is too large for what each thread has of its own.) */
+struct serving {
+    uint8_t pages[PAGESHARE_HOST_MAX_PAGES][PAGE]; /* copies of those that it lends */
+    uint8_t answer[PAGESHARE_HOST_MAX_MESSAGE];
+    uint32_t freed[PAGESHARE_HOST_MAX_PAGES];
+};
+
+/* How often somebody connected in this second: a user or a process. */
+struct connects {
+    uint32_t who, times;
+};
+enum { USERS_COUNTED = 64, PROCESSES_COUNTED = 256 };
 
 struct domain {
     struct domain_settings settings;
     struct frames frames;
     struct pageshare_host host;
+    struct serving *serving;
     struct client *clients;
     uint32_t client_most; /* entries: one more connection than clients may be taking a session up */
     uint32_t ending;      /* how many of them are ending */
     uint32_t next_ending; /* where the next is looked for */
+    uint32_t quota;       /* the most slots of one process */
     int listener, status_listener, poll, wake;
-    int faults_device; /* /dev/userfaultfd, or NOTHING; all domains have the one */
-    bool is_deaf;      /* the system has no descriptor for another connection: none is taken until the next tick */
-    struct pageshare_host_totals counted; /* the library's totals, as they were last counted */
-    uint64_t counted_until_ns;            /* and until when they are reported */
+    int faults_device;      /* /dev/userfaultfd, or NOTHING; all domains have the one */
+    bool is_lend_waiting;   /* a client's lend waits while memory is given back */
+    bool is_deaf;           /* no connection is taken until the next tick */
+    bool is_status_deaf;    /* no status is sent until the next tick */
+    uint32_t accepts;       /* how many more are taken until then */
+    uint32_t ticks;         /* of this second, which has ten */
+    uint64_t connecting_ns; /* the time that connections took, less what they may take until now */
+    struct connects users[USERS_COUNTED], processes[PROCESSES_COUNTED];
+    struct closing closing;
+    struct punching punching;
+    struct seldom no_connection, no_buffer, no_status, not_taken; /* lines that may be due often */
+    struct pageshare_host_totals counted;                         /* the library's totals, as they were last counted */
+    uint64_t counted_until_ns;                                    /* and until when they are reported */
     uint64_t start_ns, next_tick_ns, messages, asked, lends, releases, refused, faults, turned_away;
     pthread_t thread;
     bool has_thread;
+    atomic_bool must_end;
 };
 
 /* Binds a domain's sockets, before the host becomes another user. Returns false where that fails, after it has printed why. */

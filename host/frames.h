@@ -5,11 +5,13 @@
  * - no client can write to it: clients get a descriptor that is open for reading alone, and its mode (0400) keeps other users from
  *   opening it again for writing;
  * - it keeps its size, since it is sealed against shrinking and growing;
- * - memory is given back to the system only of frames that the library says are free.
+ * - memory is given back to the system only of frames that the library says are free (punching.h).
  */
 #ifndef HOST_FRAMES_H
 #define HOST_FRAMES_H
 
+#include <pthread.h>
+#include <stdatomic.h>
 #include <stdbool.h>
 #include <stddef.h>
 #include <stdint.h>
@@ -19,32 +21,51 @@ struct frames {
     int file_for_clients; /* open for reading alone */
     uint8_t *at;          /* all frames, mapped shared */
     uint32_t count;
-    uint64_t *in_use;     /* a bit for each frame: a slot has it */
-    uint32_t used;        /* how many are in use */
-    uint64_t punched;     /* how many were given back, in all */
+    _Atomic uint64_t *in_use; /* a bit for each frame: a slot has it */
+    _Atomic uint64_t *listed; /* a bit for each frame: it became free, and may have memory that is to be given back */
+    atomic_uint used;         /* how many are in use */
+    atomic_uint waiting;      /* how many are listed */
+    /*
+     * Held while the library may lend, until the bits in `in_use` say what it lent, and held while memory is given back. Only a lend
+     * takes a frame that is free. All other calls of the library touch no frames but those that slots have, whose bits are set.
+     * So a frame whose bit is clear under the lock stays free, and nobody else touches it, until the lock is given back.
+     */
+    pthread_mutex_t lending;
+    atomic_bool
+        is_wanted;  /* a lend waits for the lock: whoever gives memory back calls frames_free_again when it has given it back */
+    int free_again; /* an eventfd, which is readable then */
 };
+
+#define FRAMES_NONE                                                                                                              \
+    { .file = -1, .file_for_clients = -1, .at = (void *)-1, .lending = PTHREAD_MUTEX_INITIALIZER, .free_again = -1 }
 
 /* Makes a file with memory for `count` frames. Returns false where the system refuses, after it has printed why. */
 bool frames_make(struct frames *frames, uint32_t count);
 void frames_free(struct frames *frames);
 
-/* A slot has frame `frame` now. */
+/*
+ * Before a call of the library that may lend. Returns false where memory is being given back and that takes a while: then the call has
+ * to wait until `free_again` is readable.
+ */
+bool frames_begin_lend(struct frames *frames);
+/* A slot has frame `frame` now. Between frames_begin_lend and frames_end_lend. */
 void frames_lent(struct frames *frames, uint32_t frame);
+void frames_end_lend(struct frames *frames);
+/* Tells a lend that waits that the lock is free again. */
+void frames_free_again(struct frames *frames);
 
 /*
- * Gives the memory of frames back to the system. No slot has them any more, and no call of the library runs. The list is sorted in
- * place; numbers above the last frame (PAGESHARE_NO_FRAME) are skipped.
+ * Lists frames whose memory is to be given back to the system. No slot has them any more, and the call of the library that freed them
+ * has ended. Numbers above the last frame (PAGESHARE_NO_FRAME) are skipped.
  */
-void frames_freed(struct frames *frames, uint32_t *list, size_t count);
+void frames_freed(struct frames *frames, const uint32_t *list, size_t count);
+/* Lists the frames of [first, end), which may be in use meanwhile. */
+void frames_list(struct frames *frames, uint32_t first, uint32_t end);
+/* Takes them off the list. */
+void frames_unlist(struct frames *frames, uint32_t first, uint32_t end);
 
 /* The bytes that the file takes of the system's memory. */
 uint64_t frames_memory(const struct frames *frames);
-
-/*
- * Gives back the memory that clients brought into free frames by reading them. A client can't write to such a frame, but what it
- * reads is filled with zeros. Cheap where the file has no more memory than its frames in use.
- */
-void frames_trim(struct frames *frames);
 
 /*
  * A buffer of `bytes` that the host and one client share: the client writes pages to it, and the host copies them before it looks

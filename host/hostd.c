@@ -47,6 +47,7 @@ static bool start_all(struct domain *domains, const struct settings *settings, s
     for (; *begun < settings->domain_count; ++*begun)
         if (!domain_bind(&domains[*begun], &settings->domains[*begun], faults_device)) return ++*begun, false;
     if (*settings->user && !become(settings->user)) return false;
+    if (prctl(PR_SET_NO_NEW_PRIVS, 1, 0, 0, 0) != 0) return trouble("prctl"); /* no program that it could run has more rights */
     if (prctl(PR_SET_DUMPABLE, 0) != 0) trouble("prctl"); /* processes of the same user can't reach into this one */
     for (size_t i = 0; i < settings->domain_count; i++)
         if (!domain_make(&domains[i])) return false;

@@ -17,19 +17,20 @@ const char settings_help[] =
     "  --clients N            the most clients at a time (default 64)\n"
     "  --client-memory SIZE   the most memory that one client may have lent (default: no limit)\n"
     "  --client-rate N        the most messages that are taken of one client in a second (default 20000)\n"
+    "  --connection-rate N    the most connections that are taken of one user in a second (default 64)\n"
     "  --group NAME           the group of the socket\n"
     "  --mode OCTAL           the mode of the socket (default 0660)\n"
     "  --trust-peers          takes clients that are root or the host's own user, although these could write shared pages\n"
     "\n"
     "Of the host:\n"
     "  --user NAME            becomes this user after it has opened /dev/userfaultfd\n"
-    "  --settings FILE        reads options from a file: one in a line, without the dashes; # begins a comment\n"
+    "  --settings FILE        reads options from a file: NAME VALUE or NAME = VALUE in a line, and comments behind a #\n"
     "  --help, --version\n"
     "\n"
     "A client is a monitor that was started with PAGESHARE_SOCKET=SOCKET LD_PRELOAD=libpageshare-window.so.\n";
 
 static const struct domain_settings usual = {
-    .memory = UINT64_C(1) << 30, .clients = 64, .client_rate = 20000, .mode = 0660, .group = (gid_t)-1};
+    .memory = UINT64_C(1) << 30, .clients = 64, .client_rate = 20000, .connection_rate = 64, .mode = 0660, .group = (gid_t)-1};
 
 enum { LINE_MOST = 512 };
 static const uint64_t memory_least = 1 << 20, memory_most = UINT64_C(1) << 38; /* 1 MiB, 256 GiB: frames of 64 machines */
@@ -141,6 +142,9 @@ static bool read_numbers(struct domain_settings *domain, const char *option, con
     } else if (strcmp(option, "client-rate") == 0) {
         if (!read_number(option, value, 10, 1, UINT32_MAX, &number)) return false;
         domain->client_rate = (uint32_t)number;
+    } else if (strcmp(option, "connection-rate") == 0) {
+        if (!read_number(option, value, 10, 1, UINT32_MAX, &number)) return false;
+        domain->connection_rate = (uint32_t)number;
     } else if (strcmp(option, "mode") == 0) {
         if (!read_number(option, value, 8, 0, 0777, &number)) return false;
         domain->mode = (mode_t)number;
@@ -152,8 +156,7 @@ static bool read_numbers(struct domain_settings *domain, const char *option, con
 
 /* One option. `value` is NULL where none follows; `used` says whether it was one of the option's. */
 static bool read_option(struct settings *settings, const char *option, const char *value, bool *used) {
-    struct domain_settings *domain =
-        settings->domain_count ? &settings->domains[settings->domain_count - 1] : &settings->usual;
+    struct domain_settings *domain = settings->domain_count ? &settings->domains[settings->domain_count - 1] : &settings->usual;
     bool known;
     *used = false;
     read_switch(settings, domain, option, &known);
@@ -171,20 +174,34 @@ static bool read_option(struct settings *settings, const char *option, const cha
     return read_text(option, value, settings->status, sizeof settings->status);
 }
 
-/* A line of the settings file, without its comment: an option, and its value behind blanks or '='. */
+static const char blanks[] = " \t\r\n";
+
+/* Cuts a comment off a line: it begins with a '#' that is the line's first character, or that blanks stand before. */
+static void cut_comment(char *line) {
+    for (char *at = strchr(line, '#'); at; at = strchr(at + 1, '#'))
+        if (at == line || strchr(blanks, at[-1])) {
+            *at = 0;
+            return;
+        }
+}
+
+/* A line of the settings file: an option, and its value behind blanks, or behind a '=' that may have blanks around it. */
 static bool read_line(struct settings *settings, char *line) {
-    static const char blanks[] = " \t\r\n";
-    char *option, *value, *end = strchr(line, '#');
+    char *option, *value, *end;
     bool used;
-    if (end) *end = 0;
+    cut_comment(line);
     option = line + strspn(line, blanks);
-    for (end = option + strlen(option); end > option && strchr(blanks, end[-1]); end--) {}
+    for (end = option + strlen(option); end > option && strchr(blanks, end[-1]); end--) {
+    }
     *end = 0;
     if (!*option) return true;
-    value = option + strcspn(option, blanks);
-    if (*value) *value++ = 0;
-    value += strspn(value, blanks);
+    end = option + strcspn(option, " \t\r\n=");
+    value = end + strspn(end, blanks);
+    bool has_equals = *value == '=';
+    if (has_equals) value += 1 + strspn(value + 1, blanks);
+    *end = 0;
     if (strcmp(option, "settings") == 0) return wrong(option, value, "not in a settings file");
+    if (has_equals && !*value) return wrong(option, "=", "its value is missing");
     if (!read_option(settings, option, *value ? value : NULL, &used)) return false;
     return used || !*value || wrong(option, value, "takes no value");
 }
@@ -212,6 +229,7 @@ bool settings_read(struct settings *settings, int count, char **words) {
         if (!read_option(settings, words[i] + 2, i + 1 < count ? words[i + 1] : NULL, &used)) return false;
         i += used;
     }
-    if (settings->task == TASK_SERVE && settings->domain_count == 0) return wrong("domain", "NAME=SOCKET", "is missing (see --help)");
+    if (settings->task == TASK_SERVE && settings->domain_count == 0)
+        return wrong("domain", "NAME=SOCKET", "is missing (see --help)");
     return true;
 }

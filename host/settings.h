@@ -15,14 +15,15 @@ enum { DOMAINS_MOST = 16, NAME_MOST = 64, PATH_MOST = 101, CLIENTS_MOST = 4096 }
 struct domain_settings {
     char name[NAME_MOST];
     char socket[PATH_MOST];
-    uint64_t memory;        /* bytes: the most that frames take */
-    uint64_t lent;          /* bytes: the most guests' memory that may be lent at a time; 0: as follows from `memory` */
-    uint64_t client_memory; /* bytes: the most that one client may have lent; 0: all */
-    uint32_t clients;       /* the most at a time */
-    uint32_t client_rate;   /* messages that are taken of one client in a second */
-    mode_t mode;            /* of the socket */
-    gid_t group;            /* of the socket; (gid_t)-1: as it comes */
-    bool trust_peers;       /* takes clients that are root or of the host's own user */
+    uint64_t memory;          /* bytes: the most that frames take */
+    uint64_t lent;            /* bytes: the most guests' memory that may be lent at a time; 0: as follows from `memory` */
+    uint64_t client_memory;   /* bytes: the most that one client (a process) may have lent; 0: all */
+    uint32_t clients;         /* the most at a time */
+    uint32_t client_rate;     /* messages that are taken of one client in a second */
+    uint32_t connection_rate; /* connections that are taken of one user in a second */
+    mode_t mode;              /* of the socket */
+    gid_t group;              /* of the socket; (gid_t)-1: as it comes */
+    bool trust_peers;         /* takes clients that are root or of the host's own user */
 };
 
 enum task { TASK_SERVE, TASK_STATUS, TASK_HELP, TASK_VERSION };

@@ -38,6 +38,7 @@ static const struct number of_totals[] = {
     OF_TOTALS("reclaimed_bytes", reclaimed_pages, false, PAGE, "Lent memory less frames: what sharing gives back"),
     OF_TOTALS("limit_bytes", frames_most, false, PAGE, "The most that frames may take"),
     OF_TOTALS("file_bytes", frame_bytes, false, 1, "Memory of the file of frames"),
+    OF_TOTALS("free_bytes", free_bytes, false, 1, "The part of it that belongs to no frame in use"),
     OF_TOTALS("host_bytes", host_bytes, false, 1, "Memory of the host process itself"),
     OF_TOTALS("messages_total", messages, true, 1, "Messages taken"),
     OF_TOTALS("asked_pages_total", pages_asked, true, 1, "Pages that clients asked about"),
@@ -47,7 +48,7 @@ static const struct number of_totals[] = {
     OF_TOTALS("faults_total", faults, true, 1, "Clients that sent what is no message"),
     OF_TOTALS("turned_away_total", turned_away, true, 1, "Connections that were not taken"),
     TIME_OF_TOTALS("processor_nanoseconds_total", "processor_seconds_total", machine_ns, true,
-                   "Processor time of the domain's thread"),
+                   "Processor time of the domain's threads"),
     TIME_OF_TOTALS("uptime_nanoseconds", "uptime_seconds", uptime_ns, false, "How long the domain has been served"),
 };
 static const struct number of_client[] = {
@@ -100,11 +101,11 @@ static void show_table(const struct report *report) {
     printf("%12s %12s %12s %12s %12s\n", "lent MiB", "shared", "frames", "reclaimed", "frames most");
     printf("%12.1f %12.1f %12.1f %12.1f %12.1f\n", mib(totals->lent_pages), mib(totals->shared_pages), mib(totals->frames),
            mib(totals->reclaimed_pages), mib(totals->frames_most));
-    printf(
-        "file of frames %.1f MiB, host %.1f MiB; pages lent %llu, released %llu, refused %llu; faults %llu, turned away %llu\n",
-        (double)totals->frame_bytes / (1 << 20), (double)totals->host_bytes / (1 << 20), (unsigned long long)totals->lends,
-        (unsigned long long)totals->releases, (unsigned long long)totals->refused, (unsigned long long)totals->faults,
-        (unsigned long long)totals->turned_away);
+    printf("file of frames %.1f MiB, %.1f of it free; host %.1f MiB; pages lent %llu, released %llu, refused %llu; faults %llu, "
+           "turned away %llu\n",
+           (double)totals->frame_bytes / (1 << 20), (double)totals->free_bytes / (1 << 20),
+           (double)totals->host_bytes / (1 << 20), (unsigned long long)totals->lends, (unsigned long long)totals->releases,
+           (unsigned long long)totals->refused, (unsigned long long)totals->faults, (unsigned long long)totals->turned_away);
     if (totals->listed) printf("%12s %12s %12s %12s  %s\n", "process", "user", "lent MiB", "messages", "connected");
     for (size_t i = 0; i < totals->listed; i++) {
         const struct status_client *client = &report->clients[i];

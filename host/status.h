@@ -11,28 +11,29 @@
 #include "settings.h"
 
 #define STATUS_SUFFIX ".status"
-enum { STATUS_VERSION = 1, STATUS_CLIENTS_MOST = 1024 };
+enum { STATUS_VERSION = 2, STATUS_CLIENTS_MOST = 1024 };
 
 struct status_totals {
     uint64_t version;
     char domain[NAME_MOST];
-    uint64_t clients;          /* processes whose slots the domain has */
-    uint64_t listed;           /* how many of them follow, at most STATUS_CLIENTS_MOST */
-    uint64_t lent_pages;       /* slots in use */
-    uint64_t frames;           /* frames in use */
-    uint64_t frames_most;      /* frames of the domain */
-    uint64_t shared_pages;     /* slots whose frame another slot has too */
-    uint64_t reclaimed_pages;  /* slots less frames */
-    uint64_t frame_bytes;      /* memory of the file of frames */
-    uint64_t host_bytes;       /* memory of the host's own, of all domains */
-    uint64_t messages;         /* taken of clients */
-    uint64_t pages_asked;      /* pages that clients asked about */
-    uint64_t lends;            /* pages that were lent */
-    uint64_t releases;         /* pages that were released */
-    uint64_t refused;          /* pages that found no slot or no frame */
-    uint64_t faults;           /* clients that sent what is no message */
-    uint64_t turned_away;      /* connections that weren't taken: untrusted peers, or too many clients */
-    uint64_t machine_ns;       /* processor time of the domain's thread */
+    uint64_t clients;         /* processes whose slots the domain has */
+    uint64_t listed;          /* how many of them follow, at most STATUS_CLIENTS_MOST */
+    uint64_t lent_pages;      /* slots in use */
+    uint64_t frames;          /* frames in use */
+    uint64_t frames_most;     /* frames of the domain */
+    uint64_t shared_pages;    /* slots whose frame another slot has too */
+    uint64_t reclaimed_pages; /* slots less frames */
+    uint64_t frame_bytes;     /* memory of the file of frames */
+    uint64_t free_bytes;      /* the part of it that frames have which no slot has */
+    uint64_t host_bytes;      /* memory of the host's own, of all domains */
+    uint64_t messages;        /* taken of clients */
+    uint64_t pages_asked;     /* pages that clients asked about */
+    uint64_t lends;           /* pages that were lent */
+    uint64_t releases;        /* pages that were released */
+    uint64_t refused;         /* pages that found no slot or no frame */
+    uint64_t faults;          /* clients that sent what is no message */
+    uint64_t turned_away;     /* connections that weren't taken: untrusted peers, or too many clients */
+    uint64_t machine_ns;      /* processor time of the domain's threads */
     uint64_t uptime_ns;
 };
 

@@ -9,8 +9,11 @@
 
 #include <stdint.h>
 
-/* Gives those pages of tables back to the system that contain nothing but zeros. They read as before. No call of the library runs
- * meanwhile. Returns how many bytes that are. */
+/*
+ * Gives those pages of tables back to the system that contain nothing but zeros. They read as before. Until it is called, one thread
+ * makes tables, and each new one gives back the zeros of those before it. It is called once, when all are made, and no call of the
+ * library runs meanwhile. Returns how many bytes it gives back.
+ */
 uint64_t tables_give_zeros_back(void);
 
 #endif

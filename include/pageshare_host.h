@@ -26,7 +26,8 @@
  *   it reads: a client can write to a buffer that it shares with the host, so copy the pages out of it first.
  * - A count of elements makes less than 2^63 bytes.
  * - The region is the library's until the host is freed: nobody else writes to it, but that the memory of free frames may be given
- *   back to the system while no call runs.
+ *   back to the system. That is right also while a call runs, unless it is pageshare_host_receive with a LEND: only a lend takes a
+ *   frame that is free, and the other calls touch no frames but those that slots have.
  * - A name is drawn at random for each connection, and told to nobody else.
  * - pageshare_host_end is called only when nothing shows the session's frames any more: its process has ended, and no other process
  *   has its mappings.

@@ -100,8 +100,8 @@ REFUSE_EACH = 61  # (a prime, so that calls that come again and again are refuse
 def case_refusals():
     """Each call of the system by the library is refused in turn, and each 61st one after it: SEEDS=N first ones."""
     program, host, shim = compile_folder("breaker"), Host(memory="256M"), OUT / "refuse.so"
-    words = [CC, *FLAGS, "-fPIC", "-shared", "-fvisibility=hidden", "-o", shim, TOP / "checks/host/refuse.c", "-ldl"]
-    must(subprocess.run(words).returncode == 0, "refuse.c doesn't compile")
+    words = [CC, *FLAGS, "-fPIC", "-shared", "-fvisibility=hidden", "-o", shim, TOP / "checks/host/refuse_in_monitor.c", "-ldl"]
+    must(subprocess.run(words).returncode == 0, "refuse_in_monitor.c doesn't compile")
     firsts, seconds = int(os.environ.get("SEEDS", "16")), int(os.environ.get("SECONDS", "6"))
 
     def refuse(seed):

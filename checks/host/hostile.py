@@ -116,6 +116,7 @@ def floods(path, seconds=3.0):
         try:
             other = RawClient(path, hello=seed % 2 == 0, seconds=0.2)
             other.say(garbage(seed))
+            time.sleep(0.002)  # (of one that has left before it is taken nothing is read)
             other.close()
         except (OSError, Ended):
             ended += 1

@@ -106,11 +106,11 @@ class Place:
 
 
 class Host:
-    """A host that runs as the user daemon, with one domain."""
+    """A host that runs as the user daemon, with one domain. `before` are words that stand before the program's name."""
 
-    def __init__(self, *more, memory="1G", name="web", program=None, user=("--user", "daemon")):
+    def __init__(self, *more, memory="1G", name="web", program=None, user=("--user", "daemon"), before=()):
         self.socket, self.log = HERE.place.room / f"{name}.sock", HERE.place.room / f"{name}.log"
-        self.words = [program or HERE.host, "--domain", f"{name}={self.socket}", "--memory", memory, "--group", str(NOBODY), *user, *more]
+        self.words = [*before, program or HERE.host, "--domain", f"{name}={self.socket}", "--memory", memory, "--group", str(NOBODY), *user, *more]
         HERE.place.started.append(self)
         self.start()
 
@@ -144,7 +144,8 @@ def all_released(host, seconds=20):
     good, _ = until(seconds, lambda: (it := host.status()) and it["clients"] == 0 and it["lent_bytes"] == 0, 0.2)
     state = host.status()
     must(good and state["frame_bytes"] == 0, f"left behind: {state}")
-    must(state["file_bytes"] <= 8 << 20, f"the file of frames has {state['file_bytes'] >> 20} MiB with no frame in use")
+    small, _ = until(seconds, lambda: host.status()["file_bytes"] <= 8 << 20, 0.2)
+    must(small, f"the file of frames has {host.status()['file_bytes'] >> 20} MiB with no frame in use")
 
 
 def compile_c(name):

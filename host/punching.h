@@ -1,0 +1,34 @@
+/*
+ * The memory of free frames goes back to the system: by a thread of its own, since a client that maps the file of frames many times
+ * makes each such call take long.
+ *
+ * - Frames that became free are listed (frames_freed) and given back in runs, within a twentieth of the time, by the clock.
+ * - Free frames get memory when a client reads them. They are looked for when the file has more memory than frames that are in use or
+ *   listed, some at a time.
+ */
+#ifndef HOST_PUNCHING_H
+#define HOST_PUNCHING_H
+
+#include "frames.h"
+#include "seldom.h"
+
+struct punching {
+    struct frames *frames;
+    int end; /* an eventfd, which is readable when the thread must end; NOTHING where there is no thread */
+    atomic_bool must_end;
+    pthread_t thread;
+    uint32_t next_listed, next_looked_at; /* where the next frames are looked for */
+    struct seldom trouble;
+};
+
+#define PUNCHING_NONE                                                                                                            \
+    { .end = -1 }
+
+/* Begins to give back memory of these frames, which stay where they are until punching_end. Returns false where the system refuses,
+ * after it has printed why. */
+bool punching_start(struct punching *punching, struct frames *frames);
+void punching_end(struct punching *punching);
+/* The thread's processor time. */
+uint64_t punching_ns(const struct punching *punching);
+
+#endif
