@@ -18,6 +18,12 @@ first_where test (x ∷ xs) = if test x then 0 else suc (first_where test xs)
 unfoldable pub bucket_of : ℕ → ℕ → ℕ → ℕ
 bucket_of factor shift fingerprint = (fingerprint * factor) % 2 ^ 64 / 2 ^ shift
 
+-- how many buckets there are for so many places: as many at least, and fewer than twice as many, unless there are 2
+pub record IsBucketCount (places count : ℕ) : Type 0 where
+  pub enough : places ≤ count
+  pub least : 2 ≤ count
+  pub few : 2 < count → count < 2 * places
+
 -- whether a note is in a bucket
 abbrev pub in_bucket : ℕ → ℕ → ℕ → Place → Bool
 in_bucket factor shift bucket p = bucket_of factor shift p.note.fingerprint == bucket
