@@ -60,9 +60,10 @@ pub record AreKept (ring : List Place) (heads : List ℕ) (factor shift places n
   pub some : 1 ≤ places
   pub limit : places ≤ MAX_PLACES
   pub few : length ring ≤ places
-  pub room_for_all : places ≤ room
+  pub room_for_all : room ≡ places
   pub fits : newest < 2 ^ 32
   pub shifted : shift < 64
   pub all_buckets : length heads * 2 ^ shift ≡ 2 ^ 64
+  pub buckets : IsBucketCount places (length heads)
   pub linked : AreLinked factor shift ring
   pub headed : (b : ℕ) → b < length heads → IsHead factor shift b ring newest (slice_index heads b)
