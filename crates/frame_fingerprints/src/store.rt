@@ -1,5 +1,5 @@
 //! The fingerprints of the frames in use, as callers see them.
-ghost use Rattle.std.specs.Prelude.{◌≡◌, ◌≤◌, IfOk, None, Some, replicate, slice_set};
+ghost use Rattle.std.specs.Prelude.{◌≡◌, ◌≤◌, IfOk, None, Some, is_some, replicate, slice_index_or, slice_set};
 ghost use Rattle.frame_fingerprints.specs.Chained.{no_node};
 ghost use Rattle.frame_fingerprints.specs.declared.node.TheConstants.{NOWHERE};
 ghost use Rattle.frame_fingerprints.specs.Held.{is_held, none_held, with_held};
@@ -86,6 +86,13 @@ impl<A: Allocator> FrameFingerprints<A> {
         ensures { result ≡ is_held fingerprint self.now.held }
     {
         self.chains.has(fingerprint)
+    }
+
+    /// Whether the fingerprint of a frame is kept.
+    pub fn is_kept(&self, frame: u32) -> bool
+        ensures { result ≡ is_some (slice_index_or self.now.held frame None) }
+    {
+        self.chains.is_used(frame)
     }
 
     /// Keeps the fingerprint of a frame, in place of the one that it has. Nothing changes if there is no such frame.
