@@ -109,11 +109,11 @@ lent_within frames client mpn ppn slots lt within k h e =
           ]
       | inr other ↦ within k h (sym (get_or-set_other slots ppn k (Some (record { client = client; frame = mpn })) None other) ∙ e)
     ] where
-  is_frame : Some (record { client = client; frame = mpn }) ≡ Some h → h.frame < frames
-  is_frame q = let f : h.frame ≡ mpn = ap (λ (o : Option Holding). frame_or o) (sym q) in omega (arith, f, lt) where
-    frame_or : Option Holding → ℕ
-    frame_or None = 0
-    frame_or (Some x) = x.frame
+      is_frame : Some (record { client = client; frame = mpn }) ≡ Some h → h.frame < frames
+      is_frame q = let f : h.frame ≡ mpn = ap (λ (o : Option Holding). frame_or o) (sym q) in omega (arith, f, lt) where
+        frame_or : Option Holding → ℕ
+        frame_or None = 0
+        frame_or (Some x) = x.frame
 
 module _ (salt m client : ℕ) (page : List ℕ) (loan : Loan) (old new : DomainView) (l : LendsIn m client page loan old new) (f f' : Fingerprints) (r : Reflects salt old f) where
   there : m < length old.machines
@@ -156,8 +156,8 @@ module _ (salt m client : ℕ) (page : List ℕ) (loan : Loan) (old new : Domain
   pub kept_already : is_some (slice_index_or f.held loan.frame None) ≡ true → slice_set f.held loan.frame (Some (fold_hash salt page)) ≡ f.held
   kept_already s =
       let at : slice_index_or f.held loan.frame None ≡ fingerprint_of salt (frame (machine_at old.machines m).frames l.mpn) =
-          ap (λ (x : List (Option ℕ)). slice_index_or x loan.frame None) r.held ∙ ap (λ (k : ℕ). slice_index_or (fingerprints_in salt old.machines) k None) l.number
-          ∙ frame_at salt old.frames old.machines m l.mpn r.each there below in
+      ap (λ (x : List (Option ℕ)). slice_index_or x loan.frame None) r.held ∙ ap (λ (k : ℕ). slice_index_or (fingerprints_in salt old.machines) k None) l.number
+      ∙ frame_at salt old.frames old.machines m l.mpn r.each there below in
       let is = kept_is (frame (machine_at old.machines m).frames l.mpn) l.lends.held (sym (ap (λ (o : Option ℕ). is_some o) at) ∙ s) in
       ap (slice_set f.held loan.frame) (sym (at ∙ is)) ∙ set-get_or f.held loan.frame None
 
@@ -179,8 +179,8 @@ without_within frames ppn slots within k h e =
           ]
       | inr other ↦ within k h (sym (get_or-set_other slots ppn k None None other) ∙ e)
     ] where
-  nothing : (h : Holding) → None ≡ Some h → ⊥
-  nothing h q = cc
+      nothing : (h : Holding) → None ≡ Some h → ⊥
+      nothing h q = cc
 
 free_length : (frames : FrameMap) (freed : Option ℕ) → length (with_free frames freed) ≡ length frames
 free_length frames None = refl
@@ -333,8 +333,8 @@ empty_reflects salt seed config f d limits e g =
       each = empty_has config.slots config.frames config.machines;
       few = let len : length f.held ≡ config.machines * config.frames = ap (λ (x : List (Option ℕ)). length x) held ∙ length-replicate (config.machines * config.frames) None in let m = total_few config limits in omega (arith, len, m);
     }) where
-  total_few : (config : DomainConfig) → AreLimits config → config.machines * config.frames ≤ 67108864
-  total_few config limits = let a = mul-le-mul_right config.frames limits.machines.1 in let b = limits.frames.1 in omega (arith, a, b)
+      total_few : (config : DomainConfig) → AreLimits config → config.machines * config.frames ≤ 67108864
+      total_few config limits = let a = mul-le-mul_right config.frames limits.machines.1 in let b = limits.frames.1 in omega (arith, a, b)
 
 pub total_within : (config : DomainConfig) → AreLimits config → config.machines * config.frames ≤ 67108864
 total_within config limits = let a = mul-le-mul_right config.frames limits.machines.1 in let b = limits.frames.1 in omega (arith, a, b)
