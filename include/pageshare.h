@@ -562,14 +562,14 @@ uint32_t pageshare_domain_release(struct pageshare_domain *domain, uint32_t clie
 uint32_t pageshare_domain_leave(struct pageshare_domain *domain, uint32_t client, uint32_t *freed, size_t most, size_t *count);
 
 /*
- * A page's fingerprint: 64 bits of its content under a salt, by the fast hash, whatever the domain's hash. It is only a guess whether
+ * A page's fingerprint: 64 bits of its content under a salt, by the fast hash, whatever the domain's hash. docs/FORMATS.md defines it. It is only a guess whether
  * pages are equal. Clients compute it, so its salt isn't the domain's, which clients mustn't know.
  */
 uint64_t pageshare_domain_fingerprint(uint32_t salt, const uint8_t page[PAGESHARE_PAGE_BYTES]);
 
 /*
  * Asks about one page. *seen is then 1 where another page was asked about with this fingerprint, within the last config->recent
- * questions, and else 0. A page is named by its client and by `page`, a number of the client's choice for each of its pages, so a page
+ * questions, by a client that has not left since; and else 0. A page is named by its client and by `page`, a number of the client's choice for each of its pages, so a page
  * that asks again doesn't see itself. Whether the client is in isn't looked at. Answers 0 or 6.
  */
 uint32_t pageshare_domain_ask(struct pageshare_domain *domain, uint32_t client, uint64_t page, uint64_t fingerprint, uint8_t *seen);

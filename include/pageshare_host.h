@@ -100,7 +100,10 @@ struct pageshare_host_welcome {
     uint32_t most;                           /* pages in one message */
 };
 
-/* seen[i] is 1 where another page had the fingerprint of questions[i] lately, and else 0. */
+/*
+ * seen[i] is 1 where another page was asked about with the fingerprint of questions[i], within the last questions, or where a frame in
+ * use has it; and else 0. The questions of a client whose process has ended don't count.
+ */
 struct pageshare_host_seen {
     uint32_t kind, count;
     uint8_t seen[PAGESHARE_HOST_MAX_PAGES];
@@ -277,7 +280,7 @@ struct pageshare_host_totals {
 /* Gets the host's totals. It looks at each slot. Answers 0 or 6. */
 uint32_t pageshare_host_report(struct pageshare_host *host, struct pageshare_host_totals *totals);
 
-/* A page's fingerprint under a salt, as a client computes it. */
+/* A page's fingerprint under a salt, as a client computes it. docs/FORMATS.md defines it. */
 uint64_t pageshare_host_fingerprint(uint32_t salt, const uint8_t page[4096]);
 
 #ifdef __cplusplus

@@ -8,7 +8,7 @@
 #include "lender.h"
 #include <stdbool.h>
 
-enum { WORDS = WINDOW_PAGE_BYTES / sizeof(uint64_t), LANES = 8 };
+enum { WORDS = WINDOW_PAGE_BYTES / sizeof(uint64_t) };
 
 static inline uint64_t word_of(const uint8_t *page, size_t word) {
     return __atomic_load_n((const uint64_t *)(const void *)page + word, __ATOMIC_RELAXED);
@@ -31,18 +31,21 @@ static inline bool is_zero(const uint8_t *page) {
     return true;
 }
 
-/* A guess whether pages are equal: 64 bits of the page under a salt. */
+/* The product of two words, 128 bits of it, as one word: its halves joined by xor. */
+static inline uint64_t folded_product(uint64_t one, uint64_t other) {
+    __extension__ unsigned __int128 product = (unsigned __int128)one * other;
+    return (uint64_t)product ^ (uint64_t)(product >> 64);
+}
+
+/*
+ * A guess whether pages are equal: 64 bits of the page under a salt. The host computes the same of the pages that are lent, by
+ * pageshare_host_fingerprint; FORMATS has it in words.
+ */
 static inline uint64_t fingerprint_of(uint32_t salt, const uint8_t *page) {
-    const uint64_t odd = 0x9e3779b97f4a7c15u;
-    uint64_t sums[LANES], sum = 0;
-    for (size_t lane = 0; lane < LANES; lane++) sums[lane] = salt + (lane + 1) * odd;
-    for (size_t i = 0; i < WORDS; i += LANES)
-        for (size_t lane = 0; lane < LANES; lane++) {
-            sums[lane] = (sums[lane] ^ word_of(page, i + lane)) * odd;
-            sums[lane] ^= sums[lane] >> 29;
-        }
-    for (size_t lane = 0; lane < LANES; lane++) sum += (2 * lane + 1) * sums[lane];
-    return (sum ^ sum >> 32) * odd;
+    const uint64_t start = 0x243f6a8885a308d3u, odd = 0x9e3779b97f4a7c15u;
+    uint64_t state = folded_product(start ^ (salt | (uint64_t)salt << 32), odd ^ 8) + WINDOW_PAGE_BYTES;
+    for (size_t i = 0; i < WORDS; i += 2) state = folded_product(word_of(page, i) ^ state, word_of(page, i + 1) ^ odd);
+    return state;
 }
 
 #endif

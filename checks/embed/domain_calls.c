@@ -13,6 +13,7 @@
  * test.
  */
 #define _GNU_SOURCE
+#include "../../window/bytes.h"
 #include "check.h"
 #include "pageshare.h"
 #include <signal.h>
@@ -203,7 +204,7 @@ static void check_seen(void) {
     CHECK(seen[0] == 0 && seen[1] == 1 && seen[2] == 1 && seen[3] == 0);
     CHECK(pageshare_domain_seen(&domain, 7, pages, fingerprints, 1, seen) == PAGESHARE_OK && seen[0] == 1);
     CHECK(pageshare_domain_free(&domain) == PAGESHARE_OK);
-    CHECK(pageshare_domain_fingerprint(1, contents[4]) == pageshare_domain_fingerprint(1, contents[4]));
+    CHECK(pageshare_domain_fingerprint(1, contents[4]) == fingerprint_of(1, contents[4]));
     CHECK(pageshare_domain_fingerprint(1, contents[4]) != pageshare_domain_fingerprint(1, contents[5]));
     CHECK(pageshare_domain_fingerprint(1, contents[4]) != pageshare_domain_fingerprint(2, contents[4]));
 }

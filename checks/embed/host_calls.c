@@ -1,7 +1,9 @@
 /*
  * A host over the library, as a program calls it: its statuses, a dialogue of two clients, each fault of a packet, a session that is
- * taken up, and sessions that end. What each call must give was worked out by hand. Prints "ok", or what failed.
+ * taken up, sessions that end, a client that comes after the pages were lent, and fingerprints beside those that window/ computes.
+ * What each call must give was worked out by hand. Prints "ok", or what failed.
  */
+#include "../../window/bytes.h"
 #include "check.h"
 #include "pageshare_host.h"
 #include <stdlib.h>
@@ -260,6 +262,88 @@ static void check_ends(struct pageshare_host *host) {
     CHECK(pageshare_host_end(host, 1, frames, 1, &count) == PAGESHARE_HOST_OK && count == 0 && counts(host, 0, 0, 0, 0));
 }
 
+/* ---- a client that comes later */
+
+enum { LATER_RECENT = 4, LATER_PAGES = 3 };
+
+static uint8_t contents[LATER_PAGES][PAGE];
+
+static void ask_one(struct pageshare_host *host, uint32_t session, uint64_t page, uint64_t fingerprint) {
+    struct pageshare_host_ask ask = {.kind = PAGESHARE_HOST_ASK, .count = 1, .questions = {{page, fingerprint}}};
+    receive(host, session, &ask, 24, 0);
+}
+
+/* Whether the host has seen a page of this content elsewhere. */
+static bool is_seen(struct pageshare_host *host, uint32_t session, uint64_t page, const uint8_t *content) {
+    ask_one(host, session, page, pageshare_host_fingerprint(7, content));
+    CHECK(got.status == PAGESHARE_HOST_OK && got.reply_bytes == 9);
+    return reply[8] == 1;
+}
+
+static void end_all(struct pageshare_host *host, uint32_t session) {
+    size_t count = 1;
+    while (count != 0)
+        if (pageshare_host_end(host, session, freed, FREED, &count) != PAGESHARE_HOST_OK) break;
+}
+
+static void join(struct pageshare_host *host, uint32_t number) {
+    uint32_t told = 77;
+    CHECK(pageshare_host_connect(host, names[number], &told) == PAGESHARE_HOST_OK && told == number);
+    hello(host, number, NULL);
+    CHECK(got.status == PAGESHARE_HOST_OK);
+}
+
+/*
+ * Client 0 lends three pages and asks nothing. The questions of client 1 push all others out. Client 2 comes then, and finds the lent
+ * pages; it finds them no more when client 0 has ended. Its own questions about the same pages don't count.
+ */
+static void check_later(void *region) {
+    struct pageshare_host host = PAGESHARE_HOST_NONE;
+    struct pageshare_host_shape small = shape;
+    small.recent = LATER_RECENT;
+    for (size_t i = 0; i < LATER_PAGES; i++) memset(contents[i], (int)(i + 40), PAGE);
+    CHECK(pageshare_host_make(&host, &small, region, FRAMES * PAGE) == PAGESHARE_HOST_OK);
+    for (uint32_t i = 0; i < SESSIONS; i++) join(&host, i);
+    memcpy(pages, contents, sizeof contents);
+    lend(&host, 0, LATER_PAGES);
+    for (uint64_t i = 0; i < 8 * LATER_RECENT; i++) ask_one(&host, 1, i, 1000 + i);
+    for (size_t i = 0; i < LATER_PAGES; i++) CHECK(is_seen(&host, 2, i, contents[i]));
+    memset(pages[0], 99, PAGE);
+    CHECK(!is_seen(&host, 2, 50, pages[0]));
+    end_all(&host, 0);
+    for (size_t i = 0; i < LATER_PAGES; i++) CHECK(!is_seen(&host, 2, i, contents[i]));
+    /* the questions of client 2 count for client 1 as long as it is there */
+    CHECK(is_seen(&host, 1, 0, contents[2]));
+    end_all(&host, 1);
+    end_all(&host, 2);
+    join(&host, 0);
+    join(&host, 1);
+    for (size_t i = 0; i < LATER_PAGES; i++) CHECK(!is_seen(&host, 1, 60 + i, contents[i]));
+    CHECK(pageshare_host_free(&host) == PAGESHARE_HOST_OK);
+}
+
+/* ---- fingerprints */
+
+static uint64_t drawn(uint64_t *state) {
+    *state = *state * 6364136223846793005u + 1442695040888963407u;
+    return *state >> 11 ^ *state << 21;
+}
+
+/* The library and window/ compute the same; the two worked values are those of FORMATS. */
+static void check_fingerprints(void) {
+    static uint64_t words[PAGE / sizeof(uint64_t)];
+    const uint8_t *page = (const uint8_t *)words;
+    uint64_t state = 1;
+    CHECK(fingerprint_of(0, page) == 0xbf49b19d476944d3u && pageshare_host_fingerprint(0, page) == 0xbf49b19d476944d3u);
+    for (size_t i = 0; i < PAGE; i++) ((uint8_t *)words)[i] = (uint8_t)(7 * i + i / 256);
+    CHECK(fingerprint_of(7, page) == 0x373bf3588fc5d6f6u && pageshare_host_fingerprint(7, page) == 0x373bf3588fc5d6f6u);
+    for (size_t round = 0; round < 1000; round++) {
+        for (size_t i = 0; i < PAGE / sizeof(uint64_t); i++) words[i] = drawn(&state);
+        uint32_t salt = (uint32_t)drawn(&state);
+        CHECK(fingerprint_of(salt, page) == pageshare_host_fingerprint(salt, page));
+    }
+}
+
 int main(void) {
     struct pageshare_host host = PAGESHARE_HOST_NONE;
     uint64_t slots[5];
@@ -276,10 +360,10 @@ int main(void) {
     check_resumed(&host);
     check_faults(&host);
     check_ends(&host);
-    CHECK(pageshare_host_fingerprint(7, pages[0]) == pageshare_host_fingerprint(7, pages[1]));
-    CHECK(pageshare_host_fingerprint(7, pages[0]) != pageshare_host_fingerprint(7, pages[2]));
+    check_fingerprints();
     CHECK(pageshare_host_free(&host) == PAGESHARE_HOST_OK);
     check_none(&host);
+    check_later(region);
     free(region);
     if (failures == 0) puts("ok");
     return failures == 0 ? 0 : 1;

@@ -1,12 +1,12 @@
 -- What a message lists is gone through one after the other.
-use Rattle.std.proofs.Common.{◌≡◌, ℕ, ◌+◌, ◌<◌, ◌≤◌, Bool, List, [], ◌∷◌, ◌++◌, length, get_or, drop, refl, sym, ap, subst, ◌∙◌, append_assoc}
+use Rattle.std.proofs.Common.{◌≡◌, ℕ, ◌+◌, ◌<◌, ◌≤◌, Bool, Option, List, [], ◌∷◌, ◌++◌, length, get_or, drop, refl, sym, ap, subst, ◌∙◌, append_assoc}
 use Rattle.std.proofs.lemmas.List.{drop_more, drop_all, append-nil}
 use Rattle.host_messages.specs.declared.item.Question.{Question}
 use Rattle.host_messages.specs.declared.item.Lent.{Lent}
-use Rattle.recent_fingerprints.specs.Notes.{Recent, was_noted, with_note}
+use Rattle.recent_fingerprints.specs.Notes.{Recent, with_note}
 use Rattle.share_domain.specs.Domains.{DomainView, release_answer, after_release}
 use Rattle.share_domain.specs.Numbers.{slot_by}
-use Rattle.host_sessions.specs.Turns.{page_of, answers_to, asked, told_of, slots_left, freed_by, after_releases, left_after, LendsOne, LendsInTurn}
+use Rattle.host_sessions.specs.Turns.{page_of, answer_to, answers_to, asked, told_of, slots_left, freed_by, after_releases, left_after, LendsOne, LendsInTurn}
 
 -- what is left at an item
 pub left_at : {X : Type 0} (xs : List X) (i : ℕ) (x d : X) → i < length xs → x ≡ get_or xs i d → drop i xs ≡ x ∷ drop (i + 1) xs
@@ -14,16 +14,16 @@ left_at {X = X} xs i x d lt is = drop_more xs i d lt ∙ ap (λ (y : X). y ∷ d
 
 -- ---- questions
 
-module _ (client : ℕ) (qs : List Question) (i : ℕ) where
+module _ (frames : List (Option ℕ)) (client : ℕ) (qs : List Question) (i : ℕ) where
   pub answered_more : (q d : Question) (front : List Bool) (a : Bool) (r s : Recent) (total : List Bool) → i < length qs → q ≡ get_or qs i d
-      → a ≡ was_noted (page_of client q) q.fingerprint r.notes → s ≡ with_note (page_of client q) q.fingerprint r
-      → front ++ answers_to client (drop i qs) r ≡ total → (front ++ a ∷ []) ++ answers_to client (drop (i + 1) qs) s ≡ total
+      → a ≡ answer_to frames client q r → s ≡ with_note (page_of client q) q.fingerprint r
+      → front ++ answers_to frames client (drop i qs) r ≡ total → (front ++ a ∷ []) ++ answers_to frames client (drop (i + 1) qs) s ≡ total
   unfolding answers_to
   answered_more q d front a r s total lt is a-is s-is so_far =
-      append_assoc front (a ∷ []) (answers_to client (drop (i + 1) qs) s)
-      ∙ ap (λ (x : Bool). front ++ x ∷ answers_to client (drop (i + 1) qs) s) a-is
-      ∙ ap (λ (x : Recent). front ++ was_noted (page_of client q) q.fingerprint r.notes ∷ answers_to client (drop (i + 1) qs) x) s-is
-      ∙ sym (ap (λ (l : List Question). front ++ answers_to client l r) (left_at qs i q d lt is)) ∙ so_far
+      append_assoc front (a ∷ []) (answers_to frames client (drop (i + 1) qs) s)
+      ∙ ap (λ (x : Bool). front ++ x ∷ answers_to frames client (drop (i + 1) qs) s) a-is
+      ∙ ap (λ (x : Recent). front ++ answer_to frames client q r ∷ answers_to frames client (drop (i + 1) qs) x) s-is
+      ∙ sym (ap (λ (l : List Question). front ++ answers_to frames client l r) (left_at qs i q d lt is)) ∙ so_far
 
   pub asked_more : (q d : Question) (r s total : Recent) → i < length qs → q ≡ get_or qs i d → s ≡ with_note (page_of client q) q.fingerprint r
       → asked client (drop i qs) r ≡ total → asked client (drop (i + 1) qs) s ≡ total
@@ -31,9 +31,9 @@ module _ (client : ℕ) (qs : List Question) (i : ℕ) where
   asked_more q d r s total lt is s-is so_far =
       ap (λ (x : Recent). asked client (drop (i + 1) qs) x) s-is ∙ sym (ap (λ (l : List Question). asked client l r) (left_at qs i q d lt is)) ∙ so_far
 
-  pub all_answered : (front : List Bool) (r : Recent) (total : List Bool) → length qs ≤ i → front ++ answers_to client (drop i qs) r ≡ total → front ≡ total
+  pub all_answered : (front : List Bool) (r : Recent) (total : List Bool) → length qs ≤ i → front ++ answers_to frames client (drop i qs) r ≡ total → front ≡ total
   unfolding answers_to
-  all_answered front r total le so_far = sym (ap (λ (l : List Question). front ++ answers_to client l r) (drop_all i qs le) ∙ append-nil front) ∙ so_far
+  all_answered front r total le so_far = sym (ap (λ (l : List Question). front ++ answers_to frames client l r) (drop_all i qs le) ∙ append-nil front) ∙ so_far
 
   pub all_asked : (r total : Recent) → length qs ≤ i → asked client (drop i qs) r ≡ total → r ≡ total
   unfolding asked

@@ -1,11 +1,12 @@
 -- The end of a session's connection, and of its process.
 use Rattle.std.specs.Prelude.{◌≡◌, ℕ, ◌-◌, List, Option, Some, None, if◌then◌else◌, ◌==◌, MatchOption}
+use Rattle.recent_fingerprints.specs.Notes.{forgotten}
 use Rattle.share_domain.specs.Leaving.{Leaves, StaysOut}
 use Rattle.host_sessions.specs.declared.session.Link.TheVariants as link
 use Rattle.host_sessions.specs.declared.session.Begun.{Begun}
 use Rattle.host_sessions.specs.declared.session.Session.{Session}
 use Rattle.host_sessions.specs.declared.session.Session.TheVariants as session
-use Rattle.host_sessions.specs.Steps.{HostView, with_session, with_domain}
+use Rattle.host_sessions.specs.Steps.{HostView, with_session, with_domain, with_recent}
 
 -- a session of an ended process after so many of its slots were released: none was left if none was released
 abbrev pub ended : Begun → ℕ → Session
@@ -17,12 +18,13 @@ abbrev pub count_of : Option ℕ → ℕ
 count_of None = 0
 count_of (Some count) = count
 
--- the client of a session leaves the domain, as far as there is room to tell of. The number is free if it had no slot
+-- The client of a session leaves the domain, as far as there is room to tell of, and its questions are forgotten. The number is free
+-- if it had no slot.
 pub record EndsBegun (n : ℕ) (b : Begun) (count : ℕ) (room after : List ℕ) (old new : HostView) : Type 0 where
   pub answer : Option ℕ
   pub leaves : MatchOption answer (StaysOut b.client room after old.domain new.domain) (λ c. Leaves b.client c room after old.domain new.domain)
   pub counted : count ≡ count_of answer
-  pub now : new ≡ with_session (with_domain old new.domain) n (ended b (count_of answer))
+  pub now : new ≡ with_session (with_recent (with_domain old new.domain) (forgotten b.client old.recent)) n (ended b (count_of answer))
 
 -- A session's process has ended. Its client leaves the domain by as many slots as there is room to tell of. Nothing happens where
 -- there is no session.

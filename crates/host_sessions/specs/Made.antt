@@ -22,6 +22,6 @@ empty_host config = record {
   salt = config.salt;
   quota = config.quota;
   domain = empty_domain config.domain;
-  recent = nothing_noted config.recent config.seed;
+  recent = nothing_noted config.recent config.domain.clients config.seed;
   sessions = replicate config.domain.clients session.Free;
 }

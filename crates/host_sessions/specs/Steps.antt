@@ -9,6 +9,7 @@ use Rattle.host_messages.specs.declared.item.Lent.{Lent}
 use Rattle.host_messages.specs.declared.limits.TheConstants.{MAX_IN_MESSAGE}
 use Rattle.host_messages.specs.Reading.{client_at}
 use Rattle.recent_fingerprints.specs.Notes.{Recent}
+use Rattle.fingerprint_domain.specs.Known.{fingerprints_in}
 use Rattle.share_domain.specs.Domains.{DomainView, next_client, entered}
 use Rattle.host_sessions.specs.declared.answer.Received.{Received}
 use Rattle.host_sessions.specs.declared.answer.Received.TheVariants as got
@@ -75,7 +76,7 @@ Greets n name (Some before) received old new = TakesUp n before (begun_of (sessi
 -- ---- the other messages, in a session that has begun
 
 pub record Asks (n : ℕ) (b : Begun) (questions : List Question) (received : Received) (old new : HostView) : Type 0 where
-  pub reply : received ≡ got.Seen (record { items = answers_to b.client questions old.recent })
+  pub reply : received ≡ got.Seen (record { items = answers_to (fingerprints_in old.salt old.domain.machines) b.client questions old.recent })
   pub now : new ≡ with_session (with_recent old (asked b.client questions old.recent)) n (session.Begun (heard b b.slots))
 
 pub record Releases (n : ℕ) (b : Begun) (slots : List ℕ) (received : Received) (old new : HostView) : Type 0 where

@@ -1,8 +1,9 @@
 -- What the pages, questions and slots of one message do, one after the other.
-use Rattle.std.specs.Prelude.{◌≡◌, ℕ, ◌+◌, ◌-◌, Bool, ◌<◌, ◌≤◌, List, [], ◌∷◌, Option, Result, Ok, Err, MatchResult}
+use Rattle.std.specs.Prelude.{◌≡◌, ℕ, ◌+◌, ◌-◌, Bool, ◌||◌, ◌<◌, ◌≤◌, List, [], ◌∷◌, Option, Result, Ok, Err, MatchResult}
 use Rattle.host_messages.specs.declared.item.Question.{Question}
 use Rattle.host_messages.specs.declared.item.Lent.{Lent}
 use Rattle.host_messages.specs.declared.limits.TheConstants.{NO_FRAME}
+use Rattle.frame_fingerprints.specs.Held.{is_held}
 use Rattle.recent_fingerprints.specs.declared.note.PageName.{PageName}
 use Rattle.recent_fingerprints.specs.Notes.{Recent, was_noted, with_note}
 use Rattle.share_domain.specs.declared.holding.Loan.{Loan}
@@ -17,10 +18,14 @@ use Rattle.share_domain.specs.Numbers.{slot_by, slot_number}
 abbrev pub page_of : ℕ → Question → PageName
 page_of client q = record { client = client; number = q.page }
 
--- the answers to a client's questions, and the last questions after them
-unfoldable pub answers_to : ℕ → List Question → Recent → List Bool
-answers_to client [] recent = []
-answers_to client (q ∷ qs) recent = was_noted (page_of client q) q.fingerprint recent.notes ∷ answers_to client qs (with_note (page_of client q) q.fingerprint recent)
+-- the answer to a client's question: whether another page was noted with the fingerprint, or a frame in use has it
+abbrev pub answer_to : List (Option ℕ) → ℕ → Question → Recent → Bool
+answer_to frames client q recent = was_noted (page_of client q) q.fingerprint recent || is_held q.fingerprint frames
+
+-- the answers to a client's questions, where the frames in use have these fingerprints; and the last questions after them
+unfoldable pub answers_to : List (Option ℕ) → ℕ → List Question → Recent → List Bool
+answers_to frames client [] recent = []
+answers_to frames client (q ∷ qs) recent = answer_to frames client q recent ∷ answers_to frames client qs (with_note (page_of client q) q.fingerprint recent)
 
 unfoldable pub asked : ℕ → List Question → Recent → Recent
 asked client [] recent = recent

@@ -15,7 +15,7 @@ pub enum Received {
     Fault(SessionFault),
     /// The session began, or the one with this number was taken up, which is free now.
     Welcome(Welcome, Option<u32>),
-    /// For each page, whether another one was asked about with its fingerprint lately.
+    /// For each page, whether another one was asked about with its fingerprint lately, or a frame in use has it.
     Seen(ArrayVec<bool, MAX_IN_MESSAGE>),
     /// What became of each page.
     Loans(ArrayVec<Lent, MAX_IN_MESSAGE>),

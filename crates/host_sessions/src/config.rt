@@ -8,7 +8,7 @@ pub struct HostConfig {
     pub domain: DomainConfig,
     /// How many questions are remembered: 1 to 16,777,216.
     pub recent: u32,
-    /// What spreads the questions. Draw it at random and keep it secret.
+    /// What spreads the questions and the fingerprints of frames. Draw it at random and keep it secret.
     pub seed: u64,
     /// The salt of fingerprints, which clients are told: another one than the domain's.
     pub salt: u32,

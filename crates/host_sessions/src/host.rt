@@ -19,12 +19,13 @@ use crate::find::{find_free, find_wanted};
 use crate::lend::lend_each;
 use crate::release::release_each;
 use crate::session::{Begun, Link, Session, SessionFault};
+use fingerprint_domain::FingerprintDomain;
 use host_messages::{ClientMessage, MAX_IN_MESSAGE, MessageFault, Name, Question, Welcome};
 use machine_frames::Frames;
 use page_digest::PageHash;
 use page_model::Page;
 use recent_fingerprints::RecentFingerprints;
-use share_domain::{Domain, DomainReport};
+use share_domain::DomainReport;
 use std::alloc::{AllocError, Allocator, Global};
 use std::marker::Model;
 
@@ -32,9 +33,8 @@ use std::marker::Model;
 #[derive(Drop)]
 pub struct Host<H: PageHash, A: Allocator = Global> {
     frames: u32,
-    salt: u32,
     quota: u32,
-    domain: Domain<H, A>,
+    domain: FingerprintDomain<H, A>,
     recent: RecentFingerprints<A>,
     sessions: Vec<Session, A>,
 }
@@ -46,7 +46,7 @@ impl<H: PageHash, A: Allocator> Model for Host<H, A> {
 
     ghost Value = { HostView };
 
-    ghost view = { λ h. record { frames = h.frames; salt = h.salt; quota = h.quota; domain = h.domain; recent = h.recent; sessions = h.sessions.items } };
+    ghost view = { λ h. record { frames = h.frames; salt = h.domain.salt; quota = h.quota; domain = h.domain.domain; recent = h.recent; sessions = h.sessions.items } };
 
     ghost invariant = { λ h. length h.sessions.items ≤ MAX_CLIENTS };
 }
@@ -55,7 +55,7 @@ impl<H: PageHash + Drop + Copy, A: Allocator + Clone> Host<H, A> {
     ghost use Rattle.host_sessions.specs.Made.{AreHostLimits, empty_host};
 
     /// Makes a host with no session, with these frames, all of them free: those of machine 0 first, as
-    /// [`Domain::with_frames`] takes them. All its memory is allocated here.
+    /// [`FingerprintDomain::with_frames`] takes them. All its memory is allocated here.
     pub fn with_frames(
         alloc: A,
         config: &HostConfig,
@@ -66,12 +66,23 @@ impl<H: PageHash + Drop + Copy, A: Allocator + Clone> Host<H, A> {
         requires frames { AreFree config.now.domain frames.items }
         ensures { IfOk result (λ host. host ≡ empty_host config.now) }
     {
-        let recent = RecentFingerprints::new(alloc.clone()?, config.recent, config.seed)?;
+        let recent = RecentFingerprints::new(
+            alloc.clone()?,
+            config.recent,
+            config.domain.clients,
+            config.seed,
+        )?;
         let sessions = new_sessions(alloc.clone()?, config.domain.clients)?;
-        let domain = Domain::with_frames(alloc, &config.domain, hash, frames)?;
+        let domain = FingerprintDomain::with_frames(
+            alloc,
+            &config.domain,
+            hash,
+            frames,
+            config.salt,
+            config.seed,
+        )?;
         Ok(Host {
             frames: total_frames(config.domain.machines, config.domain.frames),
-            salt: config.salt,
             quota: config.quota,
             domain,
             recent,
@@ -177,7 +188,7 @@ impl<H: PageHash, A: Allocator> Host<H, A> {
     }
 
     /// A session's process has ended. Releases as many of its slots as there is room to tell of, and returns how many, as
-    /// [`Domain::leave`] does. Call it until it returns 0: then no session has the number. Returns `None` if none has it.
+    /// [`FingerprintDomain::leave`] does. Call it until it returns 0: then no session has the number. Returns `None` if none has it.
     pub fn end(&mut self, number: u32, freed: &mut [u32]) -> Option<usize>
         requires room { 1 ≤ length freed.old }
         ensures { Ends number (session_at self.old.sessions number) result freed.old freed.new self.old self.new }
@@ -331,7 +342,7 @@ impl<H: PageHash, A: Allocator> Host<H, A> {
         Welcome {
             name,
             frames: self.frames,
-            salt: self.salt,
+            salt: self.domain.salt(),
             most: MAX_IN_MESSAGE as u32,
         }
     }
@@ -363,7 +374,7 @@ impl<H: PageHash, A: Allocator> Host<H, A> {
         requires few { length questions.now ≤ MAX_IN_MESSAGE }
         ensures { Asks number begun questions.now result self.old self.new }
     {
-        let answers = ask_each(&mut self.recent, begun.client, questions);
+        let answers = ask_each(&self.domain, &mut self.recent, begun.client, questions);
         self.put(number, Session::Begun(begun.heard(begun.slots)));
         Received::Seen(answers)
     }
@@ -437,6 +448,7 @@ impl<H: PageHash, A: Allocator> Host<H, A> {
         ensures { EndsBegun number begun result freed.old freed.new self.old self.new }
     {
         let answer = self.domain.leave(begun.client, freed);
+        self.recent.forget(begun.client);
         let count = count_of(answer);
         self.put(number, ended(begun, count));
         count

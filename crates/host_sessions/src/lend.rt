@@ -4,10 +4,11 @@ ghost use Rattle.host_sessions.specs.Turns.{LendsInTurn, LendsOne, Lends, lent_b
 ghost use Rattle.host_messages.specs.declared.limits.TheConstants.{MAX_IN_MESSAGE};
 
 use arrayvec::ArrayVec;
+use fingerprint_domain::FingerprintDomain;
 use host_messages::{Lent, MAX_IN_MESSAGE, NO_FRAME};
 use page_digest::PageHash;
 use page_model::Page;
-use share_domain::{Domain, LendFault, Loan, slot_number};
+use share_domain::{LendFault, Loan, slot_number};
 use std::alloc::Allocator;
 
 /// What became of a message's pages, and how many slots the session has since.
@@ -26,14 +27,15 @@ pub(crate) struct LentPage {
 
 /// Lends pages of a client that has so many slots, one after the other.
 pub(crate) fn lend_each<H: PageHash, A: Allocator>(
-    domain: &mut Domain<H, A>,
+    domain: &mut FingerprintDomain<H, A>,
     client: u32,
     quota: u32,
     slots: u32,
     pages: &[Page],
 ) -> Lending
     requires { length pages.now ≤ MAX_IN_MESSAGE }
-    ensures { LendsInTurn H.hash_of client quota pages.now slots result.slots result.loans.items domain.old domain.new }
+    ensures lends { LendsInTurn H.hash_of client quota pages.now slots result.slots result.loans.items domain.old.domain domain.new.domain }
+    ensures salt { domain.new.salt ≡ domain.old.salt }
 {
     let mut loans = ArrayVec::new();
     let mut count = slots;
@@ -50,13 +52,14 @@ pub(crate) fn lend_each<H: PageHash, A: Allocator>(
 
 /// Lends a page of a client that has so many slots, if it may have more.
 pub(crate) fn lend_one<H: PageHash, A: Allocator>(
-    domain: &mut Domain<H, A>,
+    domain: &mut FingerprintDomain<H, A>,
     client: u32,
     quota: u32,
     slots: u32,
     page: &Page,
 ) -> LentPage
-    ensures { LendsOne H.hash_of client quota page.now slots result.slots result.lent domain.old domain.new }
+    ensures lends { LendsOne H.hash_of client quota page.now slots result.slots result.lent domain.old.domain domain.new.domain }
+    ensures salt { domain.new.salt ≡ domain.old.salt }
 {
     if slots < quota {
         return lend_within(domain, client, slots, page);
@@ -69,13 +72,14 @@ pub(crate) fn lend_one<H: PageHash, A: Allocator>(
 
 /// Lends a page of a client that has so many slots.
 fn lend_within<H: PageHash, A: Allocator>(
-    domain: &mut Domain<H, A>,
+    domain: &mut FingerprintDomain<H, A>,
     client: u32,
     slots: u32,
     page: &Page,
 ) -> LentPage
     requires { slots + 1 < 2 ^ 32 }
-    ensures { Lends H.hash_of client page.now slots result.slots result.lent domain.old domain.new }
+    ensures lends { Lends H.hash_of client page.now slots result.slots result.lent domain.old.domain domain.new.domain }
+    ensures salt { domain.new.salt ≡ domain.old.salt }
 {
     let answer = domain.lend(client, page);
     LentPage {

@@ -6,9 +6,10 @@ ghost use Rattle.share_domain.specs.Domains.{release_answer, after_release};
 ghost use Rattle.host_messages.specs.declared.limits.TheConstants.{MAX_IN_MESSAGE};
 
 use arrayvec::ArrayVec;
+use fingerprint_domain::FingerprintDomain;
 use host_messages::{MAX_IN_MESSAGE, NO_FRAME};
 use page_digest::PageHash;
-use share_domain::{Domain, NoSuchSlot, slot_by};
+use share_domain::{NoSuchSlot, slot_by};
 use std::alloc::Allocator;
 
 /// What is told of a message's slots, and how many slots the session has since.
@@ -27,15 +28,16 @@ struct ReleasedSlot {
 
 /// Releases slots of a client that has so many, one after the other.
 pub(crate) fn release_each<H: PageHash, A: Allocator>(
-    domain: &mut Domain<H, A>,
+    domain: &mut FingerprintDomain<H, A>,
     client: u32,
     slots: u32,
     numbers: &[u64],
 ) -> Releasing
     requires { length numbers.now ≤ MAX_IN_MESSAGE }
-    ensures freed { result.freed.items ≡ freed_by client numbers.now domain.old }
-    ensures slots { result.slots ≡ left_after client slots numbers.now domain.old }
-    ensures domain { domain.new ≡ after_releases client numbers.now domain.old }
+    ensures freed { result.freed.items ≡ freed_by client numbers.now domain.old.domain }
+    ensures slots { result.slots ≡ left_after client slots numbers.now domain.old.domain }
+    ensures domain { domain.new.domain ≡ after_releases client numbers.now domain.old.domain }
+    ensures salt { domain.new.salt ≡ domain.old.salt }
 {
     let mut freed = ArrayVec::new();
     let mut count = slots;
@@ -52,14 +54,15 @@ pub(crate) fn release_each<H: PageHash, A: Allocator>(
 
 /// Releases a slot of a client that has so many.
 fn release_one<H: PageHash, A: Allocator>(
-    domain: &mut Domain<H, A>,
+    domain: &mut FingerprintDomain<H, A>,
     client: u32,
     slots: u32,
     number: &u64,
 ) -> ReleasedSlot
-    ensures told { result.told ≡ told_of (release_answer client (slot_by number.now) domain.old) }
-    ensures slots { result.slots ≡ slots_left slots (release_answer client (slot_by number.now) domain.old) }
-    ensures domain { domain.new ≡ after_release client (slot_by number.now) domain.old }
+    ensures told { result.told ≡ told_of (release_answer client (slot_by number.now) domain.old.domain) }
+    ensures slots { result.slots ≡ slots_left slots (release_answer client (slot_by number.now) domain.old.domain) }
+    ensures domain { domain.new.domain ≡ after_release client (slot_by number.now) domain.old.domain }
+    ensures salt { domain.new.salt ≡ domain.old.salt }
 {
     let answer = domain.release(client, slot_by(*number));
     ReleasedSlot {

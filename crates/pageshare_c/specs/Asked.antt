@@ -9,9 +9,10 @@ abbrev pub bit_of : Bool → ℕ
 bit_of true = 1
 bit_of false = 0
 
--- the answer: 1 if another page was asked about with this fingerprint; without a domain the caller's byte is as it was
+-- the answer: 1 if another page was asked about with this fingerprint, by a client that has not ended since; without a domain the
+-- caller's byte is as it was
 abbrev pub seen_after : PageName → ℕ → ℕ → Option Hosted → ℕ
-seen_after page fingerprint seen old = of_made seen (λ m. bit_of (was_noted page fingerprint m.recent.notes)) old
+seen_after page fingerprint seen old = of_made seen (λ m. bit_of (was_noted page fingerprint m.recent)) old
 
 -- what the handle holds, with the question noted
 abbrev pub asked : PageName → ℕ → Option Hosted → Option Hosted

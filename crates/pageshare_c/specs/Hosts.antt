@@ -45,7 +45,7 @@ made_of s hash recent = Made (record { domain = domain_by hash (empty_domain (co
 
 -- a domain of this shape with no frames yet, and no question asked
 abbrev pub begun_of : DomainShape → ℕ → Hosted
-begun_of s hash = Begun (record { shape = s; hash = hash; given = 0; recent = nothing_noted s.recent s.seed })
+begun_of s hash = Begun (record { shape = s; hash = hash; given = 0; recent = nothing_noted s.recent s.clients s.seed })
 
 -- What a call does that makes what a handle holds, by its status: the first cause that holds, or lack of memory where there is no
 -- other; then the handle is as it was.
@@ -57,7 +57,7 @@ pub record Makes (cause : ℕ) (made : Hosted) (old new : Option Hosted) (status
 
 -- a domain with frames of its own is made
 abbrev pub MakesDomain : DomainShape → ℕ → Option Hosted → Option Hosted → ℕ → Type 0
-MakesDomain s hash old new status = Makes (make_cause s hash (is_some old)) (made_of s hash (nothing_noted s.recent s.seed)) old new status
+MakesDomain s hash old new status = Makes (make_cause s hash (is_some old)) (made_of s hash (nothing_noted s.recent s.clients s.seed)) old new status
 
 -- a domain is begun, whose frames come in regions of so many pages
 abbrev pub BeginsDomain : DomainShape → ℕ → ℕ → Option Hosted → Option Hosted → ℕ → Type 0

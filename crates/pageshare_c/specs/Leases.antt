@@ -1,5 +1,6 @@
 -- Clients and their slots, as C names them: what each call answers, and what the handle holds afterwards.
 use Rattle.std.specs.Prelude.{◌≡◌, ◌≢◌, ℕ, ◌==◌, if◌then◌else◌, List, length, slice_get, Option, Some, None, Result, Ok, Err, MatchResult}
+use Rattle.recent_fingerprints.specs.Notes.{forgotten}
 use Rattle.share_domain.specs.declared.holding.Loan.{Loan}
 use Rattle.share_domain.specs.declared.holding.Slot.{Slot}
 use Rattle.share_domain.specs.declared.fault.LendFault.{LendFault}
@@ -98,12 +99,16 @@ abbrev pub leave_status : ℕ → List ℕ → Option Hosted → ℕ
 leave_status client room old =
     made_status (λ m. if length room == 0 then 9 else if is_here (slice_get (shows m).clients client) then 0 else 21) old
 
+-- the questions of a client that leaves are forgotten
+abbrev pub forgetting : ℕ → MadeDomain → MadeDomain
+forgetting client m = record m { recent = forgotten client m.recent }
+
 abbrev pub LeavesDomain : ℕ → ℕ → List ℕ → List ℕ → Option Hosted → Option Hosted → Type 0
 LeavesDomain client count room after None new = ⊥
 LeavesDomain client count room after (Some (Begun b)) new = ⊥
 LeavesDomain client count room after (Some (Made m)) None = ⊥
 LeavesDomain client count room after (Some (Made m)) (Some (Begun b)) = ⊥
-LeavesDomain client count room after (Some (Made m)) (Some (Made n)) = Leaves client count room after (shows m) (shows n) × (n ≡ showing (shows n) m)
+LeavesDomain client count room after (Some (Made m)) (Some (Made n)) = Leaves client count room after (shows m) (shows n) × (n ≡ forgetting client (showing (shows n) m))
 
 -- A client left, in part or for good, by share_domain's words; or the call was refused, and nothing changed. room and before are what
 -- the caller's memory held for the freed frames and for their number.

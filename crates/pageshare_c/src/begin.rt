@@ -22,10 +22,10 @@ use std::alloc::{AllocError, Global};
 fn new_made(alloc: Global, shape: &DomainShape, hash: u32) -> Result<Box<Hosted>, AllocError>
     requires fit { IsFit shape.now }
     requires hash { hash ≤ WIDE_SHA256 }
-    ensures { IfOk result (λ hosted. hosted.value ≡ made_of shape.now hash (nothing_noted shape.now.recent shape.now.seed)) }
+    ensures { IfOk result (λ hosted. hosted.value ≡ made_of shape.now hash (nothing_noted shape.now.recent shape.now.clients shape.now.seed)) }
 {
     let config = config_of(shape);
-    let recent = RecentFingerprints::new(alloc, shape.recent, shape.seed)?;
+    let recent = RecentFingerprints::new(alloc, shape.recent, shape.clients, shape.seed)?;
     let frames = new_frames_of_each(alloc, &config)?;
     let domain = HashedDomain::new(alloc, &config, hash, frames)?;
     let hosted = Box::new(alloc, Hosted::Made(MadeDomain { domain, recent }))?;

@@ -42,9 +42,9 @@ impl Begun {
         requires fit { IsFit shape.now }
         requires hash { hash ≤ WIDE_SHA256 }
         ensures { IfOk result (λ begun. begun
-            ≡ record { shape = shape.now; hash = hash; given = 0; recent = nothing_noted shape.now.recent shape.now.seed }) }
+            ≡ record { shape = shape.now; hash = hash; given = 0; recent = nothing_noted shape.now.recent shape.now.clients shape.now.seed }) }
     {
-        let recent = RecentFingerprints::new(alloc, shape.recent, shape.seed)?;
+        let recent = RecentFingerprints::new(alloc, shape.recent, shape.clients, shape.seed)?;
         let given = GivenFrames::new(alloc, shape.machines, shape.frames)?;
         Ok(Begun {
             shape: *shape,

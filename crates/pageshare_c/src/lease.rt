@@ -67,6 +67,7 @@ pub(crate) fn leave(hosted: &mut Hosted, client: u32, freed: &mut [u32], count: 
             match made.domain.leave(client, freed) {
                 None => 21,
                 Some(released) => {
+                    made.recent.forget(client);
                     *count = released;
                     0
                 }

@@ -11,7 +11,7 @@ use Rattle.std.proofs.lemmas.Nat.{pow_pos}
 use Rattle.std.proofs.Math.ListN.{set}
 use Rattle.recent_fingerprints.specs.declared.note.Note.{Note}
 use Rattle.recent_fingerprints.specs.declared.note.Place.{Place}
-use Rattle.recent_fingerprints.specs.Notes.{is_same, is_same_page, is_other}
+use Rattle.recent_fingerprints.specs.Notes.{counts, is_same, is_same_page, is_other}
 use Rattle.recent_fingerprints.specs.Chains.{note_in, first_where, bucket_of, in_bucket, comes_next, AreLinked, begins_in, age_of, age_in, IsHead, AreKept}
 
 -- ---- lists
@@ -77,9 +77,9 @@ other-tests home a b r h =
     ⊎_elim (λ e. absurd (false≢true (sym h ∙ eq-eqb (home b) (home a) (ap home e.1)))) (λ e. rw e.0 refl) (eqb_tells b a)
 
 -- a note of another page with the fingerprint is in its bucket
-pub other-shares : (f s : ℕ) (asked : Note) (x : Place) → in_bucket f s (bucket_of f s asked.fingerprint) x ≡ false → is_other asked x.note ≡ false
-other-shares f s asked x h =
-    other-tests (bucket_of f s) asked.fingerprint x.note.fingerprint (not (is_same_page x.note.page asked.page)) h
+pub other-shares : (f s : ℕ) (lives : List ℕ) (asked : Note) (x : Place) → in_bucket f s (bucket_of f s asked.fingerprint) x ≡ false → is_other lives asked x.note ≡ false
+other-shares f s lives asked x h =
+    other-tests (bucket_of f s) asked.fingerprint x.note.fingerprint (not (is_same_page x.note.page asked.page) && counts lives x.note) h
 
 both : (a b : Bool) → (a && b) ≡ true → (a ≡ true) × (b ≡ true)
 both true b h = (refl, h)
@@ -91,26 +91,27 @@ one-of true false h = absurd (false≢true (sym h))
 one-of false b h = inl refl
 
 -- the fields of two notes that are the same
-same-fields : (a b : Note) → is_same a b ≡ true → (a.fingerprint ≡ b.fingerprint) × (a.page.client ≡ b.page.client) × (a.page.number ≡ b.page.number)
+same-fields : (a b : Note) → is_same a b ≡ true → (a.fingerprint ≡ b.fingerprint) × (a.page.client ≡ b.page.client) × (a.page.number ≡ b.page.number) × (a.life ≡ b.life)
 same-fields a b h =
-    let t = both (eqb a.fingerprint b.fingerprint) (is_same_page a.page b.page) h in
-    let u = both (eqb a.page.client b.page.client) (eqb a.page.number b.page.number) t.1 in
-    (eqb-true _ _ t.0, eqb-true _ _ u.0, eqb-true _ _ u.1)
+    let t = both (eqb a.fingerprint b.fingerprint) (is_same_page a.page b.page && eqb a.life b.life) h in
+    let v = both (is_same_page a.page b.page) (eqb a.life b.life) t.1 in
+    let u = both (eqb a.page.client b.page.client) (eqb a.page.number b.page.number) v.0 in
+    (eqb-true _ _ t.0, eqb-true _ _ u.0, eqb-true _ _ u.1, eqb-true _ _ v.1)
 
 -- it may follow any note of that bucket that isn't one itself
-pub other-follows : (f s : ℕ) (asked : Note) (p x : Place) → in_bucket f s (bucket_of f s asked.fingerprint) p ≡ true → is_other asked p.note ≡ false → comes_next f s p.note x ≡ false → is_other asked x.note ≡ false
-other-follows f s asked p x here nope h =
+pub other-follows : (f s : ℕ) (lives : List ℕ) (asked : Note) (p x : Place) → in_bucket f s (bucket_of f s asked.fingerprint) p ≡ true → is_other lives asked p.note ≡ false → comes_next f s p.note x ≡ false → is_other lives asked x.note ≡ false
+other-follows f s lives asked p x here nope h =
     let meets : bucket_of f s p.note.fingerprint ≡ bucket_of f s asked.fingerprint = eqb-true _ _ here in
     ⊎_elim
-    (λ e. other-shares f s asked x (subst (λ b. in_bucket f s b x ≡ false) meets e))
-    (λ e. let t = same-fields p.note x.note e in rw (← t.0, ← t.1, ← t.2) nope)
+    (λ e. other-shares f s lives asked x (subst (λ b. in_bucket f s b x ≡ false) meets e))
+    (λ e. let t = same-fields p.note x.note e in rw (← t.0, ← t.1, ← t.2, ← t.3) nope)
     (one-of (in_bucket f s (bucket_of f s p.note.fingerprint) x) (is_same p.note x.note) h)
 
 pub next-shares : (f s : ℕ) (note : Note) (x : Place) → in_bucket f s (bucket_of f s note.fingerprint) x ≡ false → comes_next f s note x ≡ false
 next-shares f s note x h = rw h refl
 
 pub next-same : (f s : ℕ) (a b : Note) → is_same a b ≡ true → (x : Place) → comes_next f s a x ≡ comes_next f s b x
-next-same f s a b h x = let t = same-fields a b h in rw (t.0, t.1, t.2) refl
+next-same f s a b h x = let t = same-fields a b h in rw (t.0, t.1, t.2, t.3) refl
 
 -- ---- chains
 
@@ -133,48 +134,48 @@ linked-more f s k p xs e h =
 -- ---- a search
 
 -- what is left from an age on gives the same answer, and begins in the bucket
-pub record IsSearch (f s : ℕ) (asked : Note) (ring : List Place) (age : ℕ) : Type 0 where
-  pub same : list_any (is_other asked) (map note_in ring) ≡ list_any (λ p. is_other asked (note_in p)) (drop age ring)
+pub record IsSearch (f s : ℕ) (lives : List ℕ) (asked : Note) (ring : List Place) (age : ℕ) : Type 0 where
+  pub same : list_any (is_other lives asked) (map note_in ring) ≡ list_any (λ p. is_other lives asked (note_in p)) (drop age ring)
   pub begins : BeginsWith (in_bucket f s (bucket_of f s asked.fingerprint)) (drop age ring)
 
-pub search-begins : (f s : ℕ) (asked : Note) (ring : List Place) (age : ℕ) → age ≡ first_where (in_bucket f s (bucket_of f s asked.fingerprint)) ring → IsSearch f s asked ring age
-search-begins f s asked ring age e = record {
-  same = any-map (is_other asked) note_in ring ∙ any-skip (λ p. is_other asked (note_in p)) (in_bucket f s (bucket_of f s asked.fingerprint)) (other-shares f s asked) ring ∙ ap (λ n. list_any (λ p. is_other asked (note_in p)) (drop n ring)) (sym e);
+pub search-begins : (f s : ℕ) (lives : List ℕ) (asked : Note) (ring : List Place) (age : ℕ) → age ≡ first_where (in_bucket f s (bucket_of f s asked.fingerprint)) ring → IsSearch f s lives asked ring age
+search-begins f s lives asked ring age e = record {
+  same = any-map (is_other lives asked) note_in ring ∙ any-skip (λ p. is_other lives asked (note_in p)) (in_bucket f s (bucket_of f s asked.fingerprint)) (other-shares f s lives asked) ring ∙ ap (λ n. list_any (λ p. is_other lives asked (note_in p)) (drop n ring)) (sym e);
   begins = subst (λ n. BeginsWith (in_bucket f s (bucket_of f s asked.fingerprint)) (drop n ring)) (sym e) (begins-first (in_bucket f s (bucket_of f s asked.fingerprint)) ring);
 }
 
-pub search-ends : (f s : ℕ) (asked : Note) (ring : List Place) (age : ℕ) → IsSearch f s asked ring age → length ring ≤ age → list_any (is_other asked) (map note_in ring) ≡ false
-search-ends f s asked ring age h past = h.same ∙ ap (list_any (λ p. is_other asked (note_in p))) (drop_all age ring past)
+pub search-ends : (f s : ℕ) (lives : List ℕ) (asked : Note) (ring : List Place) (age : ℕ) → IsSearch f s lives asked ring age → length ring ≤ age → list_any (is_other lives asked) (map note_in ring) ≡ false
+search-ends f s lives asked ring age h past = h.same ∙ ap (list_any (λ p. is_other lives asked (note_in p))) (drop_all age ring past)
 
 at-age : (ring : List Place) (age : ℕ) (p : Place) → age < length ring → p ≡ get_or ring age p → drop age ring ≡ p ∷ drop (age + 1) ring
 at-age ring age p lt e = drop_more ring age p lt ∙ ap (λ x. x ∷ drop (age + 1) ring) (sym e)
 
-pub search-finds : (f s : ℕ) (asked : Note) (ring : List Place) (age : ℕ) (p : Place) → IsSearch f s asked ring age → age < length ring → p ≡ get_or ring age p → is_other asked p.note ≡ true → list_any (is_other asked) (map note_in ring) ≡ true
-search-finds f s asked ring age p h lt e hit = h.same ∙ ap (list_any (λ p. is_other asked (note_in p))) (at-age ring age p lt e) ∙ ap (λ b. b || list_any (λ p. is_other asked (note_in p)) (drop (age + 1) ring)) hit
+pub search-finds : (f s : ℕ) (lives : List ℕ) (asked : Note) (ring : List Place) (age : ℕ) (p : Place) → IsSearch f s lives asked ring age → age < length ring → p ≡ get_or ring age p → is_other lives asked p.note ≡ true → list_any (is_other lives asked) (map note_in ring) ≡ true
+search-finds f s lives asked ring age p h lt e hit = h.same ∙ ap (list_any (λ p. is_other lives asked (note_in p))) (at-age ring age p lt e) ∙ ap (λ b. b || list_any (λ p. is_other lives asked (note_in p)) (drop (age + 1) ring)) hit
 
 -- from the note at the front to the one that follows it
-same-bucket : (f s : ℕ) (asked : Note) (p : Place) → in_bucket f s (bucket_of f s asked.fingerprint) p ≡ true → (xs : List Place) → BeginsWith (comes_next f s p.note) xs → BeginsWith (in_bucket f s (bucket_of f s asked.fingerprint)) xs
-same-bucket f s asked p here [] h = tt
-same-bucket f s asked p here (x ∷ xs) h =
+same-bucket : (f s : ℕ) (lives : List ℕ) (asked : Note) (p : Place) → in_bucket f s (bucket_of f s asked.fingerprint) p ≡ true → (xs : List Place) → BeginsWith (comes_next f s p.note) xs → BeginsWith (in_bucket f s (bucket_of f s asked.fingerprint)) xs
+same-bucket f s lives asked p here [] h = tt
+same-bucket f s lives asked p here (x ∷ xs) h =
     let meets : bucket_of f s p.note.fingerprint ≡ bucket_of f s asked.fingerprint = eqb-true _ _ here in
     let t = both (in_bucket f s (bucket_of f s p.note.fingerprint) x) (not (is_same p.note x.note)) h in
     subst (λ b. in_bucket f s b x ≡ true) meets t.0
 
-step : (f s : ℕ) (asked : Note) (p : Place) (rest : List Place) → AreLinked f s (p ∷ rest) → in_bucket f s (bucket_of f s asked.fingerprint) p ≡ true → is_other asked p.note ≡ false → (list_any (λ p. is_other asked (note_in p)) (p ∷ rest) ≡ list_any (λ p. is_other asked (note_in p)) (drop p.between rest)) × BeginsWith (in_bucket f s (bucket_of f s asked.fingerprint)) (drop p.between rest)
-step f s asked p rest linked here nope =
+step : (f s : ℕ) (lives : List ℕ) (asked : Note) (p : Place) (rest : List Place) → AreLinked f s (p ∷ rest) → in_bucket f s (bucket_of f s asked.fingerprint) p ≡ true → is_other lives asked p.note ≡ false → (list_any (λ p. is_other lives asked (note_in p)) (p ∷ rest) ≡ list_any (λ p. is_other lives asked (note_in p)) (drop p.between rest)) × BeginsWith (in_bucket f s (bucket_of f s asked.fingerprint)) (drop p.between rest)
+step f s lives asked p rest linked here nope =
     let jumped : drop p.between rest ≡ drop (first_where (comes_next f s p.note) rest) rest = sym (drop_min p.between rest) ∙ ap (λ n. drop n rest) linked.0 in (
-      ap (λ b. b || list_any (λ p. is_other asked (note_in p)) rest) nope ∙ any-skip (λ p. is_other asked (note_in p)) (comes_next f s p.note) (λ x h. other-follows f s asked p x here nope h) rest ∙ ap (list_any (λ p. is_other asked (note_in p))) (sym jumped),
-      subst (BeginsWith (in_bucket f s (bucket_of f s asked.fingerprint))) (sym jumped) (same-bucket f s asked p here (drop (first_where (comes_next f s p.note) rest) rest) (begins-first (comes_next f s p.note) rest)),
+      ap (λ b. b || list_any (λ p. is_other lives asked (note_in p)) rest) nope ∙ any-skip (λ p. is_other lives asked (note_in p)) (comes_next f s p.note) (λ x h. other-follows f s lives asked p x here nope h) rest ∙ ap (list_any (λ p. is_other lives asked (note_in p))) (sym jumped),
+      subst (BeginsWith (in_bucket f s (bucket_of f s asked.fingerprint))) (sym jumped) (same-bucket f s lives asked p here (drop (first_where (comes_next f s p.note) rest) rest) (begins-first (comes_next f s p.note) rest)),
     )
 
-pub search-steps : (f s : ℕ) (asked : Note) (ring : List Place) (age : ℕ) (p : Place) → AreLinked f s ring → IsSearch f s asked ring age → age < length ring → p ≡ get_or ring age p → is_other asked p.note ≡ false → IsSearch f s asked ring (age + (1 + p.between))
-search-steps f s asked ring age p linked h lt e nope =
+pub search-steps : (f s : ℕ) (lives : List ℕ) (asked : Note) (ring : List Place) (age : ℕ) (p : Place) → AreLinked f s ring → IsSearch f s lives asked ring age → age < length ring → p ≡ get_or ring age p → is_other lives asked p.note ≡ false → IsSearch f s lives asked ring (age + (1 + p.between))
+search-steps f s lives asked ring age p linked h lt e nope =
     let at = at-age ring age p lt e in
     let here : in_bucket f s (bucket_of f s asked.fingerprint) p ≡ true = subst (BeginsWith (in_bucket f s (bucket_of f s asked.fingerprint))) at h.begins in
-    let S = step f s asked p (drop (age + 1) ring) (subst (AreLinked f s) at (linked-drop f s age ring linked)) here nope in
+    let S = step f s lives asked p (drop (age + 1) ring) (subst (AreLinked f s) at (linked-drop f s age ring linked)) here nope in
     let j : drop p.between (drop (age + 1) ring) ≡ drop (age + (1 + p.between)) ring = drop-drop p.between (age + 1) ring ∙ ap (λ n. drop n ring) (omega arith) in
     record {
-      same = h.same ∙ ap (list_any (λ p. is_other asked (note_in p))) at ∙ S.0 ∙ ap (list_any (λ p. is_other asked (note_in p))) j;
+      same = h.same ∙ ap (list_any (λ p. is_other lives asked (note_in p))) at ∙ S.0 ∙ ap (list_any (λ p. is_other lives asked (note_in p))) j;
       begins = subst (BeginsWith (in_bucket f s (bucket_of f s asked.fingerprint))) j S.1;
     }
 
@@ -315,6 +316,7 @@ kept-more ring heads f s places newest room bucket p h own link =
       fits = number;
       shifted = h.shifted;
       all_buckets = rw sets h.all_buckets;
+      buckets = rw sets h.buckets;
       linked = linked-more f s (places - 1) p ring link h.linked;
       headed = λ b lt.
           let inside : b < length heads = omega (arith, lt, sets) in

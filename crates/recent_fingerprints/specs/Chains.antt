@@ -18,6 +18,12 @@ first_where test (x ∷ xs) = if test x then 0 else suc (first_where test xs)
 unfoldable pub bucket_of : ℕ → ℕ → ℕ → ℕ
 bucket_of factor shift fingerprint = (fingerprint * factor) % 2 ^ 64 / 2 ^ shift
 
+-- how many buckets there are for so many places: as many at least, and fewer than twice as many, unless there are 2
+pub record IsBucketCount (places count : ℕ) : Type 0 where
+  pub enough : places ≤ count
+  pub least : 2 ≤ count
+  pub few : 2 < count → count < 2 * places
+
 -- whether a note is in a bucket
 abbrev pub in_bucket : ℕ → ℕ → ℕ → Place → Bool
 in_bucket factor shift bucket p = bucket_of factor shift p.note.fingerprint == bucket
@@ -54,9 +60,10 @@ pub record AreKept (ring : List Place) (heads : List ℕ) (factor shift places n
   pub some : 1 ≤ places
   pub limit : places ≤ MAX_PLACES
   pub few : length ring ≤ places
-  pub room_for_all : places ≤ room
+  pub room_for_all : room ≡ places
   pub fits : newest < 2 ^ 32
   pub shifted : shift < 64
   pub all_buckets : length heads * 2 ^ shift ≡ 2 ^ 64
+  pub buckets : IsBucketCount places (length heads)
   pub linked : AreLinked factor shift ring
   pub headed : (b : ℕ) → b < length heads → IsHead factor shift b ring newest (slice_index heads b)

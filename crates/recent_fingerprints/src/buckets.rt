@@ -1,21 +1,22 @@
 //! The buckets of fingerprints.
 ghost use Rattle.std.specs.Prelude.{◌≡◌, ◌*◌, ◌≤◌, ◌<◌, ◌^◌};
-ghost use Rattle.recent_fingerprints.specs.Chains.{bucket_of};
-ghost use Rattle.recent_fingerprints.specs.declared.limits.TheConstants.{MAX_PLACES};
+ghost use Rattle.recent_fingerprints.specs.Chains.{bucket_of, IsBucketCount};
 
-// How a fingerprint's bucket is found: the highest bits of its product with an odd number. Of two fingerprints a part of at
-// most two in the number of buckets of all odd numbers make them meet, so nobody who doesn't know the number can choose
-// fingerprints that meet.
-#[derive(Clone, Copy)]
-pub(crate) struct Buckets {
-    pub(crate) factor: u64,
-    pub(crate) shift: u32,
+/// How a fingerprint's bucket is found: the highest bits of its product with an odd number. Of two fingerprints a part of at
+/// most two in the number of buckets of all odd numbers make them meet. So nobody who doesn't know the number can choose
+/// fingerprints that meet.
+#[derive(Clone, Copy, Debug, PartialEq, Eq)]
+pub struct Buckets {
+    /// The odd number.
+    pub factor: u64,
+    /// How many bits of a product name no bucket.
+    pub shift: u32,
 }
 
 impl Buckets {
-    // Returns the bucket of a fingerprint.
+    /// Returns the bucket of a fingerprint.
     #[inline]
-    pub(crate) fn of(self, fingerprint: u64) -> u64
+    pub fn of(self, fingerprint: u64) -> u64
         requires { self.shift < 64 }
         ensures { result ≡ bucket_of self.factor self.shift fingerprint }
     {
@@ -23,12 +24,12 @@ impl Buckets {
     }
 }
 
-// Returns the number of buckets for this many places, a power of two, and the bits of a product that name none.
-pub(crate) fn bucket_count(places: u32) -> (u32, u32)
-    requires { places ≤ MAX_PLACES }
+/// Returns the number of buckets for this many places, a power of two, and the bits of a product that name none.
+pub fn bucket_count(places: u32) -> (u32, u32)
+    requires { places ≤ 2 ^ 31 }
     ensures shift { result.1 < 64 }
     ensures all { result.0 * 2 ^ result.1 ≡ 2 ^ 64 }
-    ensures enough { places ≤ result.0 }
+    ensures count { IsBucketCount places result.0 }
 {
     let mut count = 2;
     let mut shift = 63;

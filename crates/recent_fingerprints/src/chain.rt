@@ -2,7 +2,7 @@
 ghost use Rattle.std.specs.Prelude.{◌≡◌, ◌-◌, ◌≤◌, ◌<◌, ◌∷◌, map, take, length};
 ghost use Rattle.std.specs.List.{list_any};
 ghost use Rattle.std.specs.VecDeque.{deque_capacity};
-ghost use Rattle.recent_fingerprints.specs.Notes.{is_other, is_same};
+ghost use Rattle.recent_fingerprints.specs.Notes.{is_other, is_same, life_of};
 ghost use Rattle.recent_fingerprints.specs.Chains.{AreKept, bucket_of, first_where, in_bucket, comes_next, note_in};
 
 use crate::buckets::Buckets;
@@ -21,15 +21,15 @@ pub(crate) struct Chains<A: Allocator> {
 }
 
 impl<A: Allocator> Chains<A> {
-    // Whether another page was noted with the fingerprint of this note.
-    pub(crate) fn has_other(&self, asked: Note) -> bool
+    // Whether another page was noted with the fingerprint of this note, by a client that has not ended since.
+    pub(crate) fn has_other(&self, lives: &[u64], asked: Note) -> bool
         requires { AreKept self.now.ring.items self.now.heads.items self.now.buckets.factor self.now.buckets.shift self.now.places self.now.newest (deque_capacity self.now.ring) }
-        ensures { result ≡ list_any (is_other asked) (map note_in self.now.ring.items) }
+        ensures { result ≡ list_any (is_other lives.now asked) (map note_in self.now.ring.items) }
     {
         let mut age = self.first(self.buckets.of(asked.fingerprint));
         while age < self.ring.len() {
             let place = self.ring[age];
-            if is_other(asked, place.note) {
+            if is_other(lives, asked, place.note) {
                 return true;
             }
             age += 1 + place.between as usize;
@@ -104,15 +104,28 @@ fn put_first<A: Allocator>(ring: &mut VecDeque<Place, A>, places: u32, place: Pl
     ring.push_front_reserved(place);
 }
 
-// Whether a note is of another page with the fingerprint of the note asked about.
+// Whether a note is of another page with the fingerprint of the note asked about, and its client has not ended since.
 #[inline]
-fn is_other(asked: Note, note: Note) -> bool
-    ensures { result ≡ is_other asked note }
+fn is_other(lives: &[u64], asked: Note, note: Note) -> bool
+    ensures { result ≡ is_other lives.now asked note }
 {
     if note.fingerprint != asked.fingerprint {
         return false;
     }
-    note.page.client != asked.page.client || note.page.number != asked.page.number
+    if note.page.client == asked.page.client && note.page.number == asked.page.number {
+        return false;
+    }
+    note.life == life_of(lives, note.page.client)
+}
+
+// Returns the life of the client with this number. It is 0 where no life is kept of the number.
+pub(crate) fn life_of(lives: &[u64], client: u32) -> u64
+    ensures { result ≡ life_of lives.now client }
+{
+    if client as usize >= lives.len() {
+        return 0;
+    }
+    lives[client as usize]
 }
 
 // Whether two notes are of the same page, with the same fingerprint.
@@ -123,4 +136,5 @@ fn is_same(one: Note, other: Note) -> bool
     one.fingerprint == other.fingerprint
         && one.page.client == other.page.client
         && one.page.number == other.page.number
+        && one.life == other.life
 }

@@ -10,6 +10,7 @@ mod limits;
 mod note;
 mod recent;
 
+pub use buckets::{Buckets, bucket_count};
 pub use limits::MAX_PLACES;
 pub use note::{Note, PageName};
 pub use recent::RecentFingerprints;

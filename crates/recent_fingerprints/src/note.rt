@@ -9,13 +9,15 @@ pub struct PageName {
     pub number: u64,
 }
 
-/// That a page was asked about or lent, with its fingerprint.
+/// That a page was asked about, with its fingerprint.
 #[derive(Clone, Copy, Debug, PartialEq, Eq)]
 pub struct Note {
     /// The fingerprint of the page's content.
     pub fingerprint: u64,
     /// The page.
     pub page: PageName,
+    /// The life of the page's client: how many clients with its number have ended, modulo 2^64.
+    pub life: u64,
 }
 
 // A note in its place, and how many notes stand between it and the next older one of its chain. Where that would be out of

@@ -1,22 +1,23 @@
 //! The last notes, as callers see them.
-ghost use Rattle.std.specs.Prelude.{◌≡◌, ◌≤◌, IfOk};
-ghost use Rattle.recent_fingerprints.specs.Notes.{nothing_noted, was_noted, with_note};
+ghost use Rattle.std.specs.Prelude.{◌≡◌, ◌≤◌, IfOk, replicate};
+ghost use Rattle.recent_fingerprints.specs.Notes.{forgotten, nothing_noted, was_noted, with_note};
 ghost use Rattle.recent_fingerprints.specs.declared.limits.TheConstants.{MAX_PLACES};
 
 use crate::buckets::{Buckets, bucket_count};
-use crate::chain::Chains;
+use crate::chain::{Chains, life_of};
 use crate::{Note, PageName};
 use std::alloc::{AllocError, Allocator, Global};
 use std::collections::VecDeque;
 use std::marker::Model;
 
 /// The last notes of pages with their fingerprints, as many as there are places. It says whether another page was noted with a
-/// fingerprint.
+/// fingerprint. Notes of clients that have ended don't count.
 ///
 /// `new` takes all memory.
 #[derive(Drop)]
 pub struct RecentFingerprints<A: Allocator = Global> {
     chains: Chains<A>,
+    lives: Vec<u64, A>,
 }
 
 impl<A: Allocator> Model for RecentFingerprints<A> {
@@ -27,7 +28,7 @@ impl<A: Allocator> Model for RecentFingerprints<A> {
 
     ghost Value = { Recent };
 
-    ghost view = { λ r. record { places = r.chains.places; factor = r.chains.buckets.factor; notes = map note_in r.chains.ring.items } };
+    ghost view = { λ r. record { places = r.chains.places; factor = r.chains.buckets.factor; lives = r.lives.items; notes = map note_in r.chains.ring.items } };
 
     ghost invariant = { λ r. AreKept r.chains.ring.items r.chains.heads.items r.chains.buckets.factor r.chains.buckets.shift r.chains.places r.chains.newest (deque_capacity r.chains.ring) };
 }
@@ -35,13 +36,20 @@ impl<A: Allocator> Model for RecentFingerprints<A> {
 impl<A: Allocator + Clone> RecentFingerprints<A> {
     ghost use Rattle.recent_fingerprints.specs.declared.limits.TheConstants.{MAX_PLACES};
 
-    /// Makes an empty list of notes with `places` places, 32 bytes each, and 4 to 8 more for the buckets. The seed is drawn at
-    /// random and kept secret: who knows it can choose fingerprints that take long to look up. No result depends on it.
-    pub fn new(alloc: A, places: u32, seed: u64) -> Result<RecentFingerprints<A>, AllocError>
+    /// Makes an empty list of notes with `places` places, 40 bytes each, and 4 to 8 more for the buckets. For each of so many
+    /// clients there are 8 bytes. The seed is drawn at random and kept secret: who knows it can choose fingerprints that take long
+    /// to look up. No result depends on it.
+    pub fn new(
+        alloc: A,
+        places: u32,
+        clients: u32,
+        seed: u64,
+    ) -> Result<RecentFingerprints<A>, AllocError>
         requires some { 1 ≤ places }
         requires limit { places ≤ MAX_PLACES }
-        ensures { IfOk result (λ recent. recent ≡ nothing_noted places seed) }
+        ensures { IfOk result (λ recent. recent ≡ nothing_noted places clients seed) }
     {
+        let lives = new_lives(alloc.clone()?, clients)?;
         let (count, shift) = bucket_count(places);
         let mut heads = Vec::new(alloc.clone()?);
         heads.resize(count as usize, 0)?;
@@ -58,26 +66,47 @@ impl<A: Allocator + Clone> RecentFingerprints<A> {
                 places,
                 newest: 0,
             },
+            lives,
         })
     }
+}
+
+// Makes the lives of so many clients, of which none has ended.
+fn new_lives<A: Allocator>(alloc: A, clients: u32) -> Result<Vec<u64, A>, AllocError>
+    ensures { IfOk result (λ lives. lives.items ≡ replicate clients 0) }
+{
+    let mut lives = Vec::with_capacity(alloc, clients as usize)?;
+    for _ in 0..clients {
+        lives.push_reserved(0);
+    }
+    Ok(lives)
 }
 
 impl<A: Allocator> RecentFingerprints<A> {
     /// Whether another page was noted with this fingerprint, within the last notes. Notes this page with it.
     pub fn ask(&mut self, page: PageName, fingerprint: u64) -> bool
-        ensures answered { result ≡ was_noted page fingerprint self.old.notes }
+        ensures answered { result ≡ was_noted page fingerprint self.old }
         ensures noted { self.new ≡ with_note page fingerprint self.old }
     {
-        let asked = Note { fingerprint, page };
-        let seen = self.chains.has_other(asked);
+        let life = life_of(&self.lives, page.client);
+        let asked = Note {
+            fingerprint,
+            page,
+            life,
+        };
+        let seen = self.chains.has_other(&self.lives, asked);
         self.chains.put(asked);
         seen
     }
 
-    /// Notes a page with its fingerprint, as for one that is lent.
-    pub fn note(&mut self, page: PageName, fingerprint: u64)
-        ensures { self.new ≡ with_note page fingerprint self.old }
+    /// A client has ended: its notes don't count from now on, also where its number becomes another client's. Nothing changes if
+    /// no life is kept of the number.
+    pub fn forget(&mut self, client: u32)
+        ensures { self.new ≡ forgotten client self.old }
     {
-        self.chains.put(Note { fingerprint, page });
+        if (client as usize) < self.lives.len() {
+            let life = self.lives[client as usize];
+            self.lives[client as usize] = life.wrapping_add(1);
+        }
     }
 }

@@ -31,32 +31,36 @@ fn ask_all<A: Allocator>(rt: &impl Abort, recent: &mut RecentFingerprints<A>) {
 
 #[test]
 fn three_places(rt: HostRuntime) -> Result<(), Fail> {
-    let mut recent = RecentFingerprints::new(rt.alloc(), 3, 0x9e37_79b9_7f4a_7c15)?;
+    let mut recent = RecentFingerprints::new(rt.alloc(), 3, 4, 0x9e37_79b9_7f4a_7c15)?;
     ask_all(&rt, &mut recent);
     Ok(())
 }
 
-// A lent page is noted as one that was asked about.
+// A client's questions don't count once it has ended, also where another client has its number.
 #[test]
-fn lent(rt: HostRuntime) -> Result<(), Fail> {
-    let mut recent = RecentFingerprints::new(rt.alloc(), 1, 0)?;
+fn ended(rt: HostRuntime) -> Result<(), Fail> {
+    let mut recent = RecentFingerprints::new(rt.alloc(), 4, 2, 0)?;
     let page = PageName {
         client: 1,
         number: 0,
     };
     let other = PageName {
-        client: 1,
-        number: 1,
+        client: 0,
+        number: 0,
     };
-    recent.note(page, 5);
-    assert!(rt; recent.ask(other, 5));
+    assert!(rt; !recent.ask(page, 5));
+    recent.forget(1);
     assert!(rt; !recent.ask(other, 5));
+    assert!(rt; recent.ask(page, 5));
+    recent.forget(0);
+    recent.forget(7);
+    assert!(rt; !recent.ask(page, 5));
     Ok(())
 }
 
 /// Asks about each, with no more memory once the list is made. Returns whether there was memory for the list.
 fn asks(rt: &impl Abort, heap: &Refusing) -> bool {
-    let Ok(mut recent) = RecentFingerprints::new(heap, 3, 7) else {
+    let Ok(mut recent) = RecentFingerprints::new(heap, 3, 4, 7) else {
         return false;
     };
     assert!(rt; !heap.has_refused());
@@ -79,5 +83,5 @@ fn new_refused_in_turn(rt: HostRuntime) {
             break;
         }
     }
-    assert_eq!(rt; whole_at, Some(2));
+    assert_eq!(rt; whole_at, Some(3));
 }

@@ -5,6 +5,7 @@ use Rattle.host_sessions.proofs.lend.lend_each.Given as goal
 
 abbrev pub invariant-loop-page : goal.invariant-loop-page
 invariant-loop-page g l = record {
-  lends : SoFar g.H.HashFunction.hash_of l.client l.quota l.pages l.slots l.fn.domain l.page-index l.count l.loans.items l.domain;
+  lends : SoFar g.H.HashFunction.hash_of l.client l.quota l.pages l.slots l.fn.domain.domain l.page-index l.count l.loans.items l.domain.domain;
+  salt : l.domain.salt ≡ l.fn.domain.salt;
   len : array_vec_len l.loans ≡ l.page-index;
 }

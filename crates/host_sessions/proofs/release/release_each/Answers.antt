@@ -1,4 +1,4 @@
-use Rattle.std.proofs.Common.{refl, arith}
+use Rattle.std.proofs.Common.{refl, ◌∙◌, arith}
 use Rattle.host_sessions.specs.Turns.{freed_by, after_releases, left_after}
 use Rattle.host_sessions.proofs.Loops.{freed_more, released_more, left_more, all_freed, all_released, all_left}
 use Rattle.host_sessions.proofs.release.release_each.Goals as goal
@@ -10,23 +10,24 @@ loop-number-preserved g c =
     let client = c.args.client in
     let ss = c.args.numbers.now in
     record {
-      freed = rw c.push.ensures.items (freed_more client ss l.number-index _ _ l.freed.items one.result.told l.domain one.new.domain (freed_by client ss c.args.domain.now) c.loop-number-test.true refl one.ensures.told one.ensures.domain l.invariant.freed);
-      left = left_more client ss l.number-index _ _ l.count one.result.slots l.domain one.new.domain (left_after client c.args.slots ss c.args.domain.now) c.loop-number-test.true refl one.ensures.slots one.ensures.domain l.invariant.left;
-      domain = released_more client ss l.number-index _ _ l.domain one.new.domain (after_releases client ss c.args.domain.now) c.loop-number-test.true refl one.ensures.domain l.invariant.domain;
+      freed = rw c.push.ensures.items (freed_more client ss l.number-index _ _ l.freed.items one.result.told l.domain.domain one.new.domain.domain (freed_by client ss c.args.domain.now.domain) c.loop-number-test.true refl one.ensures.told one.ensures.domain l.invariant.freed);
+      left = left_more client ss l.number-index _ _ l.count one.result.slots l.domain.domain one.new.domain.domain (left_after client c.args.slots ss c.args.domain.now.domain) c.loop-number-test.true refl one.ensures.slots one.ensures.domain l.invariant.left;
+      domain = released_more client ss l.number-index _ _ l.domain.domain one.new.domain.domain (after_releases client ss c.args.domain.now.domain) c.loop-number-test.true refl one.ensures.domain l.invariant.domain;
+      salt = one.ensures.salt ∙ l.invariant.salt;
       len = omega (arith, c.push.ensures.len, l.invariant.len);
     }
 
 pub returns-clause-freed : goal.returns-clause-freed
 returns-clause-freed g c =
     let l = c.loop-number in
-    all_freed c.args.client c.args.numbers.now l.number-index l.freed.items l.domain (freed_by c.args.client c.args.numbers.now c.args.domain.now) c.loop-number-test.false l.invariant.freed
+    all_freed c.args.client c.args.numbers.now l.number-index l.freed.items l.domain.domain (freed_by c.args.client c.args.numbers.now c.args.domain.now.domain) c.loop-number-test.false l.invariant.freed
 
 pub returns-clause-slots : goal.returns-clause-slots
 returns-clause-slots g c =
     let l = c.loop-number in
-    all_left c.args.client c.args.numbers.now l.number-index l.count l.domain (left_after c.args.client c.args.slots c.args.numbers.now c.args.domain.now) c.loop-number-test.false l.invariant.left
+    all_left c.args.client c.args.numbers.now l.number-index l.count l.domain.domain (left_after c.args.client c.args.slots c.args.numbers.now c.args.domain.now.domain) c.loop-number-test.false l.invariant.left
 
 pub returns-clause-domain : goal.returns-clause-domain
 returns-clause-domain g c =
     let l = c.loop-number in
-    all_released c.args.client c.args.numbers.now l.number-index l.domain (after_releases c.args.client c.args.numbers.now c.args.domain.now) c.loop-number-test.false l.invariant.domain
+    all_released c.args.client c.args.numbers.now l.number-index l.domain.domain (after_releases c.args.client c.args.numbers.now c.args.domain.now.domain) c.loop-number-test.false l.invariant.domain

@@ -11,22 +11,22 @@ first-age-requires-clause-bucket g c =
 pub loop-age-init : goal.loop-age-init
 loop-age-init g c =
     let s = c.args.self.now in
-    search-begins s.buckets.factor s.buckets.shift c.args.asked s.ring.items c.first-age.result (c.first-age.ensures ∙ ap (λ b. first_where (in_bucket s.buckets.factor s.buckets.shift b) s.ring.items) c.of.ensures)
+    search-begins s.buckets.factor s.buckets.shift c.args.lives.now c.args.asked s.ring.items c.first-age.result (c.first-age.ensures ∙ ap (λ b. first_where (in_bucket s.buckets.factor s.buckets.shift b) s.ring.items) c.of.ensures)
 
 pub returns-then-is_other : goal.returns-then-is_other
 returns-then-is_other g c =
     let s = c.args.self.now in
     let within : c.loop-age.age < length s.ring.items = omega (arith, c.len.ensures, s.ring.ok.0) in
-    sym (search-finds s.buckets.factor s.buckets.shift c.args.asked s.ring.items c.loop-age.age c.index-place.result.now c.loop-age.invariant within c.index-place.ensures (sym c.is_other.ensures ∙ c.if-is_other.true))
+    sym (search-finds s.buckets.factor s.buckets.shift c.args.lives.now c.args.asked s.ring.items c.loop-age.age c.index-place.result.now c.loop-age.invariant within c.index-place.ensures (sym c.is_other.ensures ∙ c.if-is_other.true))
 
 pub loop-age-preserved : goal.loop-age-preserved
 loop-age-preserved g c =
     let s = c.args.self.now in
     let within : c.loop-age.age < length s.ring.items = omega (arith, c.len.ensures, s.ring.ok.0) in
-    search-steps s.buckets.factor s.buckets.shift c.args.asked s.ring.items c.loop-age.age c.index-place.result.now c.requires.linked c.loop-age.invariant within c.index-place.ensures (sym c.is_other.ensures ∙ c.if-is_other.false)
+    search-steps s.buckets.factor s.buckets.shift c.args.lives.now c.args.asked s.ring.items c.loop-age.age c.index-place.result.now c.requires.linked c.loop-age.invariant within c.index-place.ensures (sym c.is_other.ensures ∙ c.if-is_other.false)
 
 pub returns : goal.returns
 returns g c =
     let s = c.args.self.now in
     let past : length s.ring.items ≤ c.loop-age.age = omega (arith, c.len.ensures, s.ring.ok.0) in
-    sym (search-ends s.buckets.factor s.buckets.shift c.args.asked s.ring.items c.loop-age.age c.loop-age.invariant past)
+    sym (search-ends s.buckets.factor s.buckets.shift c.args.lives.now c.args.asked s.ring.items c.loop-age.age c.loop-age.invariant past)

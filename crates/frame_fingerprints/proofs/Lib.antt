@@ -1,0 +1,4 @@
+pub mod Paths
+pub mod Nodes
+pub mod Search
+pub mod Changes

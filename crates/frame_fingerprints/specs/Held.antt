@@ -1,0 +1,25 @@
+-- The fingerprints of frames, as callers see them: one for each frame that has one.
+use Rattle.std.specs.Prelude.{ℕ, Bool, false, ◌==◌, List, Option, Some, None, replicate, bit_or}
+use Rattle.std.specs.List.{list_any}
+
+-- the fingerprints by the frames' numbers; and the number by which fingerprints are spread over buckets, on which no answer
+-- depends
+pub record Fingerprints : Type 0 where
+  pub factor : ℕ
+  pub held : List (Option ℕ)
+
+-- whether a frame has this fingerprint
+abbrev pub is_this : ℕ → Option ℕ → Bool
+is_this fingerprint None = false
+is_this fingerprint (Some f) = f == fingerprint
+
+-- whether one of the frames has it
+abbrev pub is_held : ℕ → List (Option ℕ) → Bool
+is_held fingerprint held = list_any (is_this fingerprint) held
+
+-- no frame has a fingerprint; the factor is the seed made odd
+abbrev pub none_held : ℕ → ℕ → Fingerprints
+none_held frames seed = record { factor = bit_or seed 1; held = replicate frames None }
+
+abbrev pub with_held : List (Option ℕ) → Fingerprints → Fingerprints
+with_held held f = record { factor = f.factor; held = held }
