@@ -6,10 +6,12 @@
 
 mod buckets;
 mod chain;
+mod laws;
 mod limits;
 mod note;
 mod recent;
 
+pub use laws::limits_law;
 pub use limits::MAX_PLACES;
 pub use note::{Note, PageName};
 pub use recent::RecentFingerprints;
