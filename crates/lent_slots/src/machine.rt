@@ -153,8 +153,8 @@ impl<H: PageHash, A: Allocator> LentSlots<H, A> {
         if sharers == 0 { Some(held.frame) } else { None }
     }
 
-    /// Returns the first slot that is this client's. It looks at no slot if the client has none, and at each slot once at most in all
-    /// calls between two lends to the client.
+    /// Returns the first slot that is this client's. It looks at no slot if the client has none. All calls between two lends to the
+    /// client together pass over each slot once at most.
     pub fn first_of(&mut self, client: u32) -> Option<u32>
         ensures slot { result ≡ position (is_of client) self.old.slots }
         ensures within { IfSome result (λ ppn. ppn < length self.old.slots) }

@@ -160,8 +160,8 @@ impl<H: PageHash, A: Allocator> Domain<H, A> {
     /// and is out, and its number may be given to another. Returns `None` if there is no such client. Give room for one frame
     /// at least: with none, 0 could mean either.
     ///
-    /// A client without slots costs a look at each machine, and at no slot. In all calls of one leave together each slot from the
-    /// client's first one to its last one is looked at once at most.
+    /// A client without slots costs a look at each machine, and at no slot. All calls of one leave together pass over each slot once
+    /// at most, and stop in each machine at the client's last slot there.
     pub fn leave(&mut self, client: u32, freed: &mut [u32]) -> Option<usize>
         requires room { 1 ≤ length freed.old }
         ensures { MatchOption result (StaysOut client freed.old freed.new self.old self.new)
