@@ -63,7 +63,7 @@ share_domain/src/config.rt MAX_MACHINES share_domain/src/fault.rt include/pagesh
     bindings/rust/src/domain.rs bindings/rust/src/error.rs docs/HOST.md
 share_domain/src/config.rt MAX_CLIENTS share_domain/src/fault.rt include/pageshare.h include/pageshare_host.h
     bindings/rust/src/domain.rs bindings/rust/src/error.rs
-recent_fingerprints/src/limits.rt MAX_PLACES host_sessions/src/config.rt include/pageshare.h include/pageshare_host.h host/domain.c
+recent_fingerprints/src/limits.rt MAX_PLACES recent_fingerprints/README.md host_sessions/src/config.rt include/pageshare.h include/pageshare_host.h host/domain.c
     bindings/rust/src/domain.rs bindings/rust/src/error.rs
 trace_text/src/trace.rt MAX_TRACE_FRAMES trace_text/src/laws.rt docs/FORMATS.md
 """

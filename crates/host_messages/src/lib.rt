@@ -9,6 +9,7 @@ mod host;
 mod item;
 mod limits;
 mod list;
+mod numbers;
 
 pub use client::{ClientMessage, Name};
 pub use fault::MessageFault;
@@ -18,3 +19,4 @@ pub use limits::{
     ASK, HEAD_BYTES, HELLO, LEND, LOANS, MAX_IN_MESSAGE, MAX_MESSAGE_BYTES, NAME_BYTES, NO_FRAME,
     RELEASE, SEEN, VERSION, WELCOME,
 };
+pub use numbers::limits_law;

@@ -1,9 +1,11 @@
 pub mod SlotLists
 pub mod Moves
+pub mod Noted
 pub mod Lent
 pub mod Given
 pub mod Sounds
 pub mod Owned
 pub mod Empty
+pub mod Bytes
 pub mod Refused
 pub mod Lends

@@ -1,3 +1,5 @@
+pub mod Bytes
 pub mod Fits
+pub mod Noted
 pub mod Slots
 pub mod Totals

@@ -27,6 +27,10 @@ abbrev pub is_of : ℕ → Option Holding → Bool
 is_of client None = false
 is_of client (Some h) = h.client == client
 
+-- how many slots are this client's
+abbrev pub held_by : ℕ → List (Option Holding) → ℕ
+held_by client slots = count_by (is_of client) slots
+
 -- how many slots have this frame
 abbrev pub sharers : ℕ → List (Option Holding) → ℕ
 sharers mpn slots = count_by (has_frame mpn) slots

@@ -14,3 +14,10 @@ pub struct PageLoan {
     pub frame: u32,
     pub sharers: u32,
 }
+
+/// What is noted of a client: how many slots it has, and a slot below which it has none.
+#[derive(Clone, Copy, Debug, PartialEq, Eq)]
+pub struct ClientSlots {
+    pub count: u32,
+    pub start: u32,
+}

@@ -5,6 +5,7 @@
 //! calls, so that a page can join others where no frame is free for it alone.
 #![tactic(auto)]
 
+mod clients;
 mod core_slots;
 mod count;
 mod fault;
@@ -12,6 +13,7 @@ mod holding;
 mod machine;
 mod make;
 
+pub use clients::is_of;
 pub use fault::SlotFault;
 pub use holding::{Holding, PageLoan};
 pub use machine::LentSlots;

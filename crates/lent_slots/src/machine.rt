@@ -1,15 +1,17 @@
 //! Slots over a core.
-ghost use Rattle.std.specs.Prelude.{◌≡◌, ◌≤◌, length, None, Some, IfOk, MatchResult, slice_set};
+ghost use Rattle.std.specs.Prelude.{◌≡◌, ◌<◌, ◌≤◌, length, None, Some, IfOk, IfSome, MatchResult, position, slice_set};
 ghost use Rattle.page_model.specs.declared.limits.TheConstants.{MAX_FRAMES, MAX_PAGES};
 ghost use Rattle.machine_frames.specs.FrameMap.{no_frames};
 ghost use Rattle.lent_slots.specs.Totals.{held_slots, frames_in_use, shared_slots, FramesOfSlots, empty_machine};
-ghost use Rattle.lent_slots.specs.Slots.{holding, LendsPage, RefusesPage, released, freed, left_free, without};
+ghost use Rattle.lent_slots.specs.Bytes.{BytesStayIn};
+ghost use Rattle.lent_slots.specs.Slots.{holding, is_of, held_by, LendsPage, RefusesPage, released, freed, left_free, without};
 
+use crate::clients::{count_at, count_of, find_from, note_less, note_more, note_start, place_of};
 use crate::core_slots::{hold, take};
 use crate::count::{add_sharer, count_shared, drop_sharer};
 use crate::fault::SlotFault;
-use crate::holding::{Holding, PageLoan};
-use crate::make::{new_core, new_counts, new_free, new_slots};
+use crate::holding::{ClientSlots, Holding, PageLoan};
+use crate::make::{new_clients, new_core, new_counts, new_free, new_slots};
 use machine_frames::Frames;
 use merge_core::{Core, SaltedHash};
 use page_digest::PageHash;
@@ -17,34 +19,40 @@ use page_model::Page;
 use std::alloc::{AllocError, Allocator, Global};
 use std::marker::Model;
 
-/// Slots and their frames: the core that has the frames, what each slot holds, the slots that are free, and how many slots have
-/// each frame.
+/// Slots and their frames: the core that has the frames, what each slot holds, the slots that are free, how many slots have
+/// each frame, and what is noted of each client.
 #[derive(Drop)]
 pub struct LentSlots<H: PageHash, A: Allocator = Global> {
     core: Core<H, A>,
     slots: Vec<Option<Holding>, A>,
     free: Vec<u32, A>,
     counts: Vec<u32, A>,
+    clients: Vec<ClientSlots, A>,
 }
 
 impl<H: PageHash, A: Allocator> Model for LentSlots<H, A> {
     ghost use Rattle.std.specs.Prelude.{length, ◌≤◌, vec_capacity};
     ghost use Rattle.lent_slots.specs.Slots.{MachineView};
     ghost use Rattle.lent_slots.specs.Fits.{Sound};
+    ghost use Rattle.lent_slots.specs.Noted.{AreNoted};
 
     ghost Value = { MachineView };
 
     ghost view = { λ m. record { slots = m.slots.items; frames = m.core.frames } };
 
-    ghost invariant = { λ m. Sound m.core m.slots.items m.free.items m.counts.items × (length m.slots.items ≤ vec_capacity m.free) };
+    ghost invariant = { λ m. Sound m.core m.slots.items m.free.items m.counts.items × (length m.slots.items ≤ vec_capacity m.free) × AreNoted m.slots.items m.clients.items };
 }
 
 impl<H: PageHash + Drop, A: Allocator + Clone> LentSlots<H, A> {
     /// Makes `count` slots over these frames, all of them free. Pages are hashed under the salt. There are 1 to 1,048,576 slots, and
     /// 2 to 1,048,576 frames, one of which is spare. All other memory is allocated here.
+    ///
+    /// The slots of a client whose number is below `clients` are counted as they are lent and released, and are found without a look
+    /// at those before them. That takes 8 bytes for each client. Any other client's slots are sought among all.
     pub fn new(
         alloc: A,
         count: u32,
+        clients: u32,
         salt: u32,
         hash: H,
         frames: Frames<A>,
@@ -54,6 +62,7 @@ impl<H: PageHash + Drop, A: Allocator + Clone> LentSlots<H, A> {
         ensures { IfOk result (λ slots. slots ≡ empty_machine count (length frames)) }
     {
         let counts = new_counts(alloc.clone()?, frames.total())?;
+        let noted = new_clients(alloc.clone()?, clients)?;
         let free = new_free(alloc.clone()?, count)?;
         let slots = new_slots(alloc.clone()?, count)?;
         let core = new_core(alloc, count, salt, hash, frames)?;
@@ -62,6 +71,7 @@ impl<H: PageHash + Drop, A: Allocator + Clone> LentSlots<H, A> {
             slots,
             free,
             counts,
+            clients: noted,
         })
     }
 }
@@ -82,7 +92,9 @@ impl<H: PageHash, A: Allocator> LentSlots<H, A> {
         requires hash { known.hash ≡ H.hash_of known.salt page.now }
         ensures lends { MatchResult result (λ loan. LendsPage client page.now loan self.old self.new)
             (λ fault. RefusesPage fault self.old × (self.new ≡ self.old)) }
+        ensures bytes { IfOk result (λ _. BytesStayIn self.old self.new) }
     {
+        self.frames();
         match self.free.pop() {
             None => Err(SlotFault::NoSlot),
             Some(ppn) => match hold(&mut self.core, &mut self.slots, client, ppn, page, known) {
@@ -92,6 +104,7 @@ impl<H: PageHash, A: Allocator> LentSlots<H, A> {
                 }
                 Some(frame) => {
                     let sharers = add_sharer(&mut self.counts, frame);
+                    note_more(&mut self.clients, client, ppn);
                     Ok(PageLoan {
                         ppn,
                         frame,
@@ -114,9 +127,11 @@ impl<H: PageHash, A: Allocator> LentSlots<H, A> {
 
     /// Releases a slot, and returns the frame that is free since: that of the slot, unless other slots have it, too. A slot that is
     /// free stays so. It allocates no memory.
+    #[tactic(auto, using(crate::proofs::Bytes::bytes_by_release))]
     pub fn release(&mut self, ppn: u32) -> Option<u32>
         ensures freed { result ≡ freed ppn self.old }
         ensures now { self.new ≡ released ppn self.old }
+        ensures bytes { BytesStayIn self.old self.new }
     {
         match self.holding(ppn) {
             None => None,
@@ -134,7 +149,38 @@ impl<H: PageHash, A: Allocator> LentSlots<H, A> {
         self.slots[ppn as usize] = None;
         self.free.push_reserved(ppn);
         let sharers = drop_sharer(&mut self.counts, held.frame);
+        note_less(&mut self.clients, held.client, ppn);
         if sharers == 0 { Some(held.frame) } else { None }
+    }
+
+    /// Returns the first slot that is this client's. It looks at no slot if the client has none. All calls between two lends to the
+    /// client together pass over each slot once at most.
+    pub fn first_of(&mut self, client: u32) -> Option<u32>
+        ensures slot { result ≡ position (is_of client) self.old.slots }
+        ensures within { IfSome result (λ ppn. ppn < length self.old.slots) }
+        ensures same { self.new ≡ self.old }
+    {
+        match place_of(&self.clients, client) {
+            None => None,
+            Some(start) => match find_from(&self.slots, client, start) {
+                None => None,
+                Some(ppn) => {
+                    note_start(&mut self.clients, client, ppn);
+                    Some(ppn)
+                }
+            },
+        }
+    }
+
+    /// Returns how many slots are this client's.
+    pub fn held_by(&self, client: u32) -> u32
+        ensures count { result ≡ held_by client self.now.slots }
+        ensures few { result ≤ MAX_PAGES }
+    {
+        if client as usize >= self.clients.len() {
+            return count_of(&self.slots, client);
+        }
+        count_at(&self.clients, client)
     }
 
     /// Returns the frames. A frame is taken exactly where slots have it.

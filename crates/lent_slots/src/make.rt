@@ -3,8 +3,9 @@ ghost use Rattle.std.specs.Prelude.{◌≡◌, ◌≤◌, length, replicate, Non
 ghost use Rattle.machine_frames.specs.FrameMap.{no_frames};
 ghost use Rattle.page_model.specs.declared.limits.TheConstants.{MAX_FRAMES, MAX_PAGES};
 ghost use Rattle.lent_slots.specs.Fits.{Fits, ListsFree};
+ghost use Rattle.lent_slots.specs.Noted.{no_slots};
 
-use crate::holding::Holding;
+use crate::holding::{ClientSlots, Holding};
 use machine_frames::Frames;
 use merge_core::Core;
 use page_digest::PageHash;
@@ -68,4 +69,15 @@ pub fn new_counts<A: Allocator>(alloc: A, frames: u32) -> Result<Vec<u32, A>, Al
         counts.push_reserved(0);
     }
     Ok(counts)
+}
+
+/// Notes so many clients that have no slot.
+pub fn new_clients<A: Allocator>(alloc: A, clients: u32) -> Result<Vec<ClientSlots, A>, AllocError>
+    ensures { IfOk result (λ noted. noted.items ≡ replicate clients no_slots) }
+{
+    let mut noted = Vec::with_capacity(alloc, clients as usize)?;
+    for _ in 0..clients {
+        noted.push_reserved(ClientSlots { count: 0, start: 0 });
+    }
+    Ok(noted)
 }

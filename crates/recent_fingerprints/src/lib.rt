@@ -6,11 +6,13 @@
 
 mod buckets;
 mod chain;
+mod laws;
 mod limits;
 mod note;
 mod recent;
 
 pub use buckets::{Buckets, bucket_count};
+pub use laws::limits_law;
 pub use limits::MAX_PLACES;
 pub use note::{Note, PageName};
 pub use recent::RecentFingerprints;

@@ -4,10 +4,8 @@ use Rattle.share_domain.specs.declared.client.Presence.{Presence}
 use Rattle.share_domain.specs.declared.client.Presence.TheVariants.{Out, In, Leaving}
 use Rattle.share_domain.specs.declared.holding.Slot.{Slot}
 use Rattle.share_domain.specs.declared.client.TheConstants.{NO_FRAME}
-use Rattle.std.specs.Option.{option_map}
-use Rattle.lent_slots.specs.declared.holding.Holding.{Holding}
 use Rattle.lent_slots.specs.Slots.{MachineView, is_of}
-use Rattle.share_domain.specs.Domains.{DomainView, machine_at, with_released, freed_in}
+use Rattle.share_domain.specs.Domains.{DomainView, with_released, freed_in}
 
 -- a slot of this machine if there is one, and otherwise a later one
 abbrev pub or_later : ℕ → Option ℕ → Option Slot → Option Slot
@@ -22,16 +20,6 @@ slot_from client m (machine ∷ machines) = or_later m (position (is_of client) 
 -- the first slot of a client
 abbrev pub first_slot : ℕ → List MachineView → Option Slot
 first_slot client machines = slot_from client 0 machines
-
--- the first slot of a client after this one, at its machine
-abbrev pub ppn_after : ℕ → ℕ → List (Option Holding) → Option ℕ
-ppn_after client ppn slots = option_map (λ k. ppn + 1 + k) (position (is_of client) (drop (ppn + 1) slots))
-
--- the first slot of a client after this one
-abbrev pub next_slot : ℕ → Slot → List MachineView → Option Slot
-next_slot client slot machines =
-    or_later slot.machine (ppn_after client slot.ppn (machine_at machines slot.machine).slots)
-    (slot_from client (slot.machine + 1) (drop (slot.machine + 1) machines))
 
 -- how a freed frame is told, or that there is none
 abbrev pub told : Option ℕ → ℕ

@@ -1,3 +1,4 @@
+pub mod Bytes
 pub mod Domains
 pub mod Given
 pub mod Leaving

@@ -1,6 +1,6 @@
 -- What a domain counts.
-use Rattle.std.specs.Prelude.{◌-◌, Bool, true, false, List, length, count_by, sum_by}
-use Rattle.lent_slots.specs.Slots.{MachineView}
+use Rattle.std.specs.Prelude.{ℕ, ◌-◌, Bool, true, false, List, length, count_by, sum_by}
+use Rattle.lent_slots.specs.Slots.{MachineView, held_by}
 use Rattle.lent_slots.specs.Totals.{held_slots, shared_slots, frames_in_use}
 use Rattle.share_domain.specs.declared.client.Presence.{Presence}
 use Rattle.share_domain.specs.declared.client.Presence.TheVariants.{Out, In, Leaving}
@@ -12,6 +12,10 @@ abbrev pub is_present : Presence → Bool
 is_present Out = false
 is_present In = true
 is_present Leaving = true
+
+-- how many slots are a client's
+abbrev pub slots_of : ℕ → List MachineView → ℕ
+slots_of client machines = sum_by (λ m. held_by client m.slots) machines
 
 -- the numbers of a report. Reclaimed is the slots held minus the frames in use
 abbrev pub totals_of : List MachineView → List Presence → DomainReport

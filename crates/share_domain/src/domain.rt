@@ -1,10 +1,13 @@
 //! The domain.
-ghost use Rattle.std.specs.Prelude.{◌≡◌, ◌<◌, ◌≤◌, ◌++◌, drop, length, IfOk, IfSome, Some, MatchOption, MatchResult, slice_get};
+ghost use Rattle.std.specs.Prelude.{◌≡◌, ◌*◌, ◌<◌, ◌≤◌, ◌++◌, drop, length, IfOk, IfSome, Some, MatchOption, MatchResult, slice_get};
+ghost use Rattle.share_domain.specs.Bytes.{BytesStay};
 ghost use Rattle.share_domain.specs.Domains.{next_client, entered, page_machine, LendsIn, RefusesIn, release_answer, after_release};
 ghost use Rattle.share_domain.specs.Domains.{held_in, machine_at, with_client, with_machines, with_released, freed_in};
-ghost use Rattle.share_domain.specs.Leaving.{Leaves, StaysOut, first_slot, is_here, left_by, next_slot};
+ghost use Rattle.share_domain.specs.Leaving.{Leaves, StaysOut, first_slot, is_here, left_by, slot_from};
 ghost use Rattle.share_domain.specs.Made.{AreLimits, AreFree, NoDomainFor, empty_domain};
-ghost use Rattle.share_domain.specs.Totals.{domain_totals};
+ghost use Rattle.share_domain.specs.Totals.{domain_totals, slots_of};
+ghost use Rattle.share_domain.specs.declared.config.TheConstants.{MAX_MACHINES};
+ghost use Rattle.page_model.specs.declared.limits.TheConstants.{MAX_PAGES};
 ghost use Rattle.lent_slots.specs.Totals.{FramesOfSlots};
 
 use crate::client::Presence;
@@ -12,11 +15,11 @@ use crate::clients::{find_out, is_here, is_in};
 use crate::config::{DomainConfig, check_limits};
 use crate::fault::{DomainFault, LendFault, NoSuchSlot};
 use crate::holding::{Loan, Slot};
-use crate::leave::{find_next, find_slot, is_of, told};
+use crate::leave::{find_slot, told};
 use crate::lend::{holding_at, lend_at, machine_of, release_at};
 use crate::make::{new_clients, new_frames, new_machines};
-use crate::report::{DomainReport, report};
-use lent_slots::{Holding, LentSlots, SlotFault};
+use crate::report::{DomainReport, count_slots, report};
+use lent_slots::{Holding, LentSlots, SlotFault, is_of};
 use machine_frames::Frames;
 use merge_core::SaltedHash;
 use page_digest::PageHash;
@@ -103,10 +106,12 @@ impl<H: PageHash, A: Allocator> Domain<H, A> {
     ///
     /// The client isn't in or has begun to leave; the machine has no free slot; or the page joined no other, and all frames of the
     /// machine but the spare one are in use. Then nothing changed.
+    #[tactic(auto, using(crate::proofs::Bytes::bytes_by_lend))]
     pub fn lend(&mut self, client: u32, page: &Page) -> Result<Loan, LendFault>
         ensures lends { MatchResult result
             (λ loan. LendsIn (page_machine H.hash_of self.old page.now) client page.now loan self.old self.new)
             (λ fault. RefusesIn (page_machine H.hash_of self.old page.now) client fault self.old × (self.new ≡ self.old)) }
+        ensures bytes { IfOk result (λ _. BytesStay self.old self.new) }
     {
         if !is_in(&self.clients, client) {
             return Err(LendFault::NoClient);
@@ -136,9 +141,11 @@ impl<H: PageHash, A: Allocator> Domain<H, A> {
     /// # Errors
     ///
     /// The slot isn't the client's. Then nothing changed.
+    #[tactic(auto, using(crate::proofs::Bytes::bytes_by_release))]
     pub fn release(&mut self, client: u32, slot: Slot) -> Result<Option<u32>, NoSuchSlot>
         ensures answer { result ≡ release_answer client slot self.old }
         ensures now { self.new ≡ after_release client slot self.old }
+        ensures bytes { BytesStay self.old self.new }
     {
         if !is_of(client, &holding_at(&self.machines, slot)) {
             return Err(NoSuchSlot);
@@ -153,7 +160,8 @@ impl<H: PageHash, A: Allocator> Domain<H, A> {
     /// and is out, and its number may be given to another. Returns `None` if there is no such client. Give room for one frame
     /// at least: with none, 0 could mean either.
     ///
-    /// It goes through the domain's slots from the first one on, once at most.
+    /// A client without slots costs a look at each machine, and at no slot. All calls of one leave together pass over each slot once
+    /// at most, and stop in each machine at the client's last slot there.
     pub fn leave(&mut self, client: u32, freed: &mut [u32]) -> Option<usize>
         requires room { 1 ≤ length freed.old }
         ensures { MatchOption result (StaysOut client freed.old freed.new self.old self.new)
@@ -162,7 +170,7 @@ impl<H: PageHash, A: Allocator> Domain<H, A> {
         if !self.is_present(client) {
             return None;
         }
-        match self.first_slot(client) {
+        match self.first_slot(client, 0) {
             None => {
                 self.note(client, Presence::Out);
                 Some(0)
@@ -179,6 +187,14 @@ impl<H: PageHash, A: Allocator> Domain<H, A> {
         ensures { result ≡ domain_totals self.now }
     {
         report(&self.machines, &self.clients)
+    }
+
+    /// Returns how many slots a client has. It looks at no slot.
+    pub fn held_by(&self, client: u32) -> u32
+        ensures count { result ≡ slots_of client self.now.machines }
+        ensures few { result ≤ MAX_PAGES * MAX_MACHINES }
+    {
+        count_slots(&self.machines, client)
     }
 
     /// Returns what a slot holds, `None` if it is free or there is no such slot. The frame's number is that in its machine.
@@ -211,21 +227,14 @@ impl<H: PageHash, A: Allocator> Domain<H, A> {
         is_here(&self.clients, client)
     }
 
-    /// Returns a client's first slot.
-    fn first_slot(&self, client: u32) -> Option<Slot>
-        ensures slot { result ≡ first_slot client self.now.machines }
-        ensures within { IfSome result (λ slot. slot.machine < length self.now.machines) }
+    /// Returns a client's first slot, from a machine on.
+    fn first_slot(&mut self, client: u32, machine: u32) -> Option<Slot>
+        requires { machine ≤ length self.old.machines }
+        ensures slot { result ≡ slot_from client machine (drop machine self.old.machines) }
+        ensures within { IfSome result (λ slot. slot.machine < length self.old.machines) }
+        ensures same { self.new ≡ self.old }
     {
-        find_slot(&self.machines, client, 0)
-    }
-
-    /// Returns a client's first slot after this one.
-    fn next_slot(&self, client: u32, slot: Slot) -> Option<Slot>
-        requires { slot.machine < length self.now.machines }
-        ensures slot { result ≡ next_slot client slot self.now.machines }
-        ensures within { IfSome result (λ slot. slot.machine < length self.now.machines) }
-    {
-        find_next(&self.machines, client, slot)
+        find_slot(&mut self.machines, client, machine as usize)
     }
 
     /// Notes a client's presence.
@@ -262,7 +271,7 @@ impl<H: PageHash, A: Allocator> Domain<H, A> {
                 None => return i,
                 Some(slot) => {
                     freed[i] = told(self.give_up(slot));
-                    found = self.next_slot(client, slot);
+                    found = self.first_slot(client, slot.machine);
                 }
             }
         }

@@ -1,6 +1,7 @@
 //! Lending and releasing at one of a domain's machines.
-ghost use Rattle.std.specs.Prelude.{◌≡◌, ◌<◌, length, IfSome, MatchResult, slice_set};
+ghost use Rattle.std.specs.Prelude.{◌≡◌, ◌<◌, length, IfOk, IfSome, MatchResult, slice_set};
 ghost use Rattle.share_domain.specs.Domains.{machine_at, machine_of, held_in, with_released};
+ghost use Rattle.lent_slots.specs.Bytes.{BytesStayIn};
 ghost use Rattle.lent_slots.specs.Slots.{LendsPage, RefusesPage, freed};
 
 use crate::holding::Slot;
@@ -33,6 +34,7 @@ pub(crate) fn lend_at<H: PageHash, A: Allocator>(
         (λ loan. LendsPage client page.now loan (machine_at machines.old.items m) (machine_at machines.new.items m))
         (λ fault. RefusesPage fault (machine_at machines.old.items m) × (machines.new.items ≡ machines.old.items)) }
     ensures others { machines.new.items ≡ slice_set machines.old.items m (machine_at machines.new.items m) }
+    ensures bytes { IfOk result (λ _. BytesStayIn (machine_at machines.old.items m) (machine_at machines.new.items m)) }
 {
     machines[m].lend(client, page, known)
 }

@@ -44,6 +44,7 @@ pub(crate) fn new_machines<H: PageHash + Drop + Copy, A: Allocator + Clone>(
         machines.push_reserved(LentSlots::new(
             alloc.clone()?,
             config.slots,
+            config.clients,
             config.salt,
             hash,
             own,

@@ -1,6 +1,7 @@
 //! What a domain counts.
-ghost use Rattle.std.specs.Prelude.{◌≡◌, ◌≤◌, length, count_by};
-ghost use Rattle.share_domain.specs.Totals.{is_present, totals_of};
+ghost use Rattle.std.specs.Prelude.{◌≡◌, ◌*◌, ◌≤◌, length, count_by};
+ghost use Rattle.page_model.specs.declared.limits.TheConstants.{MAX_PAGES};
+ghost use Rattle.share_domain.specs.Totals.{is_present, slots_of, totals_of};
 ghost use Rattle.share_domain.specs.declared.config.TheConstants.{MAX_CLIENTS, MAX_MACHINES};
 
 use crate::client::Presence;
@@ -50,6 +51,22 @@ pub(crate) fn report<H: PageHash, A: Allocator>(
         shared,
         reclaimed: slots.saturating_sub(frames),
     }
+}
+
+/// Counts the slots that are a client's.
+pub(crate) fn count_slots<H: PageHash, A: Allocator>(
+    machines: &Vec<LentSlots<H, A>, A>,
+    client: u32,
+) -> u32
+    requires machines { length machines.now.items ≤ MAX_MACHINES }
+    ensures count { result ≡ slots_of client machines.now.items }
+    ensures few { result ≤ MAX_PAGES * MAX_MACHINES }
+{
+    let mut slots = 0;
+    for machine in machines {
+        slots += machine.held_by(client);
+    }
+    slots
 }
 
 /// Counts the clients that have entered and aren't out.

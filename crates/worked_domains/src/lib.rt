@@ -6,3 +6,5 @@
 mod clients;
 #[cfg(test)]
 mod given;
+#[cfg(test)]
+mod limits;

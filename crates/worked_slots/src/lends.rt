@@ -37,7 +37,7 @@ fn slots_of(rt: &impl Abort, alloc: Global, count: u32, frames: u32) -> LentSlot
     assert!(rt; count >= 1 && count <= 1_048_576);
     assert!(rt; frames >= 2 && frames <= 1_048_576);
     let frames = Frames::new(alloc, frames).expect(rt, "there is memory");
-    LentSlots::new(alloc, count, SALT, FoldHash, frames).expect(rt, "there is memory")
+    LentSlots::new(alloc, count, 2, SALT, FoldHash, frames).expect(rt, "there is memory")
 }
 
 fn lend(slots: &mut LentSlots<FoldHash>, client: u32, byte: u8) -> Seen {
@@ -94,4 +94,23 @@ const LINES: [Line; 12] = [
 fn pages_are_lent_and_released(rt: HostRuntime) {
     let slots = slots_of(&rt, rt.alloc(), 5, 3);
     expect_lines(&rt, slots, &LINES);
+}
+
+/// Clients 0 and 1 are counted, and client 7 is not. The last slot is lent first.
+#[test]
+fn slots_are_found_by_their_client(rt: HostRuntime) {
+    let mut slots = slots_of(&rt, rt.alloc(), 5, 3);
+    for client in [0, 1, 7, 1] {
+        assert!(rt; lend(&mut slots, client, 5) != Seen::NoSlot);
+    }
+    assert!(rt; slots.held_by(1) == 2);
+    assert!(rt; slots.held_by(7) == 1);
+    assert!(rt; slots.first_of(1) == Some(1));
+    assert!(rt; slots.first_of(7) == Some(2));
+    assert!(rt; slots.release(1).is_none());
+    assert!(rt; slots.first_of(1) == Some(3));
+    assert!(rt; slots.release(3).is_none());
+    assert!(rt; slots.first_of(1).is_none());
+    assert!(rt; slots.held_by(1) == 0);
+    assert!(rt; slots.first_of(0) == Some(4));
 }

@@ -1,8 +1,9 @@
-use Rattle.std.proofs.Common.{◌≡◌, ◌<◌, length, Option, Some, ap, sym, subst, ◌∙◌, arith}
-use Rattle.std.specs.Prelude.{IfSome}
+use Rattle.std.proofs.Common.{◌≡◌, ◌+◌, ◌<◌, length, Option, Some, ap, sym, subst, ◌∙◌, arith}
+use Rattle.std.specs.Prelude.{IfSome, slice_set}
 use Rattle.share_domain.specs.declared.holding.Slot.{Slot}
+use Rattle.share_domain.specs.Domains.{DomainView}
 use Rattle.share_domain.specs.Leaving.{first_slot, told}
-use Rattle.share_domain.proofs.Leaves.{released_more, released_all, room_used}
+use Rattle.share_domain.proofs.Leaves.{Released, released_more, released_all, room_used}
 use Rattle.share_domain.proofs.Next.{next_is_first}
 use Rattle.share_domain.proofs.domain.Domain.release_from.Goals as goal
 
@@ -10,12 +11,13 @@ pub loop-i-preserved : goal.loop-i-preserved
 loop-i-preserved g c =
     let l = c.loop-i in
     let first : first_slot c.args.client l.self.machines ≡ Some c.in-Some.slot = sym l.invariant.found ∙ c.in-Some.is in
-    let within : c.in-Some.slot.machine < length l.self.machines = subst (λ (o : Option Slot). IfSome o (λ slot. slot.machine < length l.self.machines)) c.in-Some.is l.invariant.within in
+    let released = released_more c.args.client c.args.freed.now c.args.self.now l.i l.freed l.self c.give_up.new.self c.in-Some.slot c.told.result (omega (arith, c.loop-i-test.true, l.invariant.so_far.size)) l.invariant.so_far
+    first (c.told.ensures ∙ ap told c.give_up.ensures.freed) c.give_up.ensures.now in
+    let same = c.first_slot-found.ensures.same in
     record {
-      so_far = released_more c.args.client c.args.freed.now c.args.self.now l.i l.freed l.self c.give_up.new.self c.in-Some.slot c.told.result (omega (arith, c.loop-i-test.true, l.invariant.so_far.size)) l.invariant.so_far
-          first (c.told.ensures ∙ ap told c.give_up.ensures.freed) c.give_up.ensures.now;
-      found = next_is_first c.args.client l.self c.give_up.new.self c.in-Some.slot c.next_slot-found.result within first c.give_up.ensures.now c.next_slot-found.ensures.slot;
-      within = c.next_slot-found.ensures.within;
+      so_far = subst (λ (d : DomainView). Released c.args.client c.args.freed.now c.args.self.now (l.i + 1) (slice_set l.freed l.i c.told.result) d) (sym same) released;
+      found = next_is_first c.args.client l.self c.give_up.new.self c.first_slot-found.new.self c.in-Some.slot c.first_slot-found.result first c.give_up.ensures.now same c.first_slot-found.ensures.slot;
+      within = subst (λ (d : DomainView). IfSome c.first_slot-found.result (λ slot. slot.machine < length d.machines)) (sym same) c.first_slot-found.ensures.within;
     }
 
 pub returns-in-None-clause-count : goal.returns-in-None-clause-count

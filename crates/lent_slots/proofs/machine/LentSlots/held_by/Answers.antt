@@ -1,0 +1,8 @@
+use Rattle.page_model.specs.declared.limits.TheConstants.{MAX_PAGES}
+use Rattle.lent_slots.proofs.Noted.{room_noted}
+use Rattle.lent_slots.proofs.machine.LentSlots.held_by.Goals as goal
+
+pub returns-clause-few : goal.returns-clause-few
+returns-clause-few g c =
+    let m = c.self.inside in
+    rw c.count_at.ensures (room_noted m.slots.items m.clients.items c.args.client MAX_PAGES c.self.invariant.2 c.self.invariant.0.few.0)

@@ -1,0 +1,21 @@
+//! Laws of domains, about the definitions alone. The functions' bodies are empty: the contract is all there is.
+ghost use Rattle.std.specs.Prelude.{◌≡◌};
+ghost use Rattle.share_domain.specs.Bytes.{LeaveKeepsBytes, ReleaseKeepsBytes};
+ghost use Rattle.share_domain.specs.declared.client.TheConstants.{NO_FRAME};
+ghost use Rattle.share_domain.specs.declared.config.TheConstants.{MAX_CLIENTS, MAX_MACHINES};
+ghost use Rattle.share_domain.specs.declared.number.TheConstants.{SLOTS_APART};
+
+/// Each limit is this number.
+pub fn limits_law()
+    ensures machines { MAX_MACHINES ≡ 64 }
+    ensures clients { MAX_CLIENTS ≡ 65536 }
+    ensures slots { SLOTS_APART ≡ 4294967296 }
+    ensures no_frame { NO_FRAME ≡ 4294967295 }
+{}
+
+/// *Bytes stay*: after a release and after a leave, each slot that is still held, by the same client and with the same frame, reads
+/// the bytes that it read before. [`Domain::lend`](crate::Domain::lend) has this in its contract.
+pub fn bytes_law()
+    ensures releases { ReleaseKeepsBytes }
+    ensures leaves { LeaveKeepsBytes }
+{}

@@ -1,0 +1,54 @@
+//! Domains of the greatest sizes.
+use page_digest::FoldHash;
+use share_domain::{Domain, DomainConfig, NO_FRAME, Slot};
+
+/// As many machines and clients as there may be: each client enters, and one more doesn't.
+#[test]
+fn all_clients_enter(rt: HostRuntime) {
+    let config = DomainConfig {
+        machines: 64,
+        slots: 1,
+        frames: 2,
+        clients: 65_536,
+        salt: 7,
+    };
+    let mut domain = Domain::new(rt.alloc(), &config, FoldHash).expect(&rt, "there is memory");
+    assert!(rt; domain.machines() == 64);
+    for client in 0..65_536 {
+        assert!(rt; domain.enter() == Some(client));
+    }
+    assert!(rt; domain.enter().is_none());
+    assert!(rt; domain.held_by(65_535) == 0);
+}
+
+/// As many slots as a machine may have. The last one is lent first.
+#[test]
+fn a_million_slots(rt: HostRuntime) {
+    let config = DomainConfig {
+        machines: 1,
+        slots: 1_048_576,
+        frames: 2,
+        clients: 2,
+        salt: 7,
+    };
+    let mut domain = Domain::new(rt.alloc(), &config, FoldHash).expect(&rt, "there is memory");
+    assert!(rt; domain.enter() == Some(0));
+    assert!(rt; domain.enter() == Some(1));
+    let last = Slot {
+        machine: 0,
+        ppn: 1_048_575,
+    };
+    for client in [1, 0, 1] {
+        assert!(rt; domain.lend(client, &[9; 4096]).is_ok());
+    }
+    assert!(rt; domain.holding(last).is_some());
+    assert!(rt; domain.held_by(0) == 1);
+    assert!(rt; domain.held_by(1) == 2);
+    let mut freed = [5; 3];
+    assert!(rt; domain.leave(1, &mut freed) == Some(2));
+    assert!(rt; freed == [NO_FRAME, NO_FRAME, 5]);
+    assert!(rt; domain.held_by(1) == 0);
+    assert!(rt; domain.leave(1, &mut freed) == Some(0));
+    assert!(rt; domain.leave(0, &mut freed) == Some(1));
+    assert!(rt; freed[0] != NO_FRAME);
+}
