@@ -34,7 +34,7 @@ def compare(said, due):
     must(not wrong, f"what was said and what was due: {wrong}")
 
 
-def case_descriptors():
+def case_devices():
     """Files by O_DIRECT on each file system that this machine has, io_uring, io_submit, devices by their names, and requests."""
     program = build()
     on_disk, in_memory = (tempfile.NamedTemporaryFile(dir=folder) for folder in ("/var/tmp", "/dev/shm"))
