@@ -2,6 +2,7 @@
 """Looks whether the packages that `make dist` made install, run and go away again.
 
     checks/package.py [FOLDER]
+    checks/package.py --installed
 
 FOLDER is by default out/dist; nothing is built here but programs that use the library. The tarball is unpacked in a new folder, and
 its program run with nothing of this repository or the kit on PATH: at both levels, on images whose estimate is known. It is installed
@@ -9,6 +10,9 @@ below a prefix, where C and Rust programs are linked by pkg-config, shared and s
 programs that show them; systemd rates the host's unit; the library of x86-64-v3 is run on an emulated processor without AVX2, where
 it has to refuse; and what is uninstalled leaves no file. A second `packaging/dist.py` of the same tree has to make the same bytes.
 Then the Debian package is installed, run and removed in an empty Debian that debootstrap makes, which needs root and the network.
+
+With --installed, `make install` puts everything below a prefix in a new folder, where the same is tried, and `make uninstall` has to leave
+nothing.
 
 What this machine has no program for is left out, and named. Prints each case that went wrong, and last `N passed, M failed` (status 0
 where all passed, else 1).
@@ -227,6 +231,18 @@ def try_unit(tally, folder):
     tally.holds("the unit's exposure is at most 3", code == 0 and level and float(level[1]) <= 3, out[-200:] + err)
 
 
+def try_prefix(tally, prefix, room):
+    """What is installed below a prefix."""
+    try_program(tally, prefix / "bin/pageshare")
+    tally.part(try_c, prefix, room)
+    tally.part(try_rust, prefix, room)
+    tally.part(try_exports, prefix)
+    try_pages(tally, prefix)
+    try_completions(tally, prefix)
+    for part in (try_rules, try_unit):
+        tally.part(part, prefix / "share/doc/pageshare/examples/host")
+
+
 def try_tarball(tally, file, room):
     """The tarball: unpacked, installed twice, tried, and uninstalled."""
     tally.equal("the tarball unpacks", run("tar", "xf", file, "-C", room)[0], 0)
@@ -237,16 +253,24 @@ def try_tarball(tally, file, room):
     for times in ("once", "twice"):
         said = run(tree / "install.sh", f"--prefix={prefix}")
         tally.holds(f"install.sh, {times}", said[0] == 0, said)
-    try_program(tally, prefix / "bin/pageshare")
-    tally.part(try_c, prefix, room)
-    tally.part(try_rust, prefix, room)
-    tally.part(try_exports, prefix)
-    try_pages(tally, prefix)
-    try_completions(tally, prefix)
-    for part in (try_rules, try_unit):
-        tally.part(part, prefix / "share/doc/pageshare/examples/host")
+    try_prefix(tally, prefix, room)
     said = run(tree / "install.sh", f"--prefix={prefix}", "--uninstall")
     tally.holds("install.sh --uninstall leaves nothing", said[0] == 0 and not root.exists(), said)
+
+
+def try_make(tally, room):
+    """`make install` into a new folder, as a packager and as a user call it, what is installed there, and `make uninstall`."""
+    for destination, prefix in [("", room / "below/prefix"), (room / "destination", pathlib.Path("/opt/pageshare"))]:
+        words = [f"PREFIX={prefix}", f"DESTDIR={destination}"]
+        root = pathlib.Path(f"{destination}{prefix}")
+        said = run("make", "--no-print-directory", "install", *words, env=dict(os.environ), folder=TOP)
+        if not tally.holds(f"make install {' '.join(words)}", said[0] == 0, said):
+            continue
+        if not destination:
+            try_prefix(tally, root, room)
+        tally.holds("there is the host", (root / "bin/pageshare-host").is_file(), sorted(root.glob("bin/*")))
+        said = run("make", "--no-print-directory", "uninstall", *words, env=dict(os.environ), folder=TOP)
+        tally.holds("make uninstall leaves nothing", said[0] == 0 and not root.parent.exists(), said)
 
 
 def try_sums(tally, folder):
@@ -315,6 +339,11 @@ def try_debian(tally, file, room):
 
 
 def main(folder=OUT / "dist"):
+    if folder == "--installed":
+        tally = Tally()
+        with new_folder() as room:
+            try_make(tally, room)
+        return tally.close()
     folder, tally = pathlib.Path(folder).resolve(), Tally()
     tarball = next(folder.glob("pageshare-*-x86_64-linux.tar.gz"))
     with new_folder() as room:
