@@ -4,11 +4,15 @@ import textwrap
 
 CODE = re.compile(r"`([^`\n]+)`|\*\*([^*\n]+)\*\*|(?<![\w*])\*([^*\n]+)\*(?![\w*])|\[([^\]\n]+)\]\([^)\n]*\)")
 CELL = re.compile(r"(?<!\\)\|")
+# The most characters of a line, where it has spaces.
+MOST = 78
 
 
 def plain(text):
     """A text that shows as it is."""
     shown = text.replace("\\", "\\e").replace("-", "\\-").replace("^", "\\(ha").replace("~", "\\(ti").replace("`", "\\(ga")
+    # (as readers of roff see them, so that the length of a line is known)
+    shown = re.sub(r"[^\x00-\x7f]", lambda found: f"\\[u{ord(found[0]):04X}]", shown)
     return re.sub(r"(?m)^(?=[.'])", r"\\&", shown)
 
 
@@ -32,7 +36,7 @@ def wrapped(text):
     """A text's lines, of at most 80 characters where it has spaces; none is taken for a request of roff."""
     lines = []
     for line in text.split("\n"):
-        lines += textwrap.wrap(line, 78, break_long_words=False, break_on_hyphens=False)
+        lines += textwrap.wrap(line, MOST, break_long_words=False, break_on_hyphens=False)
     return [f"\\&{line}" if line[0] in ".'" else line for line in lines]
 
 
@@ -124,13 +128,21 @@ def write_blocks(page, lines, indent=4):
 
 
 def write_table(page, rows):
-    """A table of Markdown: each row's first cell as a term, and behind it the others, each after its column's name if there are several."""
+    """A table of Markdown: each row's first cell as a term, and behind it the others, each after its column's name if there are several.
+
+    A term is one line of roff. Where one is longer than lines are, the rows are items of a list instead.
+    """
     cells = [[it.strip() for it in CELL.split(row.strip().strip("|"))] for row in rows]
     titles, body = cells[0], cells[2:]
+    is_list = any(len(marked(row[0])) > MOST for row in body)
     for row in body:
         more = zip(titles[1:], row[1:])
         text = row[1] if len(row) == 2 else "; ".join(f"{title}: {cell}" for title, cell in more if cell)
-        page.entry(f"{titles[0]} {row[0]}" if row[0][:1].isdigit() else row[0] or "\\&", text, is_plain=False)
+        term = f"{titles[0]} {row[0]}" if row[0][:1].isdigit() else row[0]
+        if is_list:
+            page.item("\\(bu", f"{term}: {text}")
+        else:
+            page.entry(term or "\\&", text, is_plain=False)
 
 
 def write_markdown(page, lines, level=1):
