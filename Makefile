@@ -1,6 +1,6 @@
-.PHONY: test edits build demo install uninstall dist package traces commands estimate fleet no-thread embed windows guests host fuzz tenants soak hints bench bench-v3
+.PHONY: test edits check build demo install uninstall dist package traces commands estimate fleet no-thread embed windows guests host fuzz tenants soak hints bench bench-v3
 
-# The gate is these two commands. Both say how far they are and what failed, and leave the times of their steps at out/gate.tsv. On
+# The gate is these three commands. They say how far they are and what failed, and leave the times of their steps at out/gate.tsv. On
 # a machine that has run none of it all is done from nothing.
 
 # Every proof, every test, each program, and the runs of the proved program.
@@ -10,6 +10,10 @@ test:
 # The wrong bodies that the prover must refuse, tried over what `make test` proved.
 edits:
 	checks/gate.py edits
+
+# What isn't proved of the product, built and run over the libraries that `make test` proved: all of C, C++, Rust and packaging.
+check:
+	checks/gate.py check
 
 # The processor level that `make build` and `make embed` build for: x86-64-v2, which runs everywhere, or x86-64-v3 (AVX2).
 CPU = x86-64-v2
@@ -166,8 +170,9 @@ out/host/libpageshare-window.so: $(WINDOW_SOURCES) $(HOST_HEADERS)
 	@mkdir -p $(@D)
 	$(CC) $(HOST_FLAGS) -fPIC -shared -fvisibility=hidden -Wl,-soname,$(@F) -Wl,-z,relro,-z,now -o $@ $(WINDOW_SOURCES) -ldl
 
-out/libpageshare_host.a: $(SOURCES)
-	checks/build.py pageshare_host_c $(@D)/proved_host.a
+out/proved_host.a: $(SOURCES)
+	checks/build.py pageshare_host_c $@
+
+out/libpageshare_host.a: out/proved_host.a
 	rm -f $@
-	printf 'create $@\naddlib $(@D)/proved_host.a\naddlib %s/c/liblibc_c.a\nsave\nend\n' "$$(dirname "$$(rt doc)")" | ar -M
-	rm $(@D)/proved_host.a
+	printf 'create $@\naddlib $<\naddlib %s/c/liblibc_c.a\nsave\nend\n' "$$(dirname "$$(rt doc)")" | ar -M

@@ -1,32 +1,93 @@
 #!/usr/bin/env python3
-"""Builds a program or the library for C from what a gate on this machine has proved.
+"""Builds programs and the libraries for C from what a gate on this machine has proved.
 
     checks/build.py CRATE FILE [--cpu LEVEL]
+    checks/build.py --products
 
-First the crate and those below it are proved, many side by side, but for what was proved of the same files: by an earlier run on
-this machine where the kit keeps that, and else in this tree, for example by `make test`. Then the crate's program, or its static
-library, is put to FILE: the program that was built as it was proved, or one for another processor LEVEL, such as x86-64-v3. That
-one is proved once more, over the same libraries. Status 0 where FILE was written, else 1.
+First the crates below are proved, many side by side, but for what was proved of the same files: by an earlier run on this machine
+where the kit keeps that, and else in this tree, for example by `make test`. A program for x86-64-v2 is then put to FILE as it was
+built when it was proved. A program for another processor LEVEL, such as x86-64-v3, and each static library are proved as they are
+built, over the same libraries: the kit keeps what it checked of neither. A note, FILE.of, says of which files FILE was built, and
+nothing is done where these are as they were.
+
+--products builds all that is installed and all that `make check` needs, side by side, and ends with 'N passed, M failed'. Status 0
+where each FILE was written, else 1.
 """
 import argparse
+import concurrent.futures
+import copy
+import hashlib
 import os
 import pathlib
 import shutil
 import subprocess
 import sys
+import tempfile
+import typing
 
 from common import proved
 from common.kit import load_kit
 from common.lanes import lanes
-from harness import TOP, new_folder
+from harness import OUT, TOP, close, new_folder
 
 DEFAULT = "x86-64-v2"
+# How much is printed of what was said of a crate that isn't built.
+MOST_SAID = 6000
 
 
-def prove_kept(name):
-    """Proves the crate and those below it with a kit that keeps what it proved, and says how far that is."""
+class Product(typing.NamedTuple):
+    """A crate's program or static library, built for a processor level, and where it is put."""
+
+    crate: str
+    file: pathlib.Path
+    cpu: str = DEFAULT
+
+    def is_given(self, crate):
+        """Whether it was built when it was proved."""
+        return not crate.is_static and self.cpu == DEFAULT
+
+
+PRODUCTS = [
+    Product("pageshare_c", OUT / "v3/proved.a", "x86-64-v3"),
+    Product("pageshare_c", OUT / "proved.a"),
+    Product("pageshare_host_c", OUT / "proved_host.a"),
+    Product("pageshare_v3", OUT / "pageshare-v3", "x86-64-v3"),
+    Product("pageshare", OUT / "pageshare"),
+    Product("window_trace", OUT / "window_trace"),
+]
+
+
+def note_of(product):
+    return product.file.with_name(f"{product.file.name}.of")
+
+
+def rests_on(product, sums):
+    """What a product is built of, as a sum."""
+    return hashlib.sha256(repr((sums[product.crate], product.cpu)).encode()).hexdigest()
+
+
+def is_built(product, sums):
+    """Whether a product was built of these files. Then it counts as new, so that `make` takes it."""
+    note = note_of(product)
+    if not product.file.is_file() or not note.is_file() or note.read_text(encoding="utf-8") != rests_on(product, sums):
+        return False
+    product.file.touch()
+    return True
+
+
+def wanted_of(every, products):
+    """The crates that are to be proved before these products are built: what isn't given is proved as it is built."""
+    wanted = []
+    for it in products:
+        crate = every[it.crate]
+        wanted += [it.crate] if it.is_given(crate) else [below.name for below in crate.deps]
+    return list(dict.fromkeys(wanted))
+
+
+def prove_kept(names):
+    """Proves crates and those below them with a kit that keeps what it proved, and says how far that is."""
     done, said = 0, []
-    words, how = ["rt", "ci", name], {"cwd": TOP, "stdin": subprocess.DEVNULL, "stdout": subprocess.PIPE, "stderr": subprocess.STDOUT}
+    words, how = ["rt", "ci", *names], {"cwd": TOP, "stdin": subprocess.DEVNULL, "stdout": subprocess.PIPE, "stderr": subprocess.STDOUT}
     with subprocess.Popen(words, env={**os.environ, "CI": ""}, text=True, errors="replace", **how) as ran:
         for line in ran.stdout:
             said.append(line)
@@ -37,78 +98,91 @@ def prove_kept(name):
     return ran.returncode == 0
 
 
-def copied(kit, name, room):
-    """The crate in a copy of the sources in this folder, with what was proved of it and of the crates below it."""
+def copied(kit, names, room):
+    """The crates of a copy of the sources in this folder, by name, with what was proved of these and of the crates below them."""
     kit.copy_crates(str(TOP), room)
     (pathlib.Path(room) / ".git").mkdir()
     every = kit.crates_of(room)
-    wanted = next(it for it in every if it.name == name)
-    kept = kit.Kept(every)
-    for crate in [*wanted.below(), wanted]:
+    kept, found = kit.Kept(every), {it.name: it for it in every}
+    wanted = {below.name for name in names for below in [*found[name].below(), found[name]]}
+    for crate in sorted((found[it] for it in wanted), key=lambda it: len(it.below())):
         os.makedirs(f"{crate.folder}/out", exist_ok=True)
-        is_given = kept.give(crate, False, kept.key(crate))
-        if not is_given and crate is not wanted:
+        if not kept.give(crate, False, kept.key(crate)):
             sys.exit(f"what was proved of {crate.name} isn't kept on this machine: is its disk full?")
         kept.is_built(crate)
-    return wanted, is_given
+    return found
 
 
-def proved_here(kit, name, cpu):
-    """The crate in this tree, once it and those below it are proved, with its processor level and whether its program is built."""
-    crate = proved.crates_of(kit)[name]
-    is_given = not crate.is_static and cpu == DEFAULT
-    # (what isn't given is proved as it is built)
-    if not proved.prove(kit, [name] if is_given else [it.name for it in crate.deps]):
-        sys.exit(1)
-    return crate, cpu, is_given
-
-
-def built(kit, crate, cpu, is_given):
-    """Builds the crate for a processor level, and returns where its program or library lies."""
-    level = "" if cpu == DEFAULT else f"-{cpu}"
+def compiled(kit, crate, product):
+    """Builds a crate for a processor level, and returns where its program or library lies."""
+    level = "" if product.cpu == DEFAULT else f"-{product.cpu}"
     made = f"{crate.folder}/out/{f'lib{crate.name}{level}.a' if crate.is_static else f'{crate.name}{level}'}"
-    if is_given and not level and os.path.isfile(made):
+    if product.is_given(crate) and os.path.isfile(made):
         return made
-    flags = ["--jobs", str(lanes()), "--cpu", cpu]
-    words = [*crate.words(flags, keeps=False), "--toolchain", f"{kit.KIT}/toolchain", "--backend", "llvm"]
-    to = made if crate.is_static else f"{made}.o"
-    words = [*kit.rtlib.guarded(), kit.rtlib.RATTLE, "build", *words, "-o", to]
-    if subprocess.run(words, cwd=crate.folder, stdout=sys.stderr, check=False).returncode:
-        sys.exit(f"{crate.name} was not built")
-    if not crate.is_static and crate.link(to, os.path.relpath(made, crate.folder)):
-        sys.exit(f"{crate.name} was not linked")
-    return made
+    os.makedirs(f"{crate.folder}/out", exist_ok=True)
+    words = [*crate.words(["--jobs", "1", "--cpu", product.cpu], keeps=False), "--toolchain", f"{kit.KIT}/toolchain", "--backend", "llvm"]
+    to, crate = made if crate.is_static else f"{made}.o", copy.copy(crate)
+    with tempfile.TemporaryFile("a+", errors="replace") as crate.out:
+        status = crate.prove(["build", *words, "-o", to])
+        status = status or (0 if crate.is_static else crate.link(to, os.path.relpath(made, crate.folder)))
+        crate.out.seek(0)
+        print(crate.out.read()[-MOST_SAID:] if status else "", end="", file=sys.stderr)
+    return None if status else made
 
 
-def put(made, file):
-    file.parent.mkdir(parents=True, exist_ok=True)
-    shutil.copyfile(made, file)
-    shutil.copymode(made, file)
+def put(made, product):
+    product.file.parent.mkdir(parents=True, exist_ok=True)
+    shutil.copyfile(made, product.file)
+    shutil.copymode(made, product.file)
 
 
-def build(kit, name, cpu, file):
-    """Builds from what is proved in this tree, or with a kit that keeps what it proved from that."""
+def build_over(kit, every, products, sums):
+    """Builds products side by side over what is proved of these crates. Returns those that were built."""
+    def build(product):
+        made = compiled(kit, every[product.crate], product)
+        print(f"{product.crate} for {product.cpu} {'built' if made else 'NOT BUILT'}", flush=True)
+        if made:
+            put(made, product)
+            note_of(product).write_text(rests_on(product, sums), encoding="utf-8")
+        return made is not None
+
+    with concurrent.futures.ThreadPoolExecutor(lanes()) as lane:
+        return [it for it, is_well in zip(products, lane.map(build, products)) if is_well]
+
+
+def build(kit, products):
+    """Builds products from what is proved in this tree, or with a kit that keeps what it proved from that. Returns those that are built."""
+    every = proved.crates_of(kit)
+    sums = proved.sums_of(kit, every.values())
+    there = [it for it in products if is_built(it, sums)]
+    for it in there:
+        print(f"{it.crate} for {it.cpu} is built already of the same files")
+    products = [it for it in products if it not in there]
+    names = wanted_of(every, products)
+    if not products or not (prove_kept(names) if proved.keeps(kit) else proved.prove(kit, names)):
+        return there
     if not proved.keeps(kit):
-        put(built(kit, *proved_here(kit, name, cpu)), file)
-        return 0
-    if not prove_kept(name):
-        return 1
+        return [*there, *build_over(kit, every, products, sums)]
     with new_folder() as room:
-        crate, is_given = copied(kit, name, f"{room}/repo")
-        put(built(kit, crate, cpu, is_given), file)
-    return 0
+        return [*there, *build_over(kit, copied(kit, names, f"{room}/repo"), products, sums)]
 
 
 def main():
     options = argparse.ArgumentParser(description=__doc__.splitlines()[0])
-    options.add_argument("crate")
-    options.add_argument("file", type=pathlib.Path)
+    options.add_argument("--products", action="store_true", help="build all that is installed and that `make check` needs")
+    options.add_argument("crate", nargs="?")
+    options.add_argument("file", nargs="?", type=pathlib.Path)
     options.add_argument("--cpu", default=DEFAULT)
     given = options.parse_args()
+    if given.products == (given.file is not None):
+        options.error("give a crate and a file, or --products")
+    products = PRODUCTS if given.products else [Product(given.crate, given.file, given.cpu)]
     kit = load_kit()
-    kit.Crate.allowed = kit.handles_of(str(TOP))
     os.environ["RT_JOBS"] = str(lanes())
-    return build(kit, given.crate, given.cpu, given.file)
+    built = build(kit, products)
+    if given.products:
+        return close(len(built), len(products) - len(built))
+    return 0 if len(built) == len(products) else 1
 
 
 if __name__ == "__main__":

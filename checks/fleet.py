@@ -172,7 +172,7 @@ def python_with_dask():
         with contextlib.suppress(OSError):
             if ran([python, "-c", "import dask.dataframe, distributed, pandas"]).returncode == 0:
                 return python
-    raise LeftOut("Dask's cases, since python3-dask, python3-distributed and python3-pandas aren't at hand")
+    raise LeftOut("Dask's cases, since python3-dask, python3-distributed and python3-pandas aren't at hand", "python3-distributed")
 
 
 @contextlib.contextmanager

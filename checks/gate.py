@@ -1,34 +1,42 @@
 #!/usr/bin/env python3
-"""The gate, in two commands; and where its time goes.
+"""The gate, in three commands; and where its time goes.
 
     checks/gate.py test [--anew]    every proof, every test and the runs of the proved program (`make test`)
     checks/gate.py edits [--anew]   the wrong bodies that the prover must refuse, and the test of the script that tries them
                                     (`make edits`, after `make test`)
-    checks/gate.py sum              the ten dearest steps of both, and how much passed and failed in both
-    checks/gate.py                  the ten dearest steps of both, and the sums by kind
+    checks/gate.py check            all of the product that isn't proved, built and run over the libraries that are (`make check`,
+                                    after `make test`)
+    checks/gate.py sum              the ten dearest steps of all three, and how much passed and failed in them
+    checks/gate.py                  the ten dearest steps of all three, and the sums by kind
 
 A command runs all its steps even where one fails, and exits with status 1 where any does. On a terminal it redraws one line that
 shows how far it is; elsewhere it prints a line for each crate. What failed is printed at the end, each with the command that
-repeats it alone. The last line is 'N passed, M failed'. All that the steps print is kept in out/gate-test.log or
-out/gate-edits.log.
+repeats it alone. The last line is 'N passed, M failed'. All that the steps print is kept in out/gate-test.log, out/gate-edits.log or
+out/gate-check.log.
+
+`check` leaves out what the machine lacks. It names that before the last line, which is 'N passed, M failed, K skipped'. With
+NOTHING_LEFT_OUT=1 in the environment, what was left out for want of a package that Debian has counts as failed.
 
 On a machine that has run none of it all is done from nothing. What an earlier run there has proved or seen refused, of the same
 files, is taken from it if the kit keeps that, but with --anew.
 
-out/gate.tsv has a line for each step of both commands: the command, the kind, the crate or the step, when it started, its wall
+out/gate.tsv has a line for each step of these commands: the command, the kind, the crate or the step, when it started, its wall
 seconds and its processor seconds, and of a step how much passed and failed. Those of a crate are read off /proc once a second, so
 they are a second or two short; the sum at the end is the system's own.
 """
 import collections
+import contextlib
 import os
 import pathlib
 import re
 import resource
 import shutil
+import signal
 import subprocess
 import sys
 import threading
 import time
+import typing
 
 from common import proved
 from common.kit import load_kit
@@ -36,23 +44,48 @@ from common.lanes import lanes
 from harness import TOP, close, counts_of
 
 TABLE = TOP / "out/gate.tsv"
-HEAD = ["command", "kind", "name", "start", "wall", "processor", "passed", "failed"]
+HEAD = ["command", "kind", "name", "start", "wall", "processor", "passed", "failed", "skipped"]
 PROGRAM = "crates/pageshare/out/pageshare"
-# Of each command: its steps, each with the words that run it, and whether these take --anew.
+
+
+class Work(typing.NamedTuple):
+    """A step of a command: the words that run it, whether they take --anew, and after how many seconds it is ended, if at all."""
+
+    name: str
+    words: list
+    takes_anew: bool = False
+    seconds: typing.Optional[int] = None
+
+
+LIBRARY = "out/libpageshare.a"
 COMMANDS = {
     "test": [
-        ("rt ci", ["rt", "ci"], True),
-        ("runs", ["checks/quick.py", PROGRAM], False),
-        ("harness", ["checks/harness_test.py"], False),
-        ("documents", ["checks/names.py"], False),
-        ("limits", ["checks/limits.py"], False),
-        ("map of crates", ["checks/map.py", "--check"], False),
+        Work("rt ci", ["rt", "ci"], takes_anew=True),
+        Work("runs", ["checks/quick.py", PROGRAM]),
+        Work("harness", ["checks/harness_test.py"]),
+        Work("documents", ["checks/names.py"]),
+        Work("limits", ["checks/limits.py"]),
+        Work("map of crates", ["checks/map.py", "--check"]),
     ],
-    "edits": [("edits' test", ["checks/edits_test.py"], False), ("edits", ["checks/edits.py"], True)],
+    "edits": [Work("edits' test", ["checks/edits_test.py"]), Work("edits", ["checks/edits.py"], takes_anew=True)],
+    # (the proofs below come from `make test`; alone this step may take as long as that)
+    "check": [
+        Work("libraries", ["checks/build.py", "--products"]),
+        Work("builds", ["checks/builds.py"], seconds=1200),
+        Work("library", ["checks/embed.sh", LIBRARY], seconds=1200),
+        Work("journals", ["checks/embed.py", "100"], seconds=600),
+        Work("windows", ["checks/windows.py", LIBRARY, "5"], seconds=1200),
+        Work("monitor", ["checks/guests.py", LIBRARY, "0"], seconds=300),
+        Work("host", ["checks/host.py", "--gate"], seconds=2400),
+        Work("installed", ["checks/package.py", "--installed"], seconds=900),
+        Work("fleet", ["checks/fleet.py"], seconds=900),
+    ],
 }
-# What each command takes from nothing, in processor minutes (measured on processors of 2.5 GHz).
-MINUTES = {"test": 152, "edits": 116}
+# What each command takes from nothing, in processor minutes (measured on processors of 2.5 GHz); `check` after `make test`.
+MINUTES = {"test": 152, "edits": 116, "check": 20}
 TICKS = os.sysconf("SC_CLK_TCK")
+# The steps of which it is counted how far they are; of the others the last line is shown.
+COUNTED = ("rt ci", "edits")
 # What the steps say of a crate that is done, of one that failed, and of each name that failed at the end.
 DONE = re.compile(r"^rt: (\w+) (?:proved$|is kept)")
 TESTED = re.compile(r"^rt: (\w+): its tests are proved$")
@@ -69,7 +102,7 @@ class Step:
         self.start, self.end, self.used = start, start, {}
 
     def row(self, begun):
-        return [f"{self.start - begun:.0f}", f"{self.end - self.start:.0f}", f"{sum(self.used.values()):.0f}", "", ""]
+        return [f"{self.start - begun:.0f}", f"{self.end - self.start:.0f}", f"{sum(self.used.values()):.0f}", "", "", ""]
 
 
 class Watch(threading.Thread):
@@ -116,6 +149,7 @@ class Progress:
         self.crates = sum(":" in line.partition("#")[0] for line in (TOP / "crates.txt").read_text().splitlines())
         self.of_edits = len([*TOP.glob("crates/*/edits/*.edit")])
         self.is_drawn, self.section, self.sections, self.last, self.wrong = sys.stdout.isatty(), [], {}, [], []
+        self.left_out = []
 
     def hear(self, line):
         """Takes a line that the step printed."""
@@ -126,6 +160,10 @@ class Progress:
             if found:
                 heard.add(found[1])
                 self.show(f"{found[1]}{what} {'kept from an earlier run' if 'is kept' in line else 'proved'}")
+        if line.startswith("left out: "):
+            self.left_out.append(f"{self.name}: {line}")
+        if self.is_drawn and self.name not in COUNTED:
+            self.show(line)
         if TRIED.match(line):
             self.edits += 1
             self.show(line if not self.is_drawn else "")
@@ -145,6 +183,8 @@ class Progress:
         """Says how far the step is: in a line that is redrawn on a terminal, and in one for each crate or edit elsewhere."""
         if self.name == "edits":
             far = f"{self.edits} of {self.of_edits} edits"
+        elif self.name not in COUNTED:
+            far = what[:60]
         else:
             far = f"{len(self.proved)} of {self.crates} crates, tests of {len(self.tested)}"
         if self.is_drawn:
@@ -170,18 +210,37 @@ def used_so_far():
     return used.ru_utime + used.ru_stime
 
 
-def run_step(name, words, log):
-    """Runs a step. Returns how many passed and how many failed by its last line, what to print of what failed, and what was proved."""
-    counts, progress = None, Progress(name, log)
+def end_group(ran):
+    """Ends a step with all that it started: kindly, and then at once."""
+    for number, seconds in ((signal.SIGTERM, 10), (signal.SIGKILL, 0)):
+        with contextlib.suppress(ProcessLookupError):
+            os.killpg(ran.pid, number)
+        time.sleep(seconds)
+
+
+def run_step(work, words, log):
+    """Runs a step by these words. Returns how many passed, failed and were skipped by its last line; and what was heard of it."""
+    counts, progress = None, Progress(work.name, log)
     how = {"stdin": subprocess.DEVNULL, "stdout": subprocess.PIPE, "stderr": subprocess.STDOUT, "text": True, "errors": "replace"}
-    with subprocess.Popen(words, cwd=TOP, env={**os.environ, "RT_JOBS": str(lanes())}, **how) as ran:
-        for line in ran.stdout:
-            counts = counts_of(line) or counts
-            progress.hear(line.rstrip("\n"))
+    how |= {"cwd": TOP, "env": {**os.environ, "RT_JOBS": str(lanes())}, "start_new_session": work.seconds is not None}
+    with subprocess.Popen(words, **how) as ran:
+        clock = threading.Timer(work.seconds or 0, end_group, [ran])
+        if work.seconds:
+            clock.start()
+        try:
+            for line in ran.stdout:
+                counts = counts_of(line) or counts
+                progress.hear(line.rstrip("\n"))
+        except BaseException:
+            if work.seconds:
+                end_group(ran)
+            raise
+        finally:
+            clock.cancel()
     progress.end()
-    passed, failed = counts or (0, 1)
-    failed = max(failed, int(ran.returncode != 0))
-    return passed, failed, progress.failures(words) if failed else [], progress.proved
+    passed, failed, skipped = counts or (0, 1, 0)
+    # (programs that a step runs may leave out something of their own)
+    return (passed, max(failed, int(ran.returncode != 0)), max(skipped, len(progress.left_out))), progress
 
 
 def remove_libraries():
@@ -203,7 +262,7 @@ def write_table(command, begun, rows, steps):
 
 
 def run_command(command, is_anew):
-    begun, watch, rows, sums, failures = time.time(), Watch(), [], [0, 0], []
+    begun, watch, rows, sums, failures, left_out = time.time(), Watch(), [], [0, 0, 0], [], []
     minutes, kit = MINUTES[command], load_kit()
     rests = proved.sums_now(kit)
     print(f"make {command}: from nothing this takes some {minutes} processor minutes, {minutes / lanes():.0f} minutes here")
@@ -212,23 +271,25 @@ def run_command(command, is_anew):
     TABLE.parent.mkdir(exist_ok=True)
     watch.start()
     with open(TABLE.parent / f"gate-{command}.log", "w", encoding="utf-8") as log:
-        for name, words, takes_anew in COMMANDS[command]:
-            watch.phase, start, before = name, time.time(), used_so_far()
+        for work in COMMANDS[command]:
+            watch.phase, start, before = work.name, time.time(), used_so_far()
             # (a kit that keeps nothing has no word for it)
-            anew = ["--anew"] if is_anew and takes_anew and proved.keeps(kit) else []
-            passed, failed, said, done = run_step(name, [*words, *anew], log)
-            proved.note_all(kit, done, rests)
-            sums, failures = [sums[0] + passed, sums[1] + failed], failures + said
+            words = [*work.words, *(["--anew"] if is_anew and work.takes_anew and proved.keeps(kit) else [])]
+            counts, heard = run_step(work, words, log)
+            proved.note_all(kit, heard.proved, rests)
+            sums = [sum(pair) for pair in zip(sums, counts)]
+            failures += heard.failures(words) if counts[1] else []
+            left_out += heard.left_out
             wall, used = time.time() - start, used_so_far() - before
-            rows.append([command, "step", name, f"{start - begun:.0f}", f"{wall:.0f}", f"{used:.0f}", str(passed), str(failed)])
-            print(f"{name}: {passed} passed and {failed} failed in {wall:.0f} s", flush=True)
+            rows.append([command, "step", work.name, f"{start - begun:.0f}", f"{wall:.0f}", f"{used:.0f}", *map(str, counts)])
+            print(f"{work.name}: {counts[0]} passed and {counts[1]} failed in {wall:.0f} s", flush=True)
             # (once a step has ended no prover runs, so nothing is put into the steps meanwhile)
             write_table(command, begun, rows, watch.steps)
     watch.is_over.set()
     watch.join()
     print(f"make {command} took {time.time() - begun:.0f} s, and {used_so_far() / 60:.0f} processor minutes")
-    print("".join(f"{it}\n" for it in failures), end="")
-    return close(*sums)
+    print("".join(f"{it}\n" for it in [*left_out, *failures]), end="")
+    return close(*sums[:2], sums[2] if command == "check" else sums[2] or None)
 
 
 def show():
@@ -247,14 +308,14 @@ def show():
 
 
 def show_sum():
-    """Prints what both commands took and did. A command that didn't run, or a step that didn't, has failed."""
+    """Prints what all commands took and did. A command that didn't run, or a step that didn't, has failed."""
     steps = show()
-    passed, failed = (sum(int(row[at]) for row in steps) for at in (6, 7))
-    wanted = {(command, step[0]) for command, of in COMMANDS.items() for step in of}
+    passed, failed, skipped = (sum(int(row[at]) for row in steps) for at in (6, 7, 8))
+    wanted = {(command, work.name) for command, of in COMMANDS.items() for work in of}
     lacking = wanted - {(row[0], row[2]) for row in steps}
     for command, name in sorted(lacking):
         print(f"FAILED: {name} of `make {command}` didn't run")
-    return close(passed, failed + len(lacking))
+    return close(passed, failed + len(lacking), skipped)
 
 
 def main(words):

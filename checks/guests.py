@@ -3,8 +3,8 @@
 
     checks/guests.py [LIBRARY [SECONDS]]
 
-LIBRARY is libpageshare.a, by default out/libpageshare.a (`make embed`); a fleet and its stress run for SECONDS each, by default 30.
-All that is built goes to out/monitor. In turn: two guests of a few instructions; a program that is no guest's, refused; a fleet of three
+LIBRARY is libpageshare.a, by default out/libpageshare.a (`make embed`); a fleet and its stress run for SECONDS each, by default 30, and
+with 0 everything is only built. All that is built goes to out/monitor. In turn: two guests of a few instructions; a program that is no guest's, refused; a fleet of three
 guests, and a table of its figures beside their goals; a fleet under stress, two processors a guest, of which guests end and others
 begin; a record of a fleet's events, played by `out/window_trace`; a journal of 100,000 requests, replayed by `out/pageshare replay` to
 the same verdicts and report; a stand-in for a kernel, booted as Linux is. What the machine has no KVM, no userfaultfd or no compiler for
@@ -25,9 +25,9 @@ import pathlib
 import struct
 import sys
 
-from common.c_programs import FLAGS, LENDER, WINDOW, can_open, compile_c, needs_windows, passes, play, run
+from common.c_programs import CC, FLAGS, LENDER, WINDOW, can_open, compile_c, needs_windows, passes, play, run
 from harness import OUT as BUILT
-from harness import TOP, LeftOut, Tally, leave
+from harness import TOP, LeftOut, Tally, leave, needs
 
 SOURCES, OUT = TOP / "monitor", BUILT / "monitor"
 GUEST_FLAGS = (
@@ -240,12 +240,26 @@ def kernels(tally, fleet, seconds):
         passes(tally, [fleet, "--seconds", str(max(int(seconds), 60)), "--mib", "256", *words])
 
 
+def builds(tally, library):
+    """Every program, and a fleet that records events."""
+    needs("the monitor", CC)
+    makes = {
+        "the fleet": lambda: build("fleet", library), "a fleet that records events": lambda: build("fleet", library, ["-DWINDOW_TRACE"], "_trace"),
+        "two guests of a few instructions": lambda: build("tiny", library), "a guest's program": build_guest, "a stand-in": build_standin,
+        "the first process of a Linux guest": build_initramfs,
+    }
+    for name, make in makes.items():
+        try:
+            tally.case(f"{name} is built", [] if make() else ["it isn't"])
+        except SystemExit as cause:
+            tally.case(f"{name} is built", [cause])
+
+
 def with_guests(tally, library, seconds):
     """Each run of guests in turn."""
     needs_windows()
     if not can_open("/dev/kvm"):
         raise LeftOut("guests, since there is no /dev/kvm")
-    OUT.mkdir(parents=True, exist_ok=True)
     fleet, guest = build("fleet", library), build_guest()
     passes(tally, [build("tiny", library)])
     wrong_program(tally, fleet, guest)
@@ -265,7 +279,7 @@ def main(library=BUILT / "libpageshare.a", seconds="30"):
     if not pathlib.Path(library).exists():
         sys.exit(f"there is no library {library}")
     tally = Tally()
-    tally.part(with_guests, library, seconds)
+    tally.part(*([builds, library] if seconds == "0" else [with_guests, library, seconds]))
     return tally.close()
 
 

@@ -8,10 +8,13 @@
     sys.exit(tally.close())
 
 Each of these lines but the last two is a case. A case that fails is printed: its name, what was got, and what was due. `close` prints
-`N passed, M failed` and returns the status of the check, which is 0 where all passed and else 1. A part is a function that takes
-the tally; if it raises LeftOut, this machine can't do it, which is printed and is no failure.
+`N passed, M failed`, with `, K skipped` where parts were left out, and returns the status of the check, which is 0 where none failed and
+else 1. A part is a function that takes the tally; if it raises LeftOut, this machine can't do it, which is printed and counted as
+skipped. With NOTHING_LEFT_OUT=1 in the environment it counts as failed as well if Debian has a package for it that this machine lacks.
 """
 import contextlib
+import functools
+import os
 import pathlib
 import re
 import shutil
@@ -26,20 +29,45 @@ PROGRAM = str(OUT / "pageshare")
 LATE = "too late"
 # Any text but the empty one.
 ANY = re.compile(".+", re.S)
-CLOSING = re.compile(r"(\d+) passed, (\d+) failed\n?")
+CLOSING = re.compile(r"(\d+) passed, (\d+) failed(?:, (\d+) skipped)?\n?")
+# The packages of Debian that have the programs which parts of checks need.
+PACKAGES = {
+    "cc": "gcc", "c++": "g++", "gcc": "gcc", "g++": "g++", "clang": "clang", "clang++": "clang", "ar": "binutils", "nm": "binutils",
+    "cargo": "cargo", "rustc": "rustc", "valgrind": "valgrind", "pkg-config": "pkg-config", "mandoc": "mandoc", "man": "man-db",
+    "zsh": "zsh", "fish": "fish", "qemu-x86_64": "qemu-user", "qemu-system-x86_64": "qemu-system-x86", "qemu-img": "qemu-utils",
+    "busybox": "busybox-static", "setpriv": "util-linux", "promtool": "prometheus", "systemd-analyze": "systemd",
+}
 # How much of a long text is shown, and how much of that comes before the first difference.
 MOST, BEFORE = 300, 60
 
 
 class LeftOut(Exception):
-    """What this machine can't do, and why."""
+    """What this machine can't do, and why; with the package of Debian that would mend it, if there is one."""
+
+    def __init__(self, what, package=None):
+        super().__init__(f"{what} (Debian's {package})" if package else what)
+        self.package = package
 
 
 def needs(what, *programs):
     """Leaves `what` out if one of these programs isn't there."""
     for program in programs:
         if shutil.which(program) is None:
-            raise LeftOut(f"{what}, since there is no {program}")
+            raise LeftOut(f"{what}, since there is no {program}", PACKAGES.get(pathlib.Path(program).name))
+
+
+@functools.cache
+def has_package(package):
+    """Whether this machine's apt-get could install a package of Debian."""
+    if shutil.which("apt-cache") is None:
+        return False
+    said = subprocess.run(["apt-cache", "policy", package], stdin=subprocess.DEVNULL, capture_output=True, text=True, check=False).stdout
+    return bool(re.search(r"Candidate: (?!\(none\))", said))
+
+
+def must_not_lack(package):
+    """Whether a part that was left out for want of this package has failed."""
+    return os.environ.get("NOTHING_LEFT_OUT") == "1" and package is not None and has_package(package)
 
 
 def run(words, text="", seconds=60, **how):
@@ -100,23 +128,23 @@ def wrong_end(done, status, out, err):
                 yield f"standard {what} is {parting(given, due)}"
 
 
-def close(passed, failed):
-    """Prints the closing line, and returns the status that goes with it."""
-    print(f"{passed} passed, {failed} failed", flush=True)
+def close(passed, failed, skipped=None):
+    """Prints the closing line, and returns the status that goes with it. It says how much was skipped unless that is None."""
+    print(f"{passed} passed, {failed} failed{'' if skipped is None else f', {skipped} skipped'}", flush=True)
     return 1 if failed else 0
 
 
 def counts_of(line):
-    """How many passed and how many failed by a closing line; None of another line."""
+    """How many passed, failed and were skipped by a closing line; None of another line."""
     found = CLOSING.fullmatch(line)
-    return (int(found[1]), int(found[2])) if found else None
+    return (int(found[1]), int(found[2]), int(found[3] or 0)) if found else None
 
 
 class Tally:
     """The cases so far. What adds a case returns whether it passed."""
 
     def __init__(self):
-        self.passed = self.failed = 0
+        self.passed = self.failed = self.skipped = 0
 
     def case(self, name, wrong, count=1):
         """A case, or so many, with the list of what is wrong: nothing where it passed."""
@@ -144,8 +172,15 @@ class Tally:
         try:
             function(self, *words)
         except LeftOut as what:
-            print(f"left out: {what}", flush=True)
+            self.leave_out(what, what.package)
+
+    def leave_out(self, what, package=None):
+        """Counts what was left out, and prints it."""
+        self.skipped += 1
+        print(f"left out: {what}", flush=True)
+        if must_not_lack(package):
+            self.case("nothing may be left out here", [f"there is a package {package}"])
 
     def close(self):
         """Ends the check: prints the closing line, and returns the status."""
-        return close(self.passed, self.failed)
+        return close(self.passed, self.failed, self.skipped or None)

@@ -9,12 +9,14 @@ checks/common/proved.py gets crates that changed since they were proved. Prints 
 """
 import contextlib
 import io
+import os
 import re
 import sys
 import types
+from unittest import mock
 
 from common import proved
-from harness import ANY, LATE, LeftOut, Tally, close, counts_of, leave, needs, new_folder, parting, run, shown
+from harness import ANY, LATE, LeftOut, Tally, close, counts_of, has_package, leave, needs, new_folder, parting, run, shown
 
 # A program that repeats its standard input but for so many bytes, says its words on standard error, and ends with a status.
 ECHO = """
@@ -108,15 +110,28 @@ def closing_lines(plain):
     """The line at the end, and what is read of lines."""
     plain.same("all passed", printed_of(close, 3, 0), (0, "3 passed, 0 failed\n"))
     plain.same("one failed", printed_of(close, 3, 1), (1, "3 passed, 1 failed\n"))
+    plain.same("one skipped", printed_of(close, 3, 0, 1), (0, "3 passed, 0 failed, 1 skipped\n"))
     for line, due in [
-        ("3 passed, 1 failed\n", (3, 1)), ("3 passed, 1 failed", (3, 1)), ("3 passed, 1 failed.\n", None), (" 3 passed, 1 failed\n", None),
-        ("3 passed\n", None), ("-3 passed, 1 failed\n", None), ("", None),
+        ("3 passed, 1 failed\n", (3, 1, 0)), ("3 passed, 1 failed", (3, 1, 0)), ("3 passed, 1 failed, 2 skipped\n", (3, 1, 2)),
+        ("3 passed, 1 failed.\n", None), (" 3 passed, 1 failed\n", None), ("3 passed, 1 failed, 2\n", None), ("3 passed\n", None), ("-3 passed, 1 failed\n", None), ("", None),
     ]:
         plain.same(f"the counts of {line!r}", counts_of(line), due)
 
 
+def tallied(is_whole, package):
+    """What a tally counts of a part that lacks a package, where nothing may be left out and where anything may."""
+    def part(_of):
+        raise LeftOut("a part", package)
+
+    tally = Tally()
+    with mock.patch.dict(os.environ, {"NOTHING_LEFT_OUT": "1" if is_whole else ""}), contextlib.redirect_stdout(io.StringIO()):
+        with mock.patch("harness.has_package", lambda package: package == "there"):
+            tally.part(part)
+    return tally.passed, tally.failed, tally.skipped
+
+
 def left_out(plain):
-    """What a machine can't do is said, and counts for nothing; what it can do is done."""
+    """What a machine can't do is said, and counts as skipped; what it can do is done."""
     def part(of, program):
         needs("a part", "sh", program)
         of.case("it is done", [])
@@ -130,6 +145,11 @@ def left_out(plain):
         plain.same("a program that isn't there", "nothing was left out", "")
     except LeftOut as what:
         plain.same("a program that isn't there", f"left out: {what}\n", due)
+    for is_whole, package, due in [
+        (False, "there", (0, 0, 1)), (True, "there", (0, 1, 1)), (True, "nowhere", (0, 0, 1)), (True, None, (0, 0, 1)),
+    ]:
+        plain.same(f"a part that lacks the package {package}, whole: {is_whole}", tallied(is_whole, package), due)
+    plain.same("a package that there isn't", has_package("no-such-package-anywhere"), False)
 
 
 def readable(plain):

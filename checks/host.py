@@ -2,8 +2,10 @@
 """Runs the host (docs/HOST.md) with unmodified QEMU guests, hostile clients and whatever else may go wrong.
 
     checks/host.py [CASE ..]
+    checks/host.py --gate
 
-Without words all cases but `figure` and `soak` run; --list names them. Needs root, out/host/pageshare-host and
+Without words all cases but `figure` and `soak` run; --list names them. --gate runs those that IN_GATE lists, which `make check` does: all
+that need no guest, shortened, and one with two guests. Each case has a time, after which it has failed. Needs root, out/host/pageshare-host and
 out/host/libpageshare-window.so (`make host`). Guests are QEMU with Debian's kernel and busybox, run as the user nobody beside a host
 of another user; each checks all that it reads. With INSTALL=1 in the environment missing packages are installed by apt-get, but for
 the kernel, which is only unpacked. What the machine lacks is left out, and so said.
@@ -11,7 +13,7 @@ the kernel, which is only unpacked. What the machine lacks is left out, and so s
 KSM=0 leaves out the kernel's KSM beside it (its settings are put back, however the check ends), GUESTS=N takes another number of
 guests than 3, SECONDS=N another length of `memory`, `fuzz`, `soak`, `breaker`, `storm` and `refusals`. SEEDS=N takes another number of
 seeds than 4 for `breaker` and 16 for `refusals`; with SANITIZE=1 `breaker` runs under a library with sanitizers. Everything runs on this machine, over sockets in a folder of
-its own, which is removed afterwards. The status is 1 where a case failed.
+its own, which is removed afterwards. The last line is `N passed, M failed`, of cases (status 0 where none failed, else 1).
 """
 import atexit
 import os
@@ -21,6 +23,8 @@ import signal
 import subprocess
 import sys
 import time
+
+from harness import LeftOut, Tally
 
 sys.path.insert(0, str(pathlib.Path(__file__).resolve().parent / "host"))
 
@@ -32,7 +36,7 @@ import guest_cases  # noqa: E402
 import hostile  # noqa: E402
 import measures  # noqa: E402
 import parts_cases  # noqa: E402
-from places import HERE, LeftOut, Place, Wrong  # noqa: E402
+from places import HERE, Place, Wrong  # noqa: E402
 
 CASES = {
     name.removeprefix("case_").replace("_", "-"): run
@@ -41,37 +45,64 @@ CASES = {
     if name.startswith("case_")
 }
 LONG = ("soak", "figure")
+# What `make check` runs, and the seconds that each case has. A new case that needs no guest belongs here, but for those that time something.
+IN_GATE = {
+    "words": 60, "hostile": 240, "tables": 300, "fuzz": 120, "stress": 240, "restarts": 300, "sanitizers": 600, "denied": 120, "hangup": 120,
+    "descriptors-sent": 240, "quotas": 120, "breaker": 240, "storm": 240, "parts": 300, "forks": 300, "pins": 600, "lent-again": 300,
+    "locks": 300, "endings": 300, "devices": 120, "ends": 600,
+}
+# The seconds of every other case.
+SECONDS_OF_CASE = 1800
 
 
-def run_case(name):
-    begin = time.time()
+def too_late(*_):
+    raise Wrong("it took too long")
+
+
+def run_case(tally, name):
+    """Runs a case, which ends after its time. What it started is ended with it."""
+    begin, seconds = time.time(), IN_GATE.get(name, SECONDS_OF_CASE)
+    if name in LONG:
+        seconds += int(os.environ.get("SECONDS", "600"))
     print(f"{name}: {CASES[name].__doc__.splitlines()[0]}", flush=True)
+    signal.alarm(seconds)
     try:
         CASES[name]()
         verdict = "good"
     except LeftOut as cause:
-        verdict = f"left out: {cause}"
+        verdict = "left out"
+        tally.leave_out(f"{name}: {cause}", cause.package)
     except (Wrong, RuntimeError, OSError, subprocess.SubprocessError, hostile.Ended) as cause:
         verdict = f"FAILED: {type(cause).__name__}: {cause}"
     finally:
+        signal.alarm(0)
         HERE.place.clean()
     print(f"{name}: {verdict} ({time.time() - begin:.0f} s)", flush=True)
-    return verdict
+    if verdict != "left out":
+        tally.case(name, [] if verdict == "good" else ["it failed, see above"])
+
+
+def cases_of(words):
+    """The cases that these words name, and whether there are all."""
+    if words == ["--gate"]:
+        words, HERE.is_short = [*IN_GATE], True
+    unknown = [name for name in words if name not in CASES]
+    if unknown:
+        print(f"no such case: {' '.join(unknown)} (see --list)")
+    return words or [name for name in CASES if name not in LONG], not unknown
 
 
 def main():
-    names = sys.argv[1:]
-    if names == ["--list"]:
+    if sys.argv[1:] == ["--list"]:
         for name, run in CASES.items():
             print(f"{name:12} {run.__doc__.splitlines()[0]}")
         return 0
-    unknown = [name for name in names if name not in CASES]
-    if unknown:
-        print(f"no such case: {' '.join(unknown)} (see --list)")
+    (names, are_known), tally = cases_of(sys.argv[1:]), Tally()
+    if not are_known:
         return 2
     if os.geteuid() != 0:
-        print("left out: all of it; it needs root")
-        return 0
+        tally.leave_out("all of the host, which needs root")
+        return tally.close()
     for it in (HERE.host, HERE.library):
         if not it.exists():
             print(f"{it} isn't there: make host")
@@ -81,11 +112,10 @@ def main():
     # (so that a build meanwhile changes nothing)
     HERE.host, HERE.library = (pathlib.Path(shutil.copy(it, HERE.place.room)) for it in (HERE.host, HERE.library))
     signal.signal(signal.SIGTERM, lambda *_: sys.exit(1))
-    verdicts = {name: run_case(name) for name in names or [name for name in CASES if name not in LONG]}
-    failed = [name for name, verdict in verdicts.items() if verdict.startswith("FAILED")]
-    left = [name for name, verdict in verdicts.items() if verdict.startswith("left out")]
-    print(f"{len(verdicts) - len(failed) - len(left)} good, {len(failed)} failed {failed or ''}, {len(left)} left out {left or ''}")
-    return 1 if failed else 0
+    signal.signal(signal.SIGALRM, too_late)
+    for name in names:
+        run_case(tally, name)
+    return tally.close()
 
 
 if __name__ == "__main__":

@@ -3,6 +3,7 @@
 
     checks/prove.py [--test] CRATE ..
 
+--test may stand anywhere among the crates, and is meant for all of them.
 What is proved of the same files is taken as it is: from an earlier run on this machine where the kit keeps that, and else from this
 tree, where `make test` or this script left it. Status 0 where all is proved and passed, else 1.
 """
@@ -26,7 +27,7 @@ def main():
     options = argparse.ArgumentParser(description=__doc__.splitlines()[0])
     options.add_argument("crates", nargs="+", metavar="CRATE")
     options.add_argument("--test", action="store_true", help="prove and run the crates' tests as well")
-    given = options.parse_args()
+    given = options.parse_intermixed_args()
     kit = load_kit()
     os.environ["RT_JOBS"] = str(lanes())
     every = proved.crates_of(kit)

@@ -26,17 +26,17 @@ CHECKS = [
 
 
 def tried(check, words):
-    """What a check counts as passed and failed; one that ends otherwise than it should has failed once more."""
+    """What a check counts as passed, failed and skipped; one that ends otherwise than it should has failed once more."""
     done = subprocess.run([sys.executable, TOP / "checks" / check, *words], stdout=subprocess.PIPE, text=True, check=False)
     lines = done.stdout.splitlines(keepends=True)
     closing = counts_of(lines[-1]) if lines else None
     print(f"{check}:\n{''.join(lines[:-1] if closing else lines)}", end="", flush=True)
-    passed, failed = closing or (0, 0)
+    passed, failed, skipped = closing or (0, 0, 0)
     if closing is None or done.returncode != (1 if failed else 0):
         print(f"it ended with status {done.returncode}")
         failed += 1
     print(f"{passed} of {passed + failed} are right", flush=True)
-    return passed, failed
+    return passed, failed, skipped
 
 
 def beside(program):
@@ -49,8 +49,8 @@ def beside(program):
 def main(program=PROGRAM, tracer=None):
     results = [tried(check, [*words, program]) for check, words in CHECKS]
     results.append(tried("traces.py", [tracer or beside(str(pathlib.Path(program).resolve()))]))
-    passed, failed = map(sum, zip(*results))
-    return close(passed, failed)
+    passed, failed, skipped = map(sum, zip(*results))
+    return close(passed, failed, skipped or None)
 
 
 if __name__ == "__main__":

@@ -31,6 +31,11 @@ WRAPS = {
     "full": ["memfd_create", "fcntl"],
 }
 MORE = {"guards": ["faults"], "pages": ["ring"], "leaves": ["ring"], "stress": ["ring"], "full": [], "stalls": []}
+# The tests but the stress, in turn, and the seconds that each has; those that run under the address sanitizer, too; and the seconds of a
+# stress beside those that it runs by its own clock.
+CASES = {"pages": 120, "leaves": 120, "guards": 120, "full": 120, "stalls": 300}
+SANITIZED = ("pages", "leaves")
+STRESS_MORE = 120
 SANITIZERS = ["address,undefined", "thread"]
 WAYS = [[], ["--move", "0"], ["--scan", "0"], ["--pins", "1", "--rest", "7"]]
 
@@ -69,9 +74,9 @@ def sanitized(tally, name, library, seconds):
     if not has_sanitizer(name):
         raise LeftOut(f"the {name} sanitizer")
     suffix = "_" + name.split(",", maxsplit=1)[0]
-    passes(tally, [build("stress", library, [f"-fsanitize={name}"], suffix), "--seconds", seconds])
-    for program in ["pages", "leaves"] if name != "thread" else []:
-        passes(tally, [build(program, library, [f"-fsanitize={name}"], suffix)])
+    passes(tally, [build("stress", library, [f"-fsanitize={name}"], suffix), "--seconds", seconds], int(seconds) + STRESS_MORE)
+    for program in SANITIZED if name != "thread" else []:
+        passes(tally, [build(program, library, [f"-fsanitize={name}"], suffix)], CASES[program])
 
 
 def record(tally, library, seconds):
@@ -117,11 +122,11 @@ def all_tests(tally, library, seconds):
     """Each test in turn."""
     needs_windows()
     OUT.mkdir(parents=True, exist_ok=True)
-    for name in ["pages", "leaves", "guards", "full", "stalls"]:
-        passes(tally, [build(name, library)])
+    for name, most in CASES.items():
+        passes(tally, [build(name, library)], most)
     stress = build("stress", library)
     for way in WAYS:
-        passes(tally, [stress, "--seconds", seconds, *way])
+        passes(tally, [stress, "--seconds", seconds, *way], int(seconds) + STRESS_MORE)
     for name in SANITIZERS:
         tally.part(sanitized, name, library, seconds)
     record(tally, library, seconds)

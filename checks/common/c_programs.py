@@ -2,21 +2,21 @@
 import os
 import subprocess
 
-from harness import TOP, LeftOut, needs
+from harness import LATE, TOP, LeftOut, needs
 
 CC = os.environ.get("CC", "cc")
 FLAGS = "-std=c11 -O2 -g -Wall -Wextra -Wconversion -Werror -pthread".split() + os.environ.get("CFLAGS", "").split()
 # Of windows, through which idle pages are lent: their own sources, and of the monitor what lends.
 WINDOW = sorted((TOP / "window").glob("*.c"))
 LENDER = [TOP / f"monitor/{name}.c" for name in ["lender", "bus", "journal"]]
-SECONDS = 1800
+SECONDS = 600
 
 
 def needs_windows():
     """Leaves all out where there is no C compiler or no userfaultfd."""
-    needs("all", CC)
+    needs("all windows", CC)
     if not can_open("/dev/userfaultfd"):
-        raise LeftOut("all, since there is no /dev/userfaultfd for this user")
+        raise LeftOut("all windows, since there is no /dev/userfaultfd for this user")
 
 
 def can_open(path):
@@ -28,19 +28,23 @@ def can_open(path):
         return False
 
 
-def run(words, **more):
-    """Shows a command and runs it."""
+def run(words, seconds=SECONDS, **more):
+    """Shows a command and runs it. Its status is LATE if it is ended after these seconds."""
     print("$ " + " ".join(str(word).replace(f"{TOP}/", "") for word in words), flush=True)
-    return subprocess.run(words, timeout=SECONDS, check=False, **more)
+    try:
+        return subprocess.run(words, timeout=seconds, check=False, **more)
+    except subprocess.TimeoutExpired:
+        return subprocess.CompletedProcess(words, LATE)
 
 
-def passes(tally, words, **more):
-    """A case: a program, which prints what is wrong, must end with status 0."""
-    return tally.equal(f"{os.path.basename(words[0])}, its status", run(words, **more).returncode, 0)
+def passes(tally, words, seconds=SECONDS, **more):
+    """A case: a program, which prints what is wrong, must end with status 0, and in time."""
+    return tally.equal(f"{os.path.basename(words[0])}, its status", run(words, seconds, **more).returncode, 0)
 
 
 def compile_c(words, path):
     """Compiles and links C with these words to this path, and returns it."""
+    path.parent.mkdir(parents=True, exist_ok=True)
     if subprocess.run([CC, *words, "-o", path], check=False).returncode != 0:
         raise SystemExit(f"{path.name} does not compile")
     return path

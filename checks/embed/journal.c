@@ -21,7 +21,7 @@ static const char *const VERDICTS[] = {
     "mapped", "stored",  "copied",   "taken",   "no-frame", "bytes",  "released", "totals", "closed",
 };
 
-static void stop(const char *what) {
+static _Noreturn void stop(const char *what) {
     fprintf(stderr, "journal: %s\n", what);
     exit(2);
 }

@@ -161,13 +161,13 @@ def longest_below(held, part):
 
 def case_holds():
     """How long pages are held: on this machine as it is, and beside a busy loop, two and four of them for each processor."""
-    program = compile_c("stress")
+    program, seconds = compile_c("stress"), "5" if HERE.is_short else "20"
     for loops in (0, 1, 2, 4):
         host = Host(memory="256M")
         busy = [subprocess.Popen([*AS_NOBODY, "sh", "-c", "while :; do :; done"]) for _ in range(loops * (os.cpu_count() or 1))]
         HERE.place.started += busy
         counts = [HERE.place.room / f"holds{number}" for number in range(2)]
-        ran = [subprocess.Popen([*AS_NOBODY, program, "20", "48", "1"], env=preloaded(host, {"PAGESHARE_COUNTS": str(it)}),
+        ran = [subprocess.Popen([*AS_NOBODY, program, seconds, "48", "1"], env=preloaded(host, {"PAGESHARE_COUNTS": str(it)}),
                                 text=True, stdout=subprocess.PIPE) for it in counts]
         said = [it.communicate(timeout=200)[0] for it in ran]
         must(all(it.returncode == 0 for it in ran), f"{said}")
@@ -191,7 +191,7 @@ def case_price():
             ran = subprocess.run([*AS_NOBODY, program, kind, "40"], capture_output=True, text=True, env=words)
             lines.append(ran.stdout.strip())
             must(ran.returncode == 0, str(ran))
-    if (KSM / "run").exists() and os.environ.get("KSM") != "0":
+    if (KSM / "run").exists() and os.environ.get("KSM") != "0" and not HERE.is_short:
         kept = {name: read(KSM / name).strip() for name in ("pages_to_scan", "sleep_millisecs", "run")}
         try:
             set_ksm(pages_to_scan=5000, sleep_millisecs=20, run=1)

@@ -10,6 +10,7 @@ import tempfile
 import time
 import types
 
+from harness import PACKAGES, LeftOut
 from qemu_guests import NOBODY, QEMU, initramfs, is_there, read
 
 TOP = pathlib.Path(__file__).resolve().parent.parent.parent
@@ -17,14 +18,10 @@ OUT = TOP / "out/host"
 CC = os.environ.get("CC", "cc")
 FLAGS = "-std=c11 -O2 -g -Wall -Wextra -Wconversion -Werror -pthread".split()
 AS_NOBODY = ["setpriv", f"--reuid={NOBODY}", f"--regid={NOBODY}", "--clear-groups"]
-PACKAGES = {QEMU: "qemu-system-x86", "qemu-img": "qemu-utils", "busybox": "busybox-static"}
+PROGRAMS = (QEMU, "qemu-img", "busybox")
 KERNEL_PACKAGE = "linux-image-cloud-amd64"
-# The folder of this run, and the host and the library that it runs.
-HERE = types.SimpleNamespace(place=None, host=OUT / "pageshare-host", library=OUT / "libpageshare-window.so")
-
-
-class LeftOut(Exception):
-    """A case that this machine can't run, and why."""
+# The folder of this run, the host and the library that it runs, and whether cases are to be short.
+HERE = types.SimpleNamespace(place=None, host=OUT / "pageshare-host", library=OUT / "libpageshare-window.so", is_short=False)
 
 
 class Wrong(Exception):
@@ -62,7 +59,7 @@ def find_kernel():
             if tree.is_dir():
                 return image, tree
     if os.environ.get("INSTALL") != "1":
-        raise LeftOut(f"there is no kernel of {KERNEL_PACKAGE} (INSTALL=1 unpacks one)")
+        raise LeftOut("there is no kernel for clouds (INSTALL=1 unpacks one)", KERNEL_PACKAGE)
     said = subprocess.run(["apt-cache", "depends", KERNEL_PACKAGE], capture_output=True, text=True).stdout
     found = re.search(r"Depends: (linux-image-\S+)", said)
     must(found, f"{KERNEL_PACKAGE} isn't known to apt-get")
@@ -85,9 +82,9 @@ class Place:
     def guests_possible(self):
         if self.kernel:
             return
-        for program, package in PACKAGES.items():
-            if not is_there(program) and not (install(package) and is_there(program)):
-                raise LeftOut(f"there is no {program} (package {package}; INSTALL=1 installs it)")
+        for program in PROGRAMS:
+            if not is_there(program) and not (install(PACKAGES[program]) and is_there(program)):
+                raise LeftOut(f"there is no {program} (INSTALL=1 installs it)", PACKAGES[program])
         kernel, modules = find_kernel()
         self.initrd, self.small_initrd = self.room / "initrd", self.room / "small_initrd"
         self.initrd.write_bytes(initramfs(shutil.which("busybox"), modules))
