@@ -48,7 +48,7 @@ LONG = ("soak", "figure")
 # What `make check` runs, and the seconds that each case has. A new case that needs no guest belongs here, but for those that time something.
 IN_GATE = {
     "words": 60, "hostile": 240, "tables": 300, "fuzz": 120, "stress": 240, "restarts": 300, "sanitizers": 600, "denied": 120, "hangup": 120,
-    "descriptors-sent": 240, "quotas": 120, "breaker": 240, "storm": 240, "parts": 300, "forks": 300, "pins": 600, "lent-again": 300,
+    "descriptors-sent": 240, "quotas": 120, "breaker": 240, "storm": 240, "parts": 300, "forks": 300, "pins": 600, "lent-again": 300, "newcomer": 120,
     "locks": 300, "endings": 300, "devices": 120, "ends": 600,
 }
 # The seconds of every other case.

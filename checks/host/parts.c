@@ -454,6 +454,35 @@ static void not_opened(void) {
 
 /* ---- */
 
+/* ---- guests that start later ---- */
+
+/* Pages of which each content, a number, is so many times there. */
+static uint8_t *numbered(size_t pages, size_t times) {
+    uint8_t *at = mmap(NULL, pages * PAGE, PROT_READ | PROT_WRITE, MAP_PRIVATE | MAP_ANONYMOUS, -1, 0);
+    if (at == MAP_FAILED) perror("mmap"), exit(2);
+    for (size_t i = 0; i < pages; i++) memcpy(at + i * PAGE + 100, &(uint64_t){1000 + i / times}, sizeof(uint64_t));
+    madvise(at, pages * PAGE, MADV_MERGEABLE);
+    madvise(at, pages * PAGE, MADV_DONTFORK);
+    return at;
+}
+
+/* All pages come in pairs and are lent; who runs this says when to end. */
+static void pairs(void) {
+    numbered(PAGES, 2);
+    check(wait_for_count("lent", PAGES, SECONDS), "all pages are lent");
+    puts("lent");
+    fflush(stdout);
+    getchar();
+}
+
+/* Pages that are alike in nothing but that another process has lent each of them, long ago. */
+static void newcomer(void) {
+    const long least = HALF * 95 / 100;
+    numbered(HALF, 1);
+    check(wait_for_count("lent", least, SECONDS), "95 of 100 pages are lent");
+    printf("  %ld of %d pages are lent\n", library_count("lent"), HALF);
+}
+
 static const struct way {
     const char *name;
     void (*run)(void);
@@ -462,6 +491,7 @@ static const struct way {
     {"moved", moved},   {"advised", advised},        {"refused", refused},   {"children", children},
     {"forked", forked}, {"inherited", inherited},    {"late", noticed_late}, {"direct", direct},
     {"locked", locked}, {"mappings", many_mappings}, {"ended", ended},       {"not-opened", not_opened},
+    {"pairs", pairs},   {"newcomer", newcomer},
 };
 
 int main(int count, char **words) {

@@ -3,23 +3,32 @@ import signal
 import subprocess
 import threading
 
-from places import AS_NOBODY, CC, FLAGS, HERE, OUT, TOP, Host, LeftOut, all_released, must, preloaded
+import hostile
+import raw_client
+from places import AS_NOBODY, CC, FLAGS, HERE, NOBODY, OUT, TOP, Host, LeftOut, all_released, must, preloaded
 
 LEFT_OUT, PATIENCE_SECONDS = 77, 150
 PINS = ("mprotect", "mlock", "mlockall", "unmergeable", "dofork", "dofork-part", "dma", "look")
 
 
+def compile_parts():
+    program, found = OUT / "parts", [TOP / "checks/host/parts.c", TOP / "checks/host/breaker/ring.c"]
+    must(subprocess.run([CC, *FLAGS, "-o", program, *found]).returncode == 0, "parts.c doesn't compile")
+    return program
+
+
+def start(program, way, host):
+    counts = {"PAGESHARE_PERIOD_MS": "50", "PAGESHARE_COUNTS": str(HERE.place.room / f"{way}.json"), "MALLOC_PERTURB_": "165"}
+    return subprocess.Popen([*AS_NOBODY, program, way], env=preloaded(host, counts), text=True, stdin=subprocess.PIPE, stdout=subprocess.PIPE,
+                            stderr=subprocess.STDOUT)
+
+
 def run_parts(ways, during=None):
     """Runs parts.c for each way, one after the other, beside a host."""
-    program, host = OUT / "parts", Host(memory="512M")
-    found = [TOP / "checks/host/parts.c", TOP / "checks/host/breaker/ring.c"]
-    must(subprocess.run([CC, *FLAGS, "-o", program, *found]).returncode == 0, "parts.c doesn't compile")
+    program, host = compile_parts(), Host(memory="512M")
     failed, left = [], []
     for way in ways:
-        counts = {"PAGESHARE_PERIOD_MS": "50", "PAGESHARE_COUNTS": str(HERE.place.room / f"{way}.json"), "MALLOC_PERTURB_": "165"}
-        ran = subprocess.Popen([*AS_NOBODY, program, way], env=preloaded(host, counts), text=True, stdin=subprocess.PIPE, stdout=subprocess.PIPE,
-                               stderr=subprocess.STDOUT)
-        status, said = follow(ran, host, during or {})
+        status, said = follow(start(program, way, host), host, during or {})
         print(f"  {way}: {'good' if status == 0 else 'left out' if status == LEFT_OUT else f'WRONG, status {status}'}", flush=True)
         for line in said:
             if line.startswith(("  ", "left out: ")):
@@ -77,3 +86,24 @@ def case_locks():
 def case_endings():
     """Lending ends where the system has no memory for it, and doesn't where a device isn't opened."""
     run_parts(("ended", "not-opened"))
+
+
+def ask_much(path, questions):
+    """A process that asks about so many pages that nobody has, so that the host forgets all questions before."""
+    client = raw_client.RawClient(path)
+    for first in range(0, questions, raw_client.PAGES_MOST):
+        client.ask([(page, 1 << 63 | page) for page in range(first, first + raw_client.PAGES_MOST)])
+
+
+def case_newcomer():
+    """A guest that starts when the questions about lent pages are long forgotten shares what it could."""
+    program, host = compile_parts(), Host("--lent", "16M", memory="16M")
+    first = start(program, "pairs", host)
+    must(first.stdout.readline().strip() == "lent", "the first process lends nothing")
+    must(hostile.wait(hostile.in_child(NOBODY, ask_much, str(host.socket), 16 << 8)) == 0, "a process that asks")
+    status, said = follow(start(program, "newcomer", host), host, {})
+    print("".join(said), end="")
+    first.communicate("\n")
+    must((status, first.returncode) == (0, 0), f"{said}")
+    all_released(host)
+    host.stop()
