@@ -70,7 +70,7 @@ def main():
         n_workers=asked.workers, threads_per_worker=1, dashboard_address=None, silence_logs=logging.CRITICAL
     )
     with Client(cluster) as client:
-        for module in ("digests.py", "tallies.py"):
+        for module in ("digests.py", "arrays.py", "tallies.py"):
             client.upload_file(str(HERE / module))
         try:
             found = merged(asked.digests, client)

@@ -1,0 +1,9 @@
+//! Which guests of a fleet are on which host, and a law of what sharing reclaims on each.
+#![tactic(auto)]
+
+mod hosts;
+pub mod laws;
+mod name;
+
+pub use hosts::{guests_on, hosts_of};
+pub use name::{has_host, host_of};
