@@ -3,7 +3,9 @@
 
 mod hosts;
 pub mod laws;
+mod list;
 mod name;
 
 pub use hosts::{guests_on, hosts_of};
-pub use name::{has_host, host_of};
+pub use list::{HostList, ListCause, ListFault};
+pub use name::host_of;

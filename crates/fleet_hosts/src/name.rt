@@ -1,5 +1,5 @@
 //! The host that a guest's name begins with.
-ghost use Rattle.std.specs.Prelude.{◌≡◌, length, nat_lt};
+ghost use Rattle.std.specs.Prelude.{◌≡◌};
 ghost use Rattle.fleet_hosts.specs.Hosts.{before_dot};
 
 /// Returns the host of a guest with this name: what comes before the first dot, or the whole name if it has none.
@@ -12,11 +12,4 @@ pub fn host_of<'a>(name: &'a [u8]) -> &'a [u8]
         }
     }
     name
-}
-
-/// Returns whether a name has a dot, and so begins with its host.
-pub fn has_host(name: &[u8]) -> bool
-    ensures { result ≡ nat_lt (length (before_dot name.now)) (length name.now) }
-{
-    host_of(name).len() < name.len()
 }
