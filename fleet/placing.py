@@ -2,7 +2,7 @@
 import dataclasses
 
 import numpy
-from scipy import sparse
+from scipy import optimize, sparse
 
 
 @dataclasses.dataclass
@@ -169,3 +169,170 @@ def best_swaps(placement, count):
     flat = numpy.argpartition(-bound, min(count, bound.size - 1), axis=None)[:count]
     flat = flat[numpy.argsort(-bound.ravel()[flat], kind="stable")]
     return [(bound.flat[it], it // bound.shape[1], it % bound.shape[1]) for it in flat if bound.flat[it] > 1e-6]
+
+
+def swap_holds(placement, unit, other):
+    """Whether two units may be swapped: hosts keep room, and nobody meets a rival."""
+    problem = placement.problem
+    a, b = placement.host_of[unit], placement.host_of[other]
+    if problem.fixed[other] or placement.has_rival(unit, b, other) or placement.has_rival(other, a, unit):
+        return False
+    if cost_of(placement, unit, b) + cost_of(placement, other, a) > moves_left(placement):
+        return False
+    room, need, gives = placement.room_left(), placement.need(), placement.gives()
+    # (with --spare, what both have and only one guest of a host has isn't given back)
+    kept = 0 if problem.spare is None else both_have(placement, unit, other)
+    return need[unit, b] + kept <= room[b] + gives[other] + 1e-6 and need[other, a] + kept <= room[a] + gives[unit] + 1e-6
+
+
+def apply_moves(placement):
+    """Makes the best moves, each of hosts that no other touched. Returns what they saved."""
+    touched, saved = set(), 0
+    for gain, unit, host in best_moves(placement):
+        hosts = {placement.host_of[unit], host}
+        if not hosts & touched and cost_of(placement, unit, host) <= moves_left(placement):
+            placement.move(unit, host)
+            touched |= hosts
+            saved += gain
+    return saved
+
+
+def apply_swaps(placement, count=2000):
+    """Makes the best swaps, each of hosts that no other touched. Returns what they saved."""
+    touched, saved = set(), 0
+    for bound, unit, host in best_swaps(placement, count):
+        if {placement.host_of[unit], host} & touched:
+            continue
+        found = best_partner(placement, unit, host)
+        if found and found[0] > 1e-6:
+            hosts = {placement.host_of[unit], host}
+            placement.swap(unit, found[1])
+            touched |= hosts
+            saved += found[0]
+    return saved
+
+
+def best_partner(placement, unit, host):
+    """The unit on a host whose swap with this one saves most, and how much; None if no swap holds."""
+    best = None
+    for other in numpy.flatnonzero(placement.host_of == host):
+        gain = placement.alone[unit] + placement.alone[other] - placement.added[unit, host] - placement.added[other, placement.host_of[unit]]
+        if (best is None or gain > best[0]) and swap_holds(placement, unit, other):
+            gain -= both_have(placement, unit, other)
+            if best is None or gain > best[0]:
+                best = gain, other
+    return best
+
+
+def improve(placement, is_late):
+    """Moves and swaps units as long as that saves frames and time is left."""
+    while not is_late():
+        if apply_moves(placement) + apply_swaps(placement) < 1e-6:
+            return
+
+
+def fill(problem, start):
+    """A placement from nothing: host after host is filled with the unit that brings least that is new. None where a unit finds no room."""
+    host_of = numpy.where(problem.fixed, start, -1)
+    columns = problem.has.tocsc()
+    new = numpy.asarray(problem.weighted.sum(axis=1)).ravel().astype("f8")
+    order = sorted(range(len(problem.memory)), key=lambda host: (-(host_of == host).sum(), -problem.memory[host], host))
+    for host in order:
+        fill_host(problem, columns, host_of, new.copy(), host)
+    return host_of if (host_of >= 0).all() else None
+
+
+def fill_host(problem, columns, host_of, new, host):
+    """Fills a host with units that have no host yet."""
+    covered = numpy.zeros(len(problem.weight), bool)
+    taken, inside = 0.0, list(numpy.flatnonzero(host_of == host))
+    barred = set().union(*(problem.rivals[unit] for unit in inside)) if inside else set()
+    waiting = list(inside)
+    whole = new.copy()
+    while True:
+        for unit in waiting:
+            row = problem.rows[unit]
+            fresh = row[~covered[row]]
+            taken += problem.pages[unit] if problem.spare is None else problem.own[unit] + problem.weight[fresh].sum()
+            covered[fresh] = True
+            for content in fresh:
+                new[columns.indices[columns.indptr[content]:columns.indptr[content + 1]]] -= problem.weight[content]
+        need = problem.pages if problem.spare is None else problem.own + new
+        limit = problem.memory[host] - (problem.spare or 0)
+        is_open = (host_of < 0) & (taken + need <= limit + 1e-6)
+        for unit in barred:
+            is_open[unit] = False
+        if not is_open.any():
+            return
+        # The first unit is the one with most to share; each other one brings the smallest part that is new.
+        score = numpy.where(is_open, new / (whole + 1) if covered.any() else -whole, numpy.inf)
+        unit = int(score.argmin())
+        host_of[unit] = host
+        barred |= problem.rivals[unit]
+        waiting = [unit]
+
+
+def renamed(placement):
+    """The same groups of units, each on the host where most of its guests are now: among hosts with equal memory and without a unit that stays."""
+    problem, host_of = placement.problem, placement.host_of.copy()
+    pinned = set(placement.host_of[problem.fixed])
+    for memory in numpy.unique(problem.memory):
+        hosts = [host for host in numpy.flatnonzero(problem.memory == memory) if host not in pinned]
+        place = {host: number for number, host in enumerate(hosts)}
+        stays = numpy.zeros((len(hosts), len(hosts)))
+        for unit, (group, start) in enumerate(zip(placement.host_of, placement.start)):
+            if group in place and start in place:
+                stays[place[group], place[start]] += problem.sizes[unit]
+        for group, host in zip(*optimize.linear_sum_assignment(-stays)):
+            host_of[placement.host_of == hosts[group]] = hosts[host]
+    return Placement(problem, host_of, placement.start)
+
+
+def shaken(placement, draw, count):
+    """A placement in which some units of equal size were swapped at random."""
+    problem = placement.problem
+    host_of = placement.host_of.copy()
+    movable = numpy.flatnonzero(~problem.fixed)
+    for _ in range(count):
+        one, other = draw.choice(movable, 2)
+        if problem.pages[one] == problem.pages[other]:
+            host_of[[one, other]] = host_of[[other, one]]
+    return Placement(problem, host_of, placement.start)
+
+
+def search(problem, start, is_late, seed=1):
+    """The best placement that is found: from where the units are, and from nothing if that doesn't move too many guests."""
+    best = Placement(problem, start)
+    improve(best, is_late)
+    free = dataclasses.replace(problem, most_moves=None)
+    filled = fill(free, start)
+    if filled is not None:
+        other = Placement(free, filled, start)
+        improve(other, is_late)
+        best = better(best, renamed(other))
+    if problem.most_moves is None:
+        best = better(best, renamed(shake(best, is_late, numpy.random.default_rng(seed))))
+    return best
+
+
+def better(one, other):
+    """The placement that holds and needs fewer frames, or moves fewer guests for as many."""
+    if not other.is_sound() or other.moved() > (numpy.inf if one.problem.most_moves is None else one.problem.most_moves):
+        return one
+    if not one.is_sound():
+        return other
+    return min(one, other, key=lambda placement: (round(placement.frames(), 3), placement.moved()))
+
+
+def shake(best, is_late, draw):
+    """Tries the neighbours of a placement until time is over, or a hundred of them were no better."""
+    frames, failed = best.frames(), 0
+    while not is_late() and failed < 100 and (~best.problem.fixed).sum() > 1:
+        other = shaken(best, draw, int(draw.integers(2, 7)))
+        if other.is_sound():
+            improve(other, is_late)
+        if other.is_sound() and other.frames() < frames - 1e-6:
+            best, frames, failed = other, other.frames(), 0
+        else:
+            failed += 1
+    return best
