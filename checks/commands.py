@@ -68,6 +68,7 @@ def of_fleets(subject, folder):
     fleet.tables(subject, folder)
     fleet.numbers(subject, folder)
     fleet.pairs(subject, folder)
+    fleet.by_host(subject, folder)
     fleet.bad_inputs(subject, folder)
     fleet.too_many(subject, folder)
     fleet.command_line(subject)

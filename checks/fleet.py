@@ -8,7 +8,8 @@ fleet/fleet.sql in SQLite. PROGRAM is by default out/pageshare (`make build`); w
 packages aren't at hand, the cases of these are left out, and the output says so. Nothing is built here.
 
 The cases, which follow from SEED, by default 1: random fleets with several salts, samples and digests without lines, and what each
-two of their guests have in common (`fleet --pairs`); 200 digests at once, whole and sampled, and their pairs; broken digests, each
+two of their guests have in common (`fleet --pairs`), by host, and with lists of hosts; plans for fleets of up to 8 guests
+(fleet/place.py) beside all placements, and what `fleet --hosts` counts of them; 200 digests at once, whole and sampled, and their pairs; broken digests, each
 with its first line at fault; that at least 90 of 100 true numbers of 200 random fleets lie within two standard errors of what one
 content in 16 tells; the example fleet's digests beside its images; random images through `digest` and `fleet` beside `estimate`;
 and the memory that `fleet` takes for 5 million lines. Prints what went wrong, and at the end `N passed, M failed` (status 0 where
@@ -23,7 +24,7 @@ import subprocess
 import sys
 import time
 
-from common import plain_fleet, plain_table
+from common import plain_fleet, plain_place, plain_table
 from common.plain_images import pages_of_bytes, pages_of_image
 from common.random_images import random_image
 from harness import PROGRAM, TOP, LeftOut, Tally, new_folder, run, wrong_end
@@ -113,6 +114,23 @@ def merge_faults(words, paths, due):
     yield from wrong or list(differences(json.loads(done.stdout), due))[:5]
 
 
+def due_of(way, due):
+    """What is due of a way: SQL has no numbers by host."""
+    return {name: due[name] for name in due if way != "fleet.sql" or name not in ("hosts", "on_hosts")}
+
+
+def listed_faults(draw, program, folder, paths, texts):
+    """What is wrong with the numbers by host, where a list says which host some guests are on."""
+    names = sorted({row[0] for text in texts for row in plain_fleet.rows_of(text)})
+    listed = {name: f"rack-{draw.randrange(3)}" for name in names if draw.randrange(4)}
+    path = folder / "hosts.csv"
+    path.write_text("guest,host\n" + "".join(f"{name},{host}\n" for name, host in listed.items()))
+    due = plain_fleet.counted(texts, listed or {"nobody": "nowhere"})
+    yield from merge_faults([program, "fleet", "--json", "--hosts", path], paths, due)
+    done = ran([program, "fleet", "--hosts", path, *paths])
+    yield from wrong_end(done, 0, plain_table.table_text(due), "")
+
+
 def table_faults(program, paths, due):
     """What is wrong with the tables of some digests."""
     for unit in ("mib", "pages"):
@@ -160,10 +178,113 @@ def random_fleets(tally, draw, ways):
         with new_folder() as folder:
             paths = written(folder, texts)
             for way, words in ways.words.items():
-                tally.case(f"{name}, {way}", merge_faults(words, paths, due))
+                tally.case(f"{name}, {way}", merge_faults(words, paths, due_of(way, due)))
             if "fleet" in ways.commands:
                 tally.case(f"{name}, pairs", pairs_faults(ways.program, folder, paths, texts, due))
                 tally.case(f"{name}, tables", table_faults(ways.program, paths, due))
+                tally.case(f"{name}, a list of hosts", listed_faults(draw, ways.program, folder, paths, texts))
+
+
+def python_with_scipy():
+    """A Python that has numpy and scipy."""
+    for python in (sys.executable, "/usr/bin/python3"):
+        with contextlib.suppress(OSError):
+            if ran([python, "-c", "import numpy, scipy.optimize, scipy.sparse"]).returncode == 0:
+                return python
+    raise LeftOut("the cases of fleet/place.py, since python3-numpy and python3-scipy aren't at hand")
+
+
+def random_place(draw):
+    """A fleet of up to 8 guests on 2 or 3 hosts: its digests' texts, the hosts, their memory, and where the guests are."""
+    sample, hosts = draw.choice([1, 1, 16]), ["a", "b", "c"][: draw.choice([2, 3])]
+    pool = [draw.randbytes(14).hex() + "0000" for _ in range(60)]
+    start, texts = {}, []
+    for guest in range(draw.choice([3, 4, 5, 6, 7, 8, 8, 8])):
+        host = draw.choice(hosts)
+        copies = {word: draw.choice([1, 1, 2]) for word in draw.sample(pool, draw.randrange(5, 40))}
+        copies[plain_fleet.digest(0, plain_fleet.ZEROS)] = draw.randrange(1, 60)
+        start[f"{host}.guest{guest}"] = host
+        texts.append(plain_fleet.text_of_copies(f"{host}.guest{guest}", 0, sample, copies))
+    most = sum(plain_fleet.rows_of(text)[0][2] for text in texts)
+    memory = {host: 256 * -(-draw.choice([most, 2 * most // len(hosts)]) // 256) for host in hosts}
+    return texts, hosts, memory, start
+
+
+def random_rules(draw, folder, names, start):
+    """What must hold of a plan, at random: words for place.py, rules for a placement, and pairs of guests that may not be together."""
+    words, rules, rivals = [], [], []
+
+    def add(option, text, rule):
+        (folder / f"{option}.csv").write_text(text)
+        words.extend([f"--{option}", folder / f"{option}.csv"])
+        rules.append(rule)
+
+    if draw.randrange(2):
+        add("apart", f"{names[0]},{names[1]}\n", lambda place: place[names[0]] != place[names[1]])
+        rivals.append(names[:2])
+    if draw.randrange(3) == 0:
+        add("together", f"{names[1]},{names[2]}\n", lambda place: place[names[1]] == place[names[2]])
+    if draw.randrange(3) == 0:
+        add("fixed", f"{names[2]}\n", lambda place: place[names[2]] == start[names[2]])
+    if draw.randrange(3) == 0:
+        most = draw.randrange(1, 4)
+        words.extend(["--moves", most])
+        rules.append(lambda place: sum(place[name] != start[name] for name in names) <= most)
+    return words, rules, rivals
+
+
+def place_faults(draw, python, ways, folder):
+    """What is wrong with the plan of a small fleet, beside all placements."""
+    texts, hosts, memory, start = random_place(draw)
+    fleet, paths = plain_place.Fleet(texts, hosts, memory), written(folder, texts)
+    words, rules, rivals = random_rules(draw, folder, list(start), start)
+    (folder / "memory.csv").write_text("host,memory\n" + "".join(f"{host},{pages // 256}\n" for host, pages in memory.items()))
+    spare = draw.choice([None, None, 0, 1])
+    words += ["--memory", folder / "memory.csv", *([] if spare is None else ["--spare", spare])]
+    room, plan = None if spare is None else 256 * spare, folder / "plan.csv"
+    holds = lambda place: fleet.has_room(place, room) and all(rule(place) for rule in rules)
+    best = fleet.best(start, holds, room or 0, rivals)
+    done = ran([python, FLEET / "place.py", "--json", "--seconds", 4, "--plan", plan, *words, *paths])
+    if best is None:
+        if done.returncode != 1 or done.stdout:
+            yield f"no placement holds, and {done.stdout[:200]} is printed"
+    elif done.returncode:
+        yield f"status {done.returncode}, {done.stderr[-300:]}"
+    else:
+        yield from plan_faults(fleet, json.loads(done.stdout), start, holds, best, room or 0)
+        if "pageshare fleet" in ways.words:
+            yield from counted_faults(ways, plan, paths, json.loads(done.stdout))
+
+
+def plan_faults(fleet, found, start, holds, best, spare):
+    """What is wrong with a plan, where the best needs so many frames."""
+    place = {one["guest"]: one["host"] for one in found["guests"]}
+    if not holds(place):
+        yield "the plan doesn't hold what must hold"
+    if fleet.frames(place) != found["after"]["frames"] or fleet.frames(start) != found["before"]["frames"]:
+        yield f"{found['before']} and {found['after']}, and {fleet.frames(start)} and {fleet.frames(place)} were due"
+    if fleet.frames(place) > 1.1 * best:
+        yield f"the plan needs {fleet.frames(place)} frames, and the best {best}"
+    if found["bound"]["frames"] > best:
+        yield f"the bound is {found['bound']}, and the best {best}"
+    yield from plain_place.order_faults(fleet, start, found, spare)
+
+
+def counted_faults(ways, plan, paths, found):
+    """What is wrong with what the program counts of a plan."""
+    done = ran([*ways.words["pageshare fleet"], "--hosts", plan, *paths])
+    counted = json.loads(done.stdout) if done.returncode == 0 else {}
+    frames = counted.get("on_hosts", counted.get("total", {})).get("frames")
+    if frames != found["after"]["frames"]:
+        yield f"the program counts {frames} frames of the plan ({done.stderr[-200:]}), and {found['after']} is printed"
+
+
+def places(tally, draw, ways):
+    """Plans for small fleets, beside all placements and what the program counts of them."""
+    python = python_with_scipy()
+    for number in range(25):
+        with new_folder() as folder:
+            tally.case(f"a plan for small fleet {number}", place_faults(draw, python, ways, folder))
 
 
 def python_with_dask():
@@ -206,7 +327,7 @@ def at_once(tally, draw, ways):
         with new_folder() as folder:
             paths = written(folder, texts)
             for way, own in ways.words.items():
-                tally.case(f"200 digests with sample {sample}, {way}", merge_faults(own, paths, due))
+                tally.case(f"200 digests with sample {sample}, {way}", merge_faults(own, paths, due_of(way, due)))
             if "fleet" in ways.commands:
                 tally.case(f"200 digests with sample {sample}, pairs", pairs_faults(ways.program, folder, paths, texts, due))
     return fleets
@@ -219,10 +340,21 @@ def by_dask(tally, fleets):
         words = [python, FLEET / "fleet_dask.py", "--scheduler", address]
         for sample, texts, due in fleets:
             tally.case(f"200 digests with sample {sample}, Dask", merge_faults(words, written(folder, texts), due))
+        tally.case("a table of contents by Dask", table_of_contents_faults(python, words, folder, fleets[1][1]))
         what, line, cause, text = broken_texts()[0]
         paths = written(folder, [text])
         tally.case(f"{what}, Dask", fault_faults(ran([*words, *paths]), paths[0], line, cause))
         read_by_workers(tally, python, folder)
+
+
+def table_of_contents_faults(python, words, folder, texts):
+    """Where a plan that place.py makes of Dask's table and one that it makes of the digests differ."""
+    texts = [text for text in texts if plain_fleet.rows_of(text)]
+    paths, table = written(folder, texts), folder / "contents.csv"
+    yield from wrong_end(ran([*words, "--contents", table, *paths]), 0, None, "")
+    plans = [ran([python, FLEET / "place.py", "--json", "--moves", 0, *own]) for own in (["--contents", table], paths)]
+    one, other = (json.loads(done.stdout) if done.returncode == 0 else {"fault": str(done.stderr)} for done in plans)
+    yield from differences(one, {**other, "guests": one.get("guests")}, "by the table: ")
 
 
 def read_by_workers(tally, python, folder):
@@ -443,6 +575,7 @@ def memory(tally, ways):
 def main(seed="1", program=PROGRAM):
     draw, tally, ways = random.Random(int(seed)), Tally(), Ways(program)
     random_fleets(tally, draw, ways)
+    tally.part(places, random.Random(int(seed)), ways)
     fleets = at_once(tally, draw, ways)
     tally.part(by_dask, fleets)
     broken(tally, ways)

@@ -1,11 +1,12 @@
 #!/usr/bin/python3
 """Merges digests by Dask's distributed engine, and prints the numbers of the fleet as one object (fleet/README.md).
 
-    fleet/fleet_dask.py [--scheduler ADDRESS] [--workers N] DIGEST ..
+    fleet/fleet_dask.py [--scheduler ADDRESS] [--workers N] [--hosts FILE] [--contents FILE] DIGEST ..
 
 ADDRESS is a scheduler's, as tcp://host:8786; each of its workers must be able to read each DIGEST under the path given. Without
 one, a scheduler and N workers (by default 2) are started here, as processes of their own on the loopback. A file that is no digest
-gets one line on standard error, with its first line at fault, and status 1. Needs Debian's python3-dask, python3-distributed and
+gets one line on standard error, with its first line at fault, and status 1. --hosts is the list of the guests' hosts that `pageshare
+fleet` takes. --contents writes a table for place.py: which guests have the contents that at least two guests have. Needs Debian's python3-dask, python3-distributed and
 python3-pandas.
 """
 import argparse
@@ -21,6 +22,7 @@ from distributed import Client, LocalCluster
 import digests
 import tallies
 from fleet_numbers import Content, Line, fleet_numbers
+from hosts import host_numbers, listed_hosts
 
 HERE = pathlib.Path(__file__).resolve().parent
 # What a worker reads and groups at once: this much text, which takes some 400 MB of its memory.
@@ -38,30 +40,48 @@ def groups_of(paths, parts):
     return [files for _bytes, files in groups]
 
 
-def kinds_in(paths, parts):
-    """How often each kind of line and of content comes, as one frame: the lines grouped by digest among the workers."""
+def lines_by_digest(paths, parts):
+    """All lines as one frame, grouped by digest among the workers."""
     frames = [delayed(tallies.frame_of_files)(group) for group in groups_of(paths, parts)]
     lines = dask.dataframe.from_delayed(frames, meta=tallies.no_lines())
-    by_digest = lines.shuffle(on=tallies.DIGEST, npartitions=parts)
-    return by_digest.map_partitions(tallies.kinds_of, meta=tallies.no_kinds()).compute()
+    return lines.shuffle(on=tallies.DIGEST, npartitions=parts)
 
 
-def merged(paths, client):
-    """The object of the fleet."""
+def merged(paths, client, listed, contents_path):
+    """The object of the fleet. Also writes the table of contents, if that is asked for."""
     heads = digests.heads_of(paths)
+    hosts = host_numbers(heads, listed)
     threads = sum(client.nthreads().values())
-    kinds = kinds_in(paths, max(2 * threads, -(-tallies.bytes_of(paths) // PART_BYTES)))
-    lines, contents = {}, {}
+    lines = lines_by_digest(paths, max(2 * threads, -(-tallies.bytes_of(paths) // PART_BYTES)))
+    kinds = lines.map_partitions(tallies.kinds_of, [number for number, _name in hosts], meta=tallies.no_kinds()).compute()
+    if contents_path:
+        write_contents(contents_path, heads, lines.map_partitions(tallies.table_of, meta=tallies.no_table()).compute())
+    of_lines, contents, by_host = {}, {}, {}
     for file, zero, copies, guests, shared, times in kinds.itertuples(index=False):
-        (place, kind) = (contents, Content(zero, copies, guests)) if file < 0 else (lines, Line(file, zero, copies, shared))
+        if file >= 0:
+            place, kind = of_lines, Line(file, zero, copies, shared)
+        else:
+            place = contents if file == -1 else by_host.setdefault(-2 - file, {})
+            kind = Content(zero, copies, guests)
         place[kind] = place.get(kind, 0) + times
-    return fleet_numbers(heads, lines, contents)
+    return fleet_numbers(heads, of_lines, contents, hosts, by_host)
+
+
+def write_contents(path, heads, table):
+    """Writes the table of contents as CSV."""
+    with open(path, "w", encoding="ascii") as out:
+        out.write("guest,pages,sample,content,zeros,count,copies\n")
+        for file, zero, high, low, copies, times, common in table.itertuples(index=False):
+            head, word = heads[file], f"{high:016x}{low:016x}" if common else ""
+            out.write(f"{head.guest},{head.pages},{head.sample},{word},{int(zero)},{times},{copies}\n")
 
 
 def main():
     words = argparse.ArgumentParser(usage=__doc__.split("\n\n")[1].strip())
     words.add_argument("--scheduler")
     words.add_argument("--workers", type=int, default=2)
+    words.add_argument("--hosts")
+    words.add_argument("--contents")
     words.add_argument("digests", nargs="+")
     asked = words.parse_args()
     # (a client that is closed after a fault may print there of answers that it no longer waits for)
@@ -70,10 +90,10 @@ def main():
         n_workers=asked.workers, threads_per_worker=1, dashboard_address=None, silence_logs=logging.CRITICAL
     )
     with Client(cluster) as client:
-        for module in ("digests.py", "tallies.py"):
+        for module in ("digests.py", "arrays.py", "tallies.py"):
             client.upload_file(str(HERE / module))
         try:
-            found = merged(asked.digests, client)
+            found = merged(asked.digests, client, listed_hosts(asked.hosts), asked.contents)
         except (digests.Fault, OSError, ValueError) as fault:
             print(fault, file=sys.stderr)
             return 1

@@ -102,8 +102,34 @@ def class_numbers(kinds, sample):
         yield with_errors(known, sums, sample)
 
 
-def fleet_numbers(heads, lines, contents):
-    """The object of a fleet: each file's head, None where it has no line, and how often each kind of line and of content came."""
+def sum_of(rows, pool):
+    """The sum of the hosts' numbers. A content is in the sample of all hosts or of none, so the standard errors are added up; but for frames
+    they are at most the pool's, in which each content counts at least as much as on all hosts together."""
+    members = {name: sum(row[name] for row in rows) for name in rows[0] if name not in ("parts", "errors")}
+    members["parts"] = {name: sum(row["parts"][name] for row in rows) for name in rows[0]["parts"]}
+    if "errors" in pool:
+        sums = {name: sum(row["errors"][name] for row in rows) for name in pool["errors"]}
+        members["errors"] = {name: total if name == "frames" else min(total, pool["errors"][name]) for name, total in sums.items()}
+    return members
+
+
+def host_members(guests, hosts, by_host, pool, sample):
+    """The members of the object that are by host: each file's host is in `hosts`, and its kinds of contents in `by_host`."""
+    rows = {}
+    for guest, (number, name) in zip(guests, hosts):
+        if guest["guest"] is not None:
+            rows.setdefault(number, (name, []))[1].append(guest)
+    members = [
+        {"host": name, "guests": len(own), "total": total_numbers(own, list(by_host.get(number, {}).items()), sample)}
+        for number, (name, own) in sorted(rows.items())
+    ]
+    return {"hosts": members, "on_hosts": sum_of([row["total"] for row in members], pool)}
+
+
+def fleet_numbers(heads, lines, contents, hosts=(), by_host=None):
+    """The object of a fleet: each file's head, None where it has no line, and how often each kind of line and of content came. With
+    `hosts`, the number and the name of each file's host, and `by_host`, how often each kind of content came on each host, it has the
+    numbers by host, too."""
     sample = next((head.sample for head in heads if head), 1)
     of_files = [[] for _ in heads]
     for kind, times in lines.items():
@@ -113,5 +139,9 @@ def fleet_numbers(heads, lines, contents):
     members = {"page_bytes": PAGE_BYTES}
     if sample > 1:
         members.update(sample=sample, kept=sum(contents.values()))
-    members.update(guests=guests, total=total_numbers(guests, kinds, sample), copies=list(class_numbers(kinds, sample)))
+    total = total_numbers(guests, kinds, sample)
+    members.update(guests=guests)
+    if hosts:
+        members.update(host_members(guests, hosts, by_host or {}, total, sample))
+    members.update(total=total, copies=list(class_numbers(kinds, sample)))
     return members

@@ -4,12 +4,20 @@ import os
 import numpy
 import pandas
 
+import arrays
 import digests
 
 # A digest is two numbers of 64 bits, by which frames are grouped some ten times as fast as by texts.
 DIGEST = ["high", "low"]
 COLUMNS = {"file": "i4", "zero": "?", "high": "u8", "low": "u8", "copies": "i8"}
 KINDS = {"file": "i4", "zero": "?", "copies": "i8", "guests": "i8", "shared": "?", "times": "i8"}
+
+
+TABLE = {"file": "i4", "zero": "?", "high": "u8", "low": "u8", "copies": "i8", "times": "i8", "common": "?"}
+
+
+def no_table():
+    return pandas.DataFrame({name: pandas.Series(dtype=kind) for name, kind in TABLE.items()})
 
 
 def no_lines():
@@ -20,56 +28,12 @@ def no_kinds():
     return pandas.DataFrame({name: pandas.Series(dtype=kind) for name, kind in KINDS.items()})
 
 
-def block_of(found, constant, block):
-    """A block's digests and copies; None if not all its bytes are lines of the form, or if copies are more than pages can be."""
-    if len(found) * constant + sum(len(copies) for _digest, copies in found) != len(block):
-        return None
-    pairs = numpy.frombuffer(bytes.fromhex(b"".join(digest for digest, _copies in found).decode()), dtype=">u8")
-    pairs = pairs.astype("u8").reshape(-1, 2)
-    copies = [int(copies) for _digest, copies in found]
-    if max(copies) > digests.MOST_PAGES:
-        return None
-    return pairs, numpy.array(copies, dtype="i8")
-
-
-def read_all(path, head):
-    """All digests and copies of a file whose lines begin with this head; None if a line doesn't."""
-    prefix = f"{head.guest},{head.salt},{head.pages},{head.sample},".encode()
-    pattern = digests.re.compile(digests.re.escape(prefix) + rb"([0-9a-f]{32}),([1-9][0-9]{0,19})\n")
-    parts = []
-    with open(path, "rb") as file:
-        if file.readline() != digests.HEADER:
-            return None
-        for block in digests.blocks(file):
-            part = block_of(pattern.findall(block), len(prefix) + 34, block)
-            if part is None:
-                return None
-            parts.append(part)
-    return numpy.concatenate([pairs for pairs, _copies in parts]), numpy.concatenate([copies for _pairs, copies in parts])
-
-
-def is_whole(head, pairs, copies, zeros):
-    """The digests rise, the sample keeps each, and their copies are as many as the pages, or with a sample at most that many."""
-    high, low = pairs[:, 0], pairs[:, 1]
-    rises = (high[1:] > high[:-1]) | ((high[1:] == high[:-1]) & (low[1:] > low[:-1]))
-    kept = (low % numpy.uint64(head.sample) == 0) | zeros
-    total = sum(map(int, copies))
-    return rises.all() and kept.all() and (total == head.pages if head.sample == 1 else total <= head.pages)
-
-
 def frame_of(file, path):
     """The lines of a digest, as a frame."""
     head = digests.head_of(path)
     if head is None:
         return no_lines()
-    read = read_all(path, head)
-    if read is None:
-        digests.raise_fault(path)
-    pairs, copies = read
-    high, low = (int(part, 16) for part in digests.re.findall(".{16}", digests.zeros_digest(head.salt)))
-    zeros = (pairs[:, 0] == numpy.uint64(high)) & (pairs[:, 1] == numpy.uint64(low))
-    if not is_whole(head, pairs, copies, zeros):
-        digests.raise_fault(path)
+    pairs, copies, zeros = arrays.lines_of(path, head)
     frame = pandas.DataFrame({"file": file, "zero": zeros, "high": pairs[:, 0], "low": pairs[:, 1], "copies": copies})
     return frame.astype(COLUMNS)
 
@@ -84,16 +48,36 @@ def counted(frame, columns):
     return frame.groupby(columns, sort=False).size().rename("times").reset_index()
 
 
-def kinds_of(part):
-    """How often each kind of line and of content comes in a part of the lines that has all lines of its contents."""
+def contents_in(part, columns):
+    """Each content, apart for each value of some columns: whether it is zeros, its copies, and how many guests have it."""
+    return part.groupby(columns, sort=False).agg(zero=("zero", "any"), copies=("copies", "sum"), guests=("file", "size"))
+
+
+def kinds_of(part, hosts=()):
+    """How often each kind of line and of content comes in a part of the lines that has all lines of its contents. `hosts` has the number
+    of each file's host, if contents are also counted by host: these kinds have the file -2 less the host's number."""
     if part.empty:
         return no_kinds()
     by_digest = part.groupby(DIGEST, sort=False)
-    contents = by_digest.agg(zero=("zero", "any"), copies=("copies", "sum"), guests=("file", "size"))
+    contents = contents_in(part, DIGEST)
     shared = by_digest["copies"].transform("sum") > 1
     of_lines = counted(part.assign(shared=shared), ["file", "zero", "copies", "shared"]).assign(guests=0)
     of_contents = counted(contents, ["zero", "copies", "guests"]).assign(file=-1, shared=False)
-    return pandas.concat([of_lines, of_contents], ignore_index=True)[list(KINDS)].astype(KINDS)
+    frames = [of_lines, of_contents]
+    if len(hosts):
+        on_host = part.assign(host=-2 - numpy.asarray(hosts, "i4")[part["file"]])
+        on_hosts = contents_in(on_host, ["host", *DIGEST]).reset_index("host")
+        frames.append(counted(on_hosts, ["host", "zero", "copies", "guests"]).rename(columns={"host": "file"}).assign(shared=False))
+    return pandas.concat(frames, ignore_index=True)[list(KINDS)].astype(KINDS)
+
+
+def table_of(part):
+    """The lines of contents that at least two guests have, and how often each kind of the other lines comes, with no digest."""
+    if part.empty:
+        return no_table()
+    common = part.groupby(DIGEST, sort=False)["file"].transform("size") > 1
+    alone = counted(part[~common], ["file", "zero", "copies"]).assign(high=0, low=0, common=False)
+    return pandas.concat([part[common].assign(times=1, common=True), alone], ignore_index=True)[list(TABLE)].astype(TABLE)
 
 
 def bytes_of(paths):

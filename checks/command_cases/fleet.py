@@ -81,6 +81,39 @@ def pairs(subject, folder):
     subject.fails("fleet, pairs to a full device", ["fleet", "--pairs", "/dev/full", *images], f"/dev/full: {NO_ROOM}\n")
 
 
+def by_host(subject, folder):
+    """Numbers by host: of names, of a list, of one host, of names that are those of files, and of a pipe."""
+    texts = [plain_fleet.text_of_copies(f"{name}", 0, 1, copies) for name, copies in [
+        ("a.one", {"1" * 32: 2, "2" * 32: 1}), ("a.two", {"2" * 32: 1, "3" * 32: 4}), ("b.one", {"1" * 32: 1, "3" * 32: 2}),
+    ]]
+    paths = [folder / f"host-{number}.digest" for number in range(len(texts))]
+    for path, text in zip(paths, texts):
+        path.write_text(text)
+    words = ["fleet", "--json", *map(str, paths)]
+    found = json.loads(subject.run(words).stdout)
+    subject.tally.equal("fleet by host", found, plain_fleet.counted(texts))
+    rows = [(host["host"], host["guests"], host["total"]["frames"]) for host in found["hosts"]]
+    subject.tally.equal("fleet by host, frames", (rows, found["on_hosts"]["frames"], found["total"]["frames"]), ([("a", 2, 3), ("b", 1, 2)], 5, 3))
+    one_host = json.loads(subject.run(words[:-1]).stdout)
+    subject.tally.equal("fleet of one host", "hosts" in one_host, False)
+    hosts = folder / "hosts.csv"
+    for name, text, due in [
+        ("a list", "guest,host\na.two,b\nnobody,c\n", {"a.two": "b"}), ("a list of one host", "guest,host\nb.one,a\n", {"b.one": "a"}),
+    ]:
+        hosts.write_text(text)
+        given = json.loads(subject.run([*words, "--hosts", str(hosts)]).stdout)
+        subject.tally.equal(f"fleet --hosts, {name}", given, plain_fleet.counted(texts, due))
+    names = 'each of 1 to 64 letters, digits, ".", "_" and "-", with a comma between them and a line feed behind them'
+    for text, cause in [
+        ("", "line 1: begin with the line guest,host"), ("host,guest\n", "line 1: begin with the line guest,host"),
+        ("guest,host\na.one\n", f"line 2: give a guest and a host, {names}"), ("guest,host\na.one,b", f"line 2: give a guest and a host, {names}"),
+        ("guest,host\na,b\na.one,b,c\n", f"line 3: give a guest and a host, {names}"), ("guest,host\na,b\na,c\n", "line 3: give each guest once"),
+    ]:
+        hosts.write_text(text)
+        subject.fails(f"fleet --hosts, {text!r}", [*words, "--hosts", str(hosts)], f"{hosts}: {cause}\n")
+    subject.fails("fleet --hosts, no such list", [*words, "--hosts", str(folder / "none")], f"{folder / 'none'}: {MISSING}\n")
+
+
 def bad_inputs(subject, folder):
     """Paths that lead to no digest, digests at fault, two samples, and a full device."""
     good, none, broken = str(ROWS / "first.digest"), str(folder / "none"), folder / "broken.digest"
@@ -108,7 +141,7 @@ def command_line(subject):
     """Words that aren't taken, and help."""
     good = str(ROWS / "first.digest")
     subject.refuses("fleet", [
-        [], ["--json"], ["--workers", "1", good], ["--pairs"], ["--pairs", good], ["--progress", "often", good], ["--unit", "kib", good],
+        [], ["--json"], ["--workers", "1", good], ["--pairs"], ["--pairs", good], ["--hosts"], ["--hosts", good], ["--progress", "often", good], ["--unit", "kib", good],
     ])
     subject.writes("fleet --help", ["fleet", "--help"], ANY)
 

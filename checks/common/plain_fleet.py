@@ -139,8 +139,41 @@ def pairs_text(texts):
     return "".join(",".join(map(str, line)) + "\n" for line in lines)
 
 
-def counted(texts):
-    """The object of a fleet of digests with one sample, given as texts."""
+def host_of(guest, listed):
+    """A guest's host: as a list says, and else what comes before the first dot of its name."""
+    return (listed or {}).get(guest, guest.split(".")[0])
+
+
+def by_host(texts, listed):
+    """The texts of each host's digests, by the hosts' names. None if there are fewer than two hosts, or if there is no list and no host has
+    two guests of different names."""
+    found, guests = {}, set()
+    for text in texts:
+        rows = rows_of(text)
+        if rows:
+            found.setdefault(host_of(rows[0][0], listed), []).append(text)
+            guests.add(rows[0][0])
+    return found if len(found) > 1 and (listed is not None or len(guests) > len(found)) else {}
+
+
+def on_hosts(texts, listed, pool):
+    """The members of a fleet's object that are by host: each host's fleet by itself, and their sum."""
+    hosts = [{"host": name, "guests": len(own), "total": counted(own, None)["total"]} for name, own in by_host(texts, listed).items()]
+    if not hosts:
+        return {}
+    rows = [host["total"] for host in hosts]
+    total = {name: sum(row[name] for row in rows) for name in rows[0] if name not in ("parts", "errors")}
+    total["parts"] = {name: sum(row["parts"][name] for row in rows) for name in rows[0]["parts"]}
+    if "errors" in pool:
+        total["errors"] = {name: sum(row["errors"][name] for row in rows) for name in pool["errors"]}
+        for name in total["errors"].keys() - {"frames"}:
+            total["errors"][name] = min(total["errors"][name], pool["errors"][name])
+    return {"hosts": hosts, "on_hosts": total}
+
+
+def counted(texts, listed=()):
+    """The object of a fleet of digests with one sample, given as texts. `listed` are the hosts that a list gives to guests; by default they
+    are those of the names, and with None nothing is by host."""
     files = [rows_of(text) for text in texts]
     rows = [row for own in files for row in own]
     sample = rows[0][3] if rows else 1
@@ -153,7 +186,6 @@ def counted(texts):
     found = {"page_bytes": PAGE}
     if sample > 1:
         found |= {"sample": sample, "kept": len(copies)}
-    return {
-        **found, "guests": guests, "total": total_of(guests, copies, owners, zeros, sample),
-        "copies": list(classes_of(copies, zeros, sample)),
-    }
+    total = total_of(guests, copies, owners, zeros, sample)
+    hosts = {} if listed is None else on_hosts(texts, listed or None, total)
+    return {**found, "guests": guests, **hosts, "total": total, "copies": list(classes_of(copies, zeros, sample))}

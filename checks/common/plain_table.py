@@ -42,15 +42,15 @@ def parts_of(total):
     return [total["parts"][name] for name in ("zeros", "between", "within")]
 
 
-def sentence(total):
-    """The sentence: in tenths of a MiB where less than 10 MiB could be reclaimed, and else in whole MiB."""
+def sentence(total, place=""):
+    """The sentence, with where the memory could be reclaimed: in tenths of a MiB where less than 10 MiB could be reclaimed, and else in whole MiB."""
     scale = 10 if total["reclaimed"] < 10 * PAGES_OF_A_MIB else 1
     show = tenths if scale == 10 else str
     errors = total.get("errors")
     plus = {name: f" (+- {show(rounded(exact(errors[name], scale)))})" if errors else "" for name in ("reclaimed", "between", "within")}
     whole, zeros, between, within = map(show, shares(parts_of(total), scale))
     return (
-        f"{whole}{plus['reclaimed']} of {show(rounded(exact(total['pages'], scale)))} MiB could be reclaimed "
+        f"{whole}{plus['reclaimed']} of {show(rounded(exact(total['pages'], scale)))} MiB could be reclaimed{place} "
         f"({per_cent(total['reclaimed'], total['pages'])} %): {zeros} zeros, {between}{plus['between']} between guests, "
         f"{within}{plus['within']} within guests"
     )
@@ -62,10 +62,11 @@ class Table:
     def __init__(self, found, unit):
         self.found, self.unit, self.is_sampled = found, unit, "sample" in found
         total = found["total"]
-        most = max([total["pages"], *(total[name] for name in ("shared", "frames", "reclaimed", "between")),
-                    *(total.get("errors", {}).get(name, 0) for name in ("shared", "frames", "reclaimed", "between"))])
-        if not self.is_sampled:
-            most = total["pages"]
+        names = ("shared", "frames", "reclaimed", "between")
+        most = total["pages"]
+        if self.is_sampled:
+            for own in [total, *([found["on_hosts"]] if "on_hosts" in found else [])]:
+                most = max([most, *(own[name] for name in names), *(own["errors"][name] for name in names)])
         self.width = max(14, len(str(most)) if unit == "pages" else len(str(rounded(exact(most, 1)))) + 2)
         self.contents = max(12, len(str(most)) + 2) if "guest" in (found["guests"] or [{"guest": 0}])[0] else 12
 
@@ -113,6 +114,28 @@ def copies_text(table, is_fleet):
     return lines
 
 
+def hosts_text(table, found, known):
+    """A line for each host, for the sum over all hosts, and for all guests in one pool."""
+    if "hosts" not in found:
+        return
+    numbers = ["pages", "zero", "shared", "frames", "reclaimed"]
+    yield ""
+    yield " host  guests" + table.headings(["memory", *numbers[1:]], known) + "  reclaimed of memory  name"
+    guests = sum(host["guests"] for host in found["hosts"])
+    rows = [(str(n), host["guests"], host["total"], host["host"]) for n, host in enumerate(found["hosts"])]
+    rows += [("sum", guests, found["on_hosts"], "all hosts"), ("pool", guests, found["total"], "one host with all guests")]
+    for label, count, total, name in rows:
+        part = per_cent(total["reclaimed"], total["pages"])
+        yield f"{label:>5}  {count:>6}" + table.row(total, numbers, known) + f"  {part:>17} %  {name}"
+
+
+def sentences(found):
+    """The sentence, or first the one about the hosts."""
+    if "hosts" not in found:
+        return [sentence(found["total"])]
+    return [sentence(found["on_hosts"], " on the guests' hosts"), sentence(found["total"], " if one host had all guests")]
+
+
 def table_text(found, unit="mib", names=None):
     """The whole table of an object; `names` are what the guests are called there, by default what the object calls them."""
     is_fleet = not found["guests"] or "guest" in found["guests"][0]
@@ -129,10 +152,11 @@ def table_text(found, unit="mib", names=None):
         salt = "-" if guest["salt"] is None else str(guest["salt"])
         own = "-" if name is None else name
         lines.append(str(n).rjust(5) + table.row(guest, ["pages", "zero", "shared", "distinct", "alone"], known) + f"  {salt:>10}  {own}")
+    lines += hosts_text(table, found, known)
     total = found["total"]
     order = ["memory", "zero", "shared", "frames", "reclaimed", "zero_reclaimed", "between", "within"]
     lines += ["", "     " + table.headings(order, known) + "  reclaimed of memory"]
     part = per_cent(total["reclaimed"], total["pages"])
     lines.append("total" + table.row(total, ["pages", "zero", "shared", "frames"], known) + table.reclaimed(total) + f"  {part:>17} %")
-    lines += [*copies_text(table, is_fleet), "", sentence(total)]
+    lines += [*copies_text(table, is_fleet), "", *sentences(found)]
     return "\n".join(lines) + "\n" + ("" if is_fleet else HOW_TO_SHARE)

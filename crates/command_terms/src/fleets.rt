@@ -14,6 +14,8 @@ pub struct FleetWords<'a> {
     pub in_pages: bool,
     /// Where what each two guests have in common goes.
     pub pairs: Option<&'a str>,
+    /// The file that lists the guests' hosts.
+    pub hosts: Option<&'a str>,
     pub progress: Drawn,
 }
 

@@ -1,5 +1,5 @@
 //! The words of the command `fleet`.
-use crate::help::{DIGESTS, FLEET, OF_FLEET, PAIRS};
+use crate::help::{DIGESTS, FLEET, HOSTS, OF_FLEET, PAIRS};
 use crate::parts::{
     described, is_in_pages, json_option, option, positionals, unit_option, values_of,
 };
@@ -13,6 +13,7 @@ pub fn fleet_command<'a>(alloc: Global) -> Result<Command<'a>, AllocError> {
     let args = vec![in alloc;
         unit_option(alloc),
         json_option(alloc),
+        option(alloc, "hosts", "FILE", HOSTS),
         option(alloc, "pairs", "FILE", PAIRS),
         progress_option(alloc),
         digests_words(alloc),
@@ -34,6 +35,7 @@ pub fn fleet_words<'a>(
         json: matches.get_flag("json"),
         in_pages: is_in_pages(matches),
         pairs: matches.get_str("pairs"),
+        hosts: matches.get_str("hosts"),
         progress: progress_of(matches),
     })
 }

@@ -196,6 +196,13 @@ sentence whose parts add up, such as
     23810 of 25600 MiB could be reclaimed (93.0 %):
     19877 zeros, 3542 between guests, 391 within guests
 
+Guests named host1.web and host1.database are on host1. If there are two hosts
+or more, the numbers are also printed by host: a line for each, their sum, and
+one pool of all guests. Then the last lines say what sharing would reclaim where
+the guests are, and if one host had all of them. --hosts names other hosts: a
+line guest,host, and then a line such as web,host1 for each guest. For numbers by
+host a digest is read twice, so it can't be a pipe.
+
 The numbers are exact if no two different contents have the same digest. With a
 sample above 1 they are estimates, and each has its standard error next to it.
 
@@ -205,8 +212,10 @@ of memory for each pair. Otherwise each digest takes 64 KiB, however long it is.
 There may be 65,536 of them, if the system lets so many files be open at once.
 
 docs/FLEETS.md explains how to collect digests, and what each number means. The
-exit status is 0 on success, 1 if a digest, the pairs, the output or memory
-failed, and 2 if the command line is wrong.";
+exit status is 0 on success, 1 if a digest, the hosts, the pairs, the output or
+memory failed, and 2 if the command line is wrong.";
+
+pub(crate) const HOSTS: &str = "Take the guests' hosts from this list, as CSV";
 
 pub(crate) const DIGESTS: &str = "A digest of each guest's memory";
 

@@ -2,6 +2,7 @@
 use command_terms::{CommandEnd, DigestSource, EstimateWords, FleetWords, ImageCause};
 use digest_text::{LineFault, ReadFault, WriteFault};
 use fleet_census::FleetFault;
+use fleet_hosts::{ListCause, ListFault};
 use live_memory::LiveFault;
 use memory_images::{FormFault, ImageFault};
 use report_text::PlainName;
@@ -24,8 +25,12 @@ pub enum Cause {
     Line(LineFault),
     /// The digests don't go together.
     Fleet(FleetFault),
+    /// A line of a list of hosts.
+    Hosts(u64, ListCause),
     /// There is no digest.
     NoDigest,
+    /// A digest can't be read twice.
+    ReadOnce,
 }
 
 /// What a fault is about.
@@ -153,7 +158,11 @@ impl Display for Cause {
             Cause::Process(fault) => write!(f, "{fault}"),
             Cause::Line(fault) => write!(f, "{fault}"),
             Cause::Fleet(fault) => write!(f, "{fault}"),
+            Cause::Hosts(line, cause) => write!(f, "line {line}: {cause}"),
             Cause::NoDigest => f.write_str("no digest"),
+            Cause::ReadOnce => f.write_str(
+                "for numbers by host give a file, which can be read twice",
+            ),
         }
     }
 }
@@ -220,6 +229,15 @@ impl From<ReadFault> for Cause {
             ReadFault::OutOfMemory => Cause::from(AllocError),
             ReadFault::Read(error) => Cause::from(error),
             ReadFault::Line(line) => Cause::Line(line),
+        }
+    }
+}
+
+impl From<ListFault> for Cause {
+    fn from(fault: ListFault) -> Cause {
+        match fault {
+            ListFault::OutOfMemory => Cause::from(AllocError),
+            ListFault::Line(line, cause) => Cause::Hosts(line, cause),
         }
     }
 }

@@ -1,15 +1,17 @@
 //! The command `fleet`: it merges digests of guests' memory, and shows what sharing would reclaim of all of them.
+mod by_host;
 mod counted_file;
 mod opened;
 
 use crate::command_fault::{Cause, CommandFault, Subject};
+use crate::fleet::by_host::{Hosts, count_hosts, hosts_text};
 use crate::fleet::opened::{Digest, OpenedFiles, fault_of_rest, open_files, read_headers};
 use crate::output::{output_text, write_all};
 use crate::reading::Reading;
 use command_terms::{FleetWords, line_where};
 use digest_text::{DigestHead, DigestReader};
 use fleet_census::{FleetFault, FleetNumbers, Pairs, merge};
-use report_text::{Fleet, fleet_lines, write_pairs};
+use report_text::{Fleet, FleetHost, fleet_lines, write_pairs};
 use std::alloc::{AllocError, Global};
 use std::fs::{self, File, Files};
 use std::io::{Eprint, Write};
@@ -25,12 +27,20 @@ pub fn do_fleet<'a, R: Files<File = File> + Eprint + Clock, W: Write + Drop>(
     is_terminal: bool,
 ) -> Result<(), CommandFault<'a>> {
     let opened = open_files(rt, alloc, words)?;
+    let again = opened.again;
     let line = line_where(rt, words.progress, is_terminal);
     let reading = Reading::of_bytes(line, opened.bytes);
     let read = read_all(alloc, words, opened, &reading);
     reading.end();
     let (digests, numbers) = read?;
-    write_numbers(rt, alloc, words, &digests, &numbers, output)
+    let list = hosts_text(rt, alloc, words)?;
+    let heads = heads_of(alloc, &digests).map_err(|refused| CommandFault::of_fleet(
+        words,
+        Cause::from(refused),
+    ))?;
+    let hosts = Hosts::of(alloc, words, &heads, &list)?;
+    let totals = count_hosts(rt, alloc, words, &hosts, again, is_terminal)?;
+    write_numbers(rt, alloc, words, &heads, &numbers, &totals, output)
 }
 
 /// Reads the digests, and counts what is in them together.
@@ -87,24 +97,24 @@ fn too_many<'a, R: Eprint + Clock>(
 }
 
 /// Writes the pairs of guests, and then the table or the JSON object, of which all is made before.
-fn write_numbers<'a, R: Files<File = File>, T: Eprint + Clock, W: Write + Drop>(
+fn write_numbers<'a, R: Files<File = File>, W: Write + Drop>(
     rt: &R,
     alloc: Global,
     words: &FleetWords<'a>,
-    digests: &[Digest<'_, T>],
+    heads: &[Option<&DigestHead>],
     numbers: &FleetNumbers<Global>,
+    hosts: &[FleetHost<'_>],
     mut output: W,
 ) -> Result<(), CommandFault<'a>> {
     let out_of_memory = |refused| CommandFault::of_fleet(words, Cause::from(refused));
-    let heads = heads_of(alloc, digests).map_err(out_of_memory)?;
-    let guests = fleet_lines(alloc, &heads, &numbers.guests).map_err(out_of_memory)?;
+    let guests = fleet_lines(alloc, heads, &numbers.guests).map_err(out_of_memory)?;
     let fleet = Fleet {
         sample: numbers.sample,
         guests: &guests,
         total: numbers.total,
         copies: &numbers.copies,
     };
-    let report = fleet.report(alloc).map_err(out_of_memory)?;
+    let report = fleet.report(alloc, hosts).map_err(out_of_memory)?;
     let text = output_text(alloc, words.json, words.in_pages, &report).map_err(out_of_memory)?;
     if let Some(path) = words.pairs {
         write_file(rt, alloc, path, &fleet, numbers).map_err(|cause| CommandFault::of_file(

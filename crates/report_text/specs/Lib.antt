@@ -3,3 +3,4 @@ pub mod FleetParts
 pub mod Parts
 pub mod Reclaimed
 pub mod Shares
+pub mod HostSums

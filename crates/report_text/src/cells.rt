@@ -68,7 +68,10 @@ fn copies_width(source: Source, copies: &[ClassRow]) -> usize {
 impl Cells {
     /// Returns cells that fit all numbers.
     pub(crate) fn new<A: Allocator>(report: &Report<'_, A>, unit: Unit) -> Cells {
-        let most = greatest(&report.total);
+        let most = match &report.hosts {
+            Some(rows) => greatest(&report.total).max(greatest(&rows.sum)),
+            None => greatest(&report.total),
+        };
         let width = match unit {
             Unit::Mebibytes => digits(in_units(1, most)).saturating_add(2),
             Unit::Pages => digits(most),

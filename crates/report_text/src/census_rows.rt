@@ -12,6 +12,7 @@ impl<'a> Estimate<'a> {
             source: Source::Images,
             sampling: None,
             guests: guest_rows(alloc.clone()?, self.guests)?,
+            hosts: None,
             total: self.total_row(),
             copies: class_rows(alloc, self.copies)?,
         })

@@ -1,6 +1,7 @@
 //! The rows of a fleet: with a sample of 1 its numbers are known, and else most of them are estimates.
 use crate::estimated_sum::EstimatedSum;
 use crate::fleet_parts::{parts_of, within_of};
+use crate::hosts::{FleetHost, HostRows, host_rows};
 use crate::report::{Report, Source};
 use crate::rows::{ClassErrors, ClassRow, GuestErrors, GuestRow, TotalErrors, TotalRow};
 use crate::{Fleet, FleetLine};
@@ -8,17 +9,36 @@ use fleet_census::{FleetClass, FleetTotal};
 use std::alloc::{AllocError, Allocator};
 
 impl<'a> Fleet<'a> {
-    /// Makes the report of a fleet.
-    pub fn report<A: Allocator + Clone>(&self, alloc: A) -> Result<Report<'a, A>, AllocError> {
+    /// Makes the report of a fleet. It shows the numbers by host if there are at least two.
+    pub fn report<A: Allocator + Clone>(
+        &self,
+        alloc: A,
+        hosts: &[FleetHost<'a>],
+    ) -> Result<Report<'a, A>, AllocError> {
         let sample = self.sample;
+        let total = total_row(sample, &self.total);
         Ok(Report {
             source: Source::Digests,
             sampling: self.sampling(),
             guests: guest_rows(alloc.clone()?, sample, self.guests)?,
-            total: total_row(sample, &self.total),
+            hosts: rows_by_host(alloc.clone()?, sample, hosts, &total)?,
+            total,
             copies: class_rows(alloc, sample, self.copies)?,
         })
     }
+}
+
+/// Makes the rows of hosts, if there are at least two.
+fn rows_by_host<'a, A: Allocator>(
+    alloc: A,
+    sample: u32,
+    hosts: &[FleetHost<'a>],
+    total: &TotalRow,
+) -> Result<Option<HostRows<'a, A>>, AllocError> {
+    if hosts.len() < 2 {
+        return Ok(None);
+    }
+    Ok(Some(host_rows(alloc, sample, hosts, total)?))
 }
 
 /// Returns the standard errors of numbers that are estimates.
@@ -61,7 +81,7 @@ fn guest_row<'a>(sample: u32, guest: &FleetLine<'a>) -> GuestRow<'a> {
     }
 }
 
-fn total_row(sample: u32, total: &FleetTotal) -> TotalRow {
+pub(crate) fn total_row(sample: u32, total: &FleetTotal) -> TotalRow {
     let shared = EstimatedSum::of(total.shared, sample);
     let frames = EstimatedSum::of(total.frames, sample);
     let reclaimed = EstimatedSum::of(total.reclaimed, sample);

@@ -1,6 +1,6 @@
 //! The numbers as a JSON object, for programs.
 use crate::report::{Report, Sampling};
-use crate::rows::{ClassRow, GuestRow, TotalRow};
+use crate::rows::{ClassRow, GuestRow, HostRow, TotalRow};
 use page_model::PAGE_BYTES;
 use serde::Serialize;
 use std::alloc::{AllocError, Global};
@@ -13,6 +13,10 @@ struct Object<'a> {
     #[serde(skip_serializing_if = "Option::is_none")]
     kept: Option<u64>,
     guests: &'a [GuestRow<'a>],
+    #[serde(skip_serializing_if = "Option::is_none")]
+    hosts: Option<&'a [HostRow<'a>]>,
+    #[serde(skip_serializing_if = "Option::is_none")]
+    on_hosts: Option<TotalRow>,
     total: TotalRow,
     copies: &'a [ClassRow],
 }
@@ -23,11 +27,17 @@ pub fn json_text(alloc: Global, report: &Report<'_>) -> Result<String, AllocErro
         Some(Sampling { sample, kept }) => (Some(sample), Some(kept)),
         None => (None, None),
     };
+    let (hosts, on_hosts): (Option<&[HostRow<'_>]>, Option<TotalRow>) = match &report.hosts {
+        Some(rows) => (Some(&rows.hosts), Some(rows.sum)),
+        None => (None, None),
+    };
     let object = Object {
         page_bytes: PAGE_BYTES,
         sample,
         kept,
         guests: &report.guests,
+        hosts,
+        on_hosts,
         total: report.total,
         copies: &report.copies,
     };

@@ -29,7 +29,7 @@ pub fn picture_text<A: Allocator>(
     let rows = estimate.guests.len().max(estimate.copies.len());
     push_head(&mut text, rows)?;
     text.push_str("<text x=\"16\" y=\"50\" font-size=\"14\">")?;
-    push_sentence(&mut text, &estimate.total_row())?;
+    push_sentence(&mut text, &estimate.total_row(), "")?;
     text.push_str("</text>\n")?;
     push_legend(&mut text, estimate.guests)?;
     push_guest_bars(&mut text, estimate.guests)?;

@@ -1,4 +1,5 @@
 //! What the table and the object show.
+use crate::hosts::HostRows;
 use crate::rows::{ClassRow, GuestRow, TotalRow};
 use std::alloc::{Allocator, Global};
 
@@ -20,7 +21,7 @@ pub(crate) struct Sampling {
     pub(crate) kept: u64,
 }
 
-/// The numbers of guests, of all of them in total, and of contents by their copies. All are known, or most are estimates with
+/// The numbers of guests, of hosts, of all guests in total, and of contents by their copies. All are known, or most are estimates with
 /// standard errors.
 #[derive(Drop)]
 pub struct Report<'a, A: Allocator = Global> {
@@ -28,6 +29,8 @@ pub struct Report<'a, A: Allocator = Global> {
     /// None if all contents were kept.
     pub(crate) sampling: Option<Sampling>,
     pub(crate) guests: Vec<GuestRow<'a>, A>,
+    /// None if the numbers aren't shown by host.
+    pub(crate) hosts: Option<HostRows<'a, A>>,
     pub(crate) total: TotalRow,
     pub(crate) copies: Vec<ClassRow, A>,
 }

@@ -61,6 +61,14 @@ pub(crate) struct TotalRow {
     pub(crate) errors: Option<TotalErrors>,
 }
 
+/// A host, and the numbers of the guests on it.
+#[derive(Clone, Copy, Serialize)]
+pub(crate) struct HostRow<'a> {
+    pub(crate) host: &'a str,
+    pub(crate) guests: usize,
+    pub(crate) total: TotalRow,
+}
+
 /// The standard errors of a class's numbers.
 #[derive(Clone, Copy, Default, Serialize)]
 pub(crate) struct ClassErrors {

@@ -7,10 +7,12 @@ use crate::{in_units, per_mille, scale_for, shares_of};
 use std::alloc::{AllocError, Allocator};
 
 /// Appends the sentence, without a line feed: what could be reclaimed, and its parts, which add up to it. Below 10 MiB it has
-/// tenths of a MiB, and from there on whole MiB. Each estimate is followed by its standard error.
+/// tenths of a MiB, and from there on whole MiB. Each estimate is followed by its standard error. `place` says where it could, if that has to be
+/// said.
 pub(crate) fn push_sentence<A: Allocator>(
     text: &mut String<A>,
     total: &TotalRow,
+    place: &str,
 ) -> Result<(), AllocError> {
     let scale = scale_for(total.reclaimed);
     let shares = shares_of(scale, &total.parts);
@@ -20,7 +22,7 @@ pub(crate) fn push_sentence<A: Allocator>(
     push_known(text, scale, in_units(scale, total.pages))?;
     let part = per_mille(total.reclaimed, total.pages);
     let (whole, tenth) = (part / 10, part % 10);
-    write!(text, " MiB could be reclaimed ({whole}.{tenth} %): ")?;
+    write!(text, " MiB could be reclaimed{place} ({whole}.{tenth} %): ")?;
     push_known(text, scale, shares.zeros)?;
     text.push_str(" zeros, ")?;
     push_share(text, scale, shares.between, of_between)?;

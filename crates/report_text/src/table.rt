@@ -3,6 +3,7 @@ use crate::cells::{
     Cells, Column, digits, push_class_headings, push_contents, push_error, push_estimate,
     push_headings, push_pages, push_units,
 };
+use crate::hosts_table::push_hosts;
 use crate::report::{Report, Sampling, Source};
 use crate::rows::{ClassRow, GuestRow, TotalErrors, TotalRow};
 use crate::sentence::push_sentence;
@@ -29,7 +30,7 @@ const OF_TOTAL: [Column; 8] = [
     Column::Estimated("within"),
 ];
 
-/// Writes the table: a line for each guest and one for the total, then the copies, and a sentence that sums up the numbers. That of
+/// Writes the table: a line for each guest, lines by host if these are shown, one for the total, then the copies, and a sentence that sums up the numbers. That of
 /// an estimate ends with how to share the memory. Each line ends with a line feed. If not all contents were kept, the first line
 /// says so, and each number that is an estimate has its standard error behind it.
 pub fn table_text<A: Allocator, B: Allocator>(
@@ -42,11 +43,14 @@ pub fn table_text<A: Allocator, B: Allocator>(
     push_first(&mut text, report.sampling, unit)?;
     push_guest_headings(&mut text, cells, report.source)?;
     push_guests(&mut text, cells, &report.guests)?;
+    if let Some(rows) = &report.hosts {
+        push_hosts(&mut text, cells, rows, &report.total)?;
+    }
     push_total_headings(&mut text, cells)?;
     push_total(&mut text, cells, &report.total)?;
     push_copies(&mut text, cells, &report.copies)?;
     text.push_str("\n")?;
-    push_sentence(&mut text, &report.total)?;
+    push_sentences(&mut text, report)?;
     text.push_str(end_of(report.source))?;
     Ok(text)
 }
@@ -186,6 +190,19 @@ fn push_class<A: Allocator>(
     push_contents(text, cells, class.contents, errors.contents)?;
     push_estimate(text, cells, class.pages, errors.pages)?;
     text.push_str("\n")
+}
+
+/// Appends the sentence about all guests. If the numbers are shown by host, the one about the hosts comes before it.
+fn push_sentences<A: Allocator, B: Allocator>(
+    text: &mut String<A>,
+    report: &Report<'_, B>,
+) -> Result<(), AllocError> {
+    let Some(rows) = &report.hosts else {
+        return push_sentence(text, &report.total, "");
+    };
+    push_sentence(text, &rows.sum, " on the guests' hosts")?;
+    text.push_str("\n")?;
+    push_sentence(text, &report.total, " if one host had all guests")
 }
 
 /// Returns what comes behind the sentence: of images, how to share their memory.

@@ -22,6 +22,7 @@ fn fleet(
     json: bool,
     in_pages: bool,
     pairs: Option<&'static str>,
+    hosts: Option<&'static str>,
     progress: Drawn,
 ) -> Result<Asked<'static>, AllocError> {
     let mut digests = Vec::new(alloc);
@@ -32,6 +33,7 @@ fn fleet(
         json,
         in_pages,
         pairs,
+        hosts,
         progress,
     }))
 }
@@ -39,21 +41,22 @@ fn fleet(
 #[test]
 fn reads_the_words_of_a_fleet(rt: HostRuntime) -> Result<(), Fail> {
     let alloc = rt.alloc();
-    for (line, json, in_pages, pairs, progress) in [
-        ("a b", false, false, None, Drawn::Auto),
-        ("--json a b", true, false, None, Drawn::Auto),
-        ("--unit pages a b", false, true, None, Drawn::Auto),
-        ("--pairs c a b", false, false, Some("c"), Drawn::Auto),
+    for (line, json, in_pages, pairs, hosts, progress) in [
+        ("a b", false, false, None, None, Drawn::Auto),
+        ("--json a b", true, false, None, None, Drawn::Auto),
+        ("--unit pages a b", false, true, None, None, Drawn::Auto),
+        ("--pairs c a b", false, false, Some("c"), None, Drawn::Auto),
         (
-            "--progress=always --json --unit=mib --pairs=c a b",
+            "--progress=always --json --hosts=d --unit=mib --pairs=c a b",
             true,
             false,
             Some("c"),
+            Some("d"),
             Drawn::Always,
         ),
     ] {
         let given = words(alloc, line)?;
-        let due = fleet(alloc, json, in_pages, pairs, progress)?;
+        let due = fleet(alloc, json, in_pages, pairs, hosts, progress)?;
         assert_eq!(rt; asked_of(alloc, &given, VERSION).ok(), Some(due));
     }
     Ok(())

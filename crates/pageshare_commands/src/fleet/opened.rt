@@ -16,6 +16,8 @@ pub struct OpenedFiles {
     files: Vec<File>,
     /// How many bytes they have.
     pub bytes: u64,
+    /// Whether all of them can be read twice, as a file can and a pipe can't.
+    pub again: bool,
 }
 
 /// A digest that is read.
@@ -34,6 +36,7 @@ pub fn open_files<'a, R: Files<File = File>>(
     let mut opened = OpenedFiles {
         files: Vec::new(alloc),
         bytes: 0,
+        again: true,
     };
     for path in &words.digests {
         open_next(rt, path, &mut opened).map_err(|cause| CommandFault::of_file(path, cause))?;
@@ -48,7 +51,9 @@ fn open_next<R: Files<File = File>>(
     opened: &mut OpenedFiles,
 ) -> Result<(), Cause> {
     let file = fs::open(rt, path)?;
-    opened.bytes = opened.bytes.saturating_add(file.metadata()?.len());
+    let metadata = file.metadata()?;
+    opened.bytes = opened.bytes.saturating_add(metadata.len());
+    opened.again = opened.again && metadata.is_file();
     opened.files.push(file)?;
     Ok(())
 }
@@ -71,7 +76,7 @@ pub fn read_headers<'a, 'r, R: Eprint + Clock>(
 }
 
 /// Reads a digest's header and appends it to the others.
-fn read_header<'r, R: Eprint + Clock>(
+pub fn read_header<'r, R: Eprint + Clock>(
     alloc: Global,
     file: File,
     reading: &'r Reading<'r, R>,

@@ -1,0 +1,67 @@
+"""Placements of guests on hosts, tried one after the other, for the checks of fleet/place.py. Standard library only."""
+import itertools
+
+from common import plain_fleet
+
+
+class Fleet:
+    """The contents and pages of guests, by their digests' texts; and the hosts' memory in pages."""
+
+    def __init__(self, texts, hosts, memory):
+        self.rows = {rows[0][0]: rows for rows in map(plain_fleet.rows_of, texts) if rows}
+        self.zeros = {plain_fleet.digest(rows[0][1], plain_fleet.ZEROS) for rows in self.rows.values()}
+        self.sample = next(iter(self.rows.values()))[0][3]
+        self.hosts, self.memory = hosts, memory
+
+    def frames_on(self, names):
+        """The frames that these guests need on one host."""
+        words = {row[4] for name in names for row in self.rows[name]}
+        return sum(1 if word in self.zeros else self.sample for word in words)
+
+    def on(self, place, host):
+        return [name for name, own in place.items() if own == host]
+
+    def frames(self, place):
+        return sum(self.frames_on(self.on(place, host)) for host in set(place.values()))
+
+    def has_room(self, place, spare=None):
+        """Whether each host has memory for its guests, or with `spare` for their frames and so many pages more."""
+        for host in self.hosts:
+            names = self.on(place, host)
+            taken = sum(self.rows[name][0][2] for name in names) if spare is None else self.frames_on(names) + spare
+            if names and taken > self.memory[host]:
+                return False
+        return True
+
+    def best(self, start, holds, spare, rivals):
+        """The fewest frames of all placements that hold, and that moves of one guest at a time lead to: no move takes a host over its memory,
+        or a guest to one that it may not be with."""
+        names = list(start)
+        seen, left = {tuple(start.values())}, [dict(start)]
+        while left:
+            place = left.pop()
+            for name, host in itertools.product(names, self.hosts):
+                after = {**place, name: host}
+                meets = any(name in pair and after[pair[0]] == after[pair[1]] for pair in rivals)
+                is_new = tuple(after.values()) not in seen
+                if is_new and not meets and self.frames_on(self.on(after, host)) + spare <= self.memory[host]:
+                    seen.add(tuple(after.values()))
+                    left.append(after)
+        places = (dict(zip(names, hosts)) for hosts in seen)
+        return min((self.frames(place) for place in places if holds(place)), default=None)
+
+
+def order_faults(fleet, start, found, spare=0):
+    """What is wrong with the order of a plan's moves, and with what each reclaims."""
+    place = dict(start)
+    for move in found["moves"]:
+        if place[move["guest"]] != move["from"]:
+            yield f"{move} doesn't begin where the guest is"
+        before = fleet.frames(place)
+        place[move["guest"]] = move["to"]
+        if before - fleet.frames(place) != move["reclaimed"]:
+            yield f"{move} reclaims {before - fleet.frames(place)}"
+        if fleet.frames_on(fleet.on(place, move["to"])) + spare > fleet.memory[move["to"]]:
+            yield f"{move} takes the host over its memory"
+    if place != {one["guest"]: one["host"] for one in found["guests"]}:
+        yield "the moves don't lead to the plan"
