@@ -158,7 +158,7 @@ host: $(HOST_PRODUCTS)
 HOST_LIBRARY = out/libpageshare_host.a
 HOST_FLAGS = -std=c11 -O2 -g -Wall -Wextra -Wconversion -Werror -pthread -Iinclude -Iwindow -Ihost $(CFLAGS)
 HOST_LINK = -Wl,--wrap=memset
-HOST_SOURCES = $(addprefix host/,hostd.c settings.c domain.c clients.c closing.c frames.c punching.c tables.c report.c status.c)
+HOST_SOURCES = $(addprefix host/,hostd.c settings.c domain.c clients.c closing.c frames.c punching.c tables.c report.c status.c devices.c)
 WINDOW_SOURCES = $(addprefix host/,preload.c transfers.c sharing.c ranges.c connection.c remote.c devices.c) $(wildcard window/*.c)
 HOST_HEADERS = $(wildcard host/*.h window/*.h include/*.h)
 

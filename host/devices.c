@@ -79,16 +79,16 @@ enum devices devices_of_request(unsigned long request, const void *with) {
 
 /* ---- descriptors ---- */
 
-/* What descriptors are there, of those that matter. */
+/* What descriptors a process has, of those that matter. */
 struct seen {
-    int info;         /* /proc/self/fdinfo */
+    int info;         /* its folder fdinfo */
     bool is_worst;    /* one that writes unnoticed */
     bool has_direct;  /* a file by O_DIRECT, of a file system that is known to pin pages */
     bool has_ring;    /* an io_uring, which may read by O_DIRECT */
     bool has_buffers; /* one with registered buffers */
 };
 
-/* Reads /proc/self/fdinfo/NAME. Returns false where it can't be read. */
+/* Reads fdinfo/NAME. Returns false where it can't be read. */
 static bool read_fdinfo(const struct seen *seen, const char *name, char *text, size_t room) {
     char path[32];
     snprintf(path, sizeof path, "%.20s", name);
@@ -120,16 +120,18 @@ static bool is_direct(const struct seen *seen, const char *name) {
 }
 
 /* Whether reads from a file by O_DIRECT are known to pin pages as UFFDIO_MOVE sees it: on disks and on these file systems, Linux 6.5. */
-static bool is_known_to_pin(int descriptor) {
+static bool is_known_to_pin(int folder, const char *name) {
     static const unsigned long known[] = {0xef53 /* ext */, 0x58465342 /* xfs */, 0x9123683e /* btrfs */, 0xf2f52010 /* f2fs */,
                                           0x01021994 /* tmpfs, which copies */};
     struct stat file;
     struct statfs system;
-    if (fstat(descriptor, &file) != 0 || fstatfs(descriptor, &system) != 0) return false;
-    if (S_ISBLK(file.st_mode)) return true;
-    for (size_t i = 0; i < sizeof known / sizeof known[0]; i++)
-        if ((unsigned long)system.f_type == known[i]) return true;
-    return false;
+    int found = (int)syscall(SYS_openat, folder, name, O_PATH | O_CLOEXEC, 0);
+    if (found < 0) return false;
+    bool is_there = fstat(found, &file) == 0 && fstatfs(found, &system) == 0, is_known = is_there && S_ISBLK(file.st_mode);
+    for (size_t i = 0; is_there && i < sizeof known / sizeof known[0]; i++)
+        is_known = is_known || (unsigned long)system.f_type == known[i];
+    syscall(SYS_close, found);
+    return is_known;
 }
 
 static void add(struct seen *seen, int folder, const char *name) {
@@ -143,7 +145,7 @@ static void add(struct seen *seen, int folder, const char *name) {
     } else if (*target == '/') {
         seen->is_worst = seen->is_worst || writes_unnoticed(target);
         if (!is_direct(seen, name)) return;
-        bool is_known = is_known_to_pin((int)strtol(name, NULL, 10));
+        bool is_known = is_known_to_pin(folder, name);
         seen->has_direct = seen->has_direct || is_known;
         seen->is_worst = seen->is_worst || !is_known;
     }
@@ -163,11 +165,20 @@ static long reserved_requests(void) {
     return strtol(text, NULL, 10);
 }
 
-/* Whether this process has called io_setup: then it has a mapping of that name. */
-static bool has_requests_mapped(void) {
+/* Opens a file or folder of a process, such as "self". Returns a descriptor or -1. */
+static int open_of(const char *process, const char *name, int flags) {
+    char path[64];
+    snprintf(path, sizeof path, "/proc/%.20s/%s", process, name);
+    return (int)syscall(SYS_openat, AT_FDCWD, path, O_RDONLY | O_CLOEXEC | flags, 0);
+}
+
+/* Whether a process has called io_setup: then it has a mapping of that name. */
+static bool has_requests_mapped(const char *process) {
     char line[512];
     bool has = false;
-    FILE *file = fopen("/proc/self/maps", "re");
+    int maps = open_of(process, "maps", 0);
+    FILE *file = maps >= 0 ? fdopen(maps, "r") : NULL;
+    if (!file && maps >= 0) syscall(SYS_close, maps);
     if (!file) return true;
     while (!has && fgets(line, sizeof line, file) != NULL) has = strstr(line, "/[aio]") != NULL;
     fclose(file);
@@ -182,7 +193,7 @@ static bool may_submit(void) {
     if (now < 0) return true;
     if (now == 0) return false;
     if (now == atomic_load(&last)) return atomic_load(&found);
-    bool has = has_requests_mapped();
+    bool has = has_requests_mapped("self");
     atomic_store(&found, has);
     atomic_store(&last, now);
     return has;
@@ -207,28 +218,47 @@ static long descriptors_count(void) {
     return stat("/proc/self/fd", &folder) == 0 ? (long)folder.st_size : 0;
 }
 
-static enum devices worst_of(const struct seen *seen, bool is_blind) {
+/* Looks at all descriptors of a process. Returns false where they can't be seen. */
+static bool see(struct seen *seen, const char *process) {
+    int fds = open_of(process, "fd", O_DIRECTORY);
+    *seen = (struct seen){.info = open_of(process, "fdinfo", O_DIRECTORY)};
+    DIR *folder = fds >= 0 ? fdopendir(fds) : NULL;
+    bool can_see = seen->info >= 0 && folder;
+    for (const struct dirent *entry; can_see && (entry = readdir(folder)) != NULL;)
+        if (*entry->d_name != '.') add(seen, dirfd(folder), entry->d_name);
+    if (folder) closedir(folder);
+    else if (fds >= 0) syscall(SYS_close, fds);
+    if (seen->info >= 0) syscall(SYS_close, seen->info);
+    return can_see;
+}
+
+/* `can_submit`: the process may have called io_submit. */
+static enum devices worst_of(const struct seen *seen, bool can_submit) {
     if (seen->is_worst) return DEVICES_WRITE_ALL;
-    if (is_blind || seen->has_buffers || (seen->has_direct && (seen->has_ring || may_submit()))) return DEVICES_PIN_PAGES;
+    if (seen->has_buffers || (seen->has_direct && (seen->has_ring || can_submit))) return DEVICES_PIN_PAGES;
     return seen->has_direct ? DEVICES_READ : DEVICES_NONE;
 }
 
 enum devices devices_open(void) {
     unsigned closed = atomic_load(&closes);
     long count = descriptors_count();
-    struct seen seen = {.info = (int)syscall(SYS_openat, AT_FDCWD, "/proc/self/fdinfo", O_RDONLY | O_DIRECTORY | O_CLOEXEC, 0)};
-    DIR *folder = opendir("/proc/self/fd");
-    bool is_blind = seen.info < 0 || !folder; /* (what can't be seen may be there) */
-    for (const struct dirent *entry; !is_blind && (entry = readdir(folder)) != NULL;)
-        if (*entry->d_name != '.') add(&seen, dirfd(folder), entry->d_name);
-    if (folder) closedir(folder);
-    if (seen.info >= 0) syscall(SYS_close, seen.info);
-    enum devices devices = worst_of(&seen, is_blind);
+    struct seen seen;
+    enum devices devices = DEVICES_PIN_PAGES; /* (what can't be seen may be there) */
+    if (see(&seen, "self")) devices = worst_of(&seen, seen.has_direct && may_submit());
     atomic_store(&last.devices, (int)devices);
     atomic_store(&last.has_ring, seen.has_ring);
     atomic_store(&last.closes, closed);
     atomic_store(&last.count, count);
     return devices;
+}
+
+bool devices_of_process(unsigned long long process, enum devices *devices) {
+    char name[24];
+    struct seen seen;
+    snprintf(name, sizeof name, "%llu", process);
+    if (!see(&seen, name)) return false;
+    *devices = worst_of(&seen, seen.has_direct && has_requests_mapped(name));
+    return true;
 }
 
 enum devices devices_still_open(void) {

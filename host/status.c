@@ -1,5 +1,6 @@
 #define _GNU_SOURCE
 #include "status.h"
+#include "devices.h"
 #include "trouble.h"
 #include <stdlib.h>
 #include <sys/socket.h>
@@ -58,6 +59,7 @@ static const struct number of_client[] = {
     OF_CLIENT("client_lent_bytes", lent_pages, false, PAGE, "Memory that the client has lent"),
     OF_CLIENT("client_messages_total", messages, true, 1, "Messages taken of the client"),
     OF_CLIENT("client_lent_pages_total", lends, true, 1, "Pages that the client has lent"),
+    OF_CLIENT("client_devices", devices, false, 1, "0: none that pins pages, 1: seen calls, 2: unseen ones, 3: all, 4: unknown"),
 };
 enum { TOTALS_COUNT = sizeof of_totals / sizeof *of_totals, CLIENT_COUNT = sizeof of_client / sizeof *of_client, LABELS = 3 };
 
@@ -93,6 +95,36 @@ static bool receive(const char *socket_path, struct report *report) {
 
 static double mib(uint64_t pages) { return (double)pages * PAGE / (1 << 20); }
 
+/* Finds what devices of clients may do to memory. */
+static void find_devices(struct report *report) {
+    for (size_t i = 0; i < report->totals.listed; i++) {
+        struct status_client *client = &report->clients[i];
+        enum devices devices;
+        client->devices = devices_of_process(client->pid, &devices) ? (uint64_t)devices : STATUS_DEVICES_UNKNOWN;
+    }
+}
+
+/* The clients of a table, and what to do about some. */
+static void show_clients(const struct report *report) {
+    static const char *const words[] = {[DEVICES_NONE] = "none",
+                                        [DEVICES_READ] = "seen",
+                                        [DEVICES_PIN_PAGES] = "unseen",
+                                        [DEVICES_WRITE_ALL] = "all",
+                                        [STATUS_DEVICES_UNKNOWN] = "?"};
+    bool any_unseen = false;
+    if (report->totals.listed)
+        printf("%12s %12s %12s %12s %12s  %s\n", "process", "user", "lent MiB", "messages", "devices", "connected");
+    for (size_t i = 0; i < report->totals.listed; i++) {
+        const struct status_client *client = &report->clients[i];
+        any_unseen = any_unseen || client->devices == DEVICES_PIN_PAGES;
+        printf("%12llu %12llu %12.1f %12llu %12s  %s\n", (unsigned long long)client->pid, (unsigned long long)client->uid,
+               mib(client->lent_pages), (unsigned long long)client->messages, words[client->devices],
+               client->connected ? "yes" : "no");
+    }
+    if (any_unseen)
+        puts("unseen: pages that were shared and written stay private, since a device may have pinned them; use aio=threads");
+}
+
 static void show_table(const struct report *report) {
     const struct status_totals *totals = &report->totals;
     printf("domain %s: %llu clients, up %llu s, %.1f %% of one processor since\n", totals->domain,
@@ -106,12 +138,7 @@ static void show_table(const struct report *report) {
            (double)totals->frame_bytes / (1 << 20), (double)totals->free_bytes / (1 << 20),
            (double)totals->host_bytes / (1 << 20), (unsigned long long)totals->lends, (unsigned long long)totals->releases,
            (unsigned long long)totals->refused, (unsigned long long)totals->faults, (unsigned long long)totals->turned_away);
-    if (totals->listed) printf("%12s %12s %12s %12s  %s\n", "process", "user", "lent MiB", "messages", "connected");
-    for (size_t i = 0; i < totals->listed; i++) {
-        const struct status_client *client = &report->clients[i];
-        printf("%12llu %12llu %12.1f %12llu  %s\n", (unsigned long long)client->pid, (unsigned long long)client->uid,
-               mib(client->lent_pages), (unsigned long long)client->messages, client->connected ? "yes" : "no");
-    }
+    show_clients(report);
     if (totals->listed < totals->clients)
         printf("%12s and %llu more\n", "", (unsigned long long)(totals->clients - totals->listed));
 }
@@ -173,6 +200,7 @@ int status_show(const char *socket_path, enum status_form form, bool watch) {
     bool is_terminal = isatty(STDOUT_FILENO) == 1;
     for (bool is_first = true;; is_first = false) {
         if (!receive(socket_path, &report)) return 1;
+        find_devices(&report);
         if (form == STATUS_JSON) show_json(&report);
         else if (form == STATUS_PROMETHEUS) show_prometheus(&report);
         else if (watch && !is_terminal) show_line(&report, is_first);

@@ -11,7 +11,7 @@
 #include "settings.h"
 
 #define STATUS_SUFFIX ".status"
-enum { STATUS_VERSION = 2, STATUS_CLIENTS_MOST = 1024 };
+enum { STATUS_VERSION = 3, STATUS_CLIENTS_MOST = 1024, STATUS_DEVICES_UNKNOWN = 4 };
 
 struct status_totals {
     uint64_t version;
@@ -43,6 +43,8 @@ struct status_client {
     uint64_t lent_pages;
     uint64_t messages;
     uint64_t lends;
+    uint64_t
+        devices; /* an enum devices, or STATUS_DEVICES_UNKNOWN: found by the reader, not by the host, which may not look there */
 };
 
 /* Prints what the domain at `socket` reports, in the form asked for; with `watch` each second until the reader ends it. Returns the
