@@ -183,9 +183,17 @@ static void check_range(const char *what, const uint64_t *at, size_t from, size_
     }
 }
 
+/* Waits for a child, whatever signals come. Returns its status, or -1 where there is no such child. */
+static int wait_for(pid_t child) {
+    int status = -1;
+    pid_t ended;
+    do ended = waitpid(child, &status, 0);
+    while (ended < 0 && errno == EINTR);
+    return ended == child ? status : -1;
+}
+
 /* A child has the range as it was, whatever the parent writes later. */
 static void check_child(uint64_t *at) {
-    int status = 0;
     pid_t child = fork();
     if (child == 0) {
         unsigned long before = atomic_load(&wrong);
@@ -196,7 +204,7 @@ static void check_child(uint64_t *at) {
     }
     if (child < 0) return;
     for (size_t page = 0; page < LEAVING; page++) at[page * WORDS] = 1;
-    waitpid(child, &status, 0);
+    int status = wait_for(child);
     if (status != 0) note_wrong("a child found something wrong", 0, (uint64_t)status, 0);
     for (size_t page = 0; page < LEAVING; page++) at[page * WORDS] = word_of(page);
 }
@@ -273,7 +281,7 @@ static void fork_until(unsigned seconds) {
         fflush(stdout);
         pid_t child = fork();
         if (child == 0) _exit(0);
-        if (child > 0 && waitpid(child, NULL, 0) == child) atomic_fetch_add(&forks, 1);
+        if (child > 0 && wait_for(child) == 0) atomic_fetch_add(&forks, 1);
         gettimeofday(&now, NULL);
     } while (now.tv_sec < end.tv_sec);
 }
