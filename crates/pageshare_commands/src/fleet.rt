@@ -97,13 +97,13 @@ fn too_many<'a, R: Eprint + Clock>(
 }
 
 /// Writes the pairs of guests, and then the table or the JSON object, of which all is made before.
-fn write_numbers<'a, R: Files<File = File>, W: Write + Drop>(
+fn write_numbers<'a, 'n, R: Files<File = File>, W: Write + Drop>(
     rt: &R,
     alloc: Global,
     words: &FleetWords<'a>,
-    heads: &[Option<&DigestHead>],
-    numbers: &FleetNumbers<Global>,
-    hosts: &[FleetHost<'_>],
+    heads: &[Option<&'n DigestHead>],
+    numbers: &'n FleetNumbers<Global>,
+    hosts: &[FleetHost<'n>],
     mut output: W,
 ) -> Result<(), CommandFault<'a>> {
     let out_of_memory = |refused| CommandFault::of_fleet(words, Cause::from(refused));
