@@ -222,6 +222,7 @@ struct held {
 struct question {
     uint64_t page, fingerprint;
     uint32_t client;
+    unsigned left; /* how often the client had left by then */
 };
 
 struct shadow {
@@ -234,6 +235,7 @@ struct shadow {
     int machine_of[CONTENTS]; /* where a content's pages go, or -1 as long as it isn't known */
     struct question asked[MAX_RECENT];
     uint32_t recent, questions;
+    unsigned left[MAX_CLIENTS + 1]; /* calls by which a client left, or began to */
 };
 
 static uint32_t some(uint32_t below) {
@@ -384,16 +386,18 @@ static void leave(struct shadow *s, uint32_t client) {
     }
     CHECK(status == PAGESHARE_OK && count == expected);
     s->presence[client] = expected == 0 ? OUT : LEAVING;
+    s->left[client]++;
     for (size_t i = 0; i < expected && i < count; i++) CHECK(freed[i] == wanted[i]);
 }
 
 static void ask(struct shadow *s, uint32_t client) {
-    struct question q = {some(4), some(4), client};
+    struct question q = {some(4), some(4), client, s->left[client]};
     uint8_t seen = 9, wanted = 0;
     uint32_t from = s->questions > s->recent ? s->questions - s->recent : 0;
     for (uint32_t i = from; i < s->questions; i++) {
         const struct question *old = &s->asked[i % s->recent];
-        if (old->fingerprint == q.fingerprint && (old->client != client || old->page != q.page)) wanted = 1;
+        bool counts = old->left == s->left[old->client];
+        if (counts && old->fingerprint == q.fingerprint && (old->client != client || old->page != q.page)) wanted = 1;
     }
     guard(s);
     CHECK(pageshare_domain_seen(&s->domain, client, &q.page, &q.fingerprint, 1, &seen) == PAGESHARE_OK && seen == wanted);
