@@ -5,7 +5,7 @@ import signal
 import subprocess
 import time
 
-from places import AS_NOBODY, CC, FLAGS, HERE, OUT, TOP, Host, LeftOut, all_released, must, preloaded, sources
+from places import AS_NOBODY, CC, FLAGS, HERE, TOP, Host, LeftOut, all_released, must, preloaded, sources
 
 BESIDE = 4  # so many run at once, with contents that others have, too
 WAYS = ((), ("--direct",), ("--devices",), ("--direct", "--devices"))
@@ -14,7 +14,7 @@ SANITIZE = ["-fsanitize=address,undefined", "-fno-sanitize-recover=all"]
 
 def compile_folder(name):
     """Compiles the C program of a folder beside this file."""
-    program = OUT / name
+    program = HERE.place.room / name
     found = sorted((TOP / "checks/host" / name).glob("*.c"))
     must(subprocess.run([CC, *FLAGS, "-o", program, *found]).returncode == 0, f"{name}/ doesn't compile")
     return program
@@ -99,7 +99,7 @@ REFUSE_EACH = 61  # (a prime, so that calls that come again and again are refuse
 
 def case_refusals():
     """Each call of the system by the library is refused in turn, and each 61st one after it: SEEDS=N first ones."""
-    program, host, shim = compile_folder("breaker"), Host(memory="256M"), OUT / "refuse.so"
+    program, host, shim = compile_folder("breaker"), Host(memory="256M"), HERE.place.room / "refuse.so"
     words = [CC, *FLAGS, "-fPIC", "-shared", "-fvisibility=hidden", "-o", shim, TOP / "checks/host/refuse_in_monitor.c", "-ldl"]
     must(subprocess.run(words).returncode == 0, "refuse_in_monitor.c doesn't compile")
     firsts, seconds = int(os.environ.get("SEEDS", "16")), int(os.environ.get("SECONDS", "6"))
@@ -120,7 +120,7 @@ STORMS = (("4", "leave"), ("4", "direct", "leave"), ("3", "direct", "devices", "
 
 def case_storm():
     """Three busy monitors: writers, discards, forks, parts that leave, reads by O_DIRECT and io_uring, signals: SECONDS=N."""
-    program, host, seconds = OUT / "storm", Host(memory="256M"), os.environ.get("SECONDS", "12")
+    program, host, seconds = HERE.place.room / "storm", Host(memory="256M"), os.environ.get("SECONDS", "12")
     found = [TOP / "checks/host/storm.c", TOP / "checks/host/breaker/ring.c"]
     must(subprocess.run([CC, *FLAGS, "-o", program, *found]).returncode == 0, "storm.c doesn't compile")
     ran = [subprocess.Popen([*AS_NOBODY, program, seconds, "32", *words], env=preloaded(host, {"PAGESHARE_PERIOD_MS": "50"}), text=True,

@@ -5,14 +5,14 @@ import threading
 
 import hostile
 import raw_client
-from places import AS_NOBODY, CC, FLAGS, HERE, NOBODY, OUT, TOP, Host, LeftOut, all_released, must, preloaded
+from places import AS_NOBODY, CC, FLAGS, HERE, NOBODY, TOP, Host, LeftOut, all_released, must, preloaded
 
 LEFT_OUT, PATIENCE_SECONDS = 77, 150
 PINS = ("mprotect", "mlock", "mlockall", "unmergeable", "dofork", "dofork-part", "dma", "look")
 
 
 def compile_parts():
-    program, found = OUT / "parts", [TOP / "checks/host/parts.c", TOP / "checks/host/breaker/ring.c"]
+    program, found = HERE.place.room / "parts", [TOP / "checks/host/parts.c", TOP / "checks/host/breaker/ring.c"]
     must(subprocess.run([CC, *FLAGS, "-o", program, *found]).returncode == 0, "parts.c doesn't compile")
     return program
 
