@@ -1,9 +1,9 @@
 //! The parts of a new core.
-ghost use Rattle.std.specs.Prelude.{◌≡◌, length, IfOk};
-ghost use Rattle.page_model.specs.Limits.{shapes};
+ghost use Rattle.std.specs.Prelude.{◌≡◌, length, replicate, IfOk};
+ghost use Rattle.page_model.specs.Limits.{AreLimits, shapes};
 ghost use Rattle.machine_frames.specs.FrameMap.{no_frames};
 ghost use Rattle.share_table.specs.TableMaps.{empty_table};
-ghost use Rattle.merge_core.specs.Pmap.{empty_pmap, unmapped_guest};
+ghost use Rattle.merge_core.specs.Pmap.{empty_pmap, unknown, unmapped_guest};
 ghost use Rattle.merge_core.specs.View.{guest_of, pmap_in, pmap_of, Whole};
 
 use crate::held::{GuestPages, Held, PageEntry};
@@ -44,6 +44,23 @@ fn new_guests<A: Allocator + Clone>(
     Ok(guests)
 }
 
+/// Makes the lists of a core, with all the room that they ever need: no page is mapped, and nothing is known of any frame.
+fn new_lists<A: Allocator + Clone>(
+    alloc: A,
+    shape: &MachineShape<'_>,
+) -> Result<(Vec<GuestPages<A>, A>, Notes<A>, Table<A>), AllocError>
+    ensures limits { AreLimits shape.now.frames shape.now.pages shape.now.salts }
+    ensures guests { IfOk result (λ (guests, notes, table). pmap_in guests.items ≡ empty_pmap (shapes shape.now.salts shape.now.pages)) }
+    ensures notes { IfOk result (λ (guests, notes, table). notes ≡ replicate shape.now.frames unknown) }
+    ensures table { IfOk result (λ (guests, notes, table). table ≡ empty_table shape.now.frames) }
+{
+    let total = shape.frames();
+    let guests = new_guests(alloc.clone()?, shape.salts(), shape.pages())?;
+    let notes = Notes::new(alloc.clone()?, total)?;
+    let table = Table::new(alloc, total)?;
+    Ok((guests, notes, table))
+}
+
 /// Makes the parts of a core with these frames, no page mapped, and with all the room that they ever need.
 pub fn new_held<H: PageHash + Drop, A: Allocator + Clone>(
     alloc: A,
@@ -58,10 +75,7 @@ pub fn new_held<H: PageHash + Drop, A: Allocator + Clone>(
     ensures frames { IfOk result (λ held. held.frames ≡ no_frames shape.now.frames) }
     ensures table { IfOk result (λ held. held.table ≡ empty_table shape.now.frames) }
 {
-    let total = shape.frames();
-    let guests = new_guests(alloc.clone()?, shape.salts(), shape.pages())?;
-    let notes = Notes::new(alloc.clone()?, total)?;
-    let table = Table::new(alloc.clone()?, total)?;
+    let (guests, notes, table) = new_lists(alloc, shape)?;
     Ok(Held {
         hash,
         frames,

@@ -27,9 +27,15 @@ pub struct Config<A: Allocator = Global> {
 /// Why no machine was made, in the order in which the causes are checked.
 #[derive(Clone, Copy, Debug, PartialEq, Eq, Error)]
 pub enum Fault {
-    /// The frames, guests or pages are not within the limits.
-    #[error(transparent)]
-    Shape(ShapeFault),
+    /// 0 frames, or more than 1,048,576.
+    #[error("give the machine 1 to 1,048,576 frames")]
+    Frames,
+    /// No guest, more than 64 guests, or not one salt for each guest.
+    #[error("give the machine 1 to 64 guests, with a salt each")]
+    Guests,
+    /// A guest with no page, or more than 1,048,576 pages in total.
+    #[error("give each guest a page at least, and all together at most 1,048,576")]
+    Pages,
     /// A ring of 0 items, or of more than 65,536.
     #[error("a ring holds 1 to 65,536 items")]
     Ring,
@@ -52,12 +58,16 @@ impl From<AllocError> for Fault {
 }
 
 impl From<ShapeFault> for Fault {
-    ghost use Rattle.merge_machine.specs.declared.config.Fault.TheVariants.{Shape};
+    ghost use Rattle.merge_machine.specs.Limits.{fault_of};
 
-    ghost from_gives = { λ refused fault. fault ≡ Shape refused };
+    ghost from_gives = { λ refused fault. fault ≡ fault_of refused };
 
     fn from(refused: ShapeFault) -> Fault {
-        Fault::Shape(refused)
+        match refused {
+            ShapeFault::Frames => Fault::Frames,
+            ShapeFault::Guests => Fault::Guests,
+            ShapeFault::Pages => Fault::Pages,
+        }
     }
 }
 

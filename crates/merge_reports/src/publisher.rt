@@ -66,6 +66,7 @@ fn nothing_told(history: &History) -> Told
 {
     Told {
         count: 0,
+        report: Report::new(0, 0, 0, 0, 0),
         history: history.again(),
     }
 }
@@ -75,10 +76,8 @@ fn nothing_shown(history: &History) -> Shown
     requires { history.now.log ≡ [] }
     ensures { result.told.history ≡ history.now }
 {
-    Shown {
-        report: Report::new(0, 0, 0, 0, 0),
-        told: nothing_told(history),
-    }
+    let told = nothing_told(history);
+    Shown { told }
 }
 
 impl<A: Allocator> Publisher<A> {
@@ -88,7 +87,7 @@ impl<A: Allocator> Publisher<A> {
     /// Makes a publisher with an empty list, and room for 8 watches, which see all zeros before the first publish.
     ///
     /// It takes `rt` because it shows its first value once. It waits for nobody, since there is no watch yet.
-    pub fn new<R: Wait>(alloc: A, rt: &R) -> Result<Publisher<A>, OutOfMemory>
+    pub fn new<R: Wait>(rt: &R, alloc: A) -> Result<Publisher<A>, OutOfMemory>
     where
         A: Clone,
         ensures { IfOk result (λ publisher. published publisher ≡ []) }
@@ -139,12 +138,11 @@ impl<A: Allocator> Publisher<A> {
         }
         let told = Told {
             count: count + 1,
+            report,
             history,
         };
-        let next = Shown {
-            report,
-            told: told.again(),
-        };
+        let shown = told.again();
+        let next = Shown { told: shown };
         let Ok(()) = self.writer.append(next) else {
             return Err(PublishFault::OutOfMemory);
         };

@@ -1,18 +1,14 @@
 //! What watches are shown.
 ghost use Rattle.std.specs.Prelude.{◌≡◌};
-ghost use Rattle.merge_reports.specs.Reports.{last_of};
 
 use crate::told::Told;
 use left_right::Absorb;
-use page_model::Report;
 use std::alloc::AllocError;
 
-/// A report, and the list of published reports that ends with it.
+/// The list of published reports, which ends with the report that is shown.
 #[derive(Drop)]
 pub struct Shown {
-    pub report: Report,
     pub told: Told,
-    pub ghost last: { last_of told.history.log ≡ report },
 }
 
 impl Shown {
@@ -20,10 +16,8 @@ impl Shown {
     pub fn again(&self) -> Shown
         ensures { result ≡ self.now }
     {
-        Shown {
-            report: self.report,
-            told: self.told.again(),
-        }
+        let told = self.told.again();
+        Shown { told }
     }
 }
 

@@ -1,8 +1,9 @@
 //! Published reports, as a value that can be passed on.
 ghost use Rattle.std.specs.Prelude.{◌≡◌, length};
-ghost use Rattle.merge_reports.specs.Reports.{NeverFalls, NeverFalls-prop};
+ghost use Rattle.merge_reports.specs.Reports.{NeverFalls, NeverFalls-prop, last_of};
 
 use crate::history::History;
+use page_model::Report;
 
 /// A list of published reports: all of them when the publisher told it, or those that a watch has seen. It may be sent to any
 /// thread.
@@ -10,8 +11,11 @@ use crate::history::History;
 pub struct Told {
     // The number of reports.
     pub(crate) count: u64,
+    // The last report, or all zeros.
+    pub(crate) report: Report,
     pub(crate) history: History,
     pub ghost counted: { length history.log ≡ count },
+    pub ghost last: { last_of history.log ≡ report },
     pub ghost rising: { NeverFalls history.log } by { NeverFalls-prop history.log },
 }
 
@@ -22,6 +26,7 @@ impl Told {
     {
         Told {
             count: self.count,
+            report: self.report,
             history: self.history.again(),
         }
     }

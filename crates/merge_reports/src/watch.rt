@@ -28,7 +28,7 @@ type Place<A> = Reader<Shown, Seat, LastShown, A>;
 #[derive(Drop)]
 pub struct Watch<A: Allocator = Global> {
     reader: Place<A>,
-    // The longest list that it learned.
+    // The longest list that it learned or saw.
     longest: Told,
     // The list that it saw.
     saw: Told,
@@ -36,7 +36,7 @@ pub struct Watch<A: Allocator = Global> {
     pub ghost tied: { (view reader.place).is_tied ≡ true },
     pub ghost tied_here: { (view reader.place).history.book ≡ longest.history.book },
     pub ghost saw_here: { saw.history.book ≡ longest.history.book },
-    pub ghost saw_front: { StartsWith (view reader.place).history.log saw.history.log },
+    pub ghost saw_no_longer: { StartsWith longest.history.log saw.history.log },
     pub ghost heard_no_longer: { All (StartsWith longest.history.log) heard.log },
 }
 
@@ -74,18 +74,20 @@ impl<A: Allocator> Watch<A> {
 
     /// Returns the report that was published last; all zeros before the first. Waits for nobody, and takes no memory.
     ///
-    /// A `None` changes nothing. It comes if the publisher was ended, since `left_right` then shows no report.
+    /// A `None` changes nothing. It comes only if `left_right` shows no report: once the publisher was ended.
     pub fn read(&mut self) -> Option<Report>
         ensures same { watch_id self.new ≡ watch_id self.old }
         ensures heard { heard self.new ≡ heard self.old }
         ensures read { IfSome result (Reads self.old self.new) }
         ensures none { result ≡ None → seen self.new ≡ seen self.old }
     {
-        let Shown { report, told } = replace_with(
+        let told = replace_with(
             &mut self.reader,
             &self.longest,
             |reader, told| look(reader, told),
         )?;
+        let report = told.report;
+        self.longest = told.again();
         self.saw = told;
         Some(report)
     }
@@ -99,26 +101,34 @@ impl<A: Allocator> Watch<A> {
     }
 }
 
-// Reads what is shown, if its list is no shorter than the one that was learned.
-fn look<A: Allocator>(reader: Place<A>, told: &Told) -> (Place<A>, Option<Shown>)
+// Reads the list that is shown, or the one that was learned where that is longer, which never happens: a report is shown before
+// it is told. Returns none only if nothing is shown.
+fn look<A: Allocator>(reader: Place<A>, told: &Told) -> (Place<A>, Option<Told>)
     requires { ((view reader.place).is_tied ≡ true) × ((view reader.place).history.book ≡ told.now.history.book) }
     ensures tied { ((view result.0.place).is_tied ≡ true) × ((view result.0.place).history.book ≡ told.now.history.book) }
-    ensures later { StartsWith (view result.0.place).history.log (view reader.place).history.log }
-    ensures seen { IfSome result.1 (λ shown. shown.told.history ≡ (view result.0.place).history) }
-    ensures list { IfSome result.1 (λ shown. StartsWith shown.told.history.log told.now.history.log) }
+    ensures book { IfSome result.1 (λ list. list.history.book ≡ told.now.history.book) }
+    ensures list { IfSome result.1 (λ list. StartsWith list.history.log told.now.history.log) }
 {
     match reader.enter_as::<Looked>() {
         Ok(reading) => {
-            let shown = reading.get();
-            let mut history = shown.told.history.again();
-            history.learn(&told.history);
-            let sight = if told.count <= shown.told.count {
-                Some(shown.again())
-            } else {
-                None
-            };
-            (reading.leave(), sight)
+            let longer = longer_of(&reading.get().told, told);
+            (reading.leave(), Some(longer))
         }
         Err(reader) => (reader, None),
+    }
+}
+
+// Returns the longer one of two lists of one publisher, the first one if they are equally long.
+fn longer_of(first: &Told, second: &Told) -> Told
+    requires { first.now.history.book ≡ second.now.history.book }
+    ensures book { result.history.book ≡ second.now.history.book }
+    ensures list { StartsWith result.history.log second.now.history.log }
+{
+    let mut history = first.history.again();
+    history.learn(&second.history);
+    if second.count <= first.count {
+        first.again()
+    } else {
+        second.again()
     }
 }

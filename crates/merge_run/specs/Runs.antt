@@ -13,7 +13,7 @@ use Rattle.merge_machine.specs.declared.config.Config.{Config}
 use Rattle.merge_machine.specs.declared.config.Fault.{Fault}
 use Rattle.merge_machine.specs.declared.config.Fault.TheVariants as machine
 use Rattle.merge_run.specs.declared.run_fault.RunFault.{RunFault}
-use Rattle.merge_run.specs.declared.run_fault.RunFault.TheVariants.{Shape, Ring, Journal, Stopped, OutOfMemory, NoThread}
+use Rattle.merge_run.specs.declared.run_fault.RunFault.TheVariants.{Frames, Guests, Pages, Ring, Journal, OutOfMemory, Stopped, NoThread}
 use Rattle.merge_machine.specs.Limits.{IsMachine, NoMachineFor}
 use Rattle.merge_machine.specs.Machines.{opening}
 use Rattle.merge_machine.specs.Scripts.{entries_needed}
@@ -24,7 +24,9 @@ use Rattle.merge_run.specs.Tasks.{all_sent}
 
 -- why there is no machine, as a fault of the run
 abbrev pub run_fault_of : Fault → RunFault
-run_fault_of (machine.Shape fault) = Shape fault
+run_fault_of machine.Frames = Frames
+run_fault_of machine.Guests = Guests
+run_fault_of machine.Pages = Pages
 run_fault_of machine.Ring = Ring
 run_fault_of machine.Journal = Journal
 run_fault_of machine.OutOfMemory = OutOfMemory
@@ -39,11 +41,13 @@ module _ {A : Type 0} where
   -- The first cause for which the machine was not run with these scripts. Lack of memory or of a thread is the cause only if
   -- there is such a machine, with room in its journal for all that the guests send.
   abbrev pub NotRunFor : Config A → List (Vec Request A) → RunFault → Type 0
-  NotRunFor c scripts (Shape fault) = NoMachineFor c (machine.Shape fault)
+  NotRunFor c scripts Frames = NoMachineFor c machine.Frames
+  NotRunFor c scripts Guests = NoMachineFor c machine.Guests
+  NotRunFor c scripts Pages = NoMachineFor c machine.Pages
   NotRunFor c scripts Ring = NoMachineFor c machine.Ring
   NotRunFor c scripts Journal = NoMachineFor c machine.Journal
-  NotRunFor c scripts (Stopped full) = IsMachine c × (c.journal < entries_needed scripts)
   NotRunFor c scripts OutOfMemory = IsMachine c × (entries_needed scripts ≤ c.journal)
+  NotRunFor c scripts (Stopped full) = IsMachine c × (c.journal < entries_needed scripts)
   NotRunFor c scripts NoThread = IsMachine c × (entries_needed scripts ≤ c.journal)
 
 module _ {H A : Type 0} {ghosts : Ghosts H} where

@@ -3,7 +3,7 @@ use Rattle.std.specs.Prelude.{◌≡◌, ℕ, ◌+◌, ◌≤◌, List, [], ◌�
 use Rattle.page_model.specs.Pages.{State}
 use Rattle.page_model.specs.Parts.{Totals}
 use Rattle.page_model.specs.declared.request.Entry.{Entry}
-use Rattle.page_forecasts.specs.declared.forecasts.TheConstants.{REACH}
+use Rattle.merge_run.specs.declared.rounds.TheConstants.{LIMIT}
 use Rattle.merge_run.specs.Fronts.{report_after}
 
 -- a report that was shown, and how many requests were served since the showing before it, or since the run began
@@ -13,7 +13,7 @@ pub record Showing : Type 0 where
 
 -- the most requests that are served between two showings
 abbrev pub round_limit : ℕ
-round_limit = REACH
+round_limit = LIMIT
 
 -- So many entries were served before the showing. At most a round's more were served by then, and the report is that of the
 -- replay of them all.

@@ -11,7 +11,6 @@ use crate::observer::Observer;
 use crate::patience::Patience;
 use merge_machine::{JournalFull, Merger};
 use page_digest::PageHash;
-use page_forecasts::REACH;
 use share_rings::MergerEnd;
 use std::alloc::Allocator;
 use std::sync::Wait;
@@ -20,8 +19,8 @@ use std::thread::Threads;
 /// How many workers may compute a round's hashes. One of them is the calling thread.
 const WORKERS: u32 = 2;
 
-/// How many requests a round serves at most: as many as are considered together.
-const LIMIT: u32 = REACH as u32;
+/// How many requests a round serves at most.
+pub(crate) const LIMIT: u32 = 64;
 
 /// How many failed looks the merger makes before it sleeps: they take some 100 microseconds.
 const MOST_LOOKS: u32 = 2_000;

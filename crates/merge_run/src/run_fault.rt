@@ -2,28 +2,34 @@
 ghost use Rattle.std.specs.Prelude.{◌≡◌};
 
 use merge_machine::{Fault, JournalFull};
-use page_model::ShapeFault;
 use std::alloc::AllocError;
 use thiserror::Error;
 
-/// Why a machine was not run to its end, in the order in which the causes are checked.
+/// Why a machine was not run to its end. The causes of a machine are checked in this order, and `Stopped` before memory.
 #[derive(Clone, Copy, Debug, PartialEq, Eq, Error)]
 pub enum RunFault {
-    /// The frames, guests or pages are not within the limits.
-    #[error(transparent)]
-    Shape(ShapeFault),
+    /// 0 frames, or more than 1,048,576.
+    #[error("give the machine 1 to 1,048,576 frames")]
+    Frames,
+    /// No guest, more than 64 guests, or not one salt for each guest.
+    #[error("give the machine 1 to 64 guests, with a salt each")]
+    Guests,
+    /// A guest with no page, or more than 1,048,576 pages in total.
+    #[error("give each guest a page at least, and all together at most 1,048,576")]
+    Pages,
     /// A ring of 0 items, or of more than 65,536.
     #[error("a ring holds 1 to 65,536 items")]
     Ring,
     /// A journal of 0 entries, or of more than 16,777,216.
     #[error("a journal holds 1 to 16,777,216 entries")]
     Journal,
-    /// The guests send more requests, closes included, than the journal has room for.
-    #[error("the guests send more than the journal holds")]
-    Stopped(JournalFull),
     /// The memory for the run was refused, before any thread was started.
     #[error("out of memory")]
     OutOfMemory,
+    /// The guests send more requests, closes included, than the journal has room for. This is checked before memory is asked
+    /// for.
+    #[error("the guests send more than the journal holds")]
+    Stopped(JournalFull),
     /// The start of a guest's thread was refused.
     #[error("no thread could be started")]
     NoThread,
@@ -36,7 +42,9 @@ impl From<Fault> for RunFault {
 
     fn from(refused: Fault) -> RunFault {
         match refused {
-            Fault::Shape(fault) => RunFault::Shape(fault),
+            Fault::Frames => RunFault::Frames,
+            Fault::Guests => RunFault::Guests,
+            Fault::Pages => RunFault::Pages,
             Fault::Ring => RunFault::Ring,
             Fault::Journal => RunFault::Journal,
             Fault::OutOfMemory => RunFault::OutOfMemory,

@@ -16,7 +16,7 @@ ghost use Rattle.merge_run.specs.Crews.{HasRunObserved};
 ghost use Rattle.merge_run.specs.Turns.{CanRun};
 ghost use Rattle.merge_run.specs.declared.run_fault.RunFault.TheVariants.{OutOfMemory, NoThread};
 
-use crate::crew::Crew;
+use crate::crew::{Crew, Lists, new_lists};
 use crate::finished::Finished;
 use crate::gate::Gate;
 use crate::observer::{NoObserver, Observer};
@@ -73,7 +73,7 @@ pub fn run<
     Ok(finished)
 }
 
-/// Runs a machine as [`run`] does, with an observer that is shown the machine's report after each round, at most 128 requests
+/// Runs a machine as [`run`] does, with an observer that is shown the machine's report after each round, at most 64 requests
 /// after the one before. Each time that is the report of the replay of the whole journal so far, and the last time of the
 /// whole run. The observer comes back with what it kept of them.
 ///
@@ -142,10 +142,13 @@ fn run_tasks<
     ensures fault { IfErr result (λ fault. (fault ≡ OutOfMemory) ⊎ (fault ≡ NoThread)) }
 {
     let guests = tasks.len();
-    let handles = Vec::with_capacity(alloc, guests)?;
-    let done = Vec::with_capacity(alloc, guests)?;
-    let ports = Vec::with_capacity(alloc, guests)?;
-    let verdicts = Vec::with_capacity(alloc, guests)?;
+    let lists = new_lists(alloc, guests)?;
+    let Lists {
+        handles,
+        done,
+        ports,
+        verdicts,
+    } = lists;
     let crew = Crew {
         tasks,
         handles,

@@ -4,7 +4,6 @@ use Rattle.std.specs.Prelude.{IfSome, IfOk, IfErr, OnOk, IsErr}
 use Rattle.std.specs.Io.KnownBytes.{Appends}
 use Rattle.std.specs.declared.vec.Vec.{Vec}
 use Rattle.std.proofs.lemmas.Bool.{lt-ltb}
-use Rattle.page_model.specs.declared.machine_shape.ShapeFault.TheVariants as shape
 use Rattle.page_model.specs.declared.request.Entry.{Entry}
 use Rattle.page_model.specs.declared.request.Request.{Request}
 use Rattle.page_model.specs.declared.limits.TheConstants.{MAX_TEXT_BYTES}
@@ -24,8 +23,8 @@ use Rattle.merge_machine.specs.Scripts.{entries_needed}
 use Rattle.script_text.specs.Texts.{Script, script_of}
 use Rattle.share_text.specs.Runs.{IsRunOf, run_text}
 use Rattle.share_text.specs.Threads.{Outcome, Ran, NoThread, CanEnd, no_thread_text, outcome_text, run_answer, of_text, as_written, Threads, IsLeft, EndsAs, Serves}
-use Rattle.share_text.specs.declared.fault.ThreadedFault.{ThreadedFault}
-use Rattle.share_text.specs.declared.fault.ThreadedFault.TheVariants as threaded
+use Rattle.share_text.specs.declared.threaded_fault.ThreadedFault.{ThreadedFault}
+use Rattle.share_text.specs.declared.threaded_fault.ThreadedFault.TheVariants as threaded
 use Rattle.share_text.specs.declared.form.Output.{Output}
 
 -- what is due for a run that has ended was written, or the answer says why it wasn't
@@ -43,9 +42,9 @@ module _ {A : Type 0} where
   pub left : (c : Config A) (scripts : List (Vec Request A)) (fault : RunFault) → IsMachine c → entries_needed scripts ≤ c.journal → NotRunFor c scripts fault → IsLeft fault
   left c scripts runs.OutOfMemory is room why = tt
   left c scripts runs.NoThread is room why = tt
-  left c scripts (runs.Shape shape.Frames) is room why = why is.0.0
-  left c scripts (runs.Shape shape.Guests) is room why = why.1 is.0.1
-  left c scripts (runs.Shape shape.Pages) is room why = why.2 is.0.2
+  left c scripts runs.Frames is room why = why is.0.0
+  left c scripts runs.Guests is room why = why.1 is.0.1
+  left c scripts runs.Pages is room why = why.2 is.0.2
   left c scripts runs.Ring is room why = why.1 is.1
   left c scripts runs.Journal is room why = why.2 is.2
   left c scripts (runs.Stopped full) is room why = omega (arith, room, why.1)

@@ -15,10 +15,10 @@ use Rattle.text_words.specs.Words.{◌>>=◌}
 use Rattle.journal_text.specs.Written.{journal_text}
 use Rattle.text_words.specs.declared.fault.TextFault.{TextFault}
 use Rattle.script_text.specs.Texts.{Script, script_of}
-use Rattle.share_text.specs.Faults.{threaded_fault_line}
+use Rattle.share_text.specs.Faults.{run_line}
 use Rattle.share_text.specs.Runs.{IsRunOf, lists_lines, run_text}
-use Rattle.share_text.specs.declared.fault.ThreadedFault.{ThreadedFault}
-use Rattle.share_text.specs.declared.fault.ThreadedFault.TheVariants as threaded
+use Rattle.share_text.specs.declared.threaded_fault.ThreadedFault.{ThreadedFault}
+use Rattle.share_text.specs.declared.threaded_fault.ThreadedFault.TheVariants as threaded
 use Rattle.share_text.specs.declared.form.Output.{Output}
 use Rattle.share_text.specs.declared.form.Output.TheVariants.{Verdicts, JournalText}
 
@@ -34,7 +34,7 @@ CanEnd s NoThread = Unit {0}
 
 -- the line of a run that was refused, with its line feed
 abbrev pub no_thread_text : List ℕ
-no_thread_text = threaded_fault_line threaded.NoThread ++ codes "\n"
+no_thread_text = run_line runs.NoThread ++ codes "\n"
 
 -- what is written of a run that ended like this: the output for its journal, or the line of its fault
 abbrev pub outcome_text : (ℕ → List ℕ → ℕ) → Output → Script → Outcome → List ℕ
@@ -92,7 +92,9 @@ pub record RunsText (hash : ℕ → List ℕ → ℕ) (form : Output) (input old
 abbrev pub IsLeft : RunFault → Type 0
 IsLeft runs.OutOfMemory = Unit {0}
 IsLeft runs.NoThread = Unit {0}
-IsLeft (runs.Shape fault) = ⊥
+IsLeft runs.Frames = ⊥
+IsLeft runs.Guests = ⊥
+IsLeft runs.Pages = ⊥
 IsLeft runs.Ring = ⊥
 IsLeft runs.Journal = ⊥
 IsLeft (runs.Stopped full) = ⊥

@@ -3,12 +3,14 @@ ghost use Rattle.std.specs.Prelude.{◌≡◌, false, MatchResult};
 ghost use Rattle.merge_run.specs.Runs.{CanBeRun, IsWholeRun, NotRunFor};
 ghost use Rattle.journal_replay.specs.Ends.{has_read_fault, has_write_fault};
 ghost use Rattle.script_text.specs.Views.{script_seen};
+ghost use Rattle.share_text.specs.Faults.{AsThreaded};
 ghost use Rattle.share_text.specs.Threads as threads;
 ghost use Rattle.share_text.specs.Threads.{EndsAs, IsLeft, NeitherFailed, RunsText, Serves, as_written, no_thread_text, of_text};
 
-use crate::fault::ThreadedFault;
+use crate::fault::TextFault;
 use crate::form::Output;
 use crate::printing::print_run;
+use crate::threaded_fault::ThreadedFault;
 use journal_replay::ends::{read_all, write_all};
 use journal_replay::engine::print_fault;
 use journal_replay::{Sink, Source};
@@ -20,11 +22,10 @@ use script_text::{Script, read_script};
 use std::alloc::Allocator;
 use std::sync::Wait;
 use std::thread::Threads;
-use text_words::TextFault;
 use watched_machine::Viewer;
 
 /// Returns the answer of work in which no run was refused.
-fn of_text(answer: Result<(), TextFault>) -> Result<(), ThreadedFault>
+fn of_text(answer: Result<(), text_words::TextFault>) -> Result<(), ThreadedFault>
     ensures answer { result ≡ of_text answer }
     ensures written { as_written result ≡ answer }
 {
@@ -57,8 +58,10 @@ fn print_refusal<W: Sink>(writer: &mut W, fault: RunFault) -> Result<(), Threade
 {
     match fault {
         RunFault::NoThread => print_no_thread(writer),
-        RunFault::OutOfMemory => Err(ThreadedFault::Text(TextFault::OutOfMemory)),
-        RunFault::Shape(_) => unreachable!(),
+        RunFault::OutOfMemory => Err(ThreadedFault::Text(text_words::TextFault::OutOfMemory)),
+        RunFault::Frames => unreachable!(),
+        RunFault::Guests => unreachable!(),
+        RunFault::Pages => unreachable!(),
         RunFault::Ring => unreachable!(),
         RunFault::Journal => unreachable!(),
         RunFault::Stopped(_) => unreachable!(),
@@ -178,9 +181,10 @@ fn read_and_run<
 ///
 /// # Errors
 ///
-/// If the text is at fault, only the line of the fault is written, and the fault is returned; the same goes for `NoThread`, if
+/// If the text is at fault, only the line of the fault is written, and the fault is returned; the same goes for `Run(NoThread)`, if
 /// the start of a guest's thread is refused. On `OutOfMemory`, `Read` and `Long` nothing was written, and on `Write` a front of
 /// the output went out. `Read` is returned exactly if the reader failed, and `Write` exactly if the writer did.
+#[tactic(auto, unfolding(crate::specs::Faults::plain))]
 pub fn threaded<
     T: Threads + Wait + Sync,
     R: Source,
@@ -196,17 +200,22 @@ pub fn threaded<
     hash: H,
     gate: &G,
     form: Output,
-) -> Result<(), ThreadedFault>
+) -> Result<(), TextFault>
     requires { NeitherFailed (R.has_failed reader.old) (W.has_failed writer.old) }
-    ensures { RunsText H.hash_of form (R.remaining reader.old) (W.contents writer.old) (W.contents writer.new) (R.has_failed reader.new)
-        (W.has_failed writer.new) result }
+    ensures { AsThreaded result (λ r. RunsText H.hash_of form (R.remaining reader.old) (W.contents writer.old) (W.contents writer.new)
+        (R.has_failed reader.new) (W.has_failed writer.new) r) }
 {
     let onlookers: Onlookers<'_, G, Nobody> = Onlookers { gate, viewer: None };
-    read_and_run(rt, alloc, reader, writer, hash, onlookers, form)
+    match read_and_run(rt, alloc, reader, writer, hash, onlookers, form) {
+        Ok(()) => Ok(()),
+        Err(ThreadedFault::Text(fault)) => Err(TextFault::from(fault)),
+        Err(ThreadedFault::NoThread) => Err(TextFault::Run(RunFault::NoThread)),
+    }
 }
 
 /// Does the same as [`threaded`], while its gate is also a viewer, which is shown how the run goes on, in a separate thread.
 /// Nothing that is written depends on it.
+#[tactic(auto, unfolding(crate::specs::Faults::plain))]
 pub fn threaded_viewed<
     T: Threads + Wait + Sync,
     R: Source,
@@ -222,14 +231,18 @@ pub fn threaded_viewed<
     hash: H,
     viewer: &V,
     form: Output,
-) -> Result<(), ThreadedFault>
+) -> Result<(), TextFault>
     requires { NeitherFailed (R.has_failed reader.old) (W.has_failed writer.old) }
-    ensures { RunsText H.hash_of form (R.remaining reader.old) (W.contents writer.old) (W.contents writer.new) (R.has_failed reader.new)
-        (W.has_failed writer.new) result }
+    ensures { AsThreaded result (λ r. RunsText H.hash_of form (R.remaining reader.old) (W.contents writer.old) (W.contents writer.new)
+        (R.has_failed reader.new) (W.has_failed writer.new) r) }
 {
     let onlookers = Onlookers {
         gate: viewer,
         viewer: Some(viewer),
     };
-    read_and_run(rt, alloc, reader, writer, hash, onlookers, form)
+    match read_and_run(rt, alloc, reader, writer, hash, onlookers, form) {
+        Ok(()) => Ok(()),
+        Err(ThreadedFault::Text(fault)) => Err(TextFault::from(fault)),
+        Err(ThreadedFault::NoThread) => Err(TextFault::Run(RunFault::NoThread)),
+    }
 }

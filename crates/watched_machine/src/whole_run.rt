@@ -7,12 +7,13 @@ ghost use Rattle.merge_reports.specs.Lists.{published};
 ghost use Rattle.merge_run.specs.Fronts.{AreOfFronts};
 ghost use Rattle.merge_run.specs.Observed.{ObservesRun};
 ghost use Rattle.merge_run.specs.Runs.{CanBeRun, IsWholeRun, NotRunFor};
+ghost use Rattle.watched_machine.specs.View.{settled_in};
 
 use crate::causes::find_cause;
 use crate::finished::Finished;
 use crate::lent_publisher::LentPublisher;
-use crate::machine_publisher::MachinePublisher;
 use crate::plan::Plan;
+use crate::settled::Settled;
 use crate::view::{end_view, view};
 use crate::viewer::Viewer;
 use merge_machine::Config;
@@ -56,10 +57,10 @@ pub fn run<
 ) -> Result<Finished<H, A>, RunFault>
     requires scripts { CanBeRun config.now scripts.items }
     ensures run { MatchResult result
-        (λ f. IsWholeRun H.hash_of config.now scripts.items f.settled f.verdicts.items)
+        (λ f. IsWholeRun H.hash_of config.now scripts.items (settled_in f.settled) f.verdicts.items)
         (λ fault. NotRunFor config.now scripts.items fault) }
 {
-    let Ok(mut publisher) = Publisher::new(alloc, rt) else {
+    let Ok(mut publisher) = Publisher::new(rt, alloc) else {
         return Err(find_cause(config, &scripts));
     };
     let plan = Plan {
@@ -72,11 +73,8 @@ pub fn run<
         Ok(finished) => {
             let merge_run::Finished { settled, verdicts } = finished;
             viewer.show(&settled.report());
-            Ok(Finished {
-                settled,
-                publisher: MachinePublisher { publisher },
-                verdicts,
-            })
+            let settled = Settled { settled, publisher };
+            Ok(Finished { settled, verdicts })
         }
         Err(fault) => {
             publisher.end(rt);

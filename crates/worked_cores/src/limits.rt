@@ -2,17 +2,17 @@
 use crate::asks::{Ask, Line, core_of, frame, numbers, serve, store_all};
 use merge_core::{Core, CoreFault};
 use page_digest::FirstByteHash;
-use page_model::{MAX_FRAMES, MAX_GUESTS, MAX_PAGES, MachineShape, ShapeFault};
+use page_model::{MAX_FRAMES, MAX_GUESTS, MAX_PAGES, MachineShape};
 use std::alloc::Global;
 use std::process::Abort;
 use std::test::Fail;
 use worked_answers::Answer;
 
-const FRAMES: Option<CoreFault> = Some(CoreFault::Shape(ShapeFault::Frames));
+const FRAMES: Option<CoreFault> = Some(CoreFault::Frames);
 
-const GUESTS: Option<CoreFault> = Some(CoreFault::Shape(ShapeFault::Guests));
+const GUESTS: Option<CoreFault> = Some(CoreFault::Guests);
 
-const PAGES: Option<CoreFault> = Some(CoreFault::Shape(ShapeFault::Pages));
+const PAGES: Option<CoreFault> = Some(CoreFault::Pages);
 
 /// Returns why there is no such machine.
 fn fault_of(alloc: Global, frames: u32, pages: &[u32], salts: &[u32]) -> Option<CoreFault> {

@@ -5,7 +5,7 @@ use crate::course::{made, play, play_to_end};
 use crate::ports::Ask::{Count, Load, Verdict};
 use merge_run::{Config, Fault, Machine};
 use page_digest::Sha256Hash;
-use page_model::{MAX_ENTRIES, MAX_FRAMES, MAX_PAGES, MAX_RING_CAPACITY, ShapeFault};
+use page_model::{MAX_ENTRIES, MAX_FRAMES, MAX_PAGES, MAX_RING_CAPACITY};
 use std::alloc::{AllocError, Global};
 use std::process::Abort;
 use worked_answers::Answer::{Byte, Closed};
@@ -13,12 +13,6 @@ use worked_answers::Answer::{Byte, Closed};
 /// The numbers of a machine: its frames, its guests, the pages of each guest but the last, the pages of the last, the
 /// salts, and the lengths of rings and journal.
 type Numbers = [u32; 7];
-
-const FRAMES: Fault = Fault::Shape(ShapeFault::Frames);
-
-const GUESTS: Fault = Fault::Shape(ShapeFault::Guests);
-
-const PAGES: Fault = Fault::Shape(ShapeFault::Pages);
 
 /// Returns the pages of each guest.
 fn pages_of(alloc: Global, guests: u32, each: u32, last: u32) -> Result<Vec<u32>, AllocError> {
@@ -64,8 +58,8 @@ fn expect_causes(rt: &impl Abort, alloc: Global, rows: &[(Numbers, Option<Fault>
 #[test]
 fn limits_of_frames_rings_and_journals(rt: HostRuntime) {
     let limits = [
-        ([0, 1, 1, 1, 0, 0, 0], Some(FRAMES)),
-        ([MAX_FRAMES + 1, 1, 1, 1, 1, 1, 1], Some(FRAMES)),
+        ([0, 1, 1, 1, 0, 0, 0], Some(Fault::Frames)),
+        ([MAX_FRAMES + 1, 1, 1, 1, 1, 1, 1], Some(Fault::Frames)),
         ([1, 1, 1, 1, 1, 0, 1], Some(Fault::Ring)),
         ([1, 1, 1, 1, 1, MAX_RING_CAPACITY + 1, 0], Some(Fault::Ring)),
         ([1, 1, 1, 1, 1, 1, 0], Some(Fault::Journal)),
@@ -80,14 +74,14 @@ fn limits_of_frames_rings_and_journals(rt: HostRuntime) {
 #[test]
 fn limits_of_guests_and_pages(rt: HostRuntime) {
     let limits = [
-        ([0, 0, 0, 0, 0, 1, 1], Some(FRAMES)),
-        ([1, 0, 0, 0, 0, 1, 1], Some(GUESTS)),
-        ([1, 65, 1, 1, 65, 1, 1], Some(GUESTS)),
-        ([1, 1, 1, 1, 0, 1, 1], Some(GUESTS)),
-        ([1, 1, 1, 1, 2, 1, 1], Some(GUESTS)),
-        ([1, 1, 0, 0, 0, 0, 0], Some(GUESTS)),
-        ([1, 2, 1, 0, 2, 1, 1], Some(PAGES)),
-        ([1, 2, MAX_PAGES, 1, 2, 0, 0], Some(PAGES)),
+        ([0, 0, 0, 0, 0, 1, 1], Some(Fault::Frames)),
+        ([1, 0, 0, 0, 0, 1, 1], Some(Fault::Guests)),
+        ([1, 65, 1, 1, 65, 1, 1], Some(Fault::Guests)),
+        ([1, 1, 1, 1, 0, 1, 1], Some(Fault::Guests)),
+        ([1, 1, 1, 1, 2, 1, 1], Some(Fault::Guests)),
+        ([1, 1, 0, 0, 0, 0, 0], Some(Fault::Guests)),
+        ([1, 2, 1, 0, 2, 1, 1], Some(Fault::Pages)),
+        ([1, 2, MAX_PAGES, 1, 2, 0, 0], Some(Fault::Pages)),
         ([1, 1, 0, MAX_PAGES, 1, 1, 1], None),
         ([1, 64, 1, 1, 64, 1, 1], None),
     ];

@@ -44,7 +44,7 @@ fn read_elsewhere<R: Threads + Wait + Sync>(rt: &R, told: Told, watch: Watch) ->
 
 #[test]
 fn what_is_told_goes_to_another_thread(rt: HostRuntime) -> Result<(), Fail> {
-    let mut publisher = Publisher::new(rt.alloc(), &rt).expect(&rt, "memory");
+    let mut publisher = Publisher::new(&rt, rt.alloc()).expect(&rt, "memory");
     let watch = publisher.watch().expect(&rt, "a watch");
     let told = publisher.publish(&rt, one_page(5)).expect(&rt, "memory");
     assert_eq!(rt; read_elsewhere(&rt, told, watch), Some(one_page(5)));
@@ -122,7 +122,7 @@ fn run_beside<R: Threads + Wait + Sync>(
 // together, and it never has fewer entries than the one before.
 #[test]
 fn entries_never_fall(rt: HostRuntime) -> Result<(), Fail> {
-    let mut publisher = Publisher::new(rt.alloc(), &rt).expect(&rt, "memory");
+    let mut publisher = Publisher::new(&rt, rt.alloc()).expect(&rt, "memory");
     let first = publisher.watch().expect(&rt, "a watch");
     let second = publisher.watch().expect(&rt, "a watch");
     let (done, tallies) = run_beside(&rt, &mut publisher, first, second);

@@ -7,7 +7,7 @@ use std::test::Fail;
 // There is no ninth watch; when one of the eight is dropped, its place is free again.
 #[test]
 fn nine_watches(rt: HostRuntime) -> Result<(), Fail> {
-    let mut publisher = Publisher::new(rt.alloc(), &rt)?;
+    let mut publisher = Publisher::new(&rt, rt.alloc())?;
     let mut watches = Vec::new(rt.alloc());
     for _ in 0..MAX_WATCHES {
         let watch = publisher.watch().expect(&rt, "a watch");
@@ -23,7 +23,7 @@ fn nine_watches(rt: HostRuntime) -> Result<(), Fail> {
 // What was told by one answer goes to two watches.
 #[test]
 fn one_answer_for_two_watches(rt: HostRuntime) -> Result<(), Fail> {
-    let mut publisher = Publisher::new(rt.alloc(), &rt)?;
+    let mut publisher = Publisher::new(&rt, rt.alloc())?;
     let mut first = publisher.watch().expect(&rt, "a watch");
     let mut second = publisher.watch().expect(&rt, "a watch");
     let told = publisher.publish(&rt, one_page(3)).expect(&rt, "memory");
@@ -37,7 +37,7 @@ fn one_answer_for_two_watches(rt: HostRuntime) -> Result<(), Fail> {
 
 #[test]
 fn nothing_is_read_after_the_end(rt: HostRuntime) -> Result<(), Fail> {
-    let mut publisher = Publisher::new(rt.alloc(), &rt)?;
+    let mut publisher = Publisher::new(&rt, rt.alloc())?;
     let mut watch = publisher.watch().expect(&rt, "a watch");
     let told = publisher.publish(&rt, one_page(3)).expect(&rt, "memory");
     assert_eq!(rt; watch.read(), Some(one_page(3)));

@@ -48,7 +48,7 @@ fn publish_each<R: Wait>(rt: &R, publisher: &mut Publisher, watch: &mut Watch) -
 
 #[test]
 fn a_million_reports(rt: HostRuntime) -> Result<(), Fail> {
-    let mut publisher = Publisher::new(rt.alloc(), &rt).expect(&rt, "memory");
+    let mut publisher = Publisher::new(&rt, rt.alloc()).expect(&rt, "memory");
     let mut watch = publisher.watch().expect(&rt, "a watch");
     let done = publish_each(&rt, &mut publisher, &mut watch);
     publisher.end(&rt);
@@ -74,7 +74,7 @@ fn see_elsewhere<R: Threads + Wait + Sync>(rt: &R, watch: Watch) -> Told
 
 #[test]
 fn what_was_seen_comes_back(rt: HostRuntime) -> Result<(), Fail> {
-    let mut publisher = Publisher::new(rt.alloc(), &rt).expect(&rt, "memory");
+    let mut publisher = Publisher::new(&rt, rt.alloc()).expect(&rt, "memory");
     let watch = publisher.watch().expect(&rt, "a watch");
     let early = publisher.tell();
     let told = publisher.publish(&rt, one_page(5)).expect(&rt, "memory");

@@ -63,7 +63,7 @@ fn each_growth_refused_in_turn(rt: HostRuntime) -> Result<(), Fail> {
     let mut whole_at = None;
     for n in 0..MOST {
         let heap = Refusing::new(rt.alloc(), n, 0);
-        match Publisher::new(&heap, &rt) {
+        match Publisher::new(&rt, &heap) {
             Ok(publisher) => run_to_the_end(&rt, publisher),
             Err(OutOfMemory) => assert!(rt; heap.has_refused(), "at {n}"),
         }
@@ -81,7 +81,7 @@ fn each_growth_refused_in_turn(rt: HostRuntime) -> Result<(), Fail> {
 #[test]
 fn no_memory_but_for_publishing(rt: HostRuntime) -> Result<(), Fail> {
     let heap = Refusing::new(rt.alloc(), u64::MAX, 0);
-    let mut publisher = Publisher::new(&heap, &rt).expect(&rt, "memory");
+    let mut publisher = Publisher::new(&rt, &heap).expect(&rt, "memory");
     heap.refuse_all();
     let mut watch = publisher.watch().expect(&rt, "a watch");
     watch.learn(publisher.tell());
@@ -114,7 +114,7 @@ fn publish_with_none<R: Abort + Wait, A: Allocator>(
 #[test]
 fn memory_for_the_first_report_alone(rt: HostRuntime) -> Result<(), Fail> {
     let heap = Refusing::new(rt.alloc(), u64::MAX, 0);
-    let mut publisher = Publisher::new(&heap, &rt).expect(&rt, "memory");
+    let mut publisher = Publisher::new(&rt, &heap).expect(&rt, "memory");
     let mut watch = publisher.watch().expect(&rt, "a watch");
     publish_with_none(&rt, &mut publisher, 1);
     heap.refuse_all();
@@ -152,7 +152,7 @@ fn publish_in_vain<R: Abort + Wait, A: Allocator>(
 #[test]
 fn publish_refused_each_time(rt: HostRuntime) -> Result<(), Fail> {
     let heap = Refusing::new(rt.alloc(), u64::MAX, 0);
-    let mut publisher = Publisher::new(&heap, &rt).expect(&rt, "memory");
+    let mut publisher = Publisher::new(&rt, &heap).expect(&rt, "memory");
     let mut watch = publisher.watch().expect(&rt, "a watch");
     heap.refuse_all();
     publish_in_vain(&rt, &mut publisher, &mut watch);

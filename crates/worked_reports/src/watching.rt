@@ -5,7 +5,7 @@ use std::test::Fail;
 
 #[test]
 fn a_watch_learns_and_reads(rt: HostRuntime) -> Result<(), Fail> {
-    let mut publisher = Publisher::new(rt.alloc(), &rt)?;
+    let mut publisher = Publisher::new(&rt, rt.alloc())?;
     let mut watch = publisher.watch().expect(&rt, "a watch");
     assert_eq!(rt; watch.read(), Some(all_zeros()));
     assert_eq!(rt; watch.read(), Some(all_zeros()));

@@ -2,7 +2,6 @@
 use crate::makes::Numbers;
 use crate::plain::{fault_of, got, replayed};
 use merge_run::{JournalFull, OpenGate, RunFault};
-use page_model::ShapeFault;
 use std::test::Fail;
 use worked_answers::Answer;
 
@@ -47,7 +46,7 @@ fn no_guests(rt: HostRuntime) -> Result<(), Fail> {
         journal: 2,
     };
     let fault = fault_of(&rt, rt.alloc(), &numbers, &[], &OpenGate);
-    assert_eq!(rt; fault, Some(RunFault::Shape(ShapeFault::Guests)));
+    assert_eq!(rt; fault, Some(RunFault::Guests));
     Ok(())
 }
 
@@ -61,7 +60,7 @@ fn no_frames_and_no_guests(rt: HostRuntime) -> Result<(), Fail> {
         journal: 2,
     };
     let fault = fault_of(&rt, rt.alloc(), &numbers, &[], &OpenGate);
-    assert_eq!(rt; fault, Some(RunFault::Shape(ShapeFault::Frames)));
+    assert_eq!(rt; fault, Some(RunFault::Frames));
     Ok(())
 }
 
@@ -76,6 +75,6 @@ fn no_machine_for_a_script(rt: HostRuntime) -> Result<(), Fail> {
         journal: 2,
     };
     let fault = fault_of(&rt, rt.alloc(), &numbers, &[&[]], &OpenGate);
-    assert_eq!(rt; fault, Some(RunFault::Shape(ShapeFault::Frames)));
+    assert_eq!(rt; fault, Some(RunFault::Frames));
     Ok(())
 }

@@ -2,7 +2,7 @@
 use crate::makes::{Ask, Numbers};
 use crate::plain::fault_without_memory;
 use merge_run::{JournalFull, RunFault};
-use page_model::{MAX_ENTRIES, MAX_FRAMES, MAX_PAGES, MAX_RING_CAPACITY, ShapeFault};
+use page_model::{MAX_ENTRIES, MAX_FRAMES, MAX_PAGES, MAX_RING_CAPACITY};
 use refusing::Refusing;
 use std::test::Fail;
 
@@ -11,12 +11,6 @@ const SCRIPT: [Ask; 3] = [Ask::Store(0, 0x41), Ask::Load(0), Ask::Propose(0)];
 /// A machine's numbers for two guests, and the fault of its run.
 type Case = (u32, (u32, u32), &'static [u32], u32, u32, RunFault);
 
-const FRAMES: RunFault = RunFault::Shape(ShapeFault::Frames);
-
-const GUESTS: RunFault = RunFault::Shape(ShapeFault::Guests);
-
-const PAGES: RunFault = RunFault::Shape(ShapeFault::Pages);
-
 const STOPPED: RunFault = RunFault::Stopped(JournalFull);
 
 // The two scripts need eight entries. All memory is refused as well, but none is asked for until every other cause is
@@ -24,12 +18,12 @@ const STOPPED: RunFault = RunFault::Stopped(JournalFull);
 #[test]
 fn order_of_faults(rt: HostRuntime) -> Result<(), Fail> {
     let cases: [Case; 14] = [
-        (0, (0, 1), &[], 0, 0, FRAMES),
-        (MAX_FRAMES + 1, (1, 1), &[0, 0], 1, 7, FRAMES),
-        (1, (0, 1), &[0], 0, 0, GUESTS),
-        (1, (1, 1), &[0, 0, 0], 1, 7, GUESTS),
-        (1, (1, 0), &[0, 0], 0, 0, PAGES),
-        (1, (1, MAX_PAGES), &[0, 0], 1, 7, PAGES),
+        (0, (0, 1), &[], 0, 0, RunFault::Frames),
+        (MAX_FRAMES + 1, (1, 1), &[0, 0], 1, 7, RunFault::Frames),
+        (1, (0, 1), &[0], 0, 0, RunFault::Guests),
+        (1, (1, 1), &[0, 0, 0], 1, 7, RunFault::Guests),
+        (1, (1, 0), &[0, 0], 0, 0, RunFault::Pages),
+        (1, (1, MAX_PAGES), &[0, 0], 1, 7, RunFault::Pages),
         (1, (1, 1), &[0, 0], 0, 0, RunFault::Ring),
         (1, (1, 1), &[0, 0], 0, 7, RunFault::Ring),
         (1, (1, 1), &[0, 0], MAX_RING_CAPACITY + 1, 7, RunFault::Ring),

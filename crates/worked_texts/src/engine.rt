@@ -3,7 +3,7 @@ use crate::journals::{CLOSE_ALONE, ZEROS};
 use crate::scripts::{SCAN_JOURNAL, scan};
 use merge_run::OpenGate;
 use page_digest::PageHash;
-use share_text::{Noted, Output, Sink, Source, TextFault, ThreadedFault, replay, serial, threaded};
+use share_text::{Noted, Output, Sink, Source, TextFault, replay, serial, threaded};
 use std::alloc::{Allocator, Global};
 use std::io::{Read, Write};
 use std::sync::Wait;
@@ -62,7 +62,7 @@ pub fn cases() -> [Case; 5] {
 /// How an engine ended: its answer, and which of its ends failed.
 #[derive(Drop)]
 pub struct Ended {
-    answer: Result<(), ThreadedFault>,
+    answer: Result<(), TextFault>,
     pub read_failed: bool,
     pub write_failed: bool,
 }
@@ -75,15 +75,7 @@ impl Ended {
 
     /// Whether the text was refused for this fault.
     pub fn is_refused(&self, fault: TextFault) -> bool {
-        self.answer == Err(ThreadedFault::Text(fault))
-    }
-}
-
-/// Returns the answer of an engine that starts no thread, as `threaded` would give it.
-fn unthreaded(answer: Result<(), TextFault>) -> Result<(), ThreadedFault> {
-    match answer {
-        Ok(()) => Ok(()),
-        Err(fault) => Err(ThreadedFault::Text(fault)),
+        self.answer == Err(fault)
     }
 }
 
@@ -97,7 +89,7 @@ fn by_replay<A: Allocator + Copy, R: Read + Drop, W: Write + Drop, H: PageHash +
     let mut sink = Noted::new(writer);
     let answer = replay(heap, &mut source, &mut sink, hash);
     Ended {
-        answer: unthreaded(answer),
+        answer,
         read_failed: source.failed(),
         write_failed: sink.failed(),
     }
@@ -113,7 +105,7 @@ fn by_serial<A: Allocator + Copy, R: Read + Drop, W: Write + Drop, H: PageHash +
     let mut sink = Noted::new(writer);
     let answer = serial(heap, &mut source, &mut sink, hash);
     Ended {
-        answer: unthreaded(answer),
+        answer,
         read_failed: source.failed(),
         write_failed: sink.failed(),
     }

@@ -1,7 +1,6 @@
 //! What a fault says to a person.
-use share_text::{
-    Cause, TextFault, ThreadedFault, expectation, threaded_expectation, threaded_fault_line,
-};
+use merge_run::JournalFull;
+use share_text::{Cause, RunFault, TextFault, expectation, fault_line};
 use std::alloc::{AllocError, Global};
 use std::test::Fail;
 
@@ -79,14 +78,14 @@ fn a_cause_says_what_to_do(rt: HostRuntime) -> Result<(), Fail> {
 /// Whether a run's fault has this line, expects this, and is shown as a person reads it.
 fn has_texts(
     alloc: Global,
-    fault: &ThreadedFault,
+    fault: &TextFault,
     line: &str,
     wanted: &str,
     shown: &str,
 ) -> Result<bool, AllocError> {
-    let printed = threaded_fault_line(alloc, fault)?;
+    let printed = fault_line(alloc, fault)?;
     let text = format!(in alloc; "{fault}")?;
-    Ok(printed.as_str() == line && threaded_expectation(fault) == wanted && text.as_str() == shown)
+    Ok(printed.as_str() == line && expectation(fault) == wanted && text.as_str() == shown)
 }
 
 /// No run of a test can make a thread be refused, so the sentence about it is compared here.
@@ -95,7 +94,7 @@ fn refused_threads_are_reported(rt: HostRuntime) -> Result<(), Fail> {
     assert!(rt;
         has_texts(
             rt.alloc(),
-            &ThreadedFault::NoThread,
+            &TextFault::Run(RunFault::NoThread),
             "fault run: no-thread",
             "a thread for each guest",
             "the run was refused: expected a thread for each guest"
@@ -104,10 +103,10 @@ fn refused_threads_are_reported(rt: HostRuntime) -> Result<(), Fail> {
     assert!(rt;
         has_texts(
             rt.alloc(),
-            &ThreadedFault::Text(TextFault::Line(2, Cause::Form)),
-            "fault line 2: form",
-            "\"frames NUMBER\"",
-            "line 2: expected \"frames NUMBER\""
+            &TextFault::Run(RunFault::Stopped(JournalFull)),
+            "fault run: stopped",
+            "no more requests than the journal holds",
+            "the run was refused: expected no more requests than the journal holds"
         )?
     );
     Ok(())

@@ -2,18 +2,17 @@
 ghost use Rattle.std.specs.Prelude.{◌≡◌, ◌<◌, ◌∷◌, []};
 ghost use Rattle.share_rings.specs.Ends.{port_name, closed_name};
 ghost use Rattle.merge_run.specs.View.{end_names, ends_of, guest_count};
+ghost use Rattle.watched_machine.specs.View.{merger_in};
 
 use crate::guests::{LOADS, join, list_of_both, start};
-use crate::watched::{Watched, both, new_machine};
-use merge_run::{Step, settle};
+use crate::watched::{both, new_machine};
 use page_model::Report;
-use share_rings::{ClosedPort, Port};
 use std::alloc::Global;
 use std::process::Abort;
 use std::sync::Wait;
 use std::thread;
 use std::thread::{JoinHandle, Threads};
-use watched_machine::Watch;
+use watched_machine::{ClosedPort, Merger, Port, Sha256Hash, Step, Unsettled, Watch, settle};
 
 const TRIES: u64 = 1 << 30;
 
@@ -37,10 +36,15 @@ struct Tally {
 }
 
 /// Steps a guest, and publishes after each tenth step that served a request. Returns whether the guest has ended.
-fn step_and_publish<R: Wait>(rt: &R, watched: &mut Watched, guest: u8, served: &mut Served) -> bool
-    requires { guest < guest_count watched.old.merger }
-    ensures names { end_names (ends_of watched.new.merger) ≡ end_names (ends_of watched.old.merger) }
-    ensures guests { guest_count watched.new.merger ≡ guest_count watched.old.merger }
+fn step_and_publish<R: Wait>(
+    rt: &R,
+    watched: &mut Merger<Sha256Hash>,
+    guest: u8,
+    served: &mut Served,
+) -> bool
+    requires { guest < guest_count (merger_in watched.old) }
+    ensures names { end_names (ends_of (merger_in watched.new)) ≡ end_names (ends_of (merger_in watched.old)) }
+    ensures guests { guest_count (merger_in watched.new) ≡ guest_count (merger_in watched.old) }
 {
     let answer = watched.step(guest);
     if answer == Ok(Step::Done) {
@@ -53,9 +57,9 @@ fn step_and_publish<R: Wait>(rt: &R, watched: &mut Watched, guest: u8, served: &
 }
 
 /// Steps both guests in turn until both have ended.
-fn serve_both<R: Wait>(rt: &R, watched: &mut Watched) -> Served
-    requires { guest_count watched.old.merger ≡ 2 }
-    ensures { end_names (ends_of watched.new.merger) ≡ end_names (ends_of watched.old.merger) }
+fn serve_both<R: Wait>(rt: &R, watched: &mut Merger<Sha256Hash>) -> Served
+    requires { guest_count (merger_in watched.old) ≡ 2 }
+    ensures { end_names (ends_of (merger_in watched.new)) ≡ end_names (ends_of (merger_in watched.old)) }
 {
     let mut served = Served {
         steps: 0,
@@ -107,17 +111,22 @@ fn read_often(watch: Watch) -> Tally {
 
 /// A machine whose guests' threads have ended.
 struct Ran {
-    watched: Watched,
+    watched: Merger<Sha256Hash>,
     served: Served,
     first: ClosedPort,
     second: ClosedPort,
-    ghost pairs: { closed_name first ∷ closed_name second ∷ [] ≡ end_names (ends_of watched.merger) },
+    ghost pairs: { closed_name first ∷ closed_name second ∷ [] ≡ end_names (ends_of (merger_in watched)) },
 }
 
 /// Runs a machine by the ports of its two guests.
-fn run_by<R: Threads + Wait + Abort>(rt: &R, watched: Watched, first: Port, second: Port) -> Ran
-    requires guests { guest_count watched.merger ≡ 2 }
-    requires pairs { port_name first ∷ port_name second ∷ [] ≡ end_names (ends_of watched.merger) }
+fn run_by<R: Threads + Wait + Abort>(
+    rt: &R,
+    watched: Merger<Sha256Hash>,
+    first: Port,
+    second: Port,
+) -> Ran
+    requires guests { guest_count (merger_in watched) ≡ 2 }
+    requires pairs { port_name first ∷ port_name second ∷ [] ≡ end_names (ends_of (merger_in watched)) }
 {
     let mut watched = watched;
     let first = start(rt, first);
@@ -145,7 +154,7 @@ fn run_new<R: Threads + Wait + Abort>(rt: &R, alloc: Global) -> (Ran, Tally) {
     let Ok((mut watched, ports)) = new_machine(rt, alloc, 1, &[1, 1], 2, 202) else {
         panic!(rt; "no machine");
     };
-    let watch = watched.publisher.watch().expect(rt, "a watch");
+    let watch = watched.watch().expect(rt, "a watch");
     let reading = start_reading(rt, watch);
     let (first, second) = both(ports).expect(rt, "two ports");
     let ran = run_by(rt, watched, first, second);
@@ -160,13 +169,18 @@ fn settled<R: Wait + Abort>(rt: &R, alloc: Global, ran: Ran) -> (Served, Report)
         first,
         second,
     } = ran;
-    let Watched { merger, publisher } = watched;
-    publisher.end(rt);
     let ports = list_of_both(rt, alloc, first, second);
-    let Ok(settled) = settle(merger, ports) else {
-        panic!(rt; "not settled");
+    let settled = match settle(watched, ports) {
+        Ok(settled) => settled,
+        Err(unsettled) => {
+            let Unsettled { merger, .. } = unsettled;
+            merger.end(rt);
+            panic!(rt; "not settled");
+        }
     };
-    (served, settled.report())
+    let report = settled.report();
+    settled.end(rt);
+    (served, report)
 }
 
 #[test]

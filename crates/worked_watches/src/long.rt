@@ -1,11 +1,11 @@
 //! A machine that publishes after many requests.
-use crate::watched::{Watched, new_machine, only};
+use crate::watched::{new_machine, only};
 use page_model::Report;
-use share_rings::Port;
 use std::alloc::Global;
 use std::process::Abort;
 use std::sync::Wait;
 use std::thread::Threads;
+use watched_machine::{Merger, Port, Sha256Hash};
 
 const MANY: u32 = 1_100_000;
 
@@ -13,12 +13,12 @@ const MANY: u32 = 1_100_000;
 fn serve_many<R: Threads + Wait + Sync>(
     rt: &R,
     alloc: Global,
-    watched: &mut Watched,
+    watched: &mut Merger<Sha256Hash>,
     port: &mut Port,
 ) {
     for _ in 0..MANY {
         let _sent = port.count();
-        let _served = watched.round(rt, alloc, 1);
+        let _served = watched.round(rt, alloc, 1, 1);
         let _verdict = port.verdict();
     }
 }
@@ -30,7 +30,7 @@ fn read_after_many<R: Threads + Wait + Sync + Abort>(rt: &R, alloc: Global) -> O
     };
     let mut port = only(ports).expect(rt, "one port");
     serve_many(rt, alloc, &mut watched, &mut port);
-    let mut watch = watched.publisher.watch().expect(rt, "a watch");
+    let mut watch = watched.watch().expect(rt, "a watch");
     let is_published = watched.publish(rt).is_ok();
     let report = watch.read();
     watched.end(rt);

@@ -5,7 +5,6 @@ ghost use Rattle.share_rings.specs.Closing.{has_close};
 use crate::config::config_of;
 use crate::watched::{new_machine, only};
 use crate::watching::watch_and_end;
-use merge_run::Fault;
 use page_digest::Sha256Hash;
 use page_model::{Report, Request};
 use refusing::Refusing;
@@ -16,7 +15,7 @@ use std::sync::atomic::{AtomicBool, Ordering};
 use std::test::Fail;
 use std::thread;
 use std::thread::Threads;
-use watched_machine::{Gate, Viewer, run};
+use watched_machine::{Fault, Gate, Viewer, run};
 
 const MOST: u64 = 100;
 

@@ -5,7 +5,7 @@ ghost use Rattle.merge_run.specs.Runs.{CanBeRun};
 
 use crate::config::config_of;
 use page_digest::Sha256Hash;
-use page_model::{Report, Request, ShapeFault, Verdict};
+use page_model::{Report, Request, Verdict};
 use refusing::Refusing;
 use std::alloc::{AllocError, Allocator, Global};
 use std::process::Abort;
@@ -52,8 +52,7 @@ impl Viewer for Blind {
 // Some front of the run was published, or nothing.
 fn check_and_end<R: Abort + Wait, A: Allocator>(rt: &R, finished: Finished<Sha256Hash, A>) {
     let Finished {
-        settled,
-        mut publisher,
+        mut settled,
         verdicts,
     } = finished;
     let first = [Verdict::Mapped, Verdict::Closed];
@@ -62,10 +61,10 @@ fn check_and_end<R: Abort + Wait, A: Allocator>(rt: &R, finished: Finished<Sha25
     assert_eq!(rt; verdicts[0].as_slice(), first.as_slice());
     assert_eq!(rt; verdicts[1].as_slice(), second.as_slice());
     assert_eq!(rt; settled.report(), Report::new(5, 2, 0, 2, 1));
-    let mut watch = publisher.watch().expect(rt, "a watch");
+    let mut watch = settled.watch().expect(rt, "a watch");
     let front = watch.read().expect(rt, "a report");
     assert!(rt; front.entries() <= 5);
-    publisher.end(rt);
+    settled.end(rt);
 }
 
 /// Runs scripts, and looks at the run if it ended. Returns the fault of one that didn't.
@@ -145,7 +144,7 @@ fn fault_without_memory<R: Threads + Wait + Abort + Sync>(
 #[test]
 fn out_of_memory_is_reported_last(rt: HostRuntime) {
     let cases = [
-        ((0, 1, 5), RunFault::Shape(ShapeFault::Frames)),
+        ((0, 1, 5), RunFault::Frames),
         ((2, 0, 5), RunFault::Ring),
         ((2, 1, 0), RunFault::Journal),
         ((2, 1, 4), RunFault::Stopped(JournalFull)),
@@ -160,7 +159,7 @@ fn out_of_memory_is_reported_last(rt: HostRuntime) {
 #[test]
 fn faults_with_memory(rt: HostRuntime) {
     let cases = [
-        ((0, 1, 5), RunFault::Shape(ShapeFault::Frames)),
+        ((0, 1, 5), RunFault::Frames),
         ((2, 1, 4), RunFault::Stopped(JournalFull)),
     ];
     for (numbers, fault) in cases {

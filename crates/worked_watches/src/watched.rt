@@ -1,25 +1,13 @@
-//! A merger under SHA-256 beside the publisher of its reports, its ports, and reports made by hand.
+//! Machines under SHA-256 whose reports are published, their ports, and reports made by hand.
 ghost use Rattle.std.specs.Prelude.{◌≡◌, [], ◌∷◌, length, IfOk, IfSome};
 ghost use Rattle.merge_run.specs.View.{end_names, port_names, ends_of, guest_count};
-ghost use Rattle.page_digest.specs.Hashes.{sha256_hash};
-ghost use Rattle.watched_machine.specs.Publishing.{AreReportsOf};
+ghost use Rattle.watched_machine.specs.View.{merger_in};
 
 use crate::config::config_of;
-use merge_run::{Fault, JournalFull, Machine, Merger, Step};
-use page_digest::Sha256Hash;
 use page_model::Report;
-use share_rings::Port;
-use std::alloc::{Allocator, Global};
+use std::alloc::Allocator;
 use std::sync::Wait;
-use std::thread::Threads;
-use watched_machine::{MachinePublisher, OutOfMemory, PublishFault, Told};
-
-/// A merger that its owner drives, and the publisher of its reports. Use it up by [`Watched::end`].
-pub struct Watched<A: Allocator = Global> {
-    pub merger: Merger<Sha256Hash, A>,
-    pub publisher: MachinePublisher<A>,
-    pub ghost reports: { AreReportsOf sha256_hash merger publisher },
-}
+use watched_machine::{Fault, Machine, Merger, Port, Sha256Hash};
 
 /// Makes a machine whose salts are all 0.
 pub fn new_machine<R: Wait, A: Allocator + Copy>(
@@ -29,64 +17,12 @@ pub fn new_machine<R: Wait, A: Allocator + Copy>(
     pages: &[u32],
     ring: u32,
     journal: u32,
-) -> Result<(Watched<A>, Vec<Port<A>, A>), Fault>
-    ensures pairs { IfOk result (λ (watched, ports). port_names ports.items ≡ end_names (ends_of watched.merger)) }
-    ensures guests { IfOk result (λ (watched, _). guest_count watched.merger ≡ length pages.now) }
+) -> Result<(Merger<Sha256Hash, A>, Vec<Port<A>, A>), Fault>
+    ensures pairs { IfOk result (λ (watched, ports). port_names ports.items ≡ end_names (ends_of (merger_in watched))) }
+    ensures guests { IfOk result (λ (watched, _). guest_count (merger_in watched) ≡ length pages.now) }
 {
     let config = config_of(alloc, frames, pages, ring, journal)?;
-    let (merger, ports) = Machine::new(alloc, &config, Sha256Hash)?;
-    match MachinePublisher::new(alloc, rt) {
-        Ok(publisher) => Ok((Watched { merger, publisher }, ports)),
-        Err(OutOfMemory) => Err(Fault::OutOfMemory),
-    }
-}
-
-impl<A: Allocator> Watched<A> {
-    ghost use Rattle.std.specs.Prelude.{◌≡◌, ◌<◌, ◌≤◌, IfOk};
-    ghost use Rattle.merge_run.specs.View.{end_names, ends_of, guest_count};
-    ghost use Rattle.merge_reports.specs.Lists.{publisher_id, told_id};
-    ghost use Rattle.watched_machine.specs.Publishing.{publisher_of};
-
-    /// Serves one request of a guest.
-    pub fn step(&mut self, guest: u8) -> Result<Step, JournalFull>
-        requires { guest < guest_count self.old.merger }
-        ensures names { end_names (ends_of self.new.merger) ≡ end_names (ends_of self.old.merger) }
-        ensures guests { guest_count self.new.merger ≡ guest_count self.old.merger }
-        ensures publisher { self.new.publisher ≡ self.old.publisher }
-    {
-        self.merger.step(guest)
-    }
-
-    /// Publishes the report of the whole journal.
-    pub fn publish<R: Wait>(&mut self, rt: &R) -> Result<Told, PublishFault>
-        ensures merger { self.new.merger ≡ self.old.merger }
-        ensures same { publisher_id (publisher_of self.new.publisher) ≡ publisher_id (publisher_of self.old.publisher) }
-        ensures told { IfOk result (λ told. told_id told ≡ publisher_id (publisher_of self.old.publisher)) }
-    {
-        self.publisher.publish(rt, &self.merger)
-    }
-
-    /// Serves what waits, at most `limit` requests, on the calling thread.
-    pub fn round<R: Threads + Wait + Sync, B: Allocator + Clone + Send>(
-        &mut self,
-        rt: &R,
-        alloc: B,
-        limit: u32,
-    ) -> Result<u32, JournalFull>
-    where
-        A: Sync,
-        requires { (1 ≤ limit) × (limit ≤ 1024) }
-        ensures { self.new.publisher ≡ self.old.publisher }
-    {
-        self.merger.round(rt, alloc, 1, limit)
-    }
-
-    /// Ends the publisher, and drops the merger.
-    pub fn end<R: Wait>(self, rt: &R) {
-        let Watched { merger, publisher } = self;
-        drop(merger);
-        publisher.end(rt);
-    }
+    Machine::new(rt, alloc, &config, Sha256Hash)
 }
 
 /// Returns the port of the only guest.

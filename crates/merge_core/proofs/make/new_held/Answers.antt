@@ -13,15 +13,16 @@ returns-clause-whole g c =
     let total : ℕ = c.args.shape.now.frames in
     let salts = c.args.shape.now.salts in
     let pages = c.args.shape.now.pages in
-    let limits = c.frames-total.ensures.limits in
+    let made = c.in_ok-guests.ensures in
+    let limits = made.limits in
     record {
-      ties = rw (c.in_ok-guests.ensures, c.requires, c.in_ok-table.ensures, c.in_ok-notes.ensures, c.salts.ensures.salts, c.pages.ensures.pages, c.frames-total.ensures.frames) (empty_ties g.H.HashFunction.hash_of total (shapes salts pages));
-      few = rw (c.in_ok-guests.ensures, c.salts.ensures.salts, c.pages.ensures.pages) (empty_few salts pages limits.1.2 limits.1.1 limits.2.1);
+      ties = rw (made.guests, c.requires, made.table, made.notes) (empty_ties g.H.HashFunction.hash_of total (shapes salts pages));
+      few = rw made.guests (empty_few salts pages limits.1.2 limits.1.1 limits.2.1);
       total = rw c.requires (omega (arith, length-replicate {A = Option (List ℕ)} total None, limits.0));
-      hints = rw c.in_ok-table.ensures (sym (maps.len-empty nat_cmp HintFrame));
+      hints = rw made.table (sym (maps.len-empty nat_cmp HintFrame));
     }
 
 pub returns-clause-guests : goal.returns-clause-guests
 returns-clause-guests g c =
-    let limits = c.frames-total.ensures.limits in
-    rw (c.in_ok-guests.ensures, c.salts.ensures.salts, c.pages.ensures.pages) (empty_len c.args.shape.now.salts c.args.shape.now.pages limits.1.2)
+    let made = c.in_ok-guests.ensures in
+    rw made.guests (empty_len c.args.shape.now.salts c.args.shape.now.pages made.limits.1.2)

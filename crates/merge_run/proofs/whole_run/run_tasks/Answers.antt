@@ -14,10 +14,10 @@ run_threads-merger-requires-clause-ready g c κs within =
     record {
       ready = c.requires.ready;
       few = omega (arith, maps_length (λ (t : Task _). port_name t.port) end_name tasks.items (ends_of c.args.merger) c.requires.pairs);
-      no_handles = c.in_ok-handles.ensures.items;
-      handles_room = omega (arith, c.in_ok-handles.ensures.capacity, c.len-guests.ensures, tasks.ok.0);
-      none_done = c.in_ok-done.ensures.items;
-      done_room = omega (arith, c.in_ok-done.ensures.capacity, c.len-guests.ensures, tasks.ok.0);
+      no_handles = c.in_ok-lists.ensures.handles.0;
+      handles_room = omega (arith, c.in_ok-lists.ensures.handles.1, c.len-guests.ensures, tasks.ok.0);
+      none_done = c.in_ok-lists.ensures.done.0;
+      done_room = omega (arith, c.in_ok-lists.ensures.done.1, c.len-guests.ensures, tasks.ok.0);
     }
 
 pub finish-requires-clause-pairs : goal.finish-requires-clause-pairs

@@ -3,7 +3,7 @@ use Rattle.std.specs.List.{All}
 use mathlib.Core.List.{IsPrefix}
 use Rattle.page_model.specs.Parts.{Totals}
 use Rattle.merge_reports.specs.Reports.{StartsWith}
-use Rattle.merge_reports.proofs.Fronts.{front_of_itself, front_of_longer, shorter_front}
+use Rattle.merge_reports.proofs.Fronts.{front_of_front, front_of_itself, front_of_longer, shorter_front}
 use Rattle.merge_reports.proofs.Lists.{one_more_list}
 use Rattle.merge_reports.proofs.watch.Watch.learn.Goals as goal
 
@@ -23,7 +23,7 @@ invariant_of-self g c =
       tied = s.tied;
       tied_here = s.tied_here ∙ sym (book ∙ (c.requires.same_publisher ∙ s.saw_here));
       saw_here = sym (book ∙ c.requires.same_publisher);
-      saw_front = s.saw_front;
+      saw_no_longer = rw was (front_of_front s.saw.history.log s.longest.history.log t.history.log s.saw_no_longer front);
       heard_no_longer = rw (was, lists) all;
     }
 
@@ -42,6 +42,6 @@ invariant_of-self-else-self-told g c =
       tied = s.tied;
       tied_here = s.tied_here;
       saw_here = s.saw_here;
-      saw_front = s.saw_front;
+      saw_no_longer = s.saw_no_longer;
       heard_no_longer = rw lists all;
     }

@@ -1,0 +1,112 @@
+//! `watched_machine`: a machine whose reports are published.
+ghost use Rattle.std.specs.Prelude.{◌≡◌, ◌<◌, IfOk, IfSome};
+ghost use Rattle.share_rings.specs.Ends.{closed_name, port_name};
+ghost use Rattle.merge_run.specs.View.{closed_names, end_names, ends_of, guest_count, port_names};
+ghost use Rattle.merge_reports.specs.Lists.{publisher_id, told_id, watch_id};
+ghost use Rattle.watched_machine.specs.View.{merger_in, publisher_in};
+
+use crate::machines::{list_of, one_guest, only};
+use std::alloc::Global;
+use std::process::Abort;
+use std::sync::Wait;
+use std::test::Fail;
+use std::thread::Threads;
+use watched_machine::{
+    ClosedPort, Fault, Machine, Merger, Port, Report, Settled, Sha256Hash, Step, Unsettled, Watch,
+    settle,
+};
+
+fn new_machine<R: Wait>(rt: &R, alloc: Global) -> Result<(Merger<Sha256Hash>, Vec<Port>), Fault>
+    ensures pairs { IfOk result (λ (merger, ports). port_names ports.items ≡ end_names (ends_of (merger_in merger))) }
+    ensures guests { IfOk result (λ (merger, _). guest_count (merger_in merger) ≡ 1) }
+{
+    let config = one_guest(alloc)?;
+    Machine::new(rt, alloc, &config, Sha256Hash)
+}
+
+/// Publishes, and lets the watch learn it. Returns what it reads before and after.
+fn publish<R: Wait + Abort>(
+    rt: &R,
+    merger: &mut Merger<Sha256Hash>,
+    watch: &mut Watch,
+) -> (Option<Report>, Option<Report>)
+    requires { watch_id watch.old ≡ publisher_id (publisher_in merger.old) }
+    ensures { merger_in merger.new ≡ merger_in merger.old }
+{
+    let before = watch.read();
+    watch.learn(merger.tell());
+    let told = merger.publish(rt).expect(rt, "memory");
+    watch.learn(told);
+    (before, watch.read())
+}
+
+/// Serves a store by a step and a close by a round, and publishes both.
+fn serve<R: Threads + Wait + Sync + Abort>(
+    rt: &R,
+    alloc: Global,
+    merger: &mut Merger<Sha256Hash>,
+    port: Port,
+) -> ClosedPort
+    requires { 0 < guest_count (merger_in merger.old) }
+    ensures merger { end_names (ends_of (merger_in merger.new)) ≡ end_names (ends_of (merger_in merger.old)) }
+    ensures port { closed_name result ≡ port_name port }
+    ensures reports { publisher_id (publisher_in merger.new) ≡ publisher_id (publisher_in merger.old) }
+{
+    let mut port = port;
+    assert!(rt; port.store(0, 0, &[0x41]).is_ok());
+    assert!(rt; merger.step(0) == Ok(Step::Done));
+    let Ok(mut closed) = port.close() else {
+        panic!(rt; "busy");
+    };
+    assert!(rt; merger.round(rt, alloc, 2, 64) == Ok(1));
+    assert!(rt; closed.verdict().is_some());
+    assert!(rt; closed.verdict().is_some());
+    assert!(rt; merger.journal().len() == 2);
+    assert!(rt; merger.report().entries() == 2);
+    closed
+}
+
+/// Ends a settled machine, which still tells what was published.
+fn end_settled<R: Wait + Abort>(rt: &R, settled: Settled<Sha256Hash>) {
+    let mut settled = settled;
+    let mut watch = settled.watch().expect(rt, "a watch");
+    watch.learn(settled.tell());
+    assert!(rt; watch.read() == Some(settled.report()));
+    assert!(rt; settled.journal().len() == 2);
+    assert!(rt; settled.core().entries() == 2);
+    settled.end(rt);
+    assert!(rt; watch.read().is_none());
+}
+
+/// Settles a machine, and ends it.
+fn end<R: Wait + Abort>(rt: &R, merger: Merger<Sha256Hash>, ports: Vec<ClosedPort>)
+    requires { closed_names ports.items ≡ end_names (ends_of (merger_in merger)) }
+{
+    match settle(merger, ports) {
+        Ok(settled) => end_settled(rt, settled),
+        Err(unsettled) => {
+            let Unsettled { merger, .. } = unsettled;
+            merger.end(rt);
+            panic!(rt; "not settled");
+        }
+    }
+}
+
+#[test]
+fn a_watched_machine(rt: HostRuntime) -> Result<(), Fail> {
+    let Ok((mut merger, ports)) = new_machine(&rt, rt.alloc()) else {
+        panic!(rt; "no machine");
+    };
+    let port = only(ports).expect(&rt, "one port");
+    let mut watch = merger.watch().expect(&rt, "a watch");
+    let closed = serve(&rt, rt.alloc(), &mut merger, port);
+    let (before, after) = publish(&rt, &mut merger, &mut watch);
+    end(
+        &rt,
+        merger,
+        list_of(rt.alloc(), closed).expect(&rt, "memory"),
+    );
+    assert!(rt; before == Some(Report::new(0, 0, 0, 0, 0)));
+    assert!(rt; after == Some(Report::new(2, 1, 0, 1, 0)));
+    Ok(())
+}
