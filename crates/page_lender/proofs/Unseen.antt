@@ -1,0 +1,79 @@
+-- What a lender does changes nothing that its page shows.
+use Rattle.std.proofs.Common.{◌≡◌, ◌∙◌, ℕ, true, false, cond, List, [], ◌∷◌, ◌++◌, Some, None, Option, refl, ap, sym, subst}
+use Rattle.std.specs.Prelude.{slice_get, unwrap_or, option_map}
+use Rattle.std.specs.Option.{option_map_or}
+use Rattle.std.proofs.lemmas.Bool.{eq-eqb}
+use Rattle.window_events.specs.Windows.{Mappings, shown_in, step, run, start, shown, own_content}
+use Rattle.window_events.specs.Played.{played}
+use Rattle.window_events.specs.declared.event.Event.{Event}
+use Rattle.window_events.specs.declared.event.Event.TheVariants.{Write, Guard, Unguard, Copy, Lend, Map, Release}
+use Rattle.window_events.specs.declared.page.Page.{Page}
+use Rattle.window_events.proofs.Own.{keeps_others, shows_written}
+use Rattle.page_lender.specs.Events.{done_events}
+use Rattle.page_lender.specs.Histories.{NeverSeen}
+use Rattle.page_lender.specs.declared.order.Order.{Order}
+use Rattle.page_lender.specs.declared.order.Outcome.TheVariants.{Done, Lent, Refused, Unknown}
+
+-- one event played is a step
+one_played : (w : Mappings) (e : Event) → played w (e ∷ []) ≡ unwrap_or (step w e) w
+one_played w e = pick (step w e) where
+  pick : (o : Option Mappings) → option_map_or (λ after. played after []) o w ≡ unwrap_or o w
+  pick None = refl
+  pick (Some after) = refl
+
+run_more : (w : Mappings) (es : List Event) (e : Event) → run step w (es ++ (e ∷ [])) ≡ unwrap_or (step (run step w es) e) (run step w es)
+run_more w [] e = refl
+run_more w (x ∷ es) e = run_more (unwrap_or (step w x) w) es e
+
+one_unseen : (es : List Event) (contents frames : List ℕ) (p : ℕ) (e : Event) → own_content p e ≡ None →
+    shown (played (run step (start contents frames) es) (e ∷ [])) p ≡ shown (run step (start contents frames) es) p
+one_unseen es contents frames p e n =
+    let w : Mappings = run step (start contents frames) es in
+    ap (λ v. shown v p) (one_played w e) ∙ keeps_others es e p contents frames n
+
+two_unseen : (es : List Event) (contents frames : List ℕ) (p : ℕ) (e f : Event) → own_content p e ≡ None → own_content p f ≡ None →
+    shown (played (run step (start contents frames) es) (e ∷ f ∷ [])) p ≡ shown (run step (start contents frames) es) p
+two_unseen es contents frames p e f n m = pick (step (run step (start contents frames) es) e) refl where
+  pick : (o : Option Mappings) → step (run step (start contents frames) es) e ≡ o →
+      shown (option_map_or (λ after. played after (f ∷ [])) o (run step (start contents frames) es)) p ≡ shown (run step (start contents frames) es) p
+  pick None s = refl
+  pick (Some a) s =
+      let w : Mappings = run step (start contents frames) es in
+      let is_run : run step (start contents frames) (es ++ (e ∷ [])) ≡ a = run_more (start contents frames) es e ∙ ap (λ o. unwrap_or o w) s in
+      let second : shown (played a (f ∷ [])) p ≡ shown a p = subst (λ v. shown (played v (f ∷ [])) p ≡ shown v p) is_run (one_unseen (es ++ (e ∷ [])) contents frames p f m) in
+      let first : shown a p ≡ shown w p = ap (λ o. shown (unwrap_or o w) p) (sym s) ∙ keeps_others es e p contents frames n in
+      second ∙ first
+
+write_unseen : (es : List Event) (contents frames : List ℕ) (p : ℕ) (page : Page) → slice_get (run step (start contents frames) es).pages p ≡ Some page →
+    shown (played (run step (start contents frames) es) (Write p (shown_in (run step (start contents frames) es).frames page.view) ∷ [])) p ≡ shown (run step (start contents frames) es) p
+write_unseen es contents frames p page there = pick (step (run step (start contents frames) es) (Write p (shown_in (run step (start contents frames) es).frames page.view))) refl where
+  pick : (o : Option Mappings) → step (run step (start contents frames) es) (Write p (shown_in (run step (start contents frames) es).frames page.view)) ≡ o →
+      shown (option_map_or (λ after. played after []) o (run step (start contents frames) es)) p ≡ shown (run step (start contents frames) es) p
+  pick None s = refl
+  pick (Some a) s =
+      let own : own_content p (Write p (shown_in (run step (start contents frames) es).frames page.view)) ≡ Some (shown_in (run step (start contents frames) es).frames page.view) =
+      ap (λ b. cond b (Some (shown_in (run step (start contents frames) es).frames page.view)) None) (eq-eqb p p refl) in
+      shows_written es (Write p (shown_in (run step (start contents frames) es).frames page.view)) p contents frames (shown_in (run step (start contents frames) es).frames page.view) a own s
+      ∙ sym (ap (λ o. option_map (λ q. shown_in (run step (start contents frames) es).frames q.view) o) there)
+
+done_unseen : (es : List Event) (contents frames : List ℕ) (p : ℕ) (page : Page) (order : Order) → slice_get (run step (start contents frames) es).pages p ≡ Some page →
+    shown (played (run step (start contents frames) es) (done_events p (shown_in (run step (start contents frames) es).frames page.view) order)) p ≡ shown (run step (start contents frames) es) p
+done_unseen es contents frames p page Order.Wait there = refl
+done_unseen es contents frames p page Order.Copy there = refl
+done_unseen es contents frames p page Order.Lend there = refl
+done_unseen es contents frames p page Order.FindLoan there = refl
+done_unseen es contents frames p page Order.Hold there = one_unseen es contents frames p (Guard p) refl
+done_unseen es contents frames p page (Order.Compare n) there = two_unseen es contents frames p (Copy p) (Lend p n) refl refl
+done_unseen es contents frames p page (Order.Map n) there = one_unseen es contents frames p (Map p) refl
+done_unseen es contents frames p page Order.LetGo there = one_unseen es contents frames p (Unguard p) refl
+done_unseen es contents frames p page Order.CopyInPlace there = write_unseen es contents frames p page there
+done_unseen es contents frames p page Order.TakeHome there = write_unseen es contents frames p page there
+done_unseen es contents frames p page (Order.Release slot) there = one_unseen es contents frames p (Release p) refl
+done_unseen es contents frames p page (Order.FindSlot slot) there = one_unseen es contents frames p (Release p) refl
+
+pub never_seen : NeverSeen
+never_seen es contents frames p page order Done was_done there = done_unseen es contents frames p page order there
+never_seen es contents frames p page order (Lent slot n) was_done there = refl
+never_seen es contents frames p page order Refused was_done there = refl
+never_seen es contents frames p page order Unknown true there = done_unseen es contents frames p page order there
+never_seen es contents frames p page order Unknown false there = refl

@@ -1,0 +1,375 @@
+-- What a lender orders of a page, which outcomes an order has, and what the host may have for the page.
+use Rattle.std.specs.Prelude.{◌≡◌, ℕ, Bool, true, false, not, ◌&&◌, ◌||◌, if◌then◌else◌, Option, Some, None}
+use Rattle.page_lender.specs.declared.bars.Bars.{Bars}
+use Rattle.page_lender.specs.declared.belief.Belief.{Belief}
+use Rattle.page_lender.specs.declared.belief.Belief.TheVariants.{Private, Chosen, Copied, Unanswered, Loaned, Held, Equal, LettingGo, Shown, Homing, Leaving, Unreleased}
+use Rattle.page_lender.specs.declared.order.Order.{Order}
+use Rattle.page_lender.specs.declared.order.Order.TheVariants.{Wait, Copy, Lend, FindLoan, Hold, Compare, Map, LetGo, CopyInPlace, TakeHome, Release, FindSlot}
+use Rattle.page_lender.specs.declared.order.Outcome.{Outcome}
+use Rattle.page_lender.specs.declared.order.Outcome.TheVariants.{Done, Lent, Refused, Unknown}
+use Rattle.page_lender.specs.declared.page.PageLender.{PageLender}
+
+-- what is to be done with a page of which this is believed
+abbrev pub due : Belief → Order
+due Private = Wait
+due Chosen = Copy
+due Copied = Lend
+due Unanswered = FindLoan
+due (Loaned slot n) = Hold
+due (Held slot n) = Compare n
+due (Equal slot n) = Map n
+due (LettingGo slot) = LetGo
+due (Shown slot n) = Wait
+due (Homing slot n true) = CopyInPlace
+due (Homing slot n false) = TakeHome
+due (Leaving slot) = Release slot
+due (Unreleased slot) = FindSlot slot
+
+-- nothing is lent, and nothing is asked
+abbrev pub is_private : Belief → Bool
+is_private Private = true
+is_private Chosen = false
+is_private Copied = false
+is_private Unanswered = false
+is_private (Loaned slot n) = false
+is_private (Held slot n) = false
+is_private (Equal slot n) = false
+is_private (LettingGo slot) = false
+is_private (Shown slot n) = false
+is_private (Homing slot n in_place) = false
+is_private (Leaving slot) = false
+is_private (Unreleased slot) = false
+
+-- writes to the page may wait
+abbrev pub waiting : Belief → Bool
+waiting Private = false
+waiting Chosen = false
+waiting Copied = false
+waiting Unanswered = false
+waiting (Loaned slot n) = false
+waiting (Held slot n) = true
+waiting (Equal slot n) = true
+waiting (LettingGo slot) = true
+waiting (Shown slot n) = false
+waiting (Homing slot n in_place) = false
+waiting (Leaving slot) = false
+waiting (Unreleased slot) = false
+
+-- the page may show a frame itself
+abbrev pub shows : Belief → Bool
+shows Private = false
+shows Chosen = false
+shows Copied = false
+shows Unanswered = false
+shows (Loaned slot n) = false
+shows (Held slot n) = false
+shows (Equal slot n) = false
+shows (LettingGo slot) = false
+shows (Shown slot n) = true
+shows (Homing slot n in_place) = true
+shows (Leaving slot) = false
+shows (Unreleased slot) = false
+
+-- the order is carried out at the page, and not at the host alone
+abbrev pub touches : Order → Bool
+touches Wait = false
+touches Copy = true
+touches Lend = false
+touches FindLoan = false
+touches Hold = true
+touches (Compare n) = true
+touches (Map n) = true
+touches LetGo = true
+touches CopyInPlace = true
+touches TakeHome = true
+touches (Release slot) = false
+touches (FindSlot slot) = false
+
+-- the order leads on to showing a frame
+abbrev pub leads : Order → Bool
+leads Wait = false
+leads Copy = true
+leads Lend = true
+leads FindLoan = false
+leads Hold = true
+leads (Compare n) = true
+leads (Map n) = true
+leads LetGo = false
+leads CopyInPlace = false
+leads TakeHome = false
+leads (Release slot) = false
+leads (FindSlot slot) = false
+
+-- an order that was given
+abbrev pub is_given : Order → Bool
+is_given Wait = false
+is_given Copy = true
+is_given Lend = true
+is_given FindLoan = true
+is_given Hold = true
+is_given (Compare n) = true
+is_given (Map n) = true
+is_given LetGo = true
+is_given CopyInPlace = true
+is_given TakeHome = true
+is_given (Release slot) = true
+is_given (FindSlot slot) = true
+
+-- the order gives a page other memory
+abbrev pub moves : Order → Bool
+moves Wait = false
+moves Copy = false
+moves Lend = false
+moves FindLoan = false
+moves Hold = false
+moves (Compare n) = false
+moves (Map n) = false
+moves LetGo = false
+moves CopyInPlace = false
+moves TakeHome = true
+moves (Release slot) = false
+moves (FindSlot slot) = false
+
+-- something keeps the page from being lent
+abbrev pub is_barred : Bars → Bool
+is_barred bars = bars.called || bars.pinned || bars.inherited || bars.locked || bars.left || bars.ended
+
+-- the page must not show a frame
+abbrev pub must_own : Bars → Bool
+must_own bars = bars.pinned || bars.inherited || bars.locked || bars.left || bars.ended
+
+-- what is believed once bars are looked at
+abbrev pub prepared : Bars → Belief → Belief
+prepared bars Private = Private
+prepared bars Chosen = if is_barred bars then Private else Chosen
+prepared bars Copied = if is_barred bars then Private else Copied
+prepared bars Unanswered = Unanswered
+prepared bars (Loaned slot n) = if is_barred bars then Leaving slot else Loaned slot n
+prepared bars (Held slot n) = if is_barred bars then LettingGo slot else Held slot n
+prepared bars (Equal slot n) = if is_barred bars then LettingGo slot else Equal slot n
+prepared bars (LettingGo slot) = LettingGo slot
+prepared bars (Shown slot n) = if must_own bars then Homing slot n bars.pinned else Shown slot n
+prepared bars (Homing slot n in_place) = if must_own bars then Homing slot n bars.pinned else Shown slot n
+prepared bars (Leaving slot) = Leaving slot
+prepared bars (Unreleased slot) = Unreleased slot
+
+-- an order that touches the page is open
+abbrev pub is_busy : PageLender → Bool
+is_busy page = page.ordered && touches (due page.belief)
+
+-- a call of the monitor may go on that these bars are for
+abbrev pub may_go_on : PageLender → Bool
+may_go_on page = not (is_busy page) && not (waiting page.belief) && not (must_own page.bars && shows page.belief)
+
+-- the bars from now on: a page that left stays so
+abbrev pub joined : Bars → Bars → Bars
+joined old bars = record bars { left = old.left || bars.left }
+
+-- the order may be done
+abbrev pub can_be_done : Order → Bool
+can_be_done Wait = false
+can_be_done Copy = true
+can_be_done Lend = false
+can_be_done FindLoan = false
+can_be_done Hold = true
+can_be_done (Compare n) = true
+can_be_done (Map n) = true
+can_be_done LetGo = true
+can_be_done CopyInPlace = true
+can_be_done TakeHome = true
+can_be_done (Release slot) = true
+can_be_done (FindSlot slot) = true
+
+-- the order may bring a loan
+abbrev pub can_bring : Order → Bool
+can_bring Wait = false
+can_bring Copy = false
+can_bring Lend = true
+can_bring FindLoan = true
+can_bring Hold = false
+can_bring (Compare n) = false
+can_bring (Map n) = false
+can_bring LetGo = false
+can_bring CopyInPlace = false
+can_bring TakeHome = false
+can_bring (Release slot) = false
+can_bring (FindSlot slot) = false
+
+-- what came of the order may be unknown: a copy to the buffer, a comparison and a mapping are done or not
+abbrev pub can_be_unknown : Order → Bool
+can_be_unknown Wait = false
+can_be_unknown Copy = false
+can_be_unknown Lend = true
+can_be_unknown FindLoan = true
+can_be_unknown Hold = true
+can_be_unknown (Compare n) = false
+can_be_unknown (Map n) = false
+can_be_unknown LetGo = true
+can_be_unknown CopyInPlace = true
+can_be_unknown TakeHome = true
+can_be_unknown (Release slot) = true
+can_be_unknown (FindSlot slot) = true
+
+-- the outcome is one of the order's
+abbrev pub is_outcome : Order → Outcome → Bool
+is_outcome order Done = can_be_done order
+is_outcome order (Lent slot n) = can_bring order
+is_outcome order Refused = is_given order
+is_outcome order Unknown = can_be_unknown order
+
+-- a belief without its slot and frame
+pub data Stage : Type 0 where
+  AtPrivate : Stage
+  AtChosen : Stage
+  AtCopied : Stage
+  AtUnanswered : Stage
+  AtLoaned : Stage
+  AtHeld : Stage
+  AtEqual : Stage
+  AtLettingGo : Stage
+  AtShown : Stage
+  AtHoming : Stage
+  AtLeaving : Stage
+  AtUnreleased : Stage
+
+abbrev pub stage_of : Belief → Stage
+stage_of Private = AtPrivate
+stage_of Chosen = AtChosen
+stage_of Copied = AtCopied
+stage_of Unanswered = AtUnanswered
+stage_of (Loaned slot n) = AtLoaned
+stage_of (Held slot n) = AtHeld
+stage_of (Equal slot n) = AtEqual
+stage_of (LettingGo slot) = AtLettingGo
+stage_of (Shown slot n) = AtShown
+stage_of (Homing slot n in_place) = AtHoming
+stage_of (Leaving slot) = AtLeaving
+stage_of (Unreleased slot) = AtUnreleased
+
+-- where a page is once the order was done
+abbrev pub aim : Order → Stage
+aim Wait = AtPrivate
+aim Copy = AtCopied
+aim Lend = AtLoaned
+aim FindLoan = AtLoaned
+aim Hold = AtHeld
+aim (Compare n) = AtEqual
+aim (Map n) = AtShown
+aim LetGo = AtLeaving
+aim CopyInPlace = AtLeaving
+aim TakeHome = AtLeaving
+aim (Release slot) = AtPrivate
+aim (FindSlot slot) = AtPrivate
+
+-- where it is if the order was refused
+abbrev pub fallback : Order → Stage
+fallback Wait = AtPrivate
+fallback Copy = AtPrivate
+fallback Lend = AtPrivate
+fallback FindLoan = AtPrivate
+fallback Hold = AtLeaving
+fallback (Compare n) = AtLettingGo
+fallback (Map n) = AtLettingGo
+fallback LetGo = AtLettingGo
+fallback CopyInPlace = AtShown
+fallback TakeHome = AtShown
+fallback (Release slot) = AtLeaving
+fallback (FindSlot slot) = AtLeaving
+
+-- where it is if nothing is known of the order
+abbrev pub doubt : Order → Stage
+doubt Wait = AtPrivate
+doubt Copy = AtPrivate
+doubt Lend = AtUnanswered
+doubt FindLoan = AtUnanswered
+doubt Hold = AtLettingGo
+doubt (Compare n) = AtLettingGo
+doubt (Map n) = AtLettingGo
+doubt LetGo = AtLettingGo
+doubt CopyInPlace = AtShown
+doubt TakeHome = AtShown
+doubt (Release slot) = AtUnreleased
+doubt (FindSlot slot) = AtUnreleased
+
+-- where an outcome of an order leads to
+abbrev pub led_to : Order → Outcome → Stage
+led_to order Done = aim order
+led_to order (Lent slot n) = aim order
+led_to order Refused = fallback order
+led_to order Unknown = doubt order
+
+-- what the host has for the page: nothing; a slot, if it answered what was asked; this slot; this slot, if it heard no release
+pub data Account : Type 0 where
+  Nothing : Account
+  Perhaps : Account
+  Has : ℕ → Account
+  Maybe : ℕ → Account
+
+abbrev pub account : Belief → Account
+account Private = Nothing
+account Chosen = Nothing
+account Copied = Nothing
+account Unanswered = Perhaps
+account (Loaned slot n) = Has slot
+account (Held slot n) = Has slot
+account (Equal slot n) = Has slot
+account (LettingGo slot) = Has slot
+account (Shown slot n) = Has slot
+account (Homing slot n in_place) = Has slot
+account (Leaving slot) = Has slot
+account (Unreleased slot) = Maybe slot
+
+-- what the host has once a loan that was asked for has this outcome
+abbrev pub lent_then : Outcome → Account → Account
+lent_then Done old = old
+lent_then (Lent slot n) old = Has slot
+lent_then Refused old = Nothing
+lent_then Unknown old = Perhaps
+
+-- what it has once a release of this slot has this outcome
+abbrev pub released_then : ℕ → Outcome → Account → Account
+released_then slot Done old = Nothing
+released_then slot (Lent other n) old = old
+released_then slot Refused old = Has slot
+released_then slot Unknown old = Maybe slot
+
+-- what it has after an outcome of an order: no other order changes it
+abbrev pub account_then : Order → Outcome → Account → Account
+account_then Wait outcome old = old
+account_then Copy outcome old = old
+account_then Lend outcome old = lent_then outcome old
+account_then FindLoan outcome old = lent_then outcome old
+account_then Hold outcome old = old
+account_then (Compare n) outcome old = old
+account_then (Map n) outcome old = old
+account_then LetGo outcome old = old
+account_then CopyInPlace outcome old = old
+account_then TakeHome outcome old = old
+account_then (Release slot) outcome old = released_then slot outcome old
+account_then (FindSlot slot) outcome old = released_then slot outcome old
+
+-- the slot and the frame of a loan that is used, or is to be
+abbrev pub loan_of : Belief → Option (ℕ × ℕ)
+loan_of Private = None
+loan_of Chosen = None
+loan_of Copied = None
+loan_of Unanswered = None
+loan_of (Loaned slot n) = Some (slot, n)
+loan_of (Held slot n) = Some (slot, n)
+loan_of (Equal slot n) = Some (slot, n)
+loan_of (LettingGo slot) = None
+loan_of (Shown slot n) = Some (slot, n)
+loan_of (Homing slot n in_place) = Some (slot, n)
+loan_of (Leaving slot) = None
+loan_of (Unreleased slot) = None
+
+-- the loan that is known after this outcome
+abbrev pub granted : Outcome → Option (ℕ × ℕ) → Option (ℕ × ℕ)
+granted Done loan = loan
+granted (Lent slot n) loan = Some (slot, n)
+granted Refused loan = loan
+granted Unknown loan = loan
+
+-- a loan that is used is the one that was known, or was just given: no frame takes another's place
+pub record KeepsLoan (old : Belief) (outcome : Outcome) (new : Belief) : Type 0 where
+  pub same : (slot n : ℕ) → loan_of new ≡ Some (slot, n) → granted outcome (loan_of old) ≡ Some (slot, n)

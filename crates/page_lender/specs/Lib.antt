@@ -1,0 +1,5 @@
+pub mod Decisions
+pub mod Events
+pub mod Histories
+pub mod Lender
+pub mod Slots

@@ -1,0 +1,47 @@
+//! What guests and other lenders do between a lender's orders leaves its beliefs right, and the lender's events are possible. The
+//! functions' bodies are empty: the contract is all there is.
+ghost use Rattle.std.specs.Prelude.{true, false};
+ghost use Rattle.page_lender.specs.Events.{KeptBy, is_guests, is_of, DoneByEvents, StaysRight, HeardRightly};
+ghost use Rattle.page_lender.specs.Histories.{EveryHistoryIsPossible, BeginsPrivate, NeverSeen};
+ghost use Rattle.page_lender.specs.Slots.{KeepsAccount};
+ghost use Rattle.page_lender.specs.declared.belief.Belief.TheVariants as Belief;
+ghost use Rattle.page_lender.specs.declared.order.Order.TheVariants as Order;
+ghost use Rattle.page_lender.specs.declared.order.Outcome.TheVariants as Outcome;
+
+/// A page's guest may write it or give it up at any time, known to the lender or not, and other pages and the host may change: what is
+/// believed of the page stays right.
+pub fn others_law()
+    ensures guest { KeptBy is_guests true }
+    ensures others { KeptBy is_of false }
+{}
+
+/// Before the first event nothing is lent. Whatever comes of the orders, is heard or is done by others, and in whatever order:
+/// where it is as it was told, what is believed is right, and each event of the lender is possible.
+pub fn history_law()
+    ensures begins { BeginsPrivate }
+    ensures possible { EveryHistoryIsPossible }
+{}
+
+/// Whatever came before, and whatever comes of an order: what the page shows stays as it is. So no guest sees what its lender does.
+pub fn unseen_law()
+    ensures { NeverSeen }
+{}
+
+/// No slot is lost, and none is released twice: where an order named what is the page's own and its outcome is true, the account stays
+/// right of the slot that the host has for the page, also where replies are lost.
+pub fn slots_law()
+    ensures { KeepsAccount }
+{}
+
+/// Lenders that the clauses on events refuse: one that releases a page that shows its frame; that maps a page it didn't compare; that
+/// forgets to let go of a page that differs, or that may be held; that takes a release for done of which it knows nothing; that takes a
+/// shown page for written; and that forgets the slot of a page that was given up.
+pub fn wrong_lenders()
+    ensures releases_shown { DoneByEvents (Belief.Shown 7 0) (Order.Release 7) Outcome.Done Belief.Private → ⊥ }
+    ensures maps_uncompared { DoneByEvents (Belief.Held 7 0) (Order.Map 0) Outcome.Done (Belief.Shown 7 0) → ⊥ }
+    ensures leaves_held { DoneByEvents (Belief.Held 7 0) (Order.Compare 0) Outcome.Refused (Belief.Leaving 7) → ⊥ }
+    ensures doubts_no_hold { DoneByEvents (Belief.Loaned 7 0) Order.Hold Outcome.Unknown (Belief.Leaving 7) → ⊥ }
+    ensures trusts_release { DoneByEvents (Belief.Leaving 7) (Order.Release 7) Outcome.Unknown Belief.Private → ⊥ }
+    ensures sees_no_write { StaysRight (Belief.Shown 7 0) (Belief.Leaving 7) → ⊥ }
+    ensures forgets_slot { HeardRightly (Belief.Shown 7 0) Belief.Private → ⊥ }
+{}

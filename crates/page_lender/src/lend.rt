@@ -1,0 +1,130 @@
+//! The lender of one page.
+ghost use Rattle.std.specs.Prelude.{◌≡◌, true, false, not, ◌&&◌, if◌then◌else◌};
+ghost use Rattle.page_lender.specs.Decisions.{due, waiting, shows, touches, leads, moves, is_given, is_barred, must_own, prepared, is_busy, may_go_on, joined, is_private};
+ghost use Rattle.page_lender.specs.Decisions.{is_outcome, stage_of, led_to, account, account_then, KeepsLoan};
+ghost use Rattle.page_lender.specs.Lender.{heard_of};
+ghost use Rattle.page_lender.specs.Slots.{NamesOwn};
+ghost use Rattle.page_lender.specs.Events.{DoneByEvents, StaysRight, HeardRightly, IsFree, ShowsNone};
+ghost use Rattle.page_lender.specs.declared.belief.Belief.TheVariants as Belief;
+ghost use Rattle.page_lender.specs.declared.order.Order.TheVariants as Order;
+
+use crate::{Bars, Belief, Notice, Order, Outcome, PageLender};
+
+impl PageLender {
+    /// Makes the lender of a page of which nothing is lent.
+    pub fn new() -> PageLender
+        ensures belief { result.belief ≡ Belief.Private }
+        ensures ordered { result.ordered ≡ false }
+        ensures bars { is_barred result.bars ≡ false }
+    {
+        let bars = Bars {
+            called: false,
+            pinned: false,
+            inherited: false,
+            locked: false,
+            left: false,
+            ended: false,
+        };
+        PageLender {
+            belief: Belief::Private,
+            ordered: false,
+            bars,
+        }
+    }
+
+    /// Chooses the page to be lent, and returns whether it can be: it is private, and nothing keeps it from being lent.
+    pub fn choose(&mut self) -> bool
+        ensures chosen { result ≡ (is_private self.old.belief && not (is_barred self.old.bars)) }
+        ensures belief { self.new.belief ≡ (if result then Belief.Chosen else self.old.belief) }
+        ensures ordered { self.new.ordered ≡ self.old.ordered }
+        ensures bars { self.new.bars ≡ self.old.bars }
+        ensures right { StaysRight self.old.belief self.new.belief }
+    {
+        if !self.belief.is_private() || self.bars.any() {
+            return false;
+        }
+        self.belief = Belief::Chosen;
+        true
+    }
+
+    /// Returns what to do next with the page: one order at a time, and none that leads to showing a frame while something keeps the
+    /// page from being lent.
+    pub fn next(&mut self) -> Order
+        ensures one { self.old.ordered ≡ true → (result ≡ Order.Wait) × (self.new ≡ self.old) }
+        ensures belief { self.old.ordered ≡ false → self.new.belief ≡ prepared self.old.bars self.old.belief }
+        ensures order { self.old.ordered ≡ false → result ≡ due self.new.belief }
+        ensures names { self.old.ordered ≡ false → NamesOwn result self.new.belief }
+        ensures ordered { self.old.ordered ≡ false → self.new.ordered ≡ is_given result }
+        ensures bars { self.new.bars ≡ self.old.bars }
+        ensures barred { is_barred self.old.bars ≡ true → leads result ≡ false }
+        ensures pinned { self.old.bars.pinned ≡ true → moves result ≡ false }
+        ensures quiet { is_barred self.old.bars ≡ true → may_go_on self.old ≡ true → touches result ≡ false }
+        ensures account { account self.new.belief ≡ account self.old.belief }
+        ensures right { StaysRight self.old.belief self.new.belief }
+    {
+        if self.ordered {
+            return Order::Wait;
+        }
+        self.belief = self.belief.prepared(&self.bars);
+        let order = self.belief.due();
+        self.ordered = order.is_given();
+        order
+    }
+
+    /// Takes what came of the order that `next` gave.
+    pub fn done(&mut self, order: Order, outcome: Outcome)
+        requires ordered { self.old.ordered ≡ true }
+        requires order { order ≡ due self.old.belief }
+        requires outcome { is_outcome order outcome ≡ true }
+        ensures events { DoneByEvents self.old.belief order outcome self.new.belief }
+        ensures stage { stage_of self.new.belief ≡ led_to order outcome }
+        ensures account { account self.new.belief ≡ account_then order outcome (account self.old.belief) }
+        ensures loan { KeepsLoan self.old.belief outcome self.new.belief }
+        ensures ordered { self.new.ordered ≡ false }
+        ensures bars { self.new.bars ≡ self.old.bars }
+    {
+        self.belief = self.belief.after(outcome);
+        self.ordered = false;
+    }
+
+    /// Returns whether an order that touches the page was given, and nothing is known of it yet.
+    pub fn is_busy(&self) -> bool
+        ensures { result ≡ is_busy self.now }
+    {
+        self.ordered && self.belief.due().touches()
+    }
+
+    /// Hears of the page what `notice` says. No order that touches it is open.
+    pub fn heard(&mut self, notice: Notice)
+        requires { is_busy self.old ≡ false }
+        ensures belief { self.new.belief ≡ heard_of self.old.belief notice }
+        ensures right { HeardRightly self.old.belief self.new.belief }
+        ensures account { account self.new.belief ≡ account self.old.belief }
+        ensures ordered { self.new.ordered ≡ self.old.ordered }
+        ensures bars { self.new.bars ≡ self.old.bars }
+    {
+        self.belief = match notice {
+            Notice::Written => self.belief.written(),
+            Notice::Discarded => self.belief.discarded(),
+        };
+    }
+
+    /// Learns what keeps the page from being lent from now on, and returns whether the monitor's call may go on that these bars are
+    /// for: no write waits, and a page that must not show a frame shows none. Otherwise it may go on once `next` has given orders, they
+    /// are done, and this call returns true.
+    pub fn bar(&mut self, bars: Bars) -> bool
+        ensures bars { self.new.bars ≡ joined self.old.bars bars }
+        ensures belief { self.new.belief ≡ self.old.belief }
+        ensures ordered { self.new.ordered ≡ self.old.ordered }
+        ensures goes_on { result ≡ may_go_on self.new }
+        ensures free { result ≡ true → IsFree self.new.belief }
+        ensures own { result ≡ true → must_own self.new.bars ≡ true → ShowsNone self.new.belief }
+    {
+        self.bars = Bars {
+            left: self.bars.left || bars.left,
+            ..bars
+        };
+        let is_covered = self.bars.must_own() && self.belief.shows();
+        !self.is_busy() && !self.belief.waits() && !is_covered
+    }
+}

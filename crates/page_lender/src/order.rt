@@ -1,0 +1,52 @@
+//! What a lender orders, and what comes of it.
+
+/// What is to be done with a page, by those who make system calls and talk to the host.
+#[derive(Clone, Copy, Debug, PartialEq, Eq)]
+pub enum Order {
+    /// Nothing.
+    Wait,
+    /// Copy it to the buffer, while its guest may write.
+    Copy,
+    /// Ask the host for a loan of what is in the buffer.
+    Lend,
+    /// Find out whether the host gave a loan that was asked for.
+    FindLoan,
+    /// Let writes wait.
+    Hold,
+    /// Compare it with this frame.
+    Compare(u32),
+    /// Map this frame in its place, and let writes wait no longer.
+    Map(u32),
+    /// Let writes wait no longer.
+    LetGo,
+    /// Give it a copy of its own where it is: a device may hold its memory.
+    CopyInPlace,
+    /// Give it other memory of its own, with what it shows.
+    TakeHome,
+    /// Tell the host that this slot isn't needed.
+    Release(u32),
+    /// Find out whether the host still has this slot.
+    FindSlot(u32),
+}
+
+/// What came of an order.
+#[derive(Clone, Copy, Debug, PartialEq, Eq)]
+pub enum Outcome {
+    /// It was done. Of a comparison: they are equal. Of a search for a slot: the host has it no more.
+    Done,
+    /// The host gave this slot with this frame.
+    Lent(u32, u32),
+    /// It wasn't done, and nothing changed. Of a comparison: they differ. Of a search for a loan: the host gave none; for a slot: it has it still.
+    Refused,
+    /// Whether it was done isn't known.
+    Unknown,
+}
+
+/// What a lender hears of a page between two orders that touch it.
+#[derive(Clone, Copy, Debug, PartialEq, Eq)]
+pub enum Notice {
+    /// A copy over its frame was found: somebody wrote to it.
+    Written,
+    /// It was given up: zeros were mapped in its place.
+    Discarded,
+}
