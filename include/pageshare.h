@@ -15,11 +15,12 @@
  *     ..
  *     pageshare_free(&machine);
  *
- * No call has a condition on its numbers: if one is wrong, the call returns a status above 0, and nothing has changed. The status
- * is the first cause that holds, in the order of the numbers. Only making a machine has an order of its own:
+ * No call has a condition on its numbers: if one is wrong, the call returns a status above 0, and nothing has changed. Statuses are
+ * written without PAGESHARE_ERROR below: _FULL is PAGESHARE_ERROR_FULL. The status is the first cause that holds, in the order of
+ * the numbers. Only making a machine has an order of its own:
  * PAGESHARE_ERROR_PROCESSOR, _IN_USE, _HASH, _FRAMES, _GUESTS, _PAGES, _REGION, _MEMORY.
  *
- * What the caller owes, and nothing checks:
+ * Callers must ensure, and nothing checks:
  *
  * - A handle begins as PAGESHARE_NONE or as zeros, and these calls alone read and write its members. It may be moved while no
  *   call runs, but is not copied: one of two copies would free the other's machine. It is freed by pageshare_free.
@@ -271,7 +272,7 @@ struct pageshare_answer pageshare_propose(struct pageshare *machine, uint32_t gu
 struct pageshare_answer pageshare_store(struct pageshare *machine, uint32_t guest, uint32_t ppn, uint32_t at,
                                         const uint8_t *bytes, size_t length);
 
-/* Loads 1 to 64 bytes of a page, from place `at` on. The room stays as it is unless the verdict is BYTES. */
+/* Loads 1 to 64 bytes of a page, from place `at` on. `room` stays as it is unless the verdict is BYTES. */
 struct pageshare_answer pageshare_load(struct pageshare *machine, uint32_t guest, uint32_t ppn, uint32_t at,
                                        uint8_t *room, size_t length);
 
@@ -298,8 +299,8 @@ struct pageshare_answer pageshare_lend(struct pageshare *machine, uint32_t guest
                                        const uint8_t page[PAGESHARE_PAGE_BYTES]);
 
 /*
- * Takes a page back: copies it to the room and releases it, which counts as the release alone. The room stays as it is unless
- * the verdict is RELEASED.
+ * Takes a page back: copies it to `room` and releases it, which counts as the release alone. `room` stays as it is unless the
+ * verdict is RELEASED.
  */
 struct pageshare_answer pageshare_take_back(struct pageshare *machine, uint32_t guest, uint32_t ppn,
                                             uint8_t room[PAGESHARE_PAGE_BYTES]);
@@ -346,14 +347,13 @@ static inline uint32_t pageshare_lend_many(struct pageshare *machine, const stru
     return PAGESHARE_OK;
 }
 
-/* Gets the machine's totals, this request among the entries. totals stays as it is unless the verdict is TOTALS. */
+/* Writes the machine's totals, this request among the entries. totals stays as it is unless the verdict is TOTALS. */
 struct pageshare_answer pageshare_count(struct pageshare *machine, uint32_t guest, struct pageshare_totals *totals);
 
 /* The calls below are no requests: they aren't counted, and change no page. */
 
 /*
- * Begins the count of requests anew, for a machine that serves more than 4,294,967,295. Returns PAGESHARE_OK or
- * PAGESHARE_ERROR_NO_MACHINE.
+ * Resets the request count to 0, for a machine that serves more than 4,294,967,295. Returns PAGESHARE_OK or _NO_MACHINE.
  */
 uint32_t pageshare_restart_count(struct pageshare *machine);
 
@@ -381,26 +381,25 @@ static inline uint32_t pageshare_propose_many(struct pageshare *machine, const s
     return PAGESHARE_OK;
 }
 
-/* Gets the machine's totals. Returns PAGESHARE_OK or PAGESHARE_ERROR_NO_MACHINE. */
+/* Writes the machine's totals. Returns PAGESHARE_OK or _NO_MACHINE. */
 uint32_t pageshare_report(struct pageshare *machine, struct pageshare_totals *totals);
 
 /*
- * Copies a page to the room; an unmapped page reads as zeros. Returns PAGESHARE_OK, PAGESHARE_ERROR_NO_MACHINE or
- * PAGESHARE_ERROR_NO_PAGE.
+ * Copies a page to `room`; an unmapped page reads as zeros. Returns PAGESHARE_OK, _NO_MACHINE or _NO_PAGE.
  */
 uint32_t pageshare_read(struct pageshare *machine, uint32_t guest, uint32_t ppn,
                         uint8_t room[PAGESHARE_PAGE_BYTES]);
 
 /*
- * Gets the number of a page's frame (its machine page number, MPN), 0 to frames - 1. Returns PAGESHARE_OK,
- * PAGESHARE_ERROR_NO_MACHINE, PAGESHARE_ERROR_NO_PAGE or PAGESHARE_ERROR_UNMAPPED.
+ * Writes the number of a page's frame (its machine page number, MPN), 0 to frames - 1. Returns PAGESHARE_OK, _NO_MACHINE, _NO_PAGE
+ * or _UNMAPPED.
  */
 uint32_t pageshare_frame(struct pageshare *machine, uint32_t guest, uint32_t ppn, uint32_t *mpn);
 
 /*
- * Gets the address of a page's 4,096 bytes, which may be read, never written, and only until the next call with this handle.
- * Returns PAGESHARE_OK, PAGESHARE_ERROR_NO_MACHINE, PAGESHARE_ERROR_NO_PAGE or PAGESHARE_ERROR_UNMAPPED; unless it is PAGESHARE_OK,
- * *at stays as it is. No proof says what is at the address; pageshare_read copies the bytes.
+ * Writes the address of a page's 4,096 bytes, which may be read, never written, and only until the next call with this handle.
+ * Returns PAGESHARE_OK, _NO_MACHINE, _NO_PAGE or _UNMAPPED. *at is written only on PAGESHARE_OK. No proof says what is at the
+ * address; pageshare_read copies the bytes.
  */
 uint32_t pageshare_page(struct pageshare *machine, uint32_t guest, uint32_t ppn, const uint8_t **at);
 
@@ -421,14 +420,14 @@ uint32_t pageshare_page(struct pageshare *machine, uint32_t guest, uint32_t ppn,
  *     ..
  *     pageshare_domain_free(&domain);
  *
- * A call with a status above 0 has changed nothing, neither the domain nor the caller's room. What the caller owes for a machine's
- * handle it owes for a domain's, too, and so it does for the region. Beside that:
+ * A call with a status above 0 has changed nothing, neither the domain nor the caller's memory. Callers must ensure for a domain's
+ * handle and its region what they must for a machine's. They must also ensure:
  *
  * - While a slot is a client's, the client may read its frame. A host releases a slot only when nothing shows its frame any more
  *   for this slot: after the client has mapped something else in its place, or when its process has ended.
- * - A frame that is told as freed is free, and the host may give its memory back to the system while no call runs. Nobody may still
- *   read it by then, since a later lend fills it with another page.
- * - Nothing here tells apart who calls: the host sees to it that a client's calls name that client alone.
+ * - A frame that a call returns as freed is free, and the host may give its memory back to the system while no call runs. Nobody
+ *   may still read it by then, since a later lend fills it with another page.
+ * - A client's calls name that client alone: the library can't see who calls.
  *
  * A handle is used by one thread at a time. A host with a thread for each machine makes as many domains of one machine each, with
  * one salt, and chooses one for each page by its fingerprint.
@@ -469,31 +468,31 @@ struct pageshare_domain_shape {
     uint64_t seed;
 };
 
-/* Makes a domain with frames of its own. Answers as pageshare_domain_make does, but for 13 and 15. */
+/* Makes a domain with frames of its own. Returns what pageshare_domain_make does, but for _REGION and _SIZE. */
 uint32_t pageshare_domain_make_shaped(struct pageshare_domain *domain, const struct pageshare_domain_shape *shape, uint32_t hash);
 
 /*
  * Begins a domain whose frames come from the caller: room for `pages` pages, exactly as many as all machines together have frames.
- * Each other call but pageshare_domain_add and pageshare_domain_free answers 6 until it is made. Answers as pageshare_domain_make
- * does, but for 15.
+ * Each other call but pageshare_domain_add and pageshare_domain_free returns _NO_MACHINE until it is made. Returns what
+ * pageshare_domain_make does, but for _SIZE.
  */
 uint32_t pageshare_domain_begin(struct pageshare_domain *domain, const struct pageshare_domain_shape *shape, uint32_t hash,
                                 size_t pages);
 
 /*
  * Gives a domain that was begun the frames of its next machine: a region with room for exactly as many pages. With those of the last
- * machine the domain is made. Answers 0, 6 (no domain was begun, or it is made), 13 (the region has room for another number) or 4
- * (memory; the handle holds nothing then, and the library doesn't touch the regions again).
+ * machine the domain is made. Returns PAGESHARE_OK, _NO_MACHINE (no domain was begun, or it is made), _REGION (it has room for
+ * another number of pages) or _MEMORY (the handle holds nothing then, and the library doesn't touch the regions again).
  */
 uint32_t pageshare_domain_add(struct pageshare_domain *domain, struct pageshare_region region);
 
-/* Frees the domain, whoever is in, or one that was begun. Answers PAGESHARE_OK or PAGESHARE_ERROR_NO_MACHINE; the handle holds none
+/* Frees a domain, even if clients are in, or one that was begun. Returns PAGESHARE_OK or _NO_MACHINE. The handle holds none
  * afterwards, and the library doesn't touch its region again. */
 uint32_t pageshare_domain_free(struct pageshare_domain *domain);
 
 /*
- * Makes a domain with no client in. Answers PAGESHARE_OK, or the first cause that holds in this order: 15 (the size), 5 (the handle
- * holds a domain), 14 (the hash), 16 (machines), 17 (slots), 1 (frames), 18 (clients), 19 (recent), 13 (the region), 4 (memory).
+ * Makes a domain with no client in. Returns PAGESHARE_OK, or the first cause that holds in this order: _SIZE, _IN_USE, _HASH,
+ * _MACHINES, _SLOTS, _FRAMES, _CLIENTS, _RECENT, _REGION, _MEMORY.
  */
 static inline uint32_t pageshare_domain_make(struct pageshare_domain *domain, const struct pageshare_domain_config *config) {
     struct pageshare_domain_shape shape;
@@ -527,7 +526,8 @@ static inline uint32_t pageshare_domain_make(struct pageshare_domain *domain, co
 }
 
 /*
- * Lets a client in, and gets its number: the least that no client has, below the config's clients. Answers 0, 6 or 20 (NO_ROOM).
+ * Lets a client in, and writes its number: the least that no client has, below the config's clients. Returns PAGESHARE_OK,
+ * _NO_MACHINE or _NO_ROOM.
  */
 uint32_t pageshare_domain_enter(struct pageshare_domain *domain, uint32_t *client);
 
@@ -541,14 +541,16 @@ struct pageshare_loan {
 
 /*
  * Lends a page of a client: it gets a free slot, and the frame of the pages that are equal to it or one of its own. No other slot
- * changes its frame, and no frame that a slot has changes its bytes. Answers 0, 6, 21 (NO_CLIENT), 22 (NO_SLOT) or 23 (NO_FRAME).
+ * changes its frame, and no frame that a slot has changes its bytes. The status
+ * is PAGESHARE_OK, _NO_MACHINE, _NO_CLIENT, _NO_SLOT or _NO_FRAME.
  */
 struct pageshare_loan pageshare_domain_lend(struct pageshare_domain *domain, uint32_t client,
                                             const uint8_t page[PAGESHARE_PAGE_BYTES]);
 
 /*
- * Releases a client's slot. *freed is then the frame that is free since, the slot's, or PAGESHARE_NO_FRAME where other slots have it
- * too. A client that has begun to leave may release slots. Answers 0, 6 or 24 (NOT_ITS_SLOT); unless it is 0, *freed stays as it is.
+ * Releases a client's slot. *freed is then the slot's frame if it is free now, or PAGESHARE_NO_FRAME if other slots have it, too. A
+ * client that has begun to leave may release slots. Returns PAGESHARE_OK, _NO_MACHINE or _NOT_ITS_SLOT. *freed is written only on
+ * PAGESHARE_OK.
  */
 uint32_t pageshare_domain_release(struct pageshare_domain *domain, uint32_t client, uint64_t slot, uint32_t *freed);
 
@@ -556,26 +558,28 @@ uint32_t pageshare_domain_release(struct pageshare_domain *domain, uint32_t clie
  * Lets a client leave, in parts, so that no call takes long: releases its slots, at most `most` of them, in the order of their
  * numbers. *count is how many, and for the i-th of them freed[i] is the frame that is free since, or PAGESHARE_NO_FRAME. From the
  * first call on the client lends no more. Call it until *count is 0: then the client is out, and its number may be another's.
- * A call looks at each slot of the domain once at most. Answers 0, 6, 9 (LENGTH: `most` is 0) or 21 (NO_CLIENT: it has not entered,
- * or is out); unless it is 0, *freed and *count stay as they are.
+ * A call looks at each slot of the domain once at most. Returns PAGESHARE_OK, _NO_MACHINE, _LENGTH (`most` is 0) or _NO_CLIENT (it
+ * has not entered, or is out). *freed and *count are written only on PAGESHARE_OK.
  */
 uint32_t pageshare_domain_leave(struct pageshare_domain *domain, uint32_t client, uint32_t *freed, size_t most, size_t *count);
 
 /*
- * A page's fingerprint: 64 bits of its content under a salt, by the fast hash, whatever the domain's hash. docs/FORMATS.md defines it. It is only a guess whether
- * pages are equal. Clients compute it, so its salt isn't the domain's, which clients mustn't know.
+ * A page's fingerprint: 64 bits of its content under a salt, by the fast hash, whatever the domain's hash.
+ * docs/FORMATS.md defines it. It is only a guess whether pages are equal. Clients compute it, so its salt isn't the domain's, which
+ * clients mustn't know.
  */
 uint64_t pageshare_domain_fingerprint(uint32_t salt, const uint8_t page[PAGESHARE_PAGE_BYTES]);
 
 /*
- * Asks about one page. *seen is then 1 where another page was asked about with this fingerprint, within the last config->recent
- * questions, by a client that has not left since; and else 0. A page is named by its client and by `page`, a number of the client's choice for each of its pages, so a page
- * that asks again doesn't see itself. Whether the client is in isn't looked at. Answers 0 or 6.
+ * Asks about one page. *seen is then 1 if another page was asked about with this fingerprint, within the last config->recent
+ * questions, by a client that has not left since; otherwise 0. A page is named by its client and by `page`, a number of the client's
+ * choice for each of its pages. So a page that asks again doesn't see itself. The call doesn't look whether the client is in. Returns
+ * PAGESHARE_OK or _NO_MACHINE.
  */
 uint32_t pageshare_domain_ask(struct pageshare_domain *domain, uint32_t client, uint64_t page, uint64_t fingerprint, uint8_t *seen);
 
-/* Asks about `count` pages, one after the other in this order; seen[i] is the answer for pages[i] and fingerprints[i]. Answers 0, or
- * 6, and then writes no answer; 0 for no page. */
+/* Asks about `count` pages, one after the other in this order; seen[i] is the answer for pages[i] and fingerprints[i]. Returns
+ * PAGESHARE_OK, also for no page, or _NO_MACHINE, and then writes no answer. */
 static inline uint32_t pageshare_domain_seen(struct pageshare_domain *domain, uint32_t client, const uint64_t *pages,
                                              const uint64_t *fingerprints, size_t count, uint8_t *seen) {
     for (size_t i = 0; i < count; i++) {
@@ -595,7 +599,7 @@ struct pageshare_domain_totals {
     uint32_t reclaimed; /* slots less frames: what sharing saves */
 };
 
-/* Gets the domain's totals. It looks at each slot. Answers 0 or 6. */
+/* Writes the domain's totals. It looks at each slot. Returns PAGESHARE_OK or _NO_MACHINE. */
 uint32_t pageshare_domain_report(struct pageshare_domain *domain, struct pageshare_domain_totals *totals);
 
 #ifdef __cplusplus

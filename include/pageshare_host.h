@@ -28,7 +28,7 @@
  * - The region is the library's until the host is freed: nobody else writes to it, but that the memory of free frames may be given
  *   back to the system. That is right also while a call runs, unless it is pageshare_host_receive with a LEND: only a lend takes a
  *   frame that is free, and the other calls touch no frames but those that slots have.
- * - A name is drawn at random for each connection, and told to nobody else.
+ * - A name is drawn at random for each connection, and given to nobody else.
  * - pageshare_host_end is called only when nothing shows the session's frames any more: its process has ended, and no other process
  *   has its mappings.
  */
@@ -48,11 +48,12 @@ extern "C" {
  * machine that is little endian; a packet ends after the last of `count` elements.
  */
 
-#define PAGESHARE_HOST_VERSION 1
+#define PAGESHARE_HOST_VERSION 2
 #define PAGESHARE_HOST_NAME_BYTES 16
 #define PAGESHARE_HOST_MAX_PAGES 128      /* the most pages (or slots) in one message */
 #define PAGESHARE_HOST_MAX_MESSAGE 2056   /* the bytes of the longest message, of either side */
 #define PAGESHARE_HOST_NO_FRAME UINT32_MAX
+#define PAGESHARE_HOST_PASSING (UINT64_C(1) << 63) /* added to a question's page: the host answers it, and notes nothing */
 
 enum pageshare_host_kind {
     /* from a client */
@@ -66,14 +67,22 @@ enum pageshare_host_kind {
     PAGESHARE_HOST_LOANS = 19
 };
 
-/* 8 bytes for a new session. 24 bytes to take up the session with this name, whose connection has ended. If there is none, a new
- * session begins: WELCOME says which by its name. */
+/*
+ * 8 bytes for a new session. 32 bytes to take up the session with this name, whose connection has ended. If there is none, a new
+ * session begins: WELCOME says which by its name. `loans` is how many LOANS the client has got in the session that it takes up. Where
+ * the host sent another number, it releases the slots of its last LOANS: the client can't know of them. So a client sends a LEND only
+ * when it has got the reply to the one before.
+ */
 struct pageshare_host_hello {
     uint32_t kind, version;
     uint8_t name[PAGESHARE_HOST_NAME_BYTES];
+    uint64_t loans;
 };
 
-/* `page` is a number of the client's choice for each of its pages, so that a page that asks again doesn't see itself. */
+/*
+ * `page` is a number below 2^63 of the client's choice for each of its pages, so that a page that asks again doesn't see itself. With
+ * PAGESHARE_HOST_PASSING added, the question is answered as any other, and counts for nobody's question.
+ */
 struct pageshare_host_question {
     uint64_t page, fingerprint;
 };
@@ -98,6 +107,7 @@ struct pageshare_host_welcome {
     uint32_t frames;                         /* in the file of frames */
     uint32_t salt;                           /* of fingerprints */
     uint32_t most;                           /* pages in one message */
+    uint32_t client_cpu;                     /* the percentage of one processor that the client may use, or 0: nothing is said */
 };
 
 /*
@@ -120,7 +130,7 @@ struct pageshare_host_loans {
     struct pageshare_host_lent loans[PAGESHARE_HOST_MAX_PAGES];
 };
 
-/* What a call answers. Numbers that libpageshare has too mean the same there. */
+/* What a call returns. Numbers that libpageshare has too mean the same there. Below they are written without PAGESHARE_HOST_ERROR. */
 enum pageshare_host_status {
     PAGESHARE_HOST_OK = 0,
     PAGESHARE_HOST_ERROR_FRAMES = 1,    /* fewer than 2 frames for each machine, or more than 1,048,576 */
@@ -165,8 +175,10 @@ struct pageshare_host_shape {
     uint32_t recent;   /* how many questions are remembered: 1 to 16,777,216 */
     uint32_t quota;    /* the most slots of one session */
     uint32_t salt;     /* of the pages' hash. Drawn at random, and kept secret from clients */
-    uint32_t fingerprints; /* the salt of fingerprints, which clients are told: another one */
+    uint32_t fingerprints; /* the salt of fingerprints, which clients get: another one */
     uint64_t seed;     /* drawn at random and kept secret: who knows it can make questions take long */
+    uint32_t client_cpu; /* the percentage of one processor that clients are told to use at most, or 0 */
+    uint32_t reserved;   /* isn't read */
 };
 
 /* Memory of the caller's for the frames of one machine: room for `pages` pages of 4,096 bytes from `at` on. */
@@ -176,24 +188,27 @@ struct pageshare_host_region {
 };
 
 /*
- * Begins a host. Answers 0, or the first cause that holds in this order: 5, 16, 17, 1, 18, 19, 4. Each other call but
- * pageshare_host_add and pageshare_host_free answers 6 until it is made. Pages are found by the fast hash (PAGESHARE_FOLD).
+ * Begins a host. Returns PAGESHARE_HOST_OK, or the first cause that holds in this order: _IN_USE, _MACHINES, _SLOTS, _FRAMES,
+ * _SESSIONS, _RECENT, _MEMORY. Each other call but pageshare_host_add and pageshare_host_free returns _NO_HOST until it is made.
+ * Pages are found by the fast hash (PAGESHARE_FOLD).
  */
 uint32_t pageshare_host_begin(struct pageshare_host *host, const struct pageshare_host_shape *shape);
 
 /*
- * Gives a host that was begun the frames of its next machine. With those of the last machine the host is made. Answers 0, 6 (no host
- * was begun, or it is made), 13 (the region has room for another number of frames) or 4 (memory; the handle holds nothing then, and
- * the library doesn't touch the regions again).
+ * Gives a host that was begun the frames of its next machine. With those of the last machine the host is made. Returns
+ * PAGESHARE_HOST_OK, _NO_HOST (no host was begun, or it is made), _REGION (it has room for another number of frames) or _MEMORY (the
+ * handle holds nothing then, and the library doesn't touch the regions again).
  */
 uint32_t pageshare_host_add(struct pageshare_host *host, struct pageshare_host_region region);
 
-/* Frees the host, whoever is connected, or one that was begun. Answers 0 or 6; the handle holds none afterwards. */
+/* Frees a host, even if clients are connected, or one that was begun. Returns PAGESHARE_HOST_OK or _NO_HOST; the handle holds none
+ * afterwards. */
 uint32_t pageshare_host_free(struct pageshare_host *host);
 
 /*
  * Makes a host over a region of machines * frames pages, aligned to 4,096 bytes. Frame n is the 4,096 bytes at 4096 n of it, whatever
- * machine has it. Answers 0 or what pageshare_host_begin and pageshare_host_add answer; unless it is 0, the handle holds nothing.
+ * machine has it. Returns what pageshare_host_begin and pageshare_host_add do, and unless that is PAGESHARE_HOST_OK the
+ * handle holds nothing.
  */
 static inline uint32_t pageshare_host_make(struct pageshare_host *host, const struct pageshare_host_shape *shape, void *region,
                                            size_t region_bytes) {
@@ -212,23 +227,25 @@ static inline uint32_t pageshare_host_make(struct pageshare_host *host, const st
 }
 
 /*
- * A peer has connected: its session gets a number and has said nothing yet. `name` is drawn at random for it. Answers 0, 6 or 20.
+ * A peer has connected: its session gets a number and has said nothing yet. `name` is drawn at random for it. Returns
+ * PAGESHARE_HOST_OK, _NO_HOST or _NO_ROOM.
  */
 uint32_t pageshare_host_connect(struct pageshare_host *host, const uint8_t name[PAGESHARE_HOST_NAME_BYTES], uint32_t *session);
 
 struct pageshare_host_received {
     uint32_t status;      /* an enum pageshare_host_status. Unless it is 0, reply and freed stay as they are */
     uint32_t reply_bytes; /* the bytes of the reply, or 0: there is none */
-    uint32_t freed;       /* how many numbers stand in `freed` */
+    uint32_t freed;       /* how many numbers are in `freed` */
     uint32_t resumed;     /* HELLO took up the session with this number, which is free now; else PAGESHARE_HOST_NO_FRAME */
 };
 
 /*
  * Receives one packet of a session: `length` bytes, as many as there are. `pages` are the pages of its buffer, copied out of it; only
  * LEND reads them, so page_count may be 0 for a packet of another kind. The reply goes to `reply`, of at least
- * PAGESHARE_HOST_MAX_MESSAGE bytes. After RELEASE freed[i] is the frame that slot i's release freed, or PAGESHARE_HOST_NO_FRAME;
- * give 128 numbers. What it does changes no slot of another session, whatever the bytes are. The status is 0, or the first cause that
- * holds in this order: 6, 33, 32, a fault. At 6, 33 and 32 nothing has changed.
+ * PAGESHARE_HOST_MAX_MESSAGE bytes. After RELEASE freed[i] is the frame that slot i's release freed, or PAGESHARE_HOST_NO_FRAME. After
+ * a HELLO that took up a session the same holds of the slots of its last LOANS, if the client didn't get that. Give room for 128
+ * numbers. What it does changes no slot of another session, whatever the bytes are. The status is PAGESHARE_HOST_OK, or the first
+ * cause that holds in this order: _NO_HOST, _SHORT, _NO_SESSION, a fault. At the first three nothing has changed.
  */
 struct pageshare_host_received pageshare_host_receive(struct pageshare_host *host, uint32_t session, const uint8_t *bytes,
                                                       size_t length, const uint8_t (*pages)[4096], size_t page_count,
@@ -236,15 +253,15 @@ struct pageshare_host_received pageshare_host_receive(struct pageshare_host *hos
 
 /*
  * A session's connection has ended. A session that has slots, or may have some, keeps its number and its slots until
- * pageshare_host_end, or until another connection takes it up by its name. Answers 0, 6 or 32.
+ * pageshare_host_end, or until another connection takes it up by its name. Returns PAGESHARE_HOST_OK, _NO_HOST or _NO_SESSION.
  */
 uint32_t pageshare_host_disconnect(struct pageshare_host *host, uint32_t session);
 
 /*
  * A session's process has ended: releases at most `room` of its slots. *count is how many, and for the i-th of them freed[i] is the
  * frame that is free since, or PAGESHARE_HOST_NO_FRAME. From the first call on the session takes no message. Call it until *count is
- * 0: then the session's number may be another's. Give room for one number at least. Answers 0, or the first cause that holds in this
- * order: 6, 33 (no room), 32; unless it is 0, freed and *count stay as they are.
+ * 0: then the session's number may be another's. Give room for one number at least. Returns PAGESHARE_HOST_OK, or the first
+ * cause that holds in this order: _NO_HOST, _SHORT (no room), _NO_SESSION. freed and *count are written only on PAGESHARE_HOST_OK.
  */
 uint32_t pageshare_host_end(struct pageshare_host *host, uint32_t session, uint32_t *freed, size_t room, size_t *count);
 
@@ -264,8 +281,8 @@ struct pageshare_host_session {
     uint64_t messages; /* how many messages it sent, without the one at fault */
 };
 
-/* Gets what is known of a session. Answers 0, 6 or 32. */
-uint32_t pageshare_host_session(struct pageshare_host *host, uint32_t session, struct pageshare_host_session *told);
+/* Writes what is known of a session. Returns PAGESHARE_HOST_OK, _NO_HOST or _NO_SESSION. */
+uint32_t pageshare_host_session(struct pageshare_host *host, uint32_t session, struct pageshare_host_session *known);
 
 /* What a host counts. */
 struct pageshare_host_totals {
@@ -277,7 +294,7 @@ struct pageshare_host_totals {
     uint32_t reclaimed; /* slots less frames: what sharing saves */
 };
 
-/* Gets the host's totals. It looks at each slot. Answers 0 or 6. */
+/* Writes the host's totals. It looks at each slot. Returns PAGESHARE_HOST_OK or _NO_HOST. */
 uint32_t pageshare_host_report(struct pageshare_host *host, struct pageshare_host_totals *totals);
 
 /* A page's fingerprint under a salt, as a client computes it. docs/FORMATS.md defines it. */

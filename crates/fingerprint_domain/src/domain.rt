@@ -1,9 +1,10 @@
 //! The domain.
 ghost use Rattle.std.specs.Prelude.{◌≡◌, ◌≤◌, ◌*◌, length, IfOk, MatchOption, MatchResult};
+ghost use Rattle.share_domain.specs.Bytes.{BytesStay};
 ghost use Rattle.share_domain.specs.Domains.{next_client, entered, page_machine, LendsIn, RefusesIn, release_answer, after_release};
 ghost use Rattle.share_domain.specs.Leaving.{Leaves, StaysOut};
 ghost use Rattle.share_domain.specs.Made.{AreLimits, AreFree, empty_domain};
-ghost use Rattle.share_domain.specs.Totals.{domain_totals};
+ghost use Rattle.share_domain.specs.Totals.{domain_totals, slots_of};
 ghost use Rattle.share_domain.specs.declared.config.TheConstants.{MAX_MACHINES};
 ghost use Rattle.page_model.specs.declared.limits.TheConstants.{MAX_FRAMES};
 ghost use Rattle.frame_fingerprints.specs.Held.{is_held};
@@ -105,6 +106,7 @@ impl<H: PageHash, A: Allocator> FingerprintDomain<H, A> {
             (λ loan. LendsIn (page_machine H.hash_of self.old.domain page.now) client page.now loan self.old.domain self.new.domain)
             (λ fault. RefusesIn (page_machine H.hash_of self.old.domain page.now) client fault self.old.domain × (self.new.domain ≡ self.old.domain)) }
         ensures salt { self.new.salt ≡ self.old.salt }
+        ensures bytes { IfOk result (λ _. BytesStay self.old.domain self.new.domain) }
     {
         let answer = self.domain.lend(client, page);
         match answer {
@@ -151,6 +153,13 @@ impl<H: PageHash, A: Allocator> FingerprintDomain<H, A> {
                 Some(count)
             }
         }
+    }
+
+    /// Returns how many slots a client has. It looks at no slot.
+    pub fn held_by(&self, client: u32) -> u32
+        ensures { result ≡ slots_of client self.now.domain.machines }
+    {
+        self.domain.held_by(client)
     }
 
     /// Returns what the domain counts. It looks at each slot.

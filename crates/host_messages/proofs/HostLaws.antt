@@ -1,24 +1,23 @@
 -- A host's message that is spelled is read again, and one that is read was spelled so.
-use Rattle.std.proofs.Common.{◌≡◌, ◌⊎◌, ℕ, zero, suc, ◌+◌, ◌*◌, ◌^◌, ◌<◌, ◌≤◌, Bool, true, false, ◌||◌, cond, not, eqb, ltb, List, [], ◌∷◌, ◌++◌, length, map, take, drop, Option, Some, None, Result, Ok, Err, refl, sym, ap, subst, ◌∙◌, append_assoc, arith, inl, inr}
+use Rattle.std.proofs.Common.{◌≡◌, ℕ, zero, suc, ◌*◌, ◌^◌, ◌<◌, ◌≤◌, Bool, true, false, ◌||◌, cond, not, eqb, ltb, List, [], ◌∷◌, ◌++◌, length, map, take, drop, Some, None, Result, Ok, Err, refl, sym, ap, subst, ◌∙◌, append_assoc, arith, inl, inr}
 use Rattle.std.specs.Prelude.{IfOk}
 use Rattle.std.specs.Int.{w32, w64, from_le_bytes, to_le_bytes}
-use Rattle.std.specs.List.{flat_map, AllByRecursion, list_any}
+use Rattle.std.specs.List.{flat_map, list_any}
 use Rattle.std.proofs.lemmas.Bool.{ltb-false, le-ltb, eqb-true, eq-eqb, not-false}
-use Rattle.std.proofs.lemmas.List.{length-append, length-drop, length-take, length-map, take-append-drop, append-nil, nil_from_length, take_at, drop_at}
+use Rattle.std.proofs.lemmas.List.{length-append, length-drop, length-take, length-map, take-append-drop, take_at, drop_at}
 use Rattle.std.proofs.lemmas.Nat.{from_le_bytes-to_le_bytes_4, from_le_bytes-to_le_bytes_8}
-use Rattle.host_messages.specs.declared.limits.TheConstants.{VERSION, MAX_IN_MESSAGE, HEAD_BYTES, NAME_BYTES, WELCOME, SEEN, LOANS}
+use Rattle.host_messages.specs.declared.limits.TheConstants.{VERSION, MAX_IN_MESSAGE, HEAD_BYTES, WELCOME, SEEN, LOANS}
 use Rattle.host_messages.specs.declared.fault.MessageFault.{MessageFault}
 use Rattle.host_messages.specs.declared.fault.MessageFault.TheVariants as fault
-use Rattle.host_messages.specs.declared.item.Lent.{Lent}
 use Rattle.host_messages.specs.declared.host.Welcome.{Welcome}
 use Rattle.host_messages.specs.declared.host.HostMessage.{HostMessage}
 use Rattle.host_messages.specs.declared.host.HostMessage.TheVariants as host
-use Rattle.host_messages.specs.Spelling.{head, lent_bytes, FitsU32, FitsU64, LentFits}
-use Rattle.host_messages.specs.Reading.{u32_at, u64_at, lent_at, items_at, count_fault, unless}
+use Rattle.host_messages.specs.Spelling.{head, lent_bytes, LentFits}
+use Rattle.host_messages.specs.Reading.{u32_at, u64_at, lent_at, items_at}
 use Rattle.host_messages.specs.HostSpelling.{answer_byte, welcome_bytes, host_bytes, WelcomeFits, HostFits}
 use Rattle.host_messages.specs.HostReading.{is_no_answer, answer_of, answers_of, unless_at, welcome_of, seen_of, loans_of, host_of, host_at}
-use Rattle.host_messages.proofs.Items.{IsBytes, IsBytes-drop, IsBytes-take, IsItem, items_again, items_len, items_back, items_count, le4_back, le8_back, u32_below, u64_below, take_last, drop_more}
-use Rattle.host_messages.proofs.Laws.{chosen, done, passed, is_wrong, ok_is, count_none, Counted, counted, head_back, lent}
+use Rattle.host_messages.proofs.Items.{IsBytes, IsBytes-drop, IsItem, items_again, items_len, items_back, items_count, le4_back, le8_back, u32_below, u64_below, take_last, drop_more}
+use Rattle.host_messages.proofs.Laws.{chosen, done, passed, is_wrong, ok_is, count_none, counted, head_back, lent}
 
 -- ---- loans
 
@@ -81,8 +80,8 @@ host_head kind number rest k n =
     ∙ ap (λ (x : ℕ). host_of x (u32_at 4 (head kind number ++ rest)) rest) kind-is
     ∙ ap (λ (x : ℕ). host_of kind x rest) number-is
 
-abbrev welcome : List ℕ → ℕ → ℕ → ℕ → Welcome
-welcome name frames salt most = record { name = name; frames = frames; salt = salt; most = most }
+abbrev welcome : List ℕ → ℕ → ℕ → ℕ → ℕ → Welcome
+welcome name frames salt most client_cpu = record { name = name; frames = frames; salt = salt; most = most; client_cpu = client_cpu }
 
 -- ---- the welcome
 
@@ -92,34 +91,43 @@ welcome_again w fits =
     let f = to_le_bytes w32 w.frames in
     let s = to_le_bytes w32 w.salt in
     let m = to_le_bytes w32 w.most in
-    let rest : List ℕ = f ++ (s ++ m) in
+    let c = to_le_bytes w32 w.client_cpu in
+    let rest : List ℕ = f ++ (s ++ (m ++ c)) in
     let x : List ℕ = w.name ++ rest in
-    let regrouped : welcome_bytes w ≡ x = append_assoc (w.name ++ f) s m ∙ append_assoc w.name f (s ++ m) in
-    let len : length x ≡ 28 = omega (arith, length-append w.name rest, fits.name) in
+    let regrouped : welcome_bytes w ≡ x = append_assoc (w.name ++ f ++ s) m c ∙ append_assoc (w.name ++ f) s (m ++ c) ∙ append_assoc w.name f (s ++ (m ++ c)) in
+    let len : length x ≡ 32 = omega (arith, length-append w.name rest, fits.name) in
     let d16 : drop 16 x ≡ rest = drop_at w.name rest 16 fits.name in
-    let d20 : drop 20 x ≡ s ++ m = sym (drop_more 16 4 x) ∙ ap (λ (y : List ℕ). drop 4 y) d16 in
-    let d24 : drop 24 x ≡ m = sym (drop_more 16 8 x) ∙ ap (λ (y : List ℕ). drop 8 y) d16 in
+    let d20 : drop 20 x ≡ s ++ (m ++ c) = sym (drop_more 16 4 x) ∙ ap (λ (y : List ℕ). drop 4 y) d16 in
+    let d24 : drop 24 x ≡ m ++ c = sym (drop_more 16 8 x) ∙ ap (λ (y : List ℕ). drop 8 y) d16 in
+    let d28 : drop 28 x ≡ c = sym (drop_more 16 12 x) ∙ ap (λ (y : List ℕ). drop 12 y) d16 in
     let frames-is : u32_at 16 x ≡ w.frames = ap (λ (y : List ℕ). from_le_bytes w32 y) d16 ∙ from_le_bytes-to_le_bytes_4 w.frames fits.frames in
     let salt-is : u32_at 20 x ≡ w.salt = ap (λ (y : List ℕ). from_le_bytes w32 y) d20 ∙ from_le_bytes-to_le_bytes_4 w.salt fits.salt in
     let most-is : u32_at 24 x ≡ w.most = ap (λ (y : List ℕ). from_le_bytes w32 y) d24 ∙ from_le_bytes-to_le_bytes_4 w.most fits.most in
+    let cpu-is : u32_at 28 x ≡ w.client_cpu = ap (λ (y : List ℕ). from_le_bytes w32 y) d28 ∙ from_le_bytes-to_le_bytes_4 w.client_cpu fits.client_cpu in
     ap (welcome_of VERSION) regrouped
-    ∙ ap (λ (b : Bool). cond (not b) (Err fault.Length) (done (host.Welcome (welcome (take 16 x) (u32_at 16 x) (u32_at 20 x) (u32_at 24 x))))) (eq-eqb (length x) 28 len)
-    ∙ ap (λ (n : List ℕ). done (host.Welcome (welcome n (u32_at 16 x) (u32_at 20 x) (u32_at 24 x)))) (take_at w.name rest 16 fits.name)
-    ∙ ap (λ (n : ℕ). done (host.Welcome (welcome w.name n (u32_at 20 x) (u32_at 24 x)))) frames-is
-    ∙ ap (λ (n : ℕ). done (host.Welcome (welcome w.name w.frames n (u32_at 24 x)))) salt-is
-    ∙ ap (λ (n : ℕ). done (host.Welcome (welcome w.name w.frames w.salt n))) most-is
+    ∙ ap (λ (b : Bool). cond (not b) (Err fault.Length) (done (host.Welcome (welcome (take 16 x) (u32_at 16 x) (u32_at 20 x) (u32_at 24 x) (u32_at 28 x))))) (eq-eqb (length x) 32 len)
+    ∙ ap (λ (n : List ℕ). done (host.Welcome (welcome n (u32_at 16 x) (u32_at 20 x) (u32_at 24 x) (u32_at 28 x)))) (take_at w.name rest 16 fits.name)
+    ∙ ap (λ (n : ℕ). done (host.Welcome (welcome w.name n (u32_at 20 x) (u32_at 24 x) (u32_at 28 x)))) frames-is
+    ∙ ap (λ (n : ℕ). done (host.Welcome (welcome w.name w.frames n (u32_at 24 x) (u32_at 28 x)))) salt-is
+    ∙ ap (λ (n : ℕ). done (host.Welcome (welcome w.name w.frames w.salt n (u32_at 28 x)))) most-is
+    ∙ ap (λ (n : ℕ). done (host.Welcome (welcome w.name w.frames w.salt w.most n))) cpu-is
 
-host_bytes_back : (rest : List ℕ) → length rest ≡ 28 → IsBytes rest → welcome_bytes (welcome (take 16 rest) (u32_at 16 rest) (u32_at 20 rest) (u32_at 24 rest)) ≡ rest
+host_bytes_back : (rest : List ℕ) → length rest ≡ 32 → IsBytes rest → welcome_bytes (welcome (take 16 rest) (u32_at 16 rest) (u32_at 20 rest) (u32_at 24 rest) (u32_at 28 rest)) ≡ rest
 host_bytes_back rest len are =
     let name = take 16 rest in
     let f = take 4 (drop 16 rest) in
     let s = take 4 (drop 20 rest) in
     let f-is : to_le_bytes w32 (u32_at 16 rest) ≡ f = le4_back (drop 16 rest) (omega (arith, len, length-drop 16 rest)) (IsBytes-drop 16 rest are) in
     let s-is : to_le_bytes w32 (u32_at 20 rest) ≡ s = le4_back (drop 20 rest) (omega (arith, len, length-drop 20 rest)) (IsBytes-drop 20 rest are) in
-    let m-is : to_le_bytes w32 (u32_at 24 rest) ≡ drop 24 rest = le4_back (drop 24 rest) (omega (arith, len, length-drop 24 rest)) (IsBytes-drop 24 rest are) ∙ take_last 4 24 rest len in
-    ap (λ (x : List ℕ). name ++ x ++ to_le_bytes w32 (u32_at 20 rest) ++ to_le_bytes w32 (u32_at 24 rest)) f-is
-    ∙ ap (λ (x : List ℕ). name ++ f ++ x ++ to_le_bytes w32 (u32_at 24 rest)) s-is
-    ∙ ap (λ (x : List ℕ). name ++ f ++ s ++ x) (m-is ∙ sym (drop_more 20 4 rest))
+    let m = take 4 (drop 24 rest) in
+    let m-is : to_le_bytes w32 (u32_at 24 rest) ≡ m = le4_back (drop 24 rest) (omega (arith, len, length-drop 24 rest)) (IsBytes-drop 24 rest are) in
+    let c-is : to_le_bytes w32 (u32_at 28 rest) ≡ drop 28 rest = le4_back (drop 28 rest) (omega (arith, len, length-drop 28 rest)) (IsBytes-drop 28 rest are) ∙ take_last 4 28 rest len in
+    ap (λ (x : List ℕ). name ++ x ++ to_le_bytes w32 (u32_at 20 rest) ++ to_le_bytes w32 (u32_at 24 rest) ++ to_le_bytes w32 (u32_at 28 rest)) f-is
+    ∙ ap (λ (x : List ℕ). name ++ f ++ x ++ to_le_bytes w32 (u32_at 24 rest) ++ to_le_bytes w32 (u32_at 28 rest)) s-is
+    ∙ ap (λ (x : List ℕ). name ++ f ++ s ++ x ++ to_le_bytes w32 (u32_at 28 rest)) m-is
+    ∙ ap (λ (x : List ℕ). name ++ f ++ s ++ m ++ x) (c-is ∙ sym (drop_more 24 4 rest))
+    ∙ append_assoc (name ++ f ++ s) m (drop 4 (drop 24 rest))
+    ∙ ap (λ (x : List ℕ). name ++ f ++ s ++ x) (take-append-drop 4 (drop 24 rest) ∙ sym (drop_more 20 4 rest))
     ∙ append_assoc (name ++ f) s (drop 4 (drop 20 rest))
     ∙ ap (λ (x : List ℕ). name ++ f ++ x) (take-append-drop 4 (drop 20 rest) ∙ sym (drop_more 16 4 rest))
     ∙ append_assoc name f (drop 4 (drop 16 rest))
@@ -149,17 +157,18 @@ pub record SpelledBy (m : HostMessage) (bytes : List ℕ) : Type 0 where
 welcome_back : (version : ℕ) (rest : List ℕ) (m : HostMessage) → IsBytes rest → welcome_of version rest ≡ done m → SpelledBy m (head WELCOME version ++ rest)
 unfolding welcome_of
 welcome_back version rest m are e =
-    let w : Welcome = welcome (take 16 rest) (u32_at 16 rest) (u32_at 20 rest) (u32_at 24 rest) in
-    let a = passed (not (eqb version VERSION)) fault.Version (cond (not (eqb (length rest) 28)) (Err fault.Length) (Ok (host.Welcome w))) m e in
-    let b = passed (not (eqb (length rest) 28)) fault.Length (Ok (host.Welcome w)) m a.1 in
+    let w : Welcome = welcome (take 16 rest) (u32_at 16 rest) (u32_at 20 rest) (u32_at 24 rest) (u32_at 28 rest) in
+    let a = passed (not (eqb version VERSION)) fault.Version (cond (not (eqb (length rest) 32)) (Err fault.Length) (Ok (host.Welcome w))) m e in
+    let b = passed (not (eqb (length rest) 32)) fault.Length (Ok (host.Welcome w)) m a.1 in
     let v : version ≡ VERSION = eqb-true version VERSION (not-false (eqb version VERSION) a.0) in
-    let len : length rest ≡ 28 = eqb-true (length rest) 28 (not-false (eqb (length rest) 28) b.0) in
+    let len : length rest ≡ 32 = eqb-true (length rest) 32 (not-false (eqb (length rest) 32) b.0) in
     subst (λ (x : HostMessage). SpelledBy x (head WELCOME version ++ rest)) (ok_is (host.Welcome w) m b.1) (record {
       fits = record {
         name = omega (arith, length-take 16 rest, len);
         frames = u32_below (drop 16 rest) (IsBytes-drop 16 rest are);
         salt = u32_below (drop 20 rest) (IsBytes-drop 20 rest are);
         most = u32_below (drop 24 rest) (IsBytes-drop 24 rest are);
+        client_cpu = u32_below (drop 28 rest) (IsBytes-drop 28 rest are);
       };
       same = ap (λ (x : List ℕ). head WELCOME VERSION ++ x) (host_bytes_back rest len are) ∙ ap (λ (n : ℕ). head WELCOME n ++ rest) (sym v);
     })

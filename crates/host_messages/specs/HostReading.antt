@@ -1,7 +1,7 @@
 -- What bytes of a host say, and the first fault of those that say nothing.
-use Rattle.std.specs.Prelude.{ℕ, ◌+◌, ◌*◌, Bool, List, length, map, take, drop, Option, Some, None, Result, Ok, Err, nat_lt, not, ◌==◌, if◌then◌else◌}
+use Rattle.std.specs.Prelude.{ℕ, Bool, List, length, map, take, drop, Option, Some, None, Result, Ok, Err, nat_lt, not, ◌==◌, if◌then◌else◌}
 use Rattle.std.specs.List.{list_any}
-use Rattle.host_messages.specs.declared.limits.TheConstants.{VERSION, MAX_IN_MESSAGE, HEAD_BYTES, NAME_BYTES, WELCOME, SEEN, LOANS}
+use Rattle.host_messages.specs.declared.limits.TheConstants.{VERSION, HEAD_BYTES, NAME_BYTES, WELCOME, SEEN, LOANS}
 use Rattle.host_messages.specs.declared.fault.MessageFault.{MessageFault}
 use Rattle.host_messages.specs.declared.fault.MessageFault.TheVariants as fault
 use Rattle.host_messages.specs.declared.host.HostMessage.{HostMessage}
@@ -12,8 +12,8 @@ use Rattle.host_messages.specs.Reading.{u32_at, lent_at, items_at, count_fault, 
 unfoldable pub welcome_of : ℕ → List ℕ → Result HostMessage MessageFault
 welcome_of version rest =
     if not (version == VERSION) then Err fault.Version
-    else if not (length rest == 28) then Err fault.Length
-    else Ok (host.Welcome (record { name = take NAME_BYTES rest; frames = u32_at 16 rest; salt = u32_at 20 rest; most = u32_at 24 rest }))
+    else if not (length rest == 32) then Err fault.Length
+    else Ok (host.Welcome (record { name = take NAME_BYTES rest; frames = u32_at 16 rest; salt = u32_at 20 rest; most = u32_at 24 rest; client_cpu = u32_at 28 rest }))
 
 -- the byte is no answer
 abbrev pub is_no_answer : ℕ → Bool

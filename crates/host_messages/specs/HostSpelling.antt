@@ -14,7 +14,7 @@ answer_byte true = 1
 answer_byte false = 0
 
 abbrev pub welcome_bytes : Welcome → List ℕ
-welcome_bytes w = w.name ++ to_le_bytes w32 w.frames ++ to_le_bytes w32 w.salt ++ to_le_bytes w32 w.most
+welcome_bytes w = w.name ++ to_le_bytes w32 w.frames ++ to_le_bytes w32 w.salt ++ to_le_bytes w32 w.most ++ to_le_bytes w32 w.client_cpu
 
 -- a host's message
 abbrev pub host_bytes : HostMessage → List ℕ
@@ -27,6 +27,7 @@ pub record WelcomeFits (w : Welcome) : Type 0 where
   pub frames : FitsU32 w.frames
   pub salt : FitsU32 w.salt
   pub most : FitsU32 w.most
+  pub client_cpu : FitsU32 w.client_cpu
 
 -- a host's message within the limits
 abbrev pub HostFits : HostMessage → Type 0

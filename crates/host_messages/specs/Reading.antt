@@ -1,7 +1,7 @@
 -- What bytes say, and the first fault of those that say nothing.
-use Rattle.std.specs.Prelude.{ℕ, zero, suc, ◌+◌, ◌*◌, Bool, List, [], ◌∷◌, length, map, take, drop, Option, Some, None, Result, Ok, Err, nat_lt, not, ◌==◌, if◌then◌else◌}
+use Rattle.std.specs.Prelude.{ℕ, zero, suc, ◌*◌, ◌%◌, List, [], ◌∷◌, length, take, drop, Option, Some, None, Result, Ok, Err, nat_lt, not, ◌==◌, if◌then◌else◌}
 use Rattle.std.specs.Int.{w32, w64, from_le_bytes}
-use Rattle.host_messages.specs.declared.limits.TheConstants.{VERSION, MAX_IN_MESSAGE, HEAD_BYTES, NAME_BYTES, HELLO, ASK, LEND, RELEASE}
+use Rattle.host_messages.specs.declared.limits.TheConstants.{VERSION, MAX_IN_MESSAGE, HEAD_BYTES, NAME_BYTES, WANTED_BYTES, PASSING, HELLO, ASK, LEND, RELEASE}
 use Rattle.host_messages.specs.declared.fault.MessageFault.{MessageFault}
 use Rattle.host_messages.specs.declared.fault.MessageFault.TheVariants as fault
 use Rattle.host_messages.specs.declared.item.Question.{Question}
@@ -17,7 +17,7 @@ abbrev pub u64_at : ℕ → List ℕ → ℕ
 u64_at at bytes = from_le_bytes w64 (drop at bytes)
 
 abbrev pub question_at : List ℕ → Question
-question_at bytes = record { page = u64_at 0 bytes; fingerprint = u64_at 8 bytes }
+question_at bytes = record { page = u64_at 0 bytes % PASSING; fingerprint = u64_at 8 bytes; is_passing = not (nat_lt (u64_at 0 bytes) PASSING) }
 
 abbrev pub slot_at : List ℕ → ℕ
 slot_at bytes = u64_at 0 bytes
@@ -44,8 +44,8 @@ unfoldable pub hello_of : ℕ → List ℕ → Result ClientMessage MessageFault
 hello_of version rest =
     if not (version == VERSION) then Err fault.Version
     else if length rest == 0 then Ok (client.Hello None)
-    else if length rest == NAME_BYTES then Ok (client.Hello (Some rest))
-    else Err fault.Length
+    else if not (length rest == WANTED_BYTES) then Err fault.Length
+    else Ok (client.Hello (Some (record { name = take NAME_BYTES rest; loans = u64_at NAME_BYTES rest })))
 
 unfoldable pub ask_of : ℕ → List ℕ → Result ClientMessage MessageFault
 ask_of count rest = unless (count_fault 16 count (length rest)) (client.Ask (record { items = items_at 16 question_at count rest }))

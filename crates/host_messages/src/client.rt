@@ -1,23 +1,35 @@
 //! What a client says.
-ghost use Rattle.std.specs.Prelude.{◌≡◌, ◌≤◌, ◌<◌, length, IfOk, Ok};
-ghost use Rattle.host_messages.specs.Spelling.{client_bytes, ClientFits};
+ghost use Rattle.std.specs.Prelude.{◌≡◌, ◌≤◌, ◌+◌, ◌++◌, length, take, IfOk, Ok};
+ghost use Rattle.arrayvec.specs.ArrayVec.{array_vec_len};
+ghost use Rattle.host_messages.specs.Spelling.{client_bytes, wanted_bytes, ClientFits};
 ghost use Rattle.host_messages.specs.Reading.{client_at, hello_of, ask_of, lend_of, release_of};
-ghost use Rattle.host_messages.specs.declared.limits.TheConstants.{MAX_IN_MESSAGE};
+ghost use Rattle.host_messages.specs.declared.limits.TheConstants.{MAX_IN_MESSAGE, MAX_MESSAGE_BYTES, NAME_BYTES};
 
 use crate::fault::MessageFault;
-use crate::item::{Packet, Question, put_bytes, read_u32};
-use crate::limits::{ASK, HEAD_BYTES, HELLO, LEND, MAX_IN_MESSAGE, NAME_BYTES, RELEASE, VERSION};
+use crate::item::{Packet, Question, put_bytes, put_u64, read_u32, read_u64};
+use crate::limits::{
+    ASK, HEAD_BYTES, HELLO, LEND, MAX_IN_MESSAGE, NAME_BYTES, RELEASE, VERSION, WANTED_BYTES,
+};
 use crate::list::{count_fault, put_head, put_items, read_items};
 use arrayvec::ArrayVec;
 
 /// A session's name.
 pub type Name = [u8; NAME_BYTES];
 
+/// The session that a client wants to take up.
+#[derive(Clone, Copy, Debug, PartialEq, Eq)]
+pub struct Wanted {
+    /// The session's name.
+    pub name: Name,
+    /// How many replies to `Lend` the client has got in it. The host releases the slots of a later one.
+    pub loans: u64,
+}
+
 /// A message of a client.
 #[derive(Clone, Debug, PartialEq, Eq, Drop)]
 pub enum ClientMessage {
-    /// The first message: the session with this name is to be taken up, or a new one to begin.
-    Hello(Option<Name>),
+    /// The first message: this session is to be taken up, or a new one to begin.
+    Hello(Option<Wanted>),
     /// Whether other pages have these fingerprints.
     Ask(ArrayVec<Question, MAX_IN_MESSAGE>),
     /// So many pages are lent, from the first one of the buffer beside the message on.
@@ -43,9 +55,9 @@ impl ClientMessage {
         let mut packet = ArrayVec::new();
         match self {
             ClientMessage::Hello(None) => put_head(&mut packet, HELLO, VERSION),
-            ClientMessage::Hello(Some(name)) => {
+            ClientMessage::Hello(Some(wanted)) => {
                 put_head(&mut packet, HELLO, VERSION);
-                put_bytes(&mut packet, name);
+                put_wanted(&mut packet, wanted);
             }
             ClientMessage::Ask(questions) => {
                 put_head(&mut packet, ASK, questions.len() as u32);
@@ -98,10 +110,31 @@ fn read_hello(version: u32, rest: &[u8]) -> Result<ClientMessage, MessageFault>
     if rest.is_empty() {
         return Ok(ClientMessage::Hello(None));
     }
-    match <Name>::try_from(rest) {
-        Err(_) => Err(MessageFault::Length),
-        Ok(name) => Ok(ClientMessage::Hello(Some(name))),
+    if rest.len() != WANTED_BYTES {
+        return Err(MessageFault::Length);
     }
+    let name = read_name(rest);
+    let loans = read_u64(rest, NAME_BYTES);
+    Ok(ClientMessage::Hello(Some(Wanted { name, loans })))
+}
+
+/// Reads a name.
+pub(crate) fn read_name(bytes: &[u8]) -> Name
+    requires { NAME_BYTES ≤ length bytes.now }
+    ensures { result ≡ take NAME_BYTES bytes.now }
+{
+    let mut name = [0; NAME_BYTES];
+    name.copy_from_slice(&bytes[..NAME_BYTES]);
+    name
+}
+
+/// Puts what a client wants to take up at a packet's end.
+fn put_wanted(packet: &mut Packet, wanted: &Wanted)
+    requires { array_vec_len packet.old + 24 ≤ MAX_MESSAGE_BYTES }
+    ensures { packet.new.items ≡ packet.old.items ++ wanted_bytes wanted.now }
+{
+    put_bytes(packet, &wanted.name);
+    put_u64(packet, wanted.loans);
 }
 
 /// Reads what follows a head of `ASK`.

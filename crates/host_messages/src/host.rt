@@ -1,15 +1,15 @@
 //! What a host says.
-ghost use Rattle.std.specs.Prelude.{◌≡◌, ◌≤◌, ◌+◌, ◌++◌, length, map, take, IfOk, Ok};
+ghost use Rattle.std.specs.Prelude.{◌≡◌, ◌≤◌, ◌+◌, ◌++◌, length, map, IfOk, Ok};
 ghost use Rattle.arrayvec.specs.ArrayVec.{array_vec_len};
 ghost use Rattle.host_messages.specs.HostSpelling.{host_bytes, welcome_bytes, answer_byte, HostFits};
 ghost use Rattle.host_messages.specs.HostReading.{host_at, welcome_of, seen_of, answers_of, answer_of, is_no_answer, loans_of};
 ghost use Rattle.std.specs.List.{list_any};
-ghost use Rattle.host_messages.specs.declared.limits.TheConstants.{MAX_IN_MESSAGE, MAX_MESSAGE_BYTES, NAME_BYTES};
+ghost use Rattle.host_messages.specs.declared.limits.TheConstants.{MAX_IN_MESSAGE, MAX_MESSAGE_BYTES};
 
-use crate::client::Name;
+use crate::client::{Name, read_name};
 use crate::fault::MessageFault;
 use crate::item::{Lent, Packet, put_bytes, put_u32, read_u32};
-use crate::limits::{HEAD_BYTES, LOANS, MAX_IN_MESSAGE, NAME_BYTES, SEEN, VERSION, WELCOME};
+use crate::limits::{HEAD_BYTES, LOANS, MAX_IN_MESSAGE, SEEN, VERSION, WELCOME};
 use crate::list::{count_fault, put_head, put_items, read_items};
 use arrayvec::ArrayVec;
 
@@ -24,6 +24,8 @@ pub struct Welcome {
     pub salt: u32,
     /// The most pages in one message.
     pub most: u32,
+    /// The percentage of one processor that the client may use to share, or 0: the host says nothing.
+    pub client_cpu: u32,
 }
 
 /// A message of a host.
@@ -72,13 +74,14 @@ impl HostMessage {
 
 /// Puts what a `Welcome` says at a packet's end.
 fn put_welcome(packet: &mut Packet, welcome: &Welcome)
-    requires { array_vec_len packet.old + 28 ≤ MAX_MESSAGE_BYTES }
+    requires { array_vec_len packet.old + 32 ≤ MAX_MESSAGE_BYTES }
     ensures { packet.new.items ≡ packet.old.items ++ welcome_bytes welcome.now }
 {
     put_bytes(packet, &welcome.name);
     put_u32(packet, welcome.frames);
     put_u32(packet, welcome.salt);
     put_u32(packet, welcome.most);
+    put_u32(packet, welcome.client_cpu);
 }
 
 /// Puts answers at a packet's end, a byte each.
@@ -129,28 +132,20 @@ fn read_welcome(version: u32, rest: &[u8]) -> Result<HostMessage, MessageFault>
     if version != VERSION {
         return Err(MessageFault::Version);
     }
-    if rest.len() != 28 {
+    if rest.len() != 32 {
         return Err(MessageFault::Length);
     }
     let frames = read_u32(rest, 16);
     let salt = read_u32(rest, 20);
     let most = read_u32(rest, 24);
+    let client_cpu = read_u32(rest, 28);
     Ok(HostMessage::Welcome(Welcome {
         name: read_name(rest),
         frames,
         salt,
         most,
+        client_cpu,
     }))
-}
-
-/// Reads a name.
-fn read_name(bytes: &[u8]) -> Name
-    requires { NAME_BYTES ≤ length bytes.now }
-    ensures { result ≡ take NAME_BYTES bytes.now }
-{
-    let mut name = [0; NAME_BYTES];
-    name.copy_from_slice(&bytes[..NAME_BYTES]);
-    name
 }
 
 /// Reads what follows a head of `SEEN`.

@@ -2,16 +2,21 @@
 ghost use Rattle.std.specs.Prelude.{◌≡◌, ◌+◌, ◌≤◌, ◌++◌, ℕ, List, length, drop};
 ghost use Rattle.std.specs.Int.{w32, w64, from_le_bytes, to_le_bytes};
 ghost use Rattle.arrayvec.specs.ArrayVec.{array_vec_len};
+ghost use Rattle.host_messages.specs.Spelling.{page_word};
 ghost use Rattle.host_messages.specs.declared.limits.TheConstants.{MAX_MESSAGE_BYTES};
 
-use crate::limits::MAX_MESSAGE_BYTES;
+use crate::limits::{MAX_MESSAGE_BYTES, PASSING};
 use arrayvec::ArrayVec;
 
-/// A question about a page: its number, of the client's choice for each of its pages, and the fingerprint of its content.
+/// A question about a page.
 #[derive(Clone, Copy, Debug, Default, PartialEq, Eq)]
 pub struct Question {
+    /// The page's number, below 2^63, of the client's choice for each of its pages.
     pub page: u64,
+    /// The fingerprint of its content.
     pub fingerprint: u64,
+    /// Whether the host only answers, and notes nothing of it.
+    pub is_passing: bool,
 }
 
 /// What became of a page that was to be lent.
@@ -63,13 +68,17 @@ impl Item for Question {
     const WIDTH: usize = 16;
 
     fn read(bytes: &[u8]) -> Question {
-        let page = read_u64(bytes, 0);
+        let word = read_u64(bytes, 0);
         let fingerprint = read_u64(bytes, 8);
-        Question { page, fingerprint }
+        Question {
+            page: word % PASSING,
+            fingerprint,
+            is_passing: word >= PASSING,
+        }
     }
 
     fn put(self, packet: &mut Packet) {
-        put_u64(packet, self.page);
+        put_u64(packet, page_word(self));
         put_u64(packet, self.fingerprint);
     }
 }
@@ -123,6 +132,17 @@ impl Item for Lent {
         put_u32(packet, self.frame);
         put_u32(packet, self.sharers);
     }
+}
+
+/// Returns a question's first eight bytes as a number. (A page's number is below 2^63, or only its lower bits count.)
+fn page_word(question: Question) -> u64
+    ensures { result ≡ page_word question }
+{
+    let page = question.page % PASSING;
+    if question.is_passing {
+        return page + PASSING;
+    }
+    page
 }
 
 /// Reads a number of four bytes from place `at` on.

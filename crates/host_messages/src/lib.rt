@@ -11,12 +11,12 @@ mod limits;
 mod list;
 mod numbers;
 
-pub use client::{ClientMessage, Name};
+pub use client::{ClientMessage, Name, Wanted};
 pub use fault::MessageFault;
 pub use host::{HostMessage, Welcome};
 pub use item::{Lent, Packet, Question};
 pub use limits::{
     ASK, HEAD_BYTES, HELLO, LEND, LOANS, MAX_IN_MESSAGE, MAX_MESSAGE_BYTES, NAME_BYTES, NO_FRAME,
-    RELEASE, SEEN, VERSION, WELCOME,
+    PASSING, RELEASE, SEEN, VERSION, WANTED_BYTES, WELCOME,
 };
 pub use numbers::limits_law;

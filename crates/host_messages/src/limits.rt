@@ -1,7 +1,7 @@
 //! The numbers of the format.
 
 /// The version of the format. The first message of either side names it.
-pub const VERSION: u32 = 1;
+pub const VERSION: u32 = 2;
 
 /// The most pages, or slots, in one message.
 pub const MAX_IN_MESSAGE: usize = 128;
@@ -15,8 +15,14 @@ pub const MAX_MESSAGE_BYTES: usize = 2056;
 /// The bytes of a session's name.
 pub const NAME_BYTES: usize = 16;
 
+/// The bytes of a session to take up: its name, and how many replies to `Lend` the client has got in it.
+pub const WANTED_BYTES: usize = 24;
+
 /// What stands for a frame where a page isn't lent: no frame has this number.
 pub const NO_FRAME: u32 = u32::MAX;
+
+/// What is added to a page's number in a question that the host isn't to note. A page's number is below it.
+pub const PASSING: u64 = 1 << 63;
 
 /// The kinds of a client's messages.
 pub const HELLO: u32 = 1;

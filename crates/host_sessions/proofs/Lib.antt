@@ -1,3 +1,5 @@
 pub mod Loops
 pub mod Spared
 pub mod Apart
+pub mod Stay
+pub mod Own

@@ -1,12 +1,12 @@
 -- What a message lists is gone through one after the other.
-use Rattle.std.proofs.Common.{◌≡◌, ℕ, ◌+◌, ◌<◌, ◌≤◌, Bool, Option, List, [], ◌∷◌, ◌++◌, length, get_or, drop, refl, sym, ap, subst, ◌∙◌, append_assoc}
+use Rattle.std.proofs.Common.{◌≡◌, ℕ, ◌+◌, ◌<◌, ◌≤◌, Bool, true, false, cond, Option, List, [], ◌∷◌, ◌++◌, length, get_or, drop, refl, sym, ap, subst, ◌∙◌, append_assoc}
 use Rattle.std.proofs.lemmas.List.{drop_more, drop_all, append-nil}
 use Rattle.host_messages.specs.declared.item.Question.{Question}
 use Rattle.host_messages.specs.declared.item.Lent.{Lent}
-use Rattle.recent_fingerprints.specs.Notes.{Recent, with_note}
+use Rattle.recent_fingerprints.specs.Notes.{Recent}
 use Rattle.share_domain.specs.Domains.{DomainView, release_answer, after_release}
 use Rattle.share_domain.specs.Numbers.{slot_by}
-use Rattle.host_sessions.specs.Turns.{page_of, answer_to, answers_to, asked, told_of, slots_left, freed_by, after_releases, left_after, LendsOne, LendsInTurn}
+use Rattle.host_sessions.specs.Turns.{after_question, answer_to, answers_to, asked, told_of, freed_by, after_releases, is_lent, slots_in, LendsOne, LendsInTurn}
 
 -- what is left at an item
 pub left_at : {X : Type 0} (xs : List X) (i : ℕ) (x d : X) → i < length xs → x ≡ get_or xs i d → drop i xs ≡ x ∷ drop (i + 1) xs
@@ -16,7 +16,7 @@ left_at {X = X} xs i x d lt is = drop_more xs i d lt ∙ ap (λ (y : X). y ∷ d
 
 module _ (frames : List (Option ℕ)) (client : ℕ) (qs : List Question) (i : ℕ) where
   pub answered_more : (q d : Question) (front : List Bool) (a : Bool) (r s : Recent) (total : List Bool) → i < length qs → q ≡ get_or qs i d
-      → a ≡ answer_to frames client q r → s ≡ with_note (page_of client q) q.fingerprint r
+      → a ≡ answer_to frames client q r → s ≡ after_question client q r
       → front ++ answers_to frames client (drop i qs) r ≡ total → (front ++ a ∷ []) ++ answers_to frames client (drop (i + 1) qs) s ≡ total
   unfolding answers_to
   answered_more q d front a r s total lt is a-is s-is so_far =
@@ -25,7 +25,7 @@ module _ (frames : List (Option ℕ)) (client : ℕ) (qs : List Question) (i : �
       ∙ ap (λ (x : Recent). front ++ answer_to frames client q r ∷ answers_to frames client (drop (i + 1) qs) x) s-is
       ∙ sym (ap (λ (l : List Question). front ++ answers_to frames client l r) (left_at qs i q d lt is)) ∙ so_far
 
-  pub asked_more : (q d : Question) (r s total : Recent) → i < length qs → q ≡ get_or qs i d → s ≡ with_note (page_of client q) q.fingerprint r
+  pub asked_more : (q d : Question) (r s total : Recent) → i < length qs → q ≡ get_or qs i d → s ≡ after_question client q r
       → asked client (drop i qs) r ≡ total → asked client (drop (i + 1) qs) s ≡ total
   unfolding asked
   asked_more q d r s total lt is s-is so_far =
@@ -58,15 +58,6 @@ module _ (client : ℕ) (ss : List ℕ) (i : ℕ) where
   released_more s e d after total lt is after-is so_far =
       ap (λ (x : DomainView). after_releases client (drop (i + 1) ss) x) after-is ∙ sym (ap (λ (l : List ℕ). after_releases client l d) (left_at ss i s e lt is)) ∙ so_far
 
-  pub left_more : (s e slots left : ℕ) (d after : DomainView) (total : ℕ) → i < length ss → s ≡ get_or ss i e
-      → left ≡ slots_left slots (release_answer client (slot_by s) d) → after ≡ after_release client (slot_by s) d
-      → left_after client slots (drop i ss) d ≡ total → left_after client left (drop (i + 1) ss) after ≡ total
-  unfolding left_after
-  left_more s e slots left d after total lt is left-is after-is so_far =
-      ap (λ (x : ℕ). left_after client x (drop (i + 1) ss) after) left-is
-      ∙ ap (λ (x : DomainView). left_after client (slots_left slots (release_answer client (slot_by s) d)) (drop (i + 1) ss) x) after-is
-      ∙ sym (ap (λ (l : List ℕ). left_after client slots l d) (left_at ss i s e lt is)) ∙ so_far
-
   pub all_freed : (front : List ℕ) (d : DomainView) (total : List ℕ) → length ss ≤ i → front ++ freed_by client (drop i ss) d ≡ total → front ≡ total
   unfolding freed_by
   all_freed front d total le so_far = sym (ap (λ (l : List ℕ). front ++ freed_by client l d) (drop_all i ss le) ∙ append-nil front) ∙ so_far
@@ -75,31 +66,47 @@ module _ (client : ℕ) (ss : List ℕ) (i : ℕ) where
   unfolding after_releases
   all_released d total le so_far = sym (ap (λ (l : List ℕ). after_releases client l d) (drop_all i ss le)) ∙ so_far
 
-  pub all_left : (slots : ℕ) (d : DomainView) (total : ℕ) → length ss ≤ i → left_after client slots (drop i ss) d ≡ total → slots ≡ total
-  unfolding left_after
-  all_left slots d total le so_far = sym (ap (λ (l : List ℕ). left_after client slots l d) (drop_all i ss le)) ∙ so_far
-
 -- ---- lends
 
 -- the loans so far are the first ones of all, whatever the others will be
-abbrev pub SoFar : (ℕ → List ℕ → ℕ) → ℕ → ℕ → List (List ℕ) → ℕ → DomainView → ℕ → ℕ → List Lent → DomainView → Type 0
-SoFar hash client quota pages slots start i count front d =
-    (rest : List Lent) (after : ℕ) (new : DomainView) → LendsInTurn hash client quota (drop i pages) count after rest d new
-    → LendsInTurn hash client quota pages slots after (front ++ rest) start new
+abbrev pub SoFar : (ℕ → List ℕ → ℕ) → ℕ → ℕ → List (List ℕ) → DomainView → ℕ → List Lent → DomainView → Type 0
+SoFar hash client quota pages start i front d =
+    (rest : List Lent) (new : DomainView) → LendsInTurn hash client quota (drop i pages) rest d new
+    → LendsInTurn hash client quota pages (front ++ rest) start new
 
-module _ (hash : ℕ → List ℕ → ℕ) (client quota : ℕ) (pages : List (List ℕ)) (slots : ℕ) (start : DomainView) where
-  pub lent_more : (i count between : ℕ) (front : List Lent) (d mid : DomainView) (page e : List ℕ) (lent : Lent) → i < length pages → page ≡ get_or pages i e
-      → LendsOne hash client quota page count between lent d mid → SoFar hash client quota pages slots start i count front d
-      → SoFar hash client quota pages slots start (i + 1) between (front ++ lent ∷ []) mid
+module _ (hash : ℕ → List ℕ → ℕ) (client quota : ℕ) (pages : List (List ℕ)) (start : DomainView) where
+  pub lent_more : (i : ℕ) (front : List Lent) (d mid : DomainView) (page e : List ℕ) (lent : Lent) → i < length pages → page ≡ get_or pages i e
+      → LendsOne hash client quota page lent d mid → SoFar hash client quota pages start i front d
+      → SoFar hash client quota pages start (i + 1) (front ++ lent ∷ []) mid
   unfolding LendsInTurn
-  lent_more i count between front d mid page e lent lt is one so_far rest after new p =
-      subst (λ (ls : List Lent). LendsInTurn hash client quota pages slots after ls start new) (sym (append_assoc front (lent ∷ []) rest))
-      (so_far (lent ∷ rest) after new
-      (subst (λ (ps : List (List ℕ)). LendsInTurn hash client quota ps count after (lent ∷ rest) d new) (sym (left_at pages i page e lt is)) (mid, between, one, p)))
+  lent_more i front d mid page e lent lt is one so_far rest new p =
+      subst (λ (ls : List Lent). LendsInTurn hash client quota pages ls start new) (sym (append_assoc front (lent ∷ []) rest))
+      (so_far (lent ∷ rest) new
+      (subst (λ (ps : List (List ℕ)). LendsInTurn hash client quota ps (lent ∷ rest) d new) (sym (left_at pages i page e lt is)) (mid, one, p)))
 
-  pub all_lent : (i count : ℕ) (front : List Lent) (d : DomainView) → length pages ≤ i → SoFar hash client quota pages slots start i count front d
-      → LendsInTurn hash client quota pages slots count front start d
+  pub all_lent : (i : ℕ) (front : List Lent) (d : DomainView) → length pages ≤ i → SoFar hash client quota pages start i front d
+      → LendsInTurn hash client quota pages front start d
   unfolding LendsInTurn
-  all_lent i count front d le so_far =
-      subst (λ (ls : List Lent). LendsInTurn hash client quota pages slots count ls start d) (append-nil front)
-      (so_far [] count d (subst (λ (ps : List (List ℕ)). LendsInTurn hash client quota ps count count [] d d) (sym (drop_all i pages le)) (refl, refl)))
+  all_lent i front d le so_far =
+      subst (λ (ls : List Lent). LendsInTurn hash client quota pages ls start d) (append-nil front)
+      (so_far [] d (subst (λ (ps : List (List ℕ)). LendsInTurn hash client quota ps [] d d) (sym (drop_all i pages le)) refl))
+
+-- ---- the slots of loans
+
+slots_more : (lent : Lent) (b : Bool) (loans : List Lent) → cond b (lent.slot ∷ []) [] ++ slots_in loans ≡ cond b (lent.slot ∷ slots_in loans) (slots_in loans)
+slots_more lent true loans = refl
+slots_more lent false loans = refl
+
+module _ (loans : List Lent) (i : ℕ) where
+  pub taken_more : (lent d : Lent) (front now total : List ℕ) → i < length loans → lent ≡ get_or loans i d → now ≡ front ++ slots_in (lent ∷ [])
+      → front ++ slots_in (drop i loans) ≡ total → now ++ slots_in (drop (i + 1) loans) ≡ total
+  unfolding slots_in
+  taken_more lent d front now total lt is now-is so_far =
+      ap (λ (l : List ℕ). l ++ slots_in (drop (i + 1) loans)) now-is
+      ∙ append_assoc front (slots_in (lent ∷ [])) (slots_in (drop (i + 1) loans))
+      ∙ ap (λ (l : List ℕ). front ++ l) (slots_more lent (is_lent lent) (drop (i + 1) loans))
+      ∙ sym (ap (λ (l : List Lent). front ++ slots_in l) (left_at loans i lent d lt is)) ∙ so_far
+
+  pub all_taken : (front total : List ℕ) → length loans ≤ i → front ++ slots_in (drop i loans) ≡ total → front ≡ total
+  unfolding slots_in
+  all_taken front total le so_far = sym (ap (λ (l : List Lent). front ++ slots_in l) (drop_all i loans le) ∙ append-nil front) ∙ so_far

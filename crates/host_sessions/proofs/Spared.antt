@@ -1,8 +1,9 @@
 -- What a client's lends and releases leave of every other client's slots.
-use Rattle.std.proofs.Common.{◌≡◌, ◌≢◌, inl, inr, ℕ, Bool, true, false, cond, List, [], ◌∷◌, length, Option, Some, None, Result, Ok, Err, refl, sym, ap, subst, ◌∙◌, arith}
-use Rattle.std.specs.Prelude.{slice_get, slice_set}
+use Rattle.std.proofs.Common.{◌≡◌, ◌≢◌, inl, inr, ℕ, zero, suc, ◌+◌, Bool, true, false, cond, List, [], ◌∷◌, length, Option, Some, None, Result, Ok, Err, refl, sym, ap, subst, ◌∙◌, arith}
+use Rattle.std.specs.Prelude.{slice_get, slice_set, position}
 use Rattle.std.proofs.lemmas.Bool.{cases_eq, cases_lt, false≢true}
 use Rattle.std.proofs.lemmas.List.{get_or-set_same, get_or-set_other, get_or_past, length-set}
+use Rattle.std.proofs.lemmas.List.Quantifiers.{position-Some}
 use Rattle.std.proofs.lemmas.Option.{unwrap_or-slice_get}
 use Rattle.host_messages.specs.declared.item.Lent.{Lent}
 use Rattle.lent_slots.specs.declared.holding.Holding.{Holding}
@@ -11,10 +12,18 @@ use Rattle.lent_slots.proofs.SlotLists.{set_other}
 use Rattle.share_domain.specs.declared.holding.Slot.{Slot}
 use Rattle.share_domain.specs.declared.holding.Loan.{Loan}
 use Rattle.share_domain.specs.declared.fault.LendFault.{LendFault}
-use Rattle.share_domain.specs.Domains.{DomainView, with_machines, machine_at, no_machine, held_in, with_released, after_release, page_machine, LendsIn}
+use Rattle.share_domain.specs.Domains.{DomainView, with_machines, machine_at, no_machine, held_in, with_released, freed_in, after_release, page_machine, LendsIn}
 use Rattle.host_sessions.specs.Others.{IsAnothers, Spares}
+use Rattle.share_domain.specs.Leaving.{Leaves, at_first, first_slot, slot_from, or_later, left_by, told}
 use Rattle.share_domain.specs.Numbers.{slot_by}
+use Rattle.share_domain.specs.Totals.{slots_of}
 use Rattle.host_sessions.specs.Turns.{after_releases, Answers, LendsOne, LendsInTurn}
+
+abbrev record_slot : ℕ → ℕ → Slot
+record_slot machine ppn = record { machine = machine; ppn = ppn }
+
+some-same : {A : Type 0} {x y : A} → Some x ≡ Some y → x ≡ y
+some-same e = cc
 
 is_anothers : (client : ℕ) (held : Option Holding) → IsAnothers client held → held ≡ None → ⊥
 is_anothers client None is e = is
@@ -25,10 +34,10 @@ not_of client None is = absurd is
 not_of client (Some h) is = is
 
 -- a slot of another machine
-machine_other : (machines : List MachineView) (m other : ℕ) (x : MachineView) → other ≢ m → machine_at (slice_set machines m x) other ≡ machine_at machines other
+pub machine_other : (machines : List MachineView) (m other : ℕ) (x : MachineView) → other ≢ m → machine_at (slice_set machines m x) other ≡ machine_at machines other
 machine_other machines m other x apart = get_or-set_other machines m other x no_machine apart
 
-free_held : (slots : List (Option Holding)) (ppn : ℕ) → slice_get slots ppn ≡ Some None → holding slots ppn ≡ None
+pub free_held : (slots : List (Option Holding)) (ppn : ℕ) → slice_get slots ppn ≡ Some None → holding slots ppn ≡ None
 free_held slots ppn e = sym (unwrap_or-slice_get slots ppn None) ∙ rw e refl
 
 lends_spares : (m client : ℕ) (page : List ℕ) (loan : Loan) (old new : DomainView) → LendsIn m client page loan old new → Spares client old new
@@ -81,7 +90,7 @@ release_spares client freed d slot is = freed_spares client freed slot d is (is_
 spares_then : (client : ℕ) (a b c : DomainView) → Spares client a b → Spares client b c → Spares client a c
 spares_then client a b c p q slot is = let e = p slot is in q slot (subst (λ (h : Option Holding). IsAnothers client h) (sym e) is) ∙ e
 
-same_spares : (client : ℕ) (old new : DomainView) → new ≡ old → Spares client old new
+pub same_spares : (client : ℕ) (old new : DomainView) → new ≡ old → Spares client old new
 same_spares client old new e slot is = ap (λ (d : DomainView). held_in d.machines slot) e
 
 pub releases_spare : (client : ℕ) (ss : List ℕ) (d : DomainView) → Spares client d (after_releases client ss d)
@@ -94,19 +103,57 @@ answer_spares : (hash : ℕ → List ℕ → ℕ) (client : ℕ) (page : List �
 answer_spares hash client page (Ok loan) old new a = lends_spares (page_machine hash old page) client page loan old new a
 answer_spares hash client page (Err fault) old new a = same_spares client old new a.1
 
-one_spares : (hash : ℕ → List ℕ → ℕ) (client quota : ℕ) (page : List ℕ) (slots after : ℕ) (lent : Lent) (old new : DomainView)
-    → LendsOne hash client quota page slots after lent old new → Spares client old new
-one_spares hash client quota page slots after lent old new l =
-    elim (cases_lt slots quota) [
+one_spares : (hash : ℕ → List ℕ → ℕ) (client quota : ℕ) (page : List ℕ) (lent : Lent) (old new : DomainView) → LendsOne hash client quota page lent old new → Spares client old new
+one_spares hash client quota page lent old new l =
+    elim (cases_lt (slots_of client old.machines) quota) [
       | inl lt ↦ let w = l.within lt in answer_spares hash client page w.answer old new w.answers
-      | inr le ↦ same_spares client old new (l.full le).same
+      | inr le ↦ same_spares client old new (l.full le).1
     ]
 
-pub lends_spare : (hash : ℕ → List ℕ → ℕ) (client quota : ℕ) (pages : List (List ℕ)) (slots after : ℕ) (loans : List Lent) (old new : DomainView)
-    → LendsInTurn hash client quota pages slots after loans old new → Spares client old new
+pub lends_spare : (hash : ℕ → List ℕ → ℕ) (client quota : ℕ) (pages : List (List ℕ)) (loans : List Lent) (old new : DomainView)
+    → LendsInTurn hash client quota pages loans old new → Spares client old new
 unfolding LendsInTurn
-lends_spare hash client quota [] slots after [] old new l = same_spares client old new l.1
-lends_spare hash client quota (page ∷ pages) slots after [] old new l = absurd l
-lends_spare hash client quota [] slots after (lent ∷ loans) old new l = absurd l
-lends_spare hash client quota (page ∷ pages) slots after (lent ∷ loans) old new l =
-    spares_then client old l.0 new (one_spares hash client quota page slots l.1 lent old l.0 l.2) (lends_spare hash client quota pages l.1 after loans l.0 new l.3)
+lends_spare hash client quota [] [] old new l = same_spares client old new l
+lends_spare hash client quota (page ∷ pages) [] old new l = absurd l
+lends_spare hash client quota [] (lent ∷ loans) old new l = absurd l
+lends_spare hash client quota (page ∷ pages) (lent ∷ loans) old new l =
+    spares_then client old l.0 new (one_spares hash client quota page lent old l.0 l.1) (lends_spare hash client quota pages loans l.0 new l.2)
+
+-- ---- a client that leaves
+
+-- the first slot of a client from a machine on is that client's
+first_from_is_of : (client m : ℕ) (machines : List MachineView) (first : Slot) → slot_from client m machines ≡ Some first
+    → (j : ℕ) × (first.machine ≡ m + j) × (is_of client (holding (machine_at machines j).slots first.ppn) ≡ true)
+first_from_is_of client m [] first e = absurd cc
+first_from_is_of client m (machine ∷ machines) first e = pick (position (is_of client) machine.slots) refl (λ later. first_from_is_of client (m + 1) machines first later) e where
+  pick : (o : Option ℕ) → position (is_of client) machine.slots ≡ o
+      → (slot_from client (m + 1) machines ≡ Some first → (j : ℕ) × (first.machine ≡ m + 1 + j) × (is_of client (holding (machine_at machines j).slots first.ppn) ≡ true))
+      → or_later m o (slot_from client (m + 1) machines) ≡ Some first
+      → (j : ℕ) × (first.machine ≡ m + j) × (is_of client (holding (machine_at (machine ∷ machines) j).slots first.ppn) ≡ true)
+  pick None p rest f = let later = rest f in (suc later.0, omega (arith, later.1), later.2)
+  pick (Some ppn) p rest f =
+      let here : record_slot m ppn ≡ first = some-same f in
+      (0, omega (arith, ap (λ (s : Slot). s.machine) here), ap (λ (k : ℕ). is_of client (holding machine.slots k)) (sym (ap (λ (s : Slot). s.ppn) here)) ∙ (position-Some (is_of client) machine.slots ppn None p).1)
+
+first_is_of : (client : ℕ) (machines : List MachineView) (first : Slot) → first_slot client machines ≡ Some first → is_of client (held_in machines first) ≡ true
+first_is_of client machines first e =
+    let found = first_from_is_of client 0 machines first e in
+    let at : first.machine ≡ found.0 = omega (arith, found.1) in
+    ap (λ (k : ℕ). is_of client (holding (machine_at machines k).slots first.ppn)) at ∙ found.2
+
+left_spares : (frames client n : ℕ) (machines : List MachineView) (slot : Slot) → IsAnothers client (held_in machines slot) → held_in (left_by frames client n machines).machines slot ≡ held_in machines slot
+unfolding left_by
+left_spares frames client zero machines slot is = refl
+left_spares frames client (suc n) machines slot is =
+    elim (first_slot client machines) as (λ (o : Option Slot). first_slot client machines ≡ o → held_in (at_first o machines
+    (λ first. let rest = left_by frames client n (with_released first machines) in record { told = told (freed_in frames first machines) ∷ rest.told; machines = rest.machines })).machines slot ≡ held_in machines slot) [
+      | None ↦ λ e. refl
+      | Some first ↦ λ e.
+          let d : DomainView = record { salt = 0; frames = frames; machines = machines; clients = [] } in
+          let one : held_in (with_released first machines) slot ≡ held_in machines slot = freed_spares client first slot d is true (first_is_of client machines first e) in
+          left_spares frames client n (with_released first machines) slot (subst (λ (h : Option Holding). IsAnothers client h) (sym one) is) ∙ one
+    ] refl
+
+pub leave_spares : (client count : ℕ) (room after : List ℕ) (old new : DomainView) → Leaves client count room after old new → Spares client old new
+leave_spares client count room after old new l slot is =
+    ap (λ (d : DomainView). held_in d.machines slot) l.now ∙ left_spares old.frames client (length room) old.machines slot is

@@ -1,5 +1,5 @@
 -- The end of a session's connection, and of its process.
-use Rattle.std.specs.Prelude.{◌≡◌, ℕ, ◌-◌, List, Option, Some, None, if◌then◌else◌, ◌==◌, MatchOption}
+use Rattle.std.specs.Prelude.{◌≡◌, ℕ, List, Option, Some, None, if◌then◌else◌, ◌==◌, MatchOption}
 use Rattle.recent_fingerprints.specs.Notes.{forgotten}
 use Rattle.share_domain.specs.Leaving.{Leaves, StaysOut}
 use Rattle.host_sessions.specs.declared.session.Link.TheVariants as link
@@ -11,7 +11,7 @@ use Rattle.host_sessions.specs.Steps.{HostView, with_session, with_domain, with_
 -- a session of an ended process after so many of its slots were released: none was left if none was released
 abbrev pub ended : Begun → ℕ → Session
 ended b count = if count == 0 then session.Free
-    else session.Begun (record { name = b.name; client = b.client; slots = b.slots - count; messages = b.messages; link = link.Ended })
+    else session.Begun (record { name = b.name; client = b.client; messages = b.messages; loans = b.loans; link = link.Ended })
 
 -- how many slots were released: none of a client that was out already
 abbrev pub count_of : Option ℕ → ℕ

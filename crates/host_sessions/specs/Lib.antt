@@ -5,3 +5,4 @@ pub mod Ends
 pub mod Made
 pub mod Others
 pub mod Replies
+pub mod Own

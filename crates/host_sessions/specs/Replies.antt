@@ -9,7 +9,8 @@ use Rattle.host_sessions.specs.declared.answer.Received.TheVariants as got
 abbrev pub reply_of : Received → List ℕ
 reply_of got.NoSession = []
 reply_of (got.Fault fault) = []
-reply_of (got.Welcome welcome resumed) = host_bytes (host.Welcome welcome)
+reply_of (got.Welcome welcome) = host_bytes (host.Welcome welcome)
+reply_of (got.Resumed welcome before freed) = host_bytes (host.Welcome welcome)
 reply_of (got.Seen answers) = host_bytes (host.Seen answers)
 reply_of (got.Loans loans) = host_bytes (host.Loans loans)
 reply_of (got.Released freed) = []

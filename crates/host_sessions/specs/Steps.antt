@@ -1,5 +1,5 @@
 -- What a packet of a session does.
-use Rattle.std.specs.Prelude.{◌≡◌, ℕ, true, false, ◌<◌, ◌≤◌, List, length, take, Option, Some, None, Result, Ok, Err, slice_set}
+use Rattle.std.specs.Prelude.{◌≡◌, ℕ, true, false, ◌<◌, ◌≤◌, List, [], length, take, Option, Some, None, Result, Ok, Err, slice_set}
 use Rattle.host_messages.specs.declared.client.ClientMessage.{ClientMessage}
 use Rattle.host_messages.specs.declared.client.ClientMessage.TheVariants as client
 use Rattle.host_messages.specs.declared.fault.MessageFault.{MessageFault}
@@ -10,6 +10,7 @@ use Rattle.host_messages.specs.declared.limits.TheConstants.{MAX_IN_MESSAGE}
 use Rattle.host_messages.specs.Reading.{client_at}
 use Rattle.recent_fingerprints.specs.Notes.{Recent}
 use Rattle.fingerprint_domain.specs.Known.{fingerprints_in}
+use Rattle.share_domain.specs.Bytes.{BytesStay}
 use Rattle.share_domain.specs.Domains.{DomainView, next_client, entered}
 use Rattle.host_sessions.specs.declared.answer.Received.{Received}
 use Rattle.host_sessions.specs.declared.answer.Received.TheVariants as got
@@ -18,31 +19,36 @@ use Rattle.host_sessions.specs.declared.session.SessionFault.TheVariants as faul
 use Rattle.host_sessions.specs.declared.session.Begun.{Begun}
 use Rattle.host_sessions.specs.declared.session.Session.{Session}
 use Rattle.host_sessions.specs.declared.session.Session.TheVariants as session
-use Rattle.host_sessions.specs.Table.{heard, new_session, takes, faulted, session_at, wanted_in, begun_of}
-use Rattle.host_sessions.specs.Turns.{answers_to, asked, freed_by, after_releases, left_after, LendsInTurn}
+use Rattle.host_sessions.specs.Table.{heard, heard_with, lent, new_session, takes, faulted, session_at, wanted_in, loans_of, begun_of, Slots, last_at, lost_of}
+use Rattle.host_sessions.specs.Turns.{answers_to, asked, freed_by, after_releases, slots_in, LendsInTurn}
 
--- the frames of all machines, the salt of fingerprints, the most slots of a session, the domain, the last questions, and the
--- sessions by their numbers
+-- the frames of all machines, the salt of fingerprints, the most slots of a session, the percentage of a processor that clients are
+-- told, the domain, the last questions, the sessions by their numbers, and the slots of the last reply to Lend of each
 pub record HostView : Type 0 where
   pub frames : ℕ
   pub salt : ℕ
   pub quota : ℕ
+  pub client_cpu : ℕ
   pub domain : DomainView
   pub recent : Recent
   pub sessions : List Session
+  pub last : List Slots
 
--- the host with other sessions, and with another domain and other sessions
+-- the host with other sessions, another session, other last questions, another domain, and other slots of a session's last reply
 abbrev pub with_sessions : HostView → List Session → HostView
-with_sessions h sessions = record { frames = h.frames; salt = h.salt; quota = h.quota; domain = h.domain; recent = h.recent; sessions = sessions }
+with_sessions h sessions = record { frames = h.frames; salt = h.salt; quota = h.quota; client_cpu = h.client_cpu; domain = h.domain; recent = h.recent; sessions = sessions; last = h.last }
 
 abbrev pub with_session : HostView → ℕ → Session → HostView
 with_session h n s = with_sessions h (slice_set h.sessions n s)
 
 abbrev pub with_recent : HostView → Recent → HostView
-with_recent h recent = record { frames = h.frames; salt = h.salt; quota = h.quota; domain = h.domain; recent = recent; sessions = h.sessions }
+with_recent h recent = record { frames = h.frames; salt = h.salt; quota = h.quota; client_cpu = h.client_cpu; domain = h.domain; recent = recent; sessions = h.sessions; last = h.last }
 
 abbrev pub with_domain : HostView → DomainView → HostView
-with_domain h domain = record { frames = h.frames; salt = h.salt; quota = h.quota; domain = domain; recent = h.recent; sessions = h.sessions }
+with_domain h domain = record { frames = h.frames; salt = h.salt; quota = h.quota; client_cpu = h.client_cpu; domain = domain; recent = h.recent; sessions = h.sessions; last = h.last }
+
+abbrev pub with_last : HostView → ℕ → List ℕ → HostView
+with_last h n slots = record { frames = h.frames; salt = h.salt; quota = h.quota; client_cpu = h.client_cpu; domain = h.domain; recent = h.recent; sessions = h.sessions; last = slice_set h.last n (record { items = slots }) }
 
 -- ---- faults
 
@@ -53,42 +59,48 @@ Breaks n s f received old new = (received ≡ got.Fault f) × (new ≡ with_sess
 -- ---- Hello
 
 abbrev pub welcome_to : HostView → List ℕ → Welcome
-welcome_to h name = record { name = name; frames = h.frames; salt = h.salt; most = MAX_IN_MESSAGE }
+welcome_to h name = record { name = name; frames = h.frames; salt = h.salt; most = MAX_IN_MESSAGE; client_cpu = h.client_cpu }
 
--- a session is taken up: the connection's number is its number now, and the old one is free. (One that can be taken up has begun)
-abbrev pub TakesUp : ℕ → ℕ → Option Begun → Received → HostView → HostView → Type 0
-TakesUp n before None received old new = (received ≡ got.NoSession) × (new ≡ old)
-TakesUp n before (Some b) received old new =
-    (received ≡ got.Welcome (welcome_to old b.name) (Some before))
-    × (new ≡ with_sessions old (slice_set (slice_set old.sessions before session.Free) n (session.Begun (heard b b.slots))))
+-- A session is taken up: the connection's number is its number now, and the old one is free. These slots are lost to its client, which
+-- has got so many replies to Lend: they are released.
+pub record Resumes (n before : ℕ) (b : Begun) (loans : ℕ) (lost : List ℕ) (received : Received) (old new : HostView) : Type 0 where
+  pub reply : received ≡ got.Resumed (welcome_to old b.name) before (record { items = freed_by b.client lost old.domain })
+  pub now : new ≡ with_last (with_session (with_session (with_domain old (after_releases b.client lost old.domain)) before session.Free) n
+      (session.Begun (heard_with b loans))) n []
+
+-- (One that can be taken up has begun)
+abbrev pub TakesUp : ℕ → ℕ → Option Begun → ℕ → Received → HostView → HostView → Type 0
+TakesUp n before None loans received old new = (received ≡ got.NoSession) × (new ≡ old)
+TakesUp n before (Some b) loans received old new = Resumes n before b loans (lost_of b loans (last_at old.last before)) received old new
 
 -- a session begins, with a new client
 abbrev pub Begins : ℕ → List ℕ → Option ℕ → Received → HostView → HostView → Type 0
 Begins n name None received old new = Breaks n (session.Silent name) fault.Clients received old new
 Begins n name (Some client) received old new =
-    (received ≡ got.Welcome (welcome_to old name) None)
-    × (new ≡ with_session (with_domain old (entered old.domain (Some client))) n (session.Begun (new_session name client)))
+    (received ≡ got.Welcome (welcome_to old name))
+    × (new ≡ with_last (with_session (with_domain old (entered old.domain (Some client))) n (session.Begun (new_session name client))) n [])
 
-abbrev pub Greets : ℕ → List ℕ → Option ℕ → Received → HostView → HostView → Type 0
-Greets n name None received old new = Begins n name (next_client old.domain) received old new
-Greets n name (Some before) received old new = TakesUp n before (begun_of (session_at old.sessions before)) received old new
+abbrev pub Greets : ℕ → List ℕ → Option ℕ → ℕ → Received → HostView → HostView → Type 0
+Greets n name None loans received old new = Begins n name (next_client old.domain) received old new
+Greets n name (Some before) loans received old new = TakesUp n before (begun_of (session_at old.sessions before)) loans received old new
 
 -- ---- the other messages, in a session that has begun
 
 pub record Asks (n : ℕ) (b : Begun) (questions : List Question) (received : Received) (old new : HostView) : Type 0 where
   pub reply : received ≡ got.Seen (record { items = answers_to (fingerprints_in old.salt old.domain.machines) b.client questions old.recent })
-  pub now : new ≡ with_session (with_recent old (asked b.client questions old.recent)) n (session.Begun (heard b b.slots))
+  pub now : new ≡ with_session (with_recent old (asked b.client questions old.recent)) n (session.Begun (heard b))
 
 pub record Releases (n : ℕ) (b : Begun) (slots : List ℕ) (received : Received) (old new : HostView) : Type 0 where
   pub reply : received ≡ got.Released (record { items = freed_by b.client slots old.domain })
-  pub now : new ≡ with_session (with_domain old (after_releases b.client slots old.domain)) n (session.Begun (heard b (left_after b.client b.slots slots old.domain)))
+  pub now : new ≡ with_session (with_domain old (after_releases b.client slots old.domain)) n (session.Begun (heard b))
 
+-- (each slot that stays reads the same bytes after as before)
 pub record LendsPages (hash : ℕ → List ℕ → ℕ) (n : ℕ) (b : Begun) (pages : List (List ℕ)) (received : Received) (old new : HostView) : Type 0 where
   pub loans : List Lent
-  pub slots : ℕ
-  pub lends : LendsInTurn hash b.client old.quota pages b.slots slots loans old.domain new.domain
+  pub lends : LendsInTurn hash b.client old.quota pages loans old.domain new.domain
+  pub bytes : BytesStay old.domain new.domain
   pub reply : received ≡ got.Loans (record { items = loans })
-  pub now : new ≡ with_session (with_domain old new.domain) n (session.Begun (heard b slots))
+  pub now : new ≡ with_last (with_session (with_domain old new.domain) n (session.Begun (lent b))) n (slots_in loans)
 
 -- so many pages of the buffer are lent, if it has as many. (No message that was read names more than 128)
 pub record LendsFirst (hash : ℕ → List ℕ → ℕ) (n : ℕ) (b : Begun) (count : ℕ) (pages : List (List ℕ)) (received : Received) (old new : HostView) : Type 0 where
@@ -100,7 +112,7 @@ pub record LendsFirst (hash : ℕ → List ℕ → ℕ) (n : ℕ) (b : Begun) (c
 
 -- the first message
 abbrev pub Opens : ℕ → List ℕ → ClientMessage → Received → HostView → HostView → Type 0
-Opens n name (client.Hello wanted) received old new = Greets n name (wanted_in old.sessions wanted) received old new
+Opens n name (client.Hello wanted) received old new = Greets n name (wanted_in old.sessions wanted) (loans_of wanted) received old new
 Opens n name (client.Ask questions) received old new = Breaks n (session.Silent name) fault.Early received old new
 Opens n name (client.Lend count) received old new = Breaks n (session.Silent name) fault.Early received old new
 Opens n name (client.Release slots) received old new = Breaks n (session.Silent name) fault.Early received old new

@@ -1,6 +1,10 @@
 -- Sessions by their numbers.
-use Rattle.std.specs.Prelude.{ℕ, ◌+◌, ◌%◌, ◌^◌, Bool, true, false, ◌&&◌, List, Option, Some, None, slice_set, slice_index_or, position}
+use Rattle.std.specs.Prelude.{ℕ, ◌+◌, ◌%◌, ◌^◌, Bool, true, false, ◌&&◌, ◌==◌, if◌then◌else◌, List, [], Option, Some, None, slice_set, slice_index_or, position}
 use Rattle.std.specs.Str.{bytes_eq}
+use Rattle.arrayvec.specs.ArrayVec.{ArrayVec}
+use Rattle.host_messages.specs.declared.client.Wanted.{Wanted}
+use Rattle.lent_slots.specs.Slots.{MachineView}
+use Rattle.share_domain.specs.Totals.{slots_of}
 use Rattle.host_sessions.specs.declared.session.SessionFault.{SessionFault}
 use Rattle.host_sessions.specs.declared.session.Link.{Link}
 use Rattle.host_sessions.specs.declared.session.Link.TheVariants as link
@@ -30,15 +34,22 @@ gone_link (link.Broken fault) = link.Broken fault
 gone_link link.Ended = link.Ended
 
 abbrev pub linked : Begun → Link → Begun
-linked b l = record { name = b.name; client = b.client; slots = b.slots; messages = b.messages; link = l }
+linked b l = record { name = b.name; client = b.client; messages = b.messages; loans = b.loans; link = l }
 
--- a session after one more message, with so many slots
-abbrev pub heard : Begun → ℕ → Begun
-heard b slots = record { name = b.name; client = b.client; slots = slots; messages = (b.messages + 1) % 2 ^ 64; link = link.Talking }
+-- a session after one more message, with so many replies to Lend
+abbrev pub heard_with : Begun → ℕ → Begun
+heard_with b loans = record { name = b.name; client = b.client; messages = (b.messages + 1) % 2 ^ 64; loans = loans; link = link.Talking }
+
+-- a session after a message that lent nothing, and after one that lent
+abbrev pub heard : Begun → Begun
+heard b = heard_with b b.loans
+
+abbrev pub lent : Begun → Begun
+lent b = heard_with b ((b.loans + 1) % 2 ^ 64)
 
 -- a session after its first message
 abbrev pub new_session : List ℕ → ℕ → Begun
-new_session name client = record { name = name; client = client; slots = 0; messages = 1; link = link.Talking }
+new_session name client = record { name = name; client = client; messages = 1; loans = 0; link = link.Talking }
 
 abbrev pub is_free : Session → Bool
 is_free session.Free = true
@@ -90,9 +101,29 @@ connected name None sessions = sessions
 connected name (Some n) sessions = slice_set sessions n (session.Silent name)
 
 -- the session that a client wants to take up
-abbrev pub wanted_in : List Session → Option (List ℕ) → Option ℕ
+abbrev pub wanted_in : List Session → Option Wanted → Option ℕ
 wanted_in sessions None = None
-wanted_in sessions (Some name) = position (is_gone_as name) sessions
+wanted_in sessions (Some wanted) = position (is_gone_as wanted.name) sessions
+
+-- how many replies to Lend a client has got in it
+abbrev pub loans_of : Option Wanted → ℕ
+loans_of None = 0
+loans_of (Some wanted) = wanted.loans
+
+-- ---- the slots of the last reply to Lend of each session
+
+abbrev pub Slots : Type 0
+Slots = ArrayVec ℕ
+
+abbrev pub no_slots : Slots
+no_slots = record { items = [] }
+
+abbrev pub last_at : List Slots → ℕ → List ℕ
+last_at last n = (slice_index_or last n no_slots).items
+
+-- those that a client doesn't know of: all of them, unless it has got as many replies as were sent
+abbrev pub lost_of : Begun → ℕ → List ℕ → List ℕ
+lost_of b loans last = if loans == b.loans then [] else last
 
 -- what has begun, if anything has
 abbrev pub begun_of : Session → Option Begun
@@ -100,3 +131,10 @@ begun_of session.Free = None
 begun_of (session.Silent name) = None
 begun_of (session.Refused fault) = None
 begun_of (session.Begun b) = Some b
+
+-- how many slots a session has among those of these machines: as many as its client holds
+abbrev pub session_slots : List MachineView → Session → ℕ
+session_slots machines session.Free = 0
+session_slots machines (session.Silent name) = 0
+session_slots machines (session.Refused fault) = 0
+session_slots machines (session.Begun b) = slots_of b.client machines

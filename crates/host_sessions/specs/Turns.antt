@@ -1,5 +1,5 @@
 -- What the pages, questions and slots of one message do, one after the other.
-use Rattle.std.specs.Prelude.{◌≡◌, ℕ, ◌+◌, ◌-◌, Bool, ◌||◌, ◌<◌, ◌≤◌, List, [], ◌∷◌, Option, Result, Ok, Err, MatchResult}
+use Rattle.std.specs.Prelude.{◌≡◌, ℕ, Bool, ◌||◌, ◌==◌, not, if◌then◌else◌, ◌<◌, ◌≤◌, List, [], ◌∷◌, Option, Result, Ok, Err, MatchResult}
 use Rattle.host_messages.specs.declared.item.Question.{Question}
 use Rattle.host_messages.specs.declared.item.Lent.{Lent}
 use Rattle.host_messages.specs.declared.limits.TheConstants.{NO_FRAME}
@@ -11,6 +11,7 @@ use Rattle.share_domain.specs.declared.fault.LendFault.{LendFault}
 use Rattle.share_domain.specs.declared.fault.NoSuchSlot.{NoSuchSlot}
 use Rattle.share_domain.specs.Domains.{DomainView, page_machine, LendsIn, RefusesIn, release_answer, after_release}
 use Rattle.share_domain.specs.Leaving.{told}
+use Rattle.share_domain.specs.Totals.{slots_of}
 use Rattle.share_domain.specs.Numbers.{slot_by, slot_number}
 
 -- ---- questions
@@ -22,14 +23,18 @@ page_of client q = record { client = client; number = q.page }
 abbrev pub answer_to : List (Option ℕ) → ℕ → Question → Recent → Bool
 answer_to frames client q recent = was_noted (page_of client q) q.fingerprint recent || is_held q.fingerprint frames
 
+-- the last questions after one: a passing one isn't noted
+abbrev pub after_question : ℕ → Question → Recent → Recent
+after_question client q recent = if q.is_passing then recent else with_note (page_of client q) q.fingerprint recent
+
 -- the answers to a client's questions, where the frames in use have these fingerprints; and the last questions after them
 unfoldable pub answers_to : List (Option ℕ) → ℕ → List Question → Recent → List Bool
 answers_to frames client [] recent = []
-answers_to frames client (q ∷ qs) recent = answer_to frames client q recent ∷ answers_to frames client qs (with_note (page_of client q) q.fingerprint recent)
+answers_to frames client (q ∷ qs) recent = answer_to frames client q recent ∷ answers_to frames client qs (after_question client q recent)
 
 unfoldable pub asked : ℕ → List Question → Recent → Recent
 asked client [] recent = recent
-asked client (q ∷ qs) recent = asked client qs (with_note (page_of client q) q.fingerprint recent)
+asked client (q ∷ qs) recent = asked client qs (after_question client q recent)
 
 -- ---- releases
 
@@ -38,12 +43,7 @@ abbrev pub told_of : Result (Option ℕ) NoSuchSlot → ℕ
 told_of (Ok frame) = told frame
 told_of (Err fault) = NO_FRAME
 
--- the slots that a client has after a release of one
-abbrev pub slots_left : ℕ → Result (Option ℕ) NoSuchSlot → ℕ
-slots_left slots (Ok frame) = slots - 1
-slots_left slots (Err fault) = slots
-
--- what is told of a client's releases; the domain after them; and how many slots the client has then
+-- what is told of a client's releases, and the domain after them
 unfoldable pub freed_by : ℕ → List ℕ → DomainView → List ℕ
 freed_by client [] d = []
 freed_by client (s ∷ ss) d = told_of (release_answer client (slot_by s) d) ∷ freed_by client ss (after_release client (slot_by s) d)
@@ -51,10 +51,6 @@ freed_by client (s ∷ ss) d = told_of (release_answer client (slot_by s) d) ∷
 unfoldable pub after_releases : ℕ → List ℕ → DomainView → DomainView
 after_releases client [] d = d
 after_releases client (s ∷ ss) d = after_releases client ss (after_release client (slot_by s) d)
-
-unfoldable pub left_after : ℕ → ℕ → List ℕ → DomainView → ℕ
-left_after client slots [] d = slots
-left_after client slots (s ∷ ss) d = left_after client (slots_left slots (release_answer client (slot_by s) d)) ss (after_release client (slot_by s) d)
 
 -- ---- lends
 
@@ -66,10 +62,14 @@ abbrev pub lent_by : Result Loan LendFault → Lent
 lent_by (Ok loan) = record { slot = slot_number loan.slot; frame = loan.frame; sharers = loan.sharers }
 lent_by (Err fault) = not_lent
 
--- the slots that a client has after a page of it was lent, or was not
-abbrev pub slots_with : ℕ → Result Loan LendFault → ℕ
-slots_with slots (Ok loan) = slots + 1
-slots_with slots (Err fault) = slots
+-- whether a page was lent
+abbrev pub is_lent : Lent → Bool
+is_lent lent = not (lent.frame == NO_FRAME)
+
+-- the slots of the pages that were lent
+unfoldable pub slots_in : List Lent → List ℕ
+slots_in [] = []
+slots_in (lent ∷ loans) = if is_lent lent then lent.slot ∷ slots_in loans else slots_in loans
 
 -- the domain lends the page, or refuses it
 abbrev pub Answers : (ℕ → List ℕ → ℕ) → ℕ → List ℕ → Result Loan LendFault → DomainView → DomainView → Type 0
@@ -77,27 +77,21 @@ Answers hash client page answer old new = MatchResult answer
     (λ loan. LendsIn (page_machine hash old page) client page loan old new)
     (λ fault. RefusesIn (page_machine hash old page) client fault old × (new ≡ old))
 
--- a page of a client that has so many slots: how many it has then, what it is told, and the domain then
-pub record Lends (hash : ℕ → List ℕ → ℕ) (client : ℕ) (page : List ℕ) (slots after : ℕ) (lent : Lent) (old new : DomainView) : Type 0 where
+-- a page of a client: what it is told, and the domain then
+pub record Lends (hash : ℕ → List ℕ → ℕ) (client : ℕ) (page : List ℕ) (lent : Lent) (old new : DomainView) : Type 0 where
   pub answer : Result Loan LendFault
   pub answers : Answers hash client page answer old new
   pub lent-is : lent ≡ lent_by answer
-  pub slots-are : after ≡ slots_with slots answer
 
 -- a client that has as many slots as it may have gets no more
-pub record Keeps (slots after : ℕ) (lent : Lent) (old new : DomainView) : Type 0 where
-  pub lent-is : lent ≡ not_lent
-  pub slots-are : after ≡ slots
-  pub same : new ≡ old
-
-pub record LendsOne (hash : ℕ → List ℕ → ℕ) (client quota : ℕ) (page : List ℕ) (slots after : ℕ) (lent : Lent) (old new : DomainView) : Type 0 where
-  pub within : slots < quota → Lends hash client page slots after lent old new
-  pub full : quota ≤ slots → Keeps slots after lent old new
+pub record LendsOne (hash : ℕ → List ℕ → ℕ) (client quota : ℕ) (page : List ℕ) (lent : Lent) (old new : DomainView) : Type 0 where
+  pub within : slots_of client old.machines < quota → Lends hash client page lent old new
+  pub full : quota ≤ slots_of client old.machines → (lent ≡ not_lent) × (new ≡ old)
 
 -- the pages of a message, one after the other
-unfoldable pub LendsInTurn : (ℕ → List ℕ → ℕ) → ℕ → ℕ → List (List ℕ) → ℕ → ℕ → List Lent → DomainView → DomainView → Type 0
-LendsInTurn hash client quota [] slots after [] old new = (after ≡ slots) × (new ≡ old)
-LendsInTurn hash client quota (page ∷ pages) slots after [] old new = ⊥
-LendsInTurn hash client quota [] slots after (lent ∷ loans) old new = ⊥
-LendsInTurn hash client quota (page ∷ pages) slots after (lent ∷ loans) old new =
-    (mid : DomainView) × (between : ℕ) × LendsOne hash client quota page slots between lent old mid × LendsInTurn hash client quota pages between after loans mid new
+unfoldable pub LendsInTurn : (ℕ → List ℕ → ℕ) → ℕ → ℕ → List (List ℕ) → List Lent → DomainView → DomainView → Type 0
+LendsInTurn hash client quota [] [] old new = new ≡ old
+LendsInTurn hash client quota (page ∷ pages) [] old new = ⊥
+LendsInTurn hash client quota [] (lent ∷ loans) old new = ⊥
+LendsInTurn hash client quota (page ∷ pages) (lent ∷ loans) old new =
+    (mid : DomainView) × LendsOne hash client quota page lent old mid × LendsInTurn hash client quota pages loans mid new

@@ -13,8 +13,11 @@ pub enum Received {
     NoSession,
     /// The packet was at fault. Its session takes no more.
     Fault(SessionFault),
-    /// The session began, or the one with this number was taken up, which is free now.
-    Welcome(Welcome, Option<u32>),
+    /// The session began.
+    Welcome(Welcome),
+    /// The session with this number was taken up, and the number is free now. For each slot of its last reply to `Lend`, if that
+    /// didn't arrive, the frame that its release freed, or `NO_FRAME`.
+    Resumed(Welcome, u32, ArrayVec<u32, MAX_IN_MESSAGE>),
     /// For each page, whether another one was asked about with its fingerprint lately, or a frame in use has it.
     Seen(ArrayVec<bool, MAX_IN_MESSAGE>),
     /// What became of each page.
@@ -31,7 +34,8 @@ impl Received {
         match self {
             Received::NoSession => ArrayVec::new(),
             Received::Fault(_) => ArrayVec::new(),
-            Received::Welcome(welcome, _) => HostMessage::Welcome(welcome).to_bytes(),
+            Received::Welcome(welcome) => HostMessage::Welcome(welcome).to_bytes(),
+            Received::Resumed(welcome, _, _) => HostMessage::Welcome(welcome).to_bytes(),
             Received::Seen(answers) => HostMessage::Seen(answers).to_bytes(),
             Received::Loans(loans) => HostMessage::Loans(loans).to_bytes(),
             Received::Released(_) => ArrayVec::new(),

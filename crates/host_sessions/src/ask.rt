@@ -1,7 +1,7 @@
 //! Questions that are answered one after the other.
 ghost use Rattle.std.specs.Prelude.{◌≡◌, ◌≤◌, length};
-ghost use Rattle.host_sessions.specs.Turns.{answer_to, answers_to, asked, page_of};
-ghost use Rattle.recent_fingerprints.specs.Notes.{with_note};
+ghost use Rattle.host_sessions.specs.Turns.{after_question, answer_to, answers_to, asked, page_of};
+ghost use Rattle.recent_fingerprints.specs.Notes.{was_noted};
 ghost use Rattle.fingerprint_domain.specs.Known.{fingerprints_in};
 ghost use Rattle.host_messages.specs.declared.limits.TheConstants.{MAX_IN_MESSAGE};
 
@@ -38,12 +38,27 @@ fn ask_one<H: PageHash, A: Allocator>(
     question: &Question,
 ) -> bool
     ensures answer { result ≡ answer_to (fingerprints_in domain.now.salt domain.now.domain.machines) client question.now recent.old }
-    ensures noted { recent.new ≡ with_note (page_of client question.now) question.now.fingerprint recent.old }
+    ensures noted { recent.new ≡ after_question client question.now recent.old }
+{
+    let noted = note_one(recent, client, question);
+    noted || domain.has(question.fingerprint)
+}
+
+/// Whether another page was noted with a question's fingerprint. Notes the question, unless it is a passing one.
+fn note_one<A: Allocator>(
+    recent: &mut RecentFingerprints<A>,
+    client: u32,
+    question: &Question,
+) -> bool
+    ensures answer { result ≡ was_noted (page_of client question.now) question.now.fingerprint recent.old }
+    ensures noted { recent.new ≡ after_question client question.now recent.old }
 {
     let page = PageName {
         client,
         number: question.page,
     };
-    let noted = recent.ask(page, question.fingerprint);
-    noted || domain.has(question.fingerprint)
+    if question.is_passing {
+        return recent.was_noted(page, question.fingerprint);
+    }
+    recent.ask(page, question.fingerprint)
 }

@@ -14,4 +14,6 @@ pub struct HostConfig {
     pub salt: u32,
     /// The most slots of one session.
     pub quota: u32,
+    /// The percentage of one processor that clients are told to use at most, or 0.
+    pub client_cpu: u32,
 }

@@ -4,7 +4,7 @@ ghost use Rattle.host_sessions.specs.Table.{is_free, is_gone_as, next_number, wa
 ghost use Rattle.share_domain.specs.declared.config.TheConstants.{MAX_CLIENTS};
 
 use crate::session::Session;
-use host_messages::Name;
+use host_messages::{Name, Wanted};
 
 fn first_free(sessions: &[Session]) -> Option<usize>
     ensures { result ≡ position is_free sessions.now }
@@ -43,13 +43,13 @@ fn find_gone(sessions: &[Session], name: &Name) -> Option<u32>
 }
 
 /// Returns the number of the session that a client wants to take up, if there is one.
-pub(crate) fn find_wanted(sessions: &[Session], wanted: &Option<Name>) -> Option<u32>
+pub(crate) fn find_wanted(sessions: &[Session], wanted: &Option<Wanted>) -> Option<u32>
     requires { length sessions.now ≤ MAX_CLIENTS }
     ensures number { result ≡ wanted_in sessions.now wanted.now }
     ensures within { IfSome result (λ n. n < length sessions.now) }
 {
     match wanted {
         None => None,
-        Some(name) => find_gone(sessions, name),
+        Some(wanted) => find_gone(sessions, &wanted.name),
     }
 }

@@ -1,10 +1,12 @@
 //! The host.
 ghost use Rattle.std.specs.Prelude.{◌≡◌, ◌≤◌, ◌<◌, true, false, ◌*◌, length, not, replicate, IfOk};
-ghost use Rattle.host_sessions.specs.Table.{session_at, next_number, connected, takes, gone, is_free, wanted_in, begun_of, new_session};
-ghost use Rattle.host_sessions.specs.Steps.{with_sessions, with_session, welcome_to, Breaks, Greets, Begins, TakesUp, Asks, Releases, LendsFirst, LendsPages, Opens, Talks, Steps, Hears, Receives};
+ghost use Rattle.host_sessions.specs.Table.{session_at, next_number, connected, takes, gone, is_free, wanted_in, loans_of, begun_of, new_session, no_slots, last_at, lost_of, session_slots};
+ghost use Rattle.host_sessions.specs.Steps.{with_sessions, with_session, with_last, with_domain, welcome_to, Breaks, Greets, Begins, Resumes, TakesUp, Asks, Releases, LendsFirst, LendsPages, Opens, Talks, Steps, Hears, Receives};
+ghost use Rattle.host_sessions.specs.Turns.{freed_by, after_releases};
 ghost use Rattle.host_sessions.specs.Others.{SparesOthers};
 ghost use Rattle.host_sessions.specs.Ends.{Ends, EndsBegun, ended, count_of};
 ghost use Rattle.host_messages.specs.Reading.{client_at};
+ghost use Rattle.share_domain.specs.Bytes.{BytesStay};
 ghost use Rattle.share_domain.specs.Domains.{next_client};
 ghost use Rattle.share_domain.specs.Made.{AreFree};
 ghost use Rattle.share_domain.specs.Totals.{domain_totals};
@@ -16,11 +18,12 @@ use crate::answer::Received;
 use crate::ask::ask_each;
 use crate::config::HostConfig;
 use crate::find::{find_free, find_wanted};
-use crate::lend::lend_each;
+use crate::lend::{lend_each, slots_in};
 use crate::release::release_each;
 use crate::session::{Begun, Link, Session, SessionFault};
+use arrayvec::ArrayVec;
 use fingerprint_domain::FingerprintDomain;
-use host_messages::{ClientMessage, MAX_IN_MESSAGE, MessageFault, Name, Question, Welcome};
+use host_messages::{ClientMessage, MAX_IN_MESSAGE, MessageFault, Name, Question, Wanted, Welcome};
 use machine_frames::Frames;
 use page_digest::PageHash;
 use page_model::Page;
@@ -34,21 +37,26 @@ use std::marker::Model;
 pub struct Host<H: PageHash, A: Allocator = Global> {
     frames: u32,
     quota: u32,
+    client_cpu: u32,
     domain: FingerprintDomain<H, A>,
     recent: RecentFingerprints<A>,
     sessions: Vec<Session, A>,
+    last: Vec<Slots, A>,
 }
 
+/// The slots of a reply to `Lend`.
+type Slots = ArrayVec<u64, MAX_IN_MESSAGE>;
+
 impl<H: PageHash, A: Allocator> Model for Host<H, A> {
-    ghost use Rattle.std.specs.Prelude.{◌≤◌, length};
+    ghost use Rattle.std.specs.Prelude.{◌≡◌, ◌≤◌, length};
     ghost use Rattle.host_sessions.specs.Steps.{HostView};
     ghost use Rattle.share_domain.specs.declared.config.TheConstants.{MAX_CLIENTS};
 
     ghost Value = { HostView };
 
-    ghost view = { λ h. record { frames = h.frames; salt = h.domain.salt; quota = h.quota; domain = h.domain.domain; recent = h.recent; sessions = h.sessions.items } };
+    ghost view = { λ h. record { frames = h.frames; salt = h.domain.salt; quota = h.quota; client_cpu = h.client_cpu; domain = h.domain.domain; recent = h.recent; sessions = h.sessions.items; last = h.last.items } };
 
-    ghost invariant = { λ h. length h.sessions.items ≤ MAX_CLIENTS };
+    ghost invariant = { λ h. (length h.sessions.items ≤ MAX_CLIENTS) × (length h.last.items ≡ length h.sessions.items) };
 }
 
 impl<H: PageHash + Drop + Copy, A: Allocator + Clone> Host<H, A> {
@@ -73,6 +81,7 @@ impl<H: PageHash + Drop + Copy, A: Allocator + Clone> Host<H, A> {
             config.seed,
         )?;
         let sessions = new_sessions(alloc.clone()?, config.domain.clients)?;
+        let last = new_last(alloc.clone()?, config.domain.clients)?;
         let domain = FingerprintDomain::with_frames(
             alloc,
             &config.domain,
@@ -84,9 +93,11 @@ impl<H: PageHash + Drop + Copy, A: Allocator + Clone> Host<H, A> {
         Ok(Host {
             frames: total_frames(config.domain.machines, config.domain.frames),
             quota: config.quota,
+            client_cpu: config.client_cpu,
             domain,
             recent,
             sessions,
+            last,
         })
     }
 }
@@ -111,6 +122,17 @@ fn new_sessions<A: Allocator>(alloc: A, count: u32) -> Result<Vec<Session, A>, A
     Ok(sessions)
 }
 
+/// Makes the slots of last replies of so many sessions, none of which has any.
+fn new_last<A: Allocator>(alloc: A, count: u32) -> Result<Vec<Slots, A>, AllocError>
+    ensures { IfOk result (λ last. last.items ≡ replicate count no_slots) }
+{
+    let mut last = Vec::with_capacity(alloc, count as usize)?;
+    for _ in 0..count {
+        last.push_reserved(ArrayVec::new());
+    }
+    Ok(last)
+}
+
 impl<H: PageHash, A: Allocator> Host<H, A> {
     /// A peer has connected: its session gets the first number that no session has, and has said nothing. Its name is drawn at
     /// random. Returns `None` if there are as many sessions as there may be.
@@ -128,10 +150,11 @@ impl<H: PageHash, A: Allocator> Host<H, A> {
     }
 
     /// Receives a packet of a session. `pages` are the pages of the buffer that lies beside it. Whatever the bytes are, the slots of
-    /// every other client stay as they are.
+    /// every client but the one that has the session afterwards stay as they are.
     pub fn receive(&mut self, number: u32, bytes: &[u8], pages: &[Page]) -> Received
         ensures receives { Receives H.hash_of number bytes.now pages.now result self.old self.new }
-        ensures others { SparesOthers (session_at self.old.sessions number) self.old.domain self.new.domain }
+        ensures others { SparesOthers (session_at self.new.sessions number) self.old.domain self.new.domain }
+        ensures bytes { BytesStay self.old.domain self.new.domain }
     {
         self.hear(number, bytes, pages)
     }
@@ -191,10 +214,11 @@ impl<H: PageHash, A: Allocator> Host<H, A> {
     /// [`FingerprintDomain::leave`] does. Call it until it returns 0: then no session has the number. Returns `None` if none has it.
     pub fn end(&mut self, number: u32, freed: &mut [u32]) -> Option<usize>
         requires room { 1 ≤ length freed.old }
-        ensures { Ends number (session_at self.old.sessions number) result freed.old freed.new self.old self.new }
+        ensures ends { Ends number (session_at self.old.sessions number) result freed.old freed.new self.old self.new }
+        ensures others { SparesOthers (session_at self.old.sessions number) self.old.domain self.new.domain }
+        ensures bytes { BytesStay self.old.domain self.new.domain }
     {
-        let session = self.session(number);
-        self.end_as(number, session, freed)
+        self.end_number(number, freed)
     }
 
     /// Returns a session, which is free where there is no such number.
@@ -206,6 +230,18 @@ impl<H: PageHash, A: Allocator> Host<H, A> {
             return Session::Free;
         }
         self.sessions[number as usize]
+    }
+
+    /// Returns how many slots a session has: as many as its client holds.
+    pub fn slots_of(&self, number: u32) -> u32
+        ensures { result ≡ session_slots self.now.domain.machines (session_at self.now.sessions number) }
+    {
+        match self.session(number) {
+            Session::Free => 0,
+            Session::Silent(_) => 0,
+            Session::Refused(_) => 0,
+            Session::Begun(begun) => self.domain.held_by(begun.client),
+        }
     }
 
     /// Returns what the domain counts. It looks at each slot.
@@ -232,6 +268,14 @@ impl<H: PageHash, A: Allocator> Host<H, A> {
         ensures { self.new ≡ with_session self.old number session }
     {
         self.sessions[number as usize] = session;
+    }
+
+    /// Notes the slots of a session's last reply to `Lend`.
+    fn put_last(&mut self, number: u32, slots: Slots)
+        requires { number < length self.old.sessions }
+        ensures { self.new ≡ with_last self.old number slots.items }
+    {
+        self.last[number as usize] = slots;
     }
 
     /// Notes that a packet was at fault.
@@ -282,13 +326,13 @@ impl<H: PageHash, A: Allocator> Host<H, A> {
     }
 
     /// Takes up the session that the client wants, or begins one.
-    fn greet(&mut self, number: u32, name: Name, wanted: Option<Name>) -> Received
+    fn greet(&mut self, number: u32, name: Name, wanted: Option<Wanted>) -> Received
         requires { number < length self.old.sessions }
-        ensures { Greets number name (wanted_in self.old.sessions wanted) result self.old self.new }
+        ensures { Greets number name (wanted_in self.old.sessions wanted) (loans_of wanted) result self.old self.new }
     {
         match find_wanted(&self.sessions, &wanted) {
             None => self.begin(number, name),
-            Some(before) => self.take_up(number, before),
+            Some(before) => self.take_up(number, before, loans_of(&wanted)),
         }
     }
 
@@ -301,26 +345,58 @@ impl<H: PageHash, A: Allocator> Host<H, A> {
             None => self.break_off(number, Session::Silent(name), SessionFault::Clients),
             Some(client) => {
                 self.put(number, Session::Begun(new_session(name, client)));
-                Received::Welcome(self.welcome_to(name), None)
+                self.put_last(number, ArrayVec::new());
+                Received::Welcome(self.welcome_to(name))
             }
         }
     }
 
-    /// Takes up a session that has begun.
-    fn take_up(&mut self, number: u32, before: u32) -> Received
+    /// Takes up a session that has begun, whose client has got so many replies to `Lend`.
+    fn take_up(&mut self, number: u32, before: u32, loans: u64) -> Received
         requires number { number < length self.old.sessions }
         requires before { before < length self.old.sessions }
-        ensures { TakesUp number before (begun_of (session_at self.old.sessions before)) result self.old self.new }
+        ensures { TakesUp number before (begun_of (session_at self.old.sessions before)) loans result self.old self.new }
     {
         match self.begun(before) {
             None => Received::NoSession,
-            Some(begun) => {
-                self.put(before, Session::Free);
-                self.put(number, Session::Begun(begun.heard(begun.slots)));
-                let name = begun.name;
-                Received::Welcome(self.welcome_to(name), Some(before))
-            }
+            Some(begun) => self.resume(number, before, begun, loans),
         }
+    }
+
+    /// Takes up this session.
+    fn resume(&mut self, number: u32, before: u32, begun: Begun, loans: u64) -> Received
+        requires number { number < length self.old.sessions }
+        requires before { before < length self.old.sessions }
+        ensures { Resumes number before begun loans (lost_of begun loans (last_at self.old.last before)) result self.old self.new }
+    {
+        let lost = self.release_lost(before, begun, loans);
+        self.put(before, Session::Free);
+        self.put(number, Session::Begun(begun.heard_with(loans)));
+        self.put_last(number, ArrayVec::new());
+        let name = begun.name;
+        Received::Resumed(self.welcome_to(name), before, lost)
+    }
+
+    /// Releases the slots of a session's last reply to `Lend`, if its client didn't get that.
+    #[tactic(auto, unfolding(crate::specs::Turns::freed_by, crate::specs::Turns::after_releases))]
+    fn release_lost(
+        &mut self,
+        before: u32,
+        begun: Begun,
+        loans: u64,
+    ) -> ArrayVec<u32, MAX_IN_MESSAGE>
+        requires { before < length self.old.sessions }
+        ensures freed { result.items ≡ freed_by begun.client (lost_of begun loans (last_at self.old.last before)) self.old.domain }
+        ensures now { self.new ≡ with_domain self.old (after_releases begun.client (lost_of begun loans (last_at self.old.last before)) self.old.domain) }
+    {
+        if loans == begun.loans {
+            return ArrayVec::new();
+        }
+        release_each(
+            &mut self.domain,
+            begun.client,
+            self.last[before as usize].as_slice(),
+        )
     }
 
     /// Returns a session if it has begun.
@@ -344,6 +420,7 @@ impl<H: PageHash, A: Allocator> Host<H, A> {
             frames: self.frames,
             salt: self.domain.salt(),
             most: MAX_IN_MESSAGE as u32,
+            client_cpu: self.client_cpu,
         }
     }
 
@@ -375,7 +452,7 @@ impl<H: PageHash, A: Allocator> Host<H, A> {
         ensures { Asks number begun questions.now result self.old self.new }
     {
         let answers = ask_each(&self.domain, &mut self.recent, begun.client, questions);
-        self.put(number, Session::Begun(begun.heard(begun.slots)));
+        self.put(number, Session::Begun(begun.heard()));
         Received::Seen(answers)
     }
 
@@ -385,9 +462,9 @@ impl<H: PageHash, A: Allocator> Host<H, A> {
         requires few { length slots.now ≤ MAX_IN_MESSAGE }
         ensures { Releases number begun slots.now result self.old self.new }
     {
-        let released = release_each(&mut self.domain, begun.client, begun.slots, slots);
-        self.put(number, Session::Begun(begun.heard(released.slots)));
-        Received::Released(released.freed)
+        let freed = release_each(&mut self.domain, begun.client, slots);
+        self.put(number, Session::Begun(begun.heard()));
+        Received::Released(freed)
     }
 
     /// Lends the first pages of a buffer, if it has so many.
@@ -410,15 +487,19 @@ impl<H: PageHash, A: Allocator> Host<H, A> {
         requires few { length pages.now ≤ MAX_IN_MESSAGE }
         ensures { LendsPages H.hash_of number begun pages.now result self.old self.new }
     {
-        let lent = lend_each(
-            &mut self.domain,
-            begun.client,
-            self.quota,
-            begun.slots,
-            pages,
-        );
-        self.put(number, Session::Begun(begun.heard(lent.slots)));
-        Received::Loans(lent.loans)
+        let loans = lend_each(&mut self.domain, begun.client, self.quota, pages);
+        self.put(number, Session::Begun(begun.lent()));
+        self.put_last(number, slots_in(loans.as_slice()));
+        Received::Loans(loans)
+    }
+
+    /// Ends the session with a number.
+    fn end_number(&mut self, number: u32, freed: &mut [u32]) -> Option<usize>
+        requires room { 1 ≤ length freed.old }
+        ensures { Ends number (session_at self.old.sessions number) result freed.old freed.new self.old self.new }
+    {
+        let session = self.session(number);
+        self.end_as(number, session, freed)
     }
 
     /// Ends a session.
@@ -465,6 +546,16 @@ fn count_of(answer: Option<usize>) -> usize
     }
 }
 
+/// Returns how many replies to `Lend` a client has got in the session that it wants to take up.
+fn loans_of(wanted: &Option<Wanted>) -> u64
+    ensures { result ≡ loans_of wanted.now }
+{
+    match wanted {
+        None => 0,
+        Some(wanted) => wanted.loans,
+    }
+}
+
 /// Returns a session after its first message.
 fn new_session(name: Name, client: u32) -> Begun
     ensures { result ≡ new_session name client }
@@ -472,8 +563,8 @@ fn new_session(name: Name, client: u32) -> Begun
     Begun {
         name,
         client,
-        slots: 0,
         messages: 1,
+        loans: 0,
         link: Link::Talking,
     }
 }
@@ -489,8 +580,8 @@ fn ended(begun: Begun, count: usize) -> Session
     Session::Begun(Begun {
         name,
         client: begun.client,
-        slots: (begun.slots as usize).saturating_sub(count) as u32,
         messages: begun.messages,
+        loans: begun.loans,
         link: Link::Ended,
     })
 }

@@ -1,6 +1,8 @@
 //! Pages that are lent one after the other.
-ghost use Rattle.std.specs.Prelude.{◌≡◌, ◌≤◌, ◌<◌, ◌+◌, ◌^◌, length};
-ghost use Rattle.host_sessions.specs.Turns.{LendsInTurn, LendsOne, Lends, lent_by, slots_with, not_lent};
+ghost use Rattle.std.specs.Prelude.{◌≡◌, ◌≤◌, ◌+◌, ◌++◌, ◌∷◌, [], length};
+ghost use Rattle.arrayvec.specs.ArrayVec.{array_vec_len};
+ghost use Rattle.share_domain.specs.Bytes.{BytesStay};
+ghost use Rattle.host_sessions.specs.Turns.{LendsInTurn, LendsOne, Lends, lent_by, slots_in, not_lent};
 ghost use Rattle.host_messages.specs.declared.limits.TheConstants.{MAX_IN_MESSAGE};
 
 use arrayvec::ArrayVec;
@@ -11,81 +13,55 @@ use page_model::Page;
 use share_domain::{LendFault, Loan, slot_number};
 use std::alloc::Allocator;
 
-/// What became of a message's pages, and how many slots the session has since.
-#[derive(Drop)]
-pub(crate) struct Lending {
-    pub(crate) loans: ArrayVec<Lent, MAX_IN_MESSAGE>,
-    pub(crate) slots: u32,
-}
-
-/// What became of a page, and how many slots the session has since.
-#[derive(Clone, Copy)]
-pub(crate) struct LentPage {
-    pub(crate) lent: Lent,
-    pub(crate) slots: u32,
-}
-
-/// Lends pages of a client that has so many slots, one after the other.
+/// Lends pages of a client, one after the other.
 pub(crate) fn lend_each<H: PageHash, A: Allocator>(
     domain: &mut FingerprintDomain<H, A>,
     client: u32,
     quota: u32,
-    slots: u32,
     pages: &[Page],
-) -> Lending
+) -> ArrayVec<Lent, MAX_IN_MESSAGE>
     requires { length pages.now ≤ MAX_IN_MESSAGE }
-    ensures lends { LendsInTurn H.hash_of client quota pages.now slots result.slots result.loans.items domain.old.domain domain.new.domain }
+    ensures lends { LendsInTurn H.hash_of client quota pages.now result.items domain.old.domain domain.new.domain }
+    ensures len { length result.items ≤ MAX_IN_MESSAGE }
     ensures salt { domain.new.salt ≡ domain.old.salt }
+    ensures bytes { BytesStay domain.old.domain domain.new.domain }
 {
     let mut loans = ArrayVec::new();
-    let mut count = slots;
     for page in pages {
-        let one = lend_one(domain, client, quota, count, page);
-        loans.push(one.lent);
-        count = one.slots;
+        loans.push(lend_one(domain, client, quota, page));
     }
-    Lending {
-        loans,
-        slots: count,
-    }
+    loans
 }
 
-/// Lends a page of a client that has so many slots, if it may have more.
-pub(crate) fn lend_one<H: PageHash, A: Allocator>(
+/// Lends a page of a client, if it may have more slots.
+fn lend_one<H: PageHash, A: Allocator>(
     domain: &mut FingerprintDomain<H, A>,
     client: u32,
     quota: u32,
-    slots: u32,
     page: &Page,
-) -> LentPage
-    ensures lends { LendsOne H.hash_of client quota page.now slots result.slots result.lent domain.old.domain domain.new.domain }
+) -> Lent
+    ensures lends { LendsOne H.hash_of client quota page.now result domain.old.domain domain.new.domain }
     ensures salt { domain.new.salt ≡ domain.old.salt }
+    ensures bytes { BytesStay domain.old.domain domain.new.domain }
 {
-    if slots < quota {
-        return lend_within(domain, client, slots, page);
+    if domain.held_by(client) < quota {
+        return lend_within(domain, client, page);
     }
-    LentPage {
-        lent: not_lent(),
-        slots,
-    }
+    not_lent()
 }
 
-/// Lends a page of a client that has so many slots.
+/// Lends a page of a client.
 fn lend_within<H: PageHash, A: Allocator>(
     domain: &mut FingerprintDomain<H, A>,
     client: u32,
-    slots: u32,
     page: &Page,
-) -> LentPage
-    requires { slots + 1 < 2 ^ 32 }
-    ensures lends { Lends H.hash_of client page.now slots result.slots result.lent domain.old.domain domain.new.domain }
+) -> Lent
+    ensures lends { Lends H.hash_of client page.now result domain.old.domain domain.new.domain }
     ensures salt { domain.new.salt ≡ domain.old.salt }
+    ensures bytes { BytesStay domain.old.domain domain.new.domain }
 {
     let answer = domain.lend(client, page);
-    LentPage {
-        lent: lent_by(&answer),
-        slots: slots_with(slots, &answer),
-    }
+    lent_by(&answer)
 }
 
 /// Returns what a client is told of a page.
@@ -102,14 +78,27 @@ fn lent_by(answer: &Result<Loan, LendFault>) -> Lent
     }
 }
 
-/// Returns how many slots a client has after a page of it was lent, or was not.
-fn slots_with(slots: u32, answer: &Result<Loan, LendFault>) -> u32
-    requires { slots + 1 < 2 ^ 32 }
-    ensures { result ≡ slots_with slots answer.now }
+/// Returns the slots of the pages that were lent.
+pub(crate) fn slots_in(loans: &[Lent]) -> ArrayVec<u64, MAX_IN_MESSAGE>
+    requires { length loans.now ≤ MAX_IN_MESSAGE }
+    ensures { result.items ≡ slots_in loans.now }
 {
-    match answer {
-        Err(_) => slots,
-        Ok(_) => slots + 1,
+    let mut slots = ArrayVec::new();
+    for lent in loans {
+        push_lent(&mut slots, lent);
+    }
+    slots
+}
+
+/// Puts a page's slot behind others, if the page was lent.
+#[tactic(auto, unfolding(crate::specs::Turns::slots_in))]
+fn push_lent(slots: &mut ArrayVec<u64, MAX_IN_MESSAGE>, lent: &Lent)
+    requires { array_vec_len slots.old + 1 ≤ MAX_IN_MESSAGE }
+    ensures items { slots.new.items ≡ slots.old.items ++ slots_in (lent.now ∷ []) }
+    ensures len { array_vec_len slots.new ≤ array_vec_len slots.old + 1 }
+{
+    if lent.frame != NO_FRAME {
+        slots.push(lent.slot);
     }
 }
 

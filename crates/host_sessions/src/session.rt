@@ -1,6 +1,6 @@
 //! Sessions.
 ghost use Rattle.std.specs.Prelude.{◌≡◌};
-ghost use Rattle.host_sessions.specs.Table.{is_talking, is_gone, gone_link, linked, heard, takes, faulted, gone, is_free, is_gone_as};
+ghost use Rattle.host_sessions.specs.Table.{is_talking, is_gone, gone_link, linked, heard, heard_with, lent, takes, faulted, gone, is_free, is_gone_as};
 
 use host_messages::{MessageFault, Name};
 use thiserror::Error;
@@ -45,10 +45,10 @@ pub struct Begun {
     pub name: Name,
     /// Its number among the domain's clients.
     pub client: u32,
-    /// How many slots its messages made, less those that they released.
-    pub slots: u32,
     /// How many messages it sent, modulo 2^64.
     pub messages: u64,
+    /// How many replies to `Lend` were sent in it, modulo 2^64; or as many as its client said when it was taken up, and later ones.
+    pub loans: u64,
     /// How it is connected.
     pub link: Link,
 }
@@ -113,24 +113,38 @@ impl Begun {
         Begun {
             name,
             client: self.client,
-            slots: self.slots,
             messages: self.messages,
+            loans: self.loans,
             link,
         }
     }
 
-    /// Returns the session after one more message, with so many slots. It takes messages.
-    pub(crate) fn heard(self, slots: u32) -> Begun
-        ensures { result ≡ heard self slots }
+    /// Returns the session after one more message. It takes messages.
+    pub(crate) fn heard(self) -> Begun
+        ensures { result ≡ heard self }
+    {
+        self.heard_with(self.loans)
+    }
+
+    /// Returns the session after one more message, whose client has got so many replies to `Lend`. It takes messages.
+    pub(crate) fn heard_with(self, loans: u64) -> Begun
+        ensures { result ≡ heard_with self loans }
     {
         let name = self.name;
         Begun {
             name,
             client: self.client,
-            slots,
             messages: self.messages.wrapping_add(1),
+            loans,
             link: Link::Talking,
         }
+    }
+
+    /// Returns the session after a message that lent.
+    pub(crate) fn lent(self) -> Begun
+        ensures { result ≡ lent self }
+    {
+        self.heard_with(self.loans.wrapping_add(1))
     }
 }
 

@@ -7,7 +7,9 @@ use Rattle.host_sessions.specs.declared.session.Link.{Link}
 use Rattle.host_sessions.specs.declared.session.Link.TheVariants as link
 use Rattle.host_sessions.specs.declared.session.Session.{Session}
 use Rattle.host_sessions.specs.declared.session.Session.TheVariants as session
-use Rattle.host_sessions.specs.Table.{session_at, next_number, connected, gone, is_free}
+use Rattle.share_domain.specs.Bytes.{BytesStay}
+use Rattle.host_sessions.specs.Others.{SparesOthers}
+use Rattle.host_sessions.specs.Table.{session_at, next_number, connected, gone, is_free, session_slots}
 use Rattle.host_sessions.specs.Steps.{HostView, with_sessions, with_session}
 use Rattle.host_sessions.specs.Ends.{Ends}
 use Rattle.pageshare_host_c.specs.Hosts.{AtHost, of_made, made_status}
@@ -55,6 +57,8 @@ count_or old (Some n) = n
 pub record EndsSession (number status : ℕ) (room after : List ℕ) (count count' : ℕ) (old new : HostView) : Type 0 where
   pub answer : Option ℕ
   pub ends : Ends number (session_at old.sessions number) answer room after old new
+  pub others : SparesOthers (session_at old.sessions number) old.domain new.domain
+  pub bytes : BytesStay old.domain new.domain
   pub status-is : status ≡ end_status answer
   pub count-is : count' ≡ count_or count answer
 
@@ -79,12 +83,6 @@ state_of (session.Silent name) = 1
 state_of (session.Refused fault) = 4
 state_of (session.Begun b) = state_of_link b.link
 
-abbrev pub slots_of : Session → ℕ
-slots_of session.Free = 0
-slots_of (session.Silent name) = 0
-slots_of (session.Refused fault) = 0
-slots_of (session.Begun b) = b.slots
-
 abbrev pub messages_of : Session → ℕ
 messages_of session.Free = 0
 messages_of (session.Silent name) = 0
@@ -103,17 +101,18 @@ fault_told (session.Silent name) = 0
 fault_told (session.Refused fault) = fault_status fault
 fault_told (session.Begun b) = link_fault b.link
 
-abbrev pub session_told : Session → SessionTold
-session_told s = record { state = state_of s; slots = slots_of s; fault = fault_told s; reserved = 0; messages = messages_of s }
+-- a session that has so many slots
+abbrev pub session_told : ℕ → Session → SessionTold
+session_told slots s = record { state = state_of s; slots = slots; fault = fault_told s; reserved = 0; messages = messages_of s }
 
 abbrev pub session_status : ℕ → Option Hosted → ℕ
 session_status number old = made_status (λ h. there_status (session_at h.sessions number)) old
 
-abbrev pub told_or : SessionTold → Session → SessionTold
-told_or told s = if is_free s then told else session_told s
+abbrev pub told_or : SessionTold → ℕ → Session → SessionTold
+told_or told slots s = if is_free s then told else session_told slots s
 
 abbrev pub session_after : ℕ → SessionTold → Option Hosted → SessionTold
-session_after number told old = of_made told (λ h. told_or told (session_at h.sessions number)) old
+session_after number told old = of_made told (λ h. told_or told (session_slots h.domain.machines (session_at h.sessions number)) (session_at h.sessions number)) old
 
 -- what a host counts
 abbrev pub totals_told : DomainReport → HostTotals

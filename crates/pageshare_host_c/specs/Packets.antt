@@ -8,6 +8,7 @@ use Rattle.host_sessions.specs.declared.answer.Received.{Received}
 use Rattle.host_sessions.specs.declared.answer.Received.TheVariants as got
 use Rattle.host_sessions.specs.declared.session.SessionFault.{SessionFault}
 use Rattle.host_sessions.specs.declared.session.SessionFault.TheVariants as fault
+use Rattle.share_domain.specs.Bytes.{BytesStay}
 use Rattle.host_sessions.specs.Others.{SparesOthers}
 use Rattle.host_sessions.specs.Replies.{reply_of}
 use Rattle.host_sessions.specs.Steps.{HostView, Receives}
@@ -34,20 +35,18 @@ fault_status fault.Clients = 72
 abbrev pub status_of : Received → ℕ
 status_of got.NoSession = 32
 status_of (got.Fault f) = fault_status f
-status_of (got.Welcome welcome resumed) = 0
+status_of (got.Welcome welcome) = 0
+status_of (got.Resumed welcome before freed) = 0
 status_of (got.Seen answers) = 0
 status_of (got.Loans loans) = 0
 status_of (got.Released freed) = 0
-
-abbrev pub number_of : Option ℕ → ℕ
-number_of None = NO_FRAME
-number_of (Some n) = n
 
 -- the session that was taken up
 abbrev pub resumed_of : Received → ℕ
 resumed_of got.NoSession = NO_FRAME
 resumed_of (got.Fault f) = NO_FRAME
-resumed_of (got.Welcome welcome resumed) = number_of resumed
+resumed_of (got.Welcome welcome) = NO_FRAME
+resumed_of (got.Resumed welcome before freed) = before
 resumed_of (got.Seen answers) = NO_FRAME
 resumed_of (got.Loans loans) = NO_FRAME
 resumed_of (got.Released freed) = NO_FRAME
@@ -56,7 +55,8 @@ resumed_of (got.Released freed) = NO_FRAME
 abbrev pub frees_of : Received → List ℕ
 frees_of got.NoSession = []
 frees_of (got.Fault f) = []
-frees_of (got.Welcome welcome resumed) = []
+frees_of (got.Welcome welcome) = []
+frees_of (got.Resumed welcome before freed) = freed.items
 frees_of (got.Seen answers) = []
 frees_of (got.Loans loans) = []
 frees_of (got.Released freed) = freed.items
@@ -80,11 +80,13 @@ pub record IsRefused (status : ℕ) (told : ReceivedPacket) (reply reply' freed 
   pub reply-is : reply' ≡ reply
   pub freed-is : freed' ≡ freed
 
--- a packet that a host received. Each slot that another client holds is still held by it, with the same frame
+-- A packet that a host received. Each slot of a client that the session isn't of afterwards is still held by it, with the same frame; and
+-- each slot that stays a client's reads the same bytes after as before
 pub record ReceivesPacket (session : ℕ) (bytes : List ℕ) (pages : List (List ℕ)) (told : ReceivedPacket) (reply reply' freed freed' : List ℕ) (old new : HostView) : Type 0 where
   pub received : Received
   pub receives : Receives fold_hash session bytes pages received old new
-  pub others : SparesOthers (session_at old.sessions session) old.domain new.domain
+  pub others : SparesOthers (session_at new.sessions session) old.domain new.domain
+  pub stay : BytesStay old.domain new.domain
   pub tells : Tells received told reply reply' freed freed'
 
 -- a packet for which there are buffers

@@ -32,6 +32,7 @@ config_of s = record {
   seed = s.seed;
   salt = s.fingerprints;
   quota = s.quota;
+  client_cpu = s.client_cpu;
 }
 
 -- there is a host with these numbers

@@ -1,7 +1,7 @@
 //! Connections that begin and end, and what is known of sessions.
 ghost use Rattle.std.specs.Prelude.{◌≡◌, Some};
 ghost use Rattle.pageshare_host_c.specs.Hosts.{made_status};
-ghost use Rattle.pageshare_host_c.specs.Calls.{ConnectsAt, DisconnectsAt, EndsAt, session_status, session_after, session_told, state_of, slots_of, fault_told, messages_of, link_fault, totals_after, totals_told};
+ghost use Rattle.pageshare_host_c.specs.Calls.{ConnectsAt, DisconnectsAt, EndsAt, session_status, session_after, session_told, state_of, fault_told, messages_of, link_fault, totals_after, totals_told};
 
 use crate::hosted::Hosted;
 use crate::receive::fault_status;
@@ -98,19 +98,19 @@ pub(crate) fn tell_session(hosted: &Hosted, session: u32, told: &mut SessionTold
             if found.is_free() {
                 return 32;
             }
-            *told = session_told(&found);
+            *told = session_told(host.slots_of(session), &found);
             0
         }
     }
 }
 
-/// Returns what C is told of a session.
-fn session_told(session: &Session) -> SessionTold
-    ensures { result ≡ session_told session.now }
+/// Returns what C is told of a session that has so many slots.
+fn session_told(slots: u32, session: &Session) -> SessionTold
+    ensures { result ≡ session_told slots session.now }
 {
     SessionTold {
         state: state_of(session),
-        slots: slots_of(session),
+        slots,
         fault: fault_of(session),
         reserved: 0,
         messages: messages_of(session),
@@ -131,18 +131,6 @@ fn state_of(session: &Session) -> u32
             Link::Broken(_) => 4,
             Link::Ended => 5,
         },
-    }
-}
-
-/// Returns how many slots a session has.
-fn slots_of(session: &Session) -> u32
-    ensures { result ≡ slots_of session.now }
-{
-    match session {
-        Session::Free => 0,
-        Session::Silent(_) => 0,
-        Session::Refused(_) => 0,
-        Session::Begun(begun) => begun.slots,
     }
 }
 

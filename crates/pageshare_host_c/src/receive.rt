@@ -85,12 +85,15 @@ fn put_bytes(bytes: &[u8], room: &mut [u8])
     room[..bytes.len()].copy_from_slice(bytes);
 }
 
-/// Writes frames to the front of a buffer.
-fn put_frames(frames: &[u32], room: &mut [u32])
-    requires { length frames.now ≤ length room.old }
-    ensures { room.new ≡ put_front frames.now room.old }
+/// Writes frames to the front of a buffer, and returns how many they are.
+fn put_frames(frames: &[u32], room: &mut [u32]) -> u32
+    requires few { length frames.now ≤ MAX_IN_MESSAGE }
+    requires room { length frames.now ≤ length room.old }
+    ensures count { result ≡ length frames.now }
+    ensures room { room.new ≡ put_front frames.now room.old }
 {
     room[..frames.len()].copy_from_slice(frames);
+    frames.len() as u32
 }
 
 /// Writes the frames that are free since a release, and returns how many numbers that are.
@@ -102,13 +105,11 @@ fn put_freed(received: &Received, room: &mut [u32]) -> u32
     match received {
         Received::NoSession => 0,
         Received::Fault(_) => 0,
-        Received::Welcome(_, _) => 0,
+        Received::Welcome(_) => 0,
+        Received::Resumed(_, _, frames) => put_frames(frames.as_slice(), room),
         Received::Seen(_) => 0,
         Received::Loans(_) => 0,
-        Received::Released(frames) => {
-            put_frames(frames.as_slice(), room);
-            frames.len() as u32
-        }
+        Received::Released(frames) => put_frames(frames.as_slice(), room),
     }
 }
 
@@ -119,7 +120,8 @@ fn status_of(received: &Received) -> u32
     match received {
         Received::NoSession => 32,
         Received::Fault(fault) => fault_status(fault),
-        Received::Welcome(_, _) => 0,
+        Received::Welcome(_) => 0,
+        Received::Resumed(_, _, _) => 0,
         Received::Seen(_) => 0,
         Received::Loans(_) => 0,
         Received::Released(_) => 0,
@@ -160,8 +162,8 @@ fn resumed_of(received: &Received) -> u32
     match received {
         Received::NoSession => NO_FRAME,
         Received::Fault(_) => NO_FRAME,
-        Received::Welcome(_, None) => NO_FRAME,
-        Received::Welcome(_, Some(before)) => *before,
+        Received::Welcome(_) => NO_FRAME,
+        Received::Resumed(_, before, _) => *before,
         Received::Seen(_) => NO_FRAME,
         Received::Loans(_) => NO_FRAME,
         Received::Released(_) => NO_FRAME,

@@ -29,6 +29,10 @@ pub struct HostShape {
     pub fingerprints: u32,
     /// What spreads the questions.
     pub seed: u64,
+    /// The percentage of one processor that clients are told to use at most, or 0.
+    pub client_cpu: u32,
+    /// Not read.
+    pub reserved: u32,
 }
 
 /// Returns the status of the first number that no host has, or 0.
@@ -81,5 +85,6 @@ pub(crate) fn config_of(shape: &HostShape) -> HostConfig
         seed: shape.seed,
         salt: shape.fingerprints,
         quota: shape.quota,
+        client_cpu: shape.client_cpu,
     }
 }

@@ -1,6 +1,6 @@
 //! The last notes, as callers see them.
 ghost use Rattle.std.specs.Prelude.{◌≡◌, ◌≤◌, IfOk, replicate};
-ghost use Rattle.recent_fingerprints.specs.Notes.{forgotten, nothing_noted, was_noted, with_note};
+ghost use Rattle.recent_fingerprints.specs.Notes.{forgotten, note_of, nothing_noted, was_noted, with_note};
 ghost use Rattle.recent_fingerprints.specs.declared.limits.TheConstants.{MAX_PLACES};
 
 use crate::buckets::{Buckets, bucket_count};
@@ -82,21 +82,34 @@ fn new_lives<A: Allocator>(alloc: A, clients: u32) -> Result<Vec<u64, A>, AllocE
     Ok(lives)
 }
 
+// Returns the note of a page with its fingerprint.
+fn note_of(lives: &[u64], page: PageName, fingerprint: u64) -> Note
+    ensures { result ≡ note_of lives.now page fingerprint }
+{
+    Note {
+        fingerprint,
+        page,
+        life: life_of(lives, page.client),
+    }
+}
+
 impl<A: Allocator> RecentFingerprints<A> {
     /// Whether another page was noted with this fingerprint, within the last notes. Notes this page with it.
     pub fn ask(&mut self, page: PageName, fingerprint: u64) -> bool
         ensures answered { result ≡ was_noted page fingerprint self.old }
         ensures noted { self.new ≡ with_note page fingerprint self.old }
     {
-        let life = life_of(&self.lives, page.client);
-        let asked = Note {
-            fingerprint,
-            page,
-            life,
-        };
-        let seen = self.chains.has_other(&self.lives, asked);
-        self.chains.put(asked);
+        let seen = self.was_noted(page, fingerprint);
+        self.chains.put(note_of(&self.lives, page, fingerprint));
         seen
+    }
+
+    /// Whether another page was noted with this fingerprint, within the last notes. Notes nothing.
+    pub fn was_noted(&self, page: PageName, fingerprint: u64) -> bool
+        ensures { result ≡ was_noted page fingerprint self.now }
+    {
+        let asked = note_of(&self.lives, page, fingerprint);
+        self.chains.has_other(&self.lives, asked)
     }
 
     /// A client has ended: its notes don't count from now on, also where its number becomes another client's. Nothing changes if

@@ -8,3 +8,7 @@ mod clients;
 mod given;
 #[cfg(test)]
 mod limits;
+#[cfg(test)]
+mod salts;
+#[cfg(test)]
+mod sentences;

@@ -48,13 +48,24 @@ fn ended(rt: HostRuntime) -> Result<(), Fail> {
         client: 0,
         number: 0,
     };
+    assert!(rt; !recent.was_noted(other, 5));
     assert!(rt; !recent.ask(page, 5));
+    assert!(rt; recent.was_noted(other, 5));
+    assert!(rt; !recent.was_noted(page, 5));
     recent.forget(1);
     assert!(rt; !recent.ask(other, 5));
     assert!(rt; recent.ask(page, 5));
     recent.forget(0);
     recent.forget(7);
     assert!(rt; !recent.ask(page, 5));
+    Ok(())
+}
+
+// As many places and clients as there may be.
+#[test]
+fn as_many_places_as_there_may_be(rt: HostRuntime) -> Result<(), Fail> {
+    let mut recent = RecentFingerprints::new(rt.alloc(), 16_777_216, 65_536, 7)?;
+    ask_all(&rt, &mut recent);
     Ok(())
 }
 

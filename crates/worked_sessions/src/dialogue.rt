@@ -1,6 +1,6 @@
 //! Dialogues of clients with a host of one machine of five slots and three frames. What is expected was worked out by hand.
 use arrayvec::ArrayVec;
-use host_messages::{ClientMessage, Lent, MessageFault, NO_FRAME, Name, Question};
+use host_messages::{ClientMessage, Lent, MessageFault, NO_FRAME, Name, Question, Wanted};
 use host_sessions::{Host, HostConfig, Link, Received, Session, SessionFault};
 use machine_frames::Frames;
 use page_digest::FoldHash;
@@ -15,8 +15,10 @@ enum Got {
     /// No session takes it.
     Nothing,
     Fault(SessionFault),
-    /// The first byte of the session's name, and the number that it had.
-    Welcome(u8, Option<u32>),
+    /// The first byte of the session's name.
+    Welcome(u8),
+    /// The same, the number that the session had, and how many slots are released.
+    Resumed(u8, u32, usize),
     /// Whether the first page was seen.
     Seen(bool),
     /// How many pages were lent, and how many slots have the frame of the first.
@@ -38,6 +40,7 @@ fn host_of(rt: &impl Abort, alloc: Global) -> Host<FoldHash> {
         seed: 11,
         salt: 9,
         quota: 3,
+        client_cpu: 25,
     };
     let mut frames = Vec::with_capacity(alloc, 1).expect(rt, "there is memory");
     frames.push_reserved(Frames::new(alloc, 3).expect(rt, "there is memory"));
@@ -79,7 +82,10 @@ fn send(host: &mut Host<FoldHash>, number: u32, bytes: &[u8]) -> Got {
     match host.receive(number, bytes, &pages) {
         Received::NoSession => Got::Nothing,
         Received::Fault(fault) => Got::Fault(fault),
-        Received::Welcome(welcome, resumed) => Got::Welcome(welcome.name[0], resumed),
+        Received::Welcome(welcome) => Got::Welcome(welcome.name[0]),
+        Received::Resumed(welcome, before, freed) => {
+            Got::Resumed(welcome.name[0], before, freed.len())
+        }
         Received::Seen(seen) => Got::Seen(!seen.is_empty() && seen[0]),
         Received::Loans(loans) => lent_of(loans.as_slice()),
         Received::Released(freed) => freed_of(freed.as_slice()),
@@ -91,14 +97,24 @@ fn say(host: &mut Host<FoldHash>, number: u32, message: &ClientMessage) -> Got {
     send(host, number, message.to_bytes().as_slice())
 }
 
-/// A question about page 7.
-fn question() -> ClientMessage {
+/// A question about page 7, which is a passing one or not.
+fn question_of(is_passing: bool) -> ClientMessage {
     let mut questions = ArrayVec::new();
     questions.push(Question {
         page: 7,
         fingerprint: 99,
+        is_passing,
     });
     ClientMessage::Ask(questions)
+}
+
+fn question() -> ClientMessage {
+    question_of(false)
+}
+
+/// A first message that wants a session, in which so many replies to lends came.
+fn hello(name: Name, loans: u64) -> ClientMessage {
+    ClientMessage::Hello(Some(Wanted { name, loans }))
 }
 
 /// The release of one slot.
@@ -111,7 +127,7 @@ fn release(slot: u64) -> ClientMessage {
 /// Returns how many slots a session has, or 99 where it hasn't begun.
 fn slots_of(host: &Host<FoldHash>, number: u32) -> u32 {
     match host.session(number) {
-        Session::Begun(begun) => begun.slots,
+        Session::Begun(_) => host.slots_of(number),
         _ => 99,
     }
 }
@@ -151,9 +167,13 @@ fn clients_ask_lend_and_release(rt: HostRuntime) {
     let mut host = host_of(&rt, rt.alloc());
     assert!(rt; host.connect(A) == Some(0));
     assert!(rt; host.connect(B) == Some(1));
-    assert!(rt; say(&mut host, 0, &ClientMessage::Hello(None)) == Got::Welcome(10, None));
-    assert!(rt; say(&mut host, 1, &ClientMessage::Hello(None)) == Got::Welcome(11, None));
+    assert!(rt; say(&mut host, 0, &ClientMessage::Hello(None)) == Got::Welcome(10));
+    assert!(rt; say(&mut host, 1, &ClientMessage::Hello(None)) == Got::Welcome(11));
+    assert!(rt; say(&mut host, 0, &question_of(true)) == Got::Seen(false));
+    assert!(rt; say(&mut host, 1, &question_of(true)) == Got::Seen(false));
     assert!(rt; say(&mut host, 0, &question()) == Got::Seen(false));
+    assert!(rt; say(&mut host, 0, &question()) == Got::Seen(false));
+    assert!(rt; say(&mut host, 1, &question_of(true)) == Got::Seen(true));
     assert!(rt; say(&mut host, 0, &question()) == Got::Seen(false));
     assert!(rt; say(&mut host, 1, &question()) == Got::Seen(true));
     assert!(rt; say(&mut host, 0, &ClientMessage::Lend(2)) == Got::Lent(2, 1));
@@ -183,7 +203,7 @@ fn faults_end_a_session_and_its_slots_stay(rt: HostRuntime) {
     assert!(rt; host.disconnect(0));
     assert!(rt; !host.disconnect(0));
     assert!(rt; host.connect(B) == Some(0));
-    assert!(rt; say(&mut host, 0, &ClientMessage::Hello(None)) == Got::Welcome(11, None));
+    assert!(rt; say(&mut host, 0, &ClientMessage::Hello(None)) == Got::Welcome(11));
     assert!(rt; say(&mut host, 0, &ClientMessage::Lend(1)) == Got::Lent(1, 1));
     let short = SessionFault::Message(MessageFault::Length);
     assert!(rt;
@@ -194,7 +214,7 @@ fn faults_end_a_session_and_its_slots_stay(rt: HostRuntime) {
     assert!(rt; host.disconnect(0));
     // A session that sent a packet at fault isn't taken up.
     assert!(rt; host.connect(C) == Some(1));
-    assert!(rt; say(&mut host, 1, &ClientMessage::Hello(Some(B))) == Got::Welcome(12, None));
+    assert!(rt; say(&mut host, 1, &hello(B, 1)) == Got::Welcome(12));
     assert!(rt; say(&mut host, 1, &ClientMessage::Hello(None)) == Got::Fault(SessionFault::Again));
     assert!(rt; host.report().slots == 1);
     assert!(rt; end(&mut host, 0) == 1);
@@ -206,18 +226,18 @@ fn faults_end_a_session_and_its_slots_stay(rt: HostRuntime) {
 fn a_session_is_taken_up_by_its_name(rt: HostRuntime) {
     let mut host = host_of(&rt, rt.alloc());
     assert!(rt; host.connect(A) == Some(0));
-    assert!(rt; say(&mut host, 0, &ClientMessage::Hello(None)) == Got::Welcome(10, None));
+    assert!(rt; say(&mut host, 0, &ClientMessage::Hello(None)) == Got::Welcome(10));
     assert!(rt; say(&mut host, 0, &ClientMessage::Lend(2)) == Got::Lent(2, 1));
     // It is connected still.
     assert!(rt; host.connect(B) == Some(1));
-    assert!(rt; say(&mut host, 1, &ClientMessage::Hello(Some(A))) == Got::Welcome(11, None));
+    assert!(rt; say(&mut host, 1, &hello(A, 1)) == Got::Welcome(11));
     assert!(rt; host.disconnect(0));
     assert!(rt; link_of(&host, 0) == Some(Link::Gone));
     assert!(rt; host.report().slots == 2);
     assert!(rt; say(&mut host, 0, &release(4)) == Got::Nothing);
     assert!(rt; host.connect(C) == Some(2));
     assert!(rt; host.connect(D) == None);
-    assert!(rt; say(&mut host, 2, &ClientMessage::Hello(Some(A))) == Got::Welcome(10, Some(0)));
+    assert!(rt; say(&mut host, 2, &hello(A, 1)) == Got::Resumed(10, 0, 0));
     assert!(rt; host.session(0) == Session::Free);
     assert!(rt; slots_of(&host, 2) == 2);
     assert!(rt; slots_of(&host, 1) == 0);
@@ -226,4 +246,28 @@ fn a_session_is_taken_up_by_its_name(rt: HostRuntime) {
     assert!(rt; end(&mut host, 2) == 1);
     assert!(rt; host.report().slots == 0);
     assert!(rt; host.report().clients == 1);
+}
+
+#[test]
+fn slots_of_a_lost_reply_are_released(rt: HostRuntime) {
+    let mut host = host_of(&rt, rt.alloc());
+    assert!(rt; host.connect(A) == Some(0));
+    assert!(rt; say(&mut host, 0, &ClientMessage::Hello(None)) == Got::Welcome(10));
+    assert!(rt; say(&mut host, 0, &ClientMessage::Lend(1)) == Got::Lent(1, 1));
+    assert!(rt; say(&mut host, 0, &ClientMessage::Lend(4)) == Got::Lent(2, 2));
+    assert!(rt; host.disconnect(0));
+    // The first reply came, and the second one got lost, with two slots.
+    assert!(rt; host.connect(B) == Some(1));
+    assert!(rt; say(&mut host, 1, &hello(A, 1)) == Got::Resumed(10, 0, 2));
+    assert!(rt; slots_of(&host, 1) == 1);
+    assert!(rt; host.report().slots == 1);
+    assert!(rt; host.disconnect(1));
+    // Both sides count from one now, and the message that got lost before the host heard it changes nothing.
+    assert!(rt; host.connect(C) == Some(0));
+    assert!(rt; say(&mut host, 0, &hello(A, 1)) == Got::Resumed(10, 1, 0));
+    assert!(rt; say(&mut host, 0, &ClientMessage::Lend(1)) == Got::Lent(1, 2));
+    assert!(rt; host.disconnect(0));
+    assert!(rt; host.connect(D) == Some(1));
+    assert!(rt; say(&mut host, 1, &hello(A, 2)) == Got::Resumed(10, 0, 0));
+    assert!(rt; slots_of(&host, 1) == 2);
 }

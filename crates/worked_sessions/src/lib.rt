@@ -5,4 +5,6 @@
 #[cfg(test)]
 mod dialogue;
 #[cfg(test)]
+mod limits;
+#[cfg(test)]
 mod spelled;

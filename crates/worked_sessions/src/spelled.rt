@@ -1,19 +1,20 @@
 //! The bytes of each message, as a Python script spells them by the table of `docs/FORMATS.md`.
 use arrayvec::ArrayVec;
-use host_messages::{ClientMessage, HostMessage, Lent, MessageFault, Question, Welcome};
+use host_messages::{ClientMessage, HostMessage, Lent, MessageFault, Question, Wanted, Welcome};
 use std::process::Abort;
 
 const NAME: [u8; 16] = [1, 2, 3, 4, 5, 6, 7, 8, 9, 10, 11, 12, 13, 14, 15, 16];
 
-const HELLO: [u8; 8] = [1, 0, 0, 0, 1, 0, 0, 0];
+const HELLO: [u8; 8] = [1, 0, 0, 0, 2, 0, 0, 0];
 
-const HELLO_NAMED: [u8; 24] = [
-    1, 0, 0, 0, 1, 0, 0, 0, 1, 2, 3, 4, 5, 6, 7, 8, 9, 10, 11, 12, 13, 14, 15, 16,
+const HELLO_NAMED: [u8; 32] = [
+    1, 0, 0, 0, 2, 0, 0, 0, 1, 2, 3, 4, 5, 6, 7, 8, 9, 10, 11, 12, 13, 14, 15, 16, 9, 0, 0, 0, 1,
+    0, 0, 0,
 ];
 
 const ASK: [u8; 40] = [
     2, 0, 0, 0, 2, 0, 0, 0, 7, 0, 0, 0, 0, 0, 0, 0, 136, 119, 102, 85, 68, 51, 34, 17, 3, 0, 0, 0,
-    0, 1, 0, 0, 255, 255, 255, 255, 255, 255, 255, 255,
+    0, 1, 0, 128, 255, 255, 255, 255, 255, 255, 255, 255,
 ];
 
 const LEND: [u8; 8] = [3, 0, 0, 0, 128, 0, 0, 0];
@@ -22,9 +23,9 @@ const RELEASE: [u8; 24] = [
     4, 0, 0, 0, 2, 0, 0, 0, 5, 0, 0, 0, 1, 0, 0, 0, 2, 1, 0, 0, 0, 0, 0, 0,
 ];
 
-const WELCOME: [u8; 36] = [
-    17, 0, 0, 0, 1, 0, 0, 0, 1, 2, 3, 4, 5, 6, 7, 8, 9, 10, 11, 12, 13, 14, 15, 16, 112, 17, 1, 0,
-    239, 190, 173, 222, 128, 0, 0, 0,
+const WELCOME: [u8; 40] = [
+    17, 0, 0, 0, 2, 0, 0, 0, 1, 2, 3, 4, 5, 6, 7, 8, 9, 10, 11, 12, 13, 14, 15, 16, 112, 17, 1, 0,
+    239, 190, 173, 222, 128, 0, 0, 0, 25, 0, 0, 0,
 ];
 
 const SEEN: [u8; 11] = [18, 0, 0, 0, 3, 0, 0, 0, 1, 0, 1];
@@ -56,16 +57,22 @@ fn messages_of_clients(rt: HostRuntime) {
     questions.push(Question {
         page: 7,
         fingerprint: 0x1122_3344_5566_7788,
+        is_passing: false,
     });
     questions.push(Question {
         page: (1 << 40) + 3,
         fingerprint: u64::MAX,
+        is_passing: true,
     });
     let mut slots = ArrayVec::new();
     slots.push((1 << 32) + 5);
     slots.push(258);
     assert!(rt; is_client(&ClientMessage::Hello(None), &HELLO));
-    assert!(rt; is_client(&ClientMessage::Hello(Some(NAME)), &HELLO_NAMED));
+    let wanted = Wanted {
+        name: NAME,
+        loans: (1 << 32) + 9,
+    };
+    assert!(rt; is_client(&ClientMessage::Hello(Some(wanted)), &HELLO_NAMED));
     assert!(rt; is_client(&ClientMessage::Ask(questions), &ASK));
     assert!(rt; is_client(&ClientMessage::Lend(128), &LEND));
     assert!(rt; is_client(&ClientMessage::Release(slots), &RELEASE));
@@ -78,6 +85,7 @@ fn messages_of_a_host(rt: HostRuntime) {
         frames: 70_000,
         salt: 0xdead_beef,
         most: 128,
+        client_cpu: 25,
     };
     let mut seen = ArrayVec::new();
     seen.push(true);
@@ -104,11 +112,12 @@ fn faults(rt: HostRuntime) {
     assert!(rt; fault_of(&HELLO[..7]) == Some(MessageFault::Head));
     assert!(rt; fault_of(&[]) == Some(MessageFault::Head));
     assert!(rt; fault_of(&WELCOME) == Some(MessageFault::Kind));
-    assert!(rt; fault_of(&[1, 0, 0, 0, 2, 0, 0, 0]) == Some(MessageFault::Version));
-    assert!(rt; fault_of(&[1, 0, 0, 1, 1, 0, 0, 0]) == Some(MessageFault::Kind));
+    assert!(rt; fault_of(&[1, 0, 0, 0, 1, 0, 0, 0]) == Some(MessageFault::Version));
+    assert!(rt; fault_of(&[1, 0, 0, 0, 3, 0, 0, 0, 0]) == Some(MessageFault::Version));
+    assert!(rt; fault_of(&[1, 0, 0, 1, 2, 0, 0, 0]) == Some(MessageFault::Kind));
     assert!(rt; fault_of(&[3, 0, 0, 0, 129, 0, 0, 0]) == Some(MessageFault::Count));
     assert!(rt; fault_of(&[3, 0, 0, 0, 255, 255, 255, 255]) == Some(MessageFault::Count));
-    assert!(rt; fault_of(&HELLO_NAMED[..23]) == Some(MessageFault::Length));
+    assert!(rt; fault_of(&HELLO_NAMED[..24]) == Some(MessageFault::Length));
     assert!(rt; fault_of(&ASK[..39]) == Some(MessageFault::Length));
     assert!(rt; fault_of(&[3, 0, 0, 0, 1, 0, 0, 0, 0]) == Some(MessageFault::Length));
     let mut answers = SEEN;

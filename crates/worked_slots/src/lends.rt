@@ -3,9 +3,10 @@ use lent_slots::{LentSlots, SlotFault};
 use machine_frames::Frames;
 use merge_core::SaltedHash;
 use page_digest::{FoldHash, PageHash};
-use page_model::Page;
+use page_model::{HashFunction, Page};
 use std::alloc::Global;
 use std::process::Abort;
+use std::sync::atomic::{AtomicU32, Ordering};
 
 /// What is asked. A page's bytes are all the one named.
 #[derive(Clone, Copy)]
@@ -94,6 +95,46 @@ const LINES: [Line; 12] = [
 fn pages_are_lent_and_released(rt: HostRuntime) {
     let slots = slots_of(&rt, rt.alloc(), 5, 3);
     expect_lines(&rt, slots, &LINES);
+}
+
+/// Hashes to the first byte, and counts its calls.
+#[derive(Drop)]
+struct Counted<'a>(&'a AtomicU32);
+
+impl HashFunction for Counted<'_> {
+    ghost use Rattle.std.specs.Prelude.{slice_index};
+
+    ghost hash_of = { λ _ bytes. slice_index bytes 0 };
+}
+
+impl PageHash for Counted<'_> {
+    fn hash(&self, _salt: u32, page: &Page) -> u64 {
+        self.0.fetch_add(1, Ordering::SeqCst);
+        u64::from(page[0])
+    }
+}
+
+/// The caller's hash is taken over, since the slots have its salt: no page is hashed again. With another salt each would be.
+#[test]
+fn no_page_is_hashed_again(rt: HostRuntime) {
+    let calls = AtomicU32::new(0);
+    let frames = Frames::new(rt.alloc(), 3).expect(&rt, "there is memory");
+    let mut slots = LentSlots::new(rt.alloc(), 5, 2, SALT, Counted(&calls), frames).expect(
+        &rt,
+        "there is memory",
+    );
+    for byte in [5, 6, 5] {
+        let known = SaltedHash {
+            salt: SALT,
+            hash: u64::from(byte),
+        };
+        assert!(rt; slots.lend(0, &[byte; 4096], known).is_ok());
+    }
+    assert!(rt; slots.release(4).is_none());
+    assert!(rt; calls.load(Ordering::SeqCst) == 0);
+    let other = SaltedHash { salt: 8, hash: 7 };
+    assert!(rt; slots.lend(0, &[7; 4096], other).is_err());
+    assert!(rt; calls.load(Ordering::SeqCst) == 1);
 }
 
 /// Clients 0 and 1 are counted, and client 7 is not. The last slot is lent first.

@@ -1,4 +1,4 @@
-use Rattle.std.proofs.Common.{◌≡◌, ◌-◌, ◌+◌, ◌*◌, length, arith, sym, ◌∙◌}
+use Rattle.std.proofs.Common.{length, arith}
 use Rattle.std.proofs.lemmas.List.{length-drop}
 use Rattle.host_messages.proofs.Items.{reads_on, is_read, less_left}
 use Rattle.host_messages.proofs.list.read_items.Goals as goal

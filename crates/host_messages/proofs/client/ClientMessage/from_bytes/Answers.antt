@@ -1,4 +1,4 @@
-use Rattle.std.proofs.Common.{ap, sym, ◌∙◌, arith}
+use Rattle.std.proofs.Common.{ap, ◌∙◌, arith}
 use Rattle.host_messages.specs.Reading.{client_at}
 use Rattle.host_messages.proofs.Laws.{client_found, client_again}
 use Rattle.host_messages.proofs.client.ClientMessage.from_bytes.Goals as goal

@@ -1,4 +1,4 @@
-use Rattle.std.proofs.Common.{ap, sym, ◌∙◌, arith}
+use Rattle.std.proofs.Common.{ap, ◌∙◌, arith}
 use Rattle.host_messages.specs.HostReading.{host_at}
 use Rattle.host_messages.proofs.HostLaws.{host_found, host_again}
 use Rattle.host_messages.proofs.host.HostMessage.from_bytes.Goals as goal

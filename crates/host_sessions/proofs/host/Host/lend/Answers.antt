@@ -2,4 +2,10 @@ use Rattle.std.proofs.Common.{refl}
 use Rattle.host_sessions.proofs.host.Host.lend.Goals as goal
 
 pub returns : goal.returns
-returns g c = record { loans = c.lend_each-lent.result.loans.items; slots = c.lend_each-lent.result.slots; lends = rw (c.put.ensures, ← c.self.view_is) c.lend_each-lent.ensures.lends; reply = refl; now = rw (c.put.ensures, c.heard.ensures, ← c.self.view_is, c.lend_each-lent.ensures.salt) refl }
+returns g c = record {
+  loans = c.lend_each-loans.result.items;
+  lends = rw (c.put_last.ensures, c.put.ensures, ← c.self.view_is) c.lend_each-loans.ensures.lends;
+  bytes = rw (c.put_last.ensures, c.put.ensures, ← c.self.view_is) c.lend_each-loans.ensures.bytes;
+  reply = refl;
+  now = rw (c.put_last.ensures, c.put.ensures, c.lent.ensures, c.slots_in.ensures, c.as_slice.ensures.value, ← c.self.view_is, c.lend_each-loans.ensures.salt) refl;
+}

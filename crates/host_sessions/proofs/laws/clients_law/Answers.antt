@@ -1,0 +1,17 @@
+use Rattle.host_sessions.proofs.Own.{empty_has, connect_keeps, receive_keeps, disconnect_keeps, end_keeps}
+use Rattle.host_sessions.proofs.laws.clients_law.Goals as goal
+
+pub returns-clause-empty : goal.returns-clause-empty
+returns-clause-empty c = λ config. empty_has config
+
+pub returns-clause-connects : goal.returns-clause-connects
+returns-clause-connects c = λ name h own. connect_keeps name h own
+
+pub returns-clause-receives : goal.returns-clause-receives
+returns-clause-receives c = λ hash n bytes pages received old new own p. receive_keeps hash n bytes pages received old new own p
+
+pub returns-clause-disconnects : goal.returns-clause-disconnects
+returns-clause-disconnects c = λ n h own. disconnect_keeps n h own
+
+pub returns-clause-ends : goal.returns-clause-ends
+returns-clause-ends c = λ n result room after old new own e. end_keeps n result room after old new own e

@@ -1,0 +1,53 @@
+//! How often the pages of a domain are hashed.
+ghost use Rattle.std.specs.Prelude.{◌+◌, slice_index};
+
+use page_digest::PageHash;
+use page_model::{HashFunction, Page};
+use share_domain::{Domain, DomainConfig, Slot};
+use std::alloc::Global;
+use std::process::Abort;
+use std::sync::atomic::{AtomicU32, Ordering};
+
+/// Hashes to the first byte, and counts its calls.
+#[derive(Clone, Copy, Drop)]
+struct Counted<'a>(&'a AtomicU32);
+
+impl HashFunction for Counted<'_> {
+    ghost hash_of = { λ _ bytes. slice_index bytes 0 };
+}
+
+impl PageHash for Counted<'_> {
+    fn hash(&self, _salt: u32, page: &Page) -> u64 {
+        self.0.fetch_add(1, Ordering::SeqCst);
+        u64::from(page[0])
+    }
+}
+
+/// Lends pages of one byte each, in a domain of one machine. Returns how often pages were hashed.
+fn hashed(rt: &impl Abort, alloc: Global, bytes: &[u8]) -> u32 {
+    let calls = AtomicU32::new(0);
+    let config = DomainConfig {
+        machines: 1,
+        slots: 8,
+        frames: 4,
+        clients: 1,
+        salt: 7,
+    };
+    let mut domain = Domain::new(alloc, &config, Counted(&calls)).expect(rt, "there is memory");
+    assert!(rt; domain.enter() == Some(0));
+    for byte in bytes {
+        assert!(rt; domain.lend(0, &[*byte; 4096]).is_ok());
+    }
+    let slot = Slot { machine: 0, ppn: 7 };
+    assert!(rt; domain.release(0, slot).is_ok());
+    calls.load(Ordering::SeqCst)
+}
+
+/// Each page that is lent is hashed once, by the domain: its machine has the same salt, and takes the hash over. A machine with
+/// another salt would hash it again.
+#[test]
+fn each_page_is_hashed_once(rt: HostRuntime) {
+    assert!(rt; hashed(&rt, rt.alloc(), &[5]) == 1);
+    assert!(rt; hashed(&rt, rt.alloc(), &[5, 5]) == 2);
+    assert!(rt; hashed(&rt, rt.alloc(), &[5, 6, 5, 6, 5]) == 5);
+}
