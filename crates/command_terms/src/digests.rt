@@ -26,6 +26,8 @@ pub struct DigestWords<'a> {
     pub workers: Option<u32>,
     /// Whether the image is raw, whatever it begins with.
     pub raw: bool,
+    /// Whether all memory of the process is read, and not only what it offered for sharing.
+    pub all_memory: bool,
     pub progress: Drawn,
 }
 

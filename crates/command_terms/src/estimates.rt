@@ -14,6 +14,8 @@ pub struct EstimateWords<'a> {
     pub images: Vec<&'a str>,
     /// The numbers of the processes, whose guests come behind those of the images.
     pub processes: Vec<u32>,
+    /// Whether all memory of the processes is read, and not only what they offered for sharing.
+    pub all_memory: bool,
     /// A salt for each guest; none where all are 0.
     pub salts: Vec<u32>,
     /// How many threads read, if the words say so.

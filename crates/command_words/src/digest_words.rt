@@ -1,5 +1,5 @@
 //! The words of the command `digest`.
-use crate::help::{DIGEST, IMAGE, NAME, OF_DIGEST, PROCESS, RAW_IMAGE, SALT, SAMPLE};
+use crate::help::{ALL_MEMORY, DIGEST, IMAGE, NAME, OF_DIGEST, PROCESS, RAW_IMAGE, SALT, SAMPLE};
 use crate::parts::{described, flag, mistake, option, positional};
 use crate::progress_words::{progress_of, progress_option};
 use crate::worker_words::{workers_of, workers_option};
@@ -20,6 +20,7 @@ pub fn digest_command<'a>(alloc: Global) -> Result<Command<'a>, AllocError> {
         flag(alloc, "raw", RAW_IMAGE),
         progress_option(alloc),
         process_option(alloc),
+        flag(alloc, "all-memory", ALL_MEMORY),
         positional(alloc, "IMAGE", IMAGE),
     ]?;
     described(alloc, "digest", DIGEST, OF_DIGEST).args(args)
@@ -49,6 +50,7 @@ pub fn digest_words<'a>(alloc: Global, matches: &ArgMatches<'a>) -> Result<Diges
         sample: sample_of(alloc, matches)?,
         workers: workers_of(matches),
         raw: matches.get_flag("raw"),
+        all_memory: matches.get_flag("all-memory"),
         progress: progress_of(matches),
     })
 }

@@ -1,5 +1,5 @@
 //! The words of the command `estimate`.
-use crate::help::{ESTIMATE, IMAGES, OF_ESTIMATE, PIDS, RAW_IMAGES, SALTS, SVG};
+use crate::help::{ALL_MEMORY, ESTIMATE, IMAGES, OF_ESTIMATE, PIDS, RAW_IMAGES, SALTS, SVG};
 use crate::parts::{
     described, flag, is_in_pages, json_option, mistake, numbers_of, option, positionals,
     unit_option, values_of,
@@ -15,6 +15,7 @@ use std::alloc::{AllocError, Global};
 pub fn estimate_command<'a>(alloc: Global) -> Result<Command<'a>, AllocError> {
     let args = vec![in alloc;
         pids_option(alloc),
+        flag(alloc, "all-memory", ALL_MEMORY),
         salts_option(alloc),
         workers_option(alloc),
         flag(alloc, "raw", RAW_IMAGES),
@@ -64,6 +65,7 @@ fn words_of<'a>(alloc: Global, matches: &ArgMatches<'a>) -> Result<EstimateWords
     Ok(EstimateWords {
         images: values_of(alloc, matches, "IMAGE")?,
         processes: numbers_of(alloc, matches, "pid")?,
+        all_memory: matches.get_flag("all-memory"),
         salts: numbers_of(alloc, matches, "salts")?,
         workers: workers_of(matches),
         raw: matches.get_flag("raw"),

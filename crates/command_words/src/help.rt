@@ -124,6 +124,9 @@ Give one for each guest, or the process that the guest runs in, or both kinds:
 The guests are numbered from 0: first those of images, then those of processes.
 A process needs a debugger's rights: be root, for example. It runs on while each
 of its pages is read once, so pause the guest first for one consistent moment.
+Only pages in memory or swap are read, of the memory that it offers for sharing.
+If it offers none, or pageshare-host shares it, all its private anonymous memory
+is read. --all-memory reads all of its memory that no file backs.
 
 The output is a line for each guest, the total, how often contents occur, and a
 sentence whose parts add up, such as
@@ -131,11 +134,15 @@ sentence whose parts add up, such as
     425 of 512 MiB could be reclaimed (83.0 %):
     355 zeros, 23 between guests, 47 within guests
 
+With processes a last line says how much is shared already.
+
 Only guests with equal salts share. docs/IMAGES.md explains each number. The
 exit status is 0 on success, 1 if an image, a process, the picture, the output
 or memory failed, and 2 if the command line is wrong.";
 
 pub(crate) const IMAGES: &str = "An image of each guest's memory";
+
+pub(crate) const ALL_MEMORY: &str = "Read memory of processes that isn't offered, too";
 
 pub(crate) const PIDS: &str = "A process that a guest runs in; may be repeated";
 
@@ -157,8 +164,10 @@ of the pages. `pageshare fleet` merges the digests of many hosts.
     pageshare digest --name web --pid 4711 > web.digest
 
 `pageshare estimate --help` says what an image is. With --pid a running process
-is read: its writable memory that is not backed by a file, each page once, while
-it runs on. For one consistent moment, pause the guest first.
+is read, each page once: those pages in memory or swap that it offers for
+sharing. If it offers none, or pageshare-host shares it, all its private
+anonymous memory is read. --all-memory reads all of its memory that no file
+backs. For one consistent moment, pause the guest first.
 
 With --sample K only about one content in K is kept, the same ones for every
 guest, and always that of zeros.

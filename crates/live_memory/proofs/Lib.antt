@@ -1,2 +1,3 @@
 pub mod Imaged
+pub mod Paged
 pub mod Walked

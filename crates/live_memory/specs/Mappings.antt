@@ -6,10 +6,15 @@ use Rattle.text_words.specs.Words.{number_to}
 use Rattle.memory_images.specs.declared.segment.Segment.{Segment}
 use Rattle.live_memory.specs.Fields.{◌>>=◌, behind_spaces, range_in, word_in}
 use Rattle.live_memory.specs.declared.mapping.Mapping.{Mapping}
+use Rattle.live_memory.specs.declared.mapping.WritableMapping.{WritableMapping}
 
 -- permissions such as rw-p: the second is w
 abbrev pub is_writable : List ℕ → Bool
 is_writable permissions = nat_lt 1 (length permissions) && slice_index permissions 1 == 119
+
+-- permissions such as rw-p: the fourth is p
+abbrev pub is_private : List ℕ → Bool
+is_private permissions = nat_lt 3 (length permissions) && slice_index permissions 3 == 112
 
 -- A line: FROM-TO PERMISSIONS OFFSET DEVICE INODE, with a space behind each, and then the name, which may be missing, behind more
 -- spaces. None: it isn't of the form.
@@ -22,7 +27,7 @@ mapping_in bytes = do
   device ← word_in offset.1
   inode ← word_in device.1
   number ← result_ok (number_to (2 ^ 64 - 1) inode.0)
-  Some (record { from = range.0; to = range.1; is_writable = is_writable permissions.0; inode = number }, behind_spaces inode.1)
+  Some (record { from = range.0; to = range.1; is_writable = is_writable permissions.0; is_private = is_private permissions.0; inode = number }, behind_spaces inode.1)
 
 abbrev pub begins_with : List ℕ → List ℕ → Bool
 begins_with front bytes = bytes_eq (take (length front) bytes) front
@@ -43,3 +48,15 @@ is_kept mapping name = mapping.is_writable && is_fileless mapping.inode name
 -- where the pages lie
 abbrev pub segment_of : Mapping → Segment
 segment_of mapping = record { offset = mapping.from; len = mapping.to - mapping.from }
+
+-- its own mapping of the file of frames that pageshare-host lends from
+abbrev pub shows_frames : Mapping → List ℕ → Bool
+shows_frames mapping name = mapping.is_private && bytes_eq name (codes "/memfd:pageshare-frames (deleted)")
+
+abbrev pub writable_of : Mapping → List ℕ → Bool → WritableMapping
+writable_of mapping name is_offered = record {
+  segment = segment_of mapping;
+  is_offered = is_offered;
+  is_anonymous = mapping.is_private && mapping.inode == 0;
+  shows_frames = shows_frames mapping name;
+}

@@ -2,6 +2,7 @@
 ghost use Rattle.std.specs.Prelude.{◌≡◌, ◌<◌, IfSome};
 ghost use Rattle.std.specs.Option.{option_map};
 ghost use Rattle.live_memory.specs.Fields.{address_in, behind_spaces, digit_in, part_in, range_in, value_on, with_digit, word_in};
+ghost use Rattle.live_memory.specs.Ranges.{IsRange};
 
 use text_words::word::cut;
 
@@ -88,7 +89,7 @@ fn with_digit(value: u64, byte: u8) -> Option<u64>
 #[tactic(auto, unfolding(crate::specs::Fields::range_in))]
 pub(crate) fn range(word: &[u8]) -> Option<(u64, u64)>
     ensures value { result ≡ range_in word.now }
-    ensures rises { IfSome result (λ range. range.0 < range.1) }
+    ensures range { IfSome result (λ range. IsRange range.0 range.1) }
 {
     let (from, to) = part(word)?;
     let from = address(from)?;

@@ -1,17 +1,24 @@
 //! The memory of a process of this machine, as a source of pages.
 //!
-//! The process's own list of its mappings, `/proc/PID/maps`, says which of its memory is no file's and can be written, and
-//! `specs/` defines how that list is read. The pages are those of an [`Image`](memory_images::Image) of `/proc/PID/mem`.
+//! The process's own list of its mappings, `/proc/PID/smaps`, says which of its memory is no file's, can be written and is offered
+//! for sharing, and `/proc/PID/pagemap` which of its pages are in memory. `specs/` defines how both are read. The pages are those
+//! of an [`Image`](memory_images::Image) of `/proc/PID/mem`.
 #![tactic(auto)]
 
+mod choice;
+mod details;
 mod fault;
 mod fields;
 mod mapping;
 mod maps;
 mod memory;
+mod pagemap;
 mod process;
 
+pub use choice::MemoryChoice;
 pub use fault::LiveFault;
-pub use maps::writable_segments;
+pub use mapping::WritableMapping;
+pub use maps::writable_mappings;
 pub use memory::LiveMemory;
-pub use process::{LiveImage, image_of_maps, open_process};
+pub use pagemap::PageMap;
+pub use process::{LiveImage, LiveProcess, image_of_maps, open_process, shared_of_maps};

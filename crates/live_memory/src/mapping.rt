@@ -1,6 +1,7 @@
 //! A line of `/proc/PID/maps`.
 ghost use Rattle.std.specs.Prelude.{◌≡◌, ◌+◌, ◌<◌, ◌≤◌, IfSome, option_map};
-ghost use Rattle.live_memory.specs.Mappings.{is_fileless, is_kept, is_writable, mapping_in, segment_of};
+ghost use Rattle.live_memory.specs.Mappings.{is_fileless, is_kept, is_private, is_writable, mapping_in, segment_of, shows_frames, writable_of};
+ghost use Rattle.live_memory.specs.Ranges.{IsRange};
 
 use crate::fields::{behind_spaces, range, word};
 use memory_images::Segment;
@@ -21,12 +22,30 @@ const SHARED: &[u8] = b"/dev/zero (deleted)";
 /// The name of anonymous memory of large pages.
 const LARGE: &[u8] = b"/anon_hugepage (deleted)";
 
+/// The name of the file of frames that `pageshare-host` lends from.
+const FRAMES: &[u8] = b"/memfd:pageshare-frames (deleted)";
+
+/// A mapping of a process's memory that is no file's and can be written.
+#[derive(Clone, Copy, Debug, PartialEq, Eq)]
+pub struct WritableMapping {
+    /// Where its pages lie.
+    pub segment: Segment,
+    /// The process offered it for sharing (`MADV_MERGEABLE`).
+    pub is_offered: bool,
+    /// It is the process's own, and of no file.
+    pub is_anonymous: bool,
+    /// It shows frames of `pageshare-host`.
+    pub shows_frames: bool,
+}
+
 /// What a line says of a mapping, without its name.
 #[derive(Clone, Copy)]
 pub(crate) struct Mapping {
     pub(crate) from: u64,
     pub(crate) to: u64,
     pub(crate) is_writable: bool,
+    /// Its pages are the process's own.
+    pub(crate) is_private: bool,
     /// The number of the file that is mapped; 0: there is none.
     pub(crate) inode: u64,
 }
@@ -38,11 +57,18 @@ fn is_writable(permissions: &[u8]) -> bool
     permissions.len() > 1 && permissions[1] == b'w'
 }
 
+/// Whether the permissions are those of memory that is the process's own, as in `rw-p`.
+fn is_private(permissions: &[u8]) -> bool
+    ensures { result ≡ is_private permissions.now }
+{
+    permissions.len() > 3 && permissions[3] == b'p'
+}
+
 /// Returns what a line says, and the mapping's name.
 #[tactic(auto, unfolding(crate::specs::Mappings::mapping_in))]
 pub(crate) fn read_mapping(line: &[u8]) -> Option<(Mapping, &[u8])>
     ensures value { option_map (λ x. (x.0, x.1.now)) result ≡ mapping_in line.now }
-    ensures rises { IfSome result (λ x. x.0.from < x.0.to) }
+    ensures range { IfSome result (λ x. IsRange x.0.from x.0.to) }
 {
     let (addresses, rest) = word(line)?;
     let (from, to) = range(addresses)?;
@@ -52,10 +78,12 @@ pub(crate) fn read_mapping(line: &[u8]) -> Option<(Mapping, &[u8])>
     let (inode, rest) = word(rest)?;
     let inode = number_to(u64::MAX, inode).ok()?;
     let is_writable = is_writable(permissions);
+    let is_private = is_private(permissions);
     let mapping = Mapping {
         from,
         to,
         is_writable,
+        is_private,
         inode,
     };
     Some((mapping, behind_spaces(rest)))
@@ -79,13 +107,33 @@ pub(crate) fn is_kept(mapping: Mapping, name: &[u8]) -> bool
     mapping.is_writable && is_fileless(mapping.inode, name)
 }
 
+/// Whether a mapping shows frames of `pageshare-host`.
+fn shows_frames(mapping: Mapping, name: &[u8]) -> bool
+    ensures { result ≡ shows_frames mapping name.now }
+{
+    mapping.is_private && name == FRAMES
+}
+
 /// Returns where a mapping's pages lie.
-pub(crate) fn segment_of(mapping: Mapping) -> Segment
+fn segment_of(mapping: Mapping) -> Segment
     requires { mapping.from < mapping.to }
     ensures { result ≡ segment_of mapping }
 {
     Segment {
         offset: mapping.from,
         len: mapping.to - mapping.from,
+    }
+}
+
+/// Returns what is known of a mapping that is kept.
+pub(crate) fn writable_of(mapping: Mapping, name: &[u8], is_offered: bool) -> WritableMapping
+    requires { mapping.from < mapping.to }
+    ensures { result ≡ writable_of mapping name.now is_offered }
+{
+    WritableMapping {
+        segment: segment_of(mapping),
+        is_offered,
+        is_anonymous: mapping.is_private && mapping.inode == 0,
+        shows_frames: shows_frames(mapping, name),
     }
 }

@@ -1,6 +1,6 @@
 //! The command `digest`: it writes the digest of a guest's memory, from an image or a process.
 use crate::command_fault::{Cause, CommandFault, Subject};
-use crate::images::{check_unchanged, open_image};
+use crate::images::{check_unchanged, choice_of, open_image};
 use crate::reading::Reading;
 use crate::workers::workers_of;
 use command_terms::{DigestSource, DigestWords, line_where};
@@ -65,8 +65,8 @@ fn of_process<R: Threads + Sync + Files<File = File> + Eprint + Clock>(
     pid: u32,
     is_terminal: bool,
 ) -> Result<GuestDigests<Global>, Cause> {
-    let memory = open_process(rt, alloc, pid)?;
-    digests_of(rt, alloc, words, &memory, is_terminal)
+    let process = open_process(rt, alloc, pid, choice_of(words.all_memory))?;
+    digests_of(rt, alloc, words, &process.image, is_terminal)
 }
 
 /// Digests the pages, and draws how much was read if asked to.

@@ -15,7 +15,7 @@ use crate::workers::workers_of;
 use command_terms::{EstimateWords, ImageCause, line_where};
 use page_census::{CensusFault, census};
 use page_digest::FoldHash;
-use report_text::{Estimate, guest_lines, picture_text};
+use report_text::{Estimate, Report, guest_lines, in_units, picture_text, scale_for};
 use std::alloc::{AllocError, Global};
 use std::fs::{self, File, Files};
 use std::io::{Eprint, Write};
@@ -113,9 +113,51 @@ fn texts_of(
     };
     let report = estimate.report(alloc)?;
     Ok(Texts {
-        output: output_text(alloc, words.json, words.in_pages, &report)?,
+        output: output_of(alloc, words, counted, &report)?,
         picture,
     })
+}
+
+/// Makes the table or the object, with what is shared already where processes were read.
+fn output_of(
+    alloc: Global,
+    words: &EstimateWords<'_>,
+    counted: &Counted,
+    report: &Report<'_>,
+) -> Result<String, AllocError> {
+    let mut text = output_text(alloc, words.json, words.in_pages, report)?;
+    if let Some(pages) = counted.shared_already {
+        if words.json {
+            push_member(&mut text, pages)?;
+        } else {
+            push_shared(&mut text, pages)?;
+        }
+    }
+    Ok(text)
+}
+
+/// Appends the line that says how much is shared already.
+fn push_shared(text: &mut String, pages: u64) -> Result<(), AllocError> {
+    let scale = scale_for(pages);
+    let amount = in_units(scale, pages);
+    if scale == 10 {
+        let (whole, tenth) = (amount / 10, amount % 10);
+        writeln!(
+            text,
+            "{whole}.{tenth} MiB of this memory is shared already."
+        )
+    } else {
+        writeln!(text, "{amount} MiB of this memory is shared already.")
+    }
+}
+
+/// Appends a member to an object and its line feed, with how many pages are shared already.
+fn push_member(text: &mut String, pages: u64) -> Result<(), AllocError> {
+    if text.ends_with("}\n") {
+        text.pop();
+        text.pop();
+    }
+    writeln!(text, ",\"shared_already\":{pages}}}")
 }
 
 /// Returns the salt of each guest.

@@ -1,6 +1,7 @@
 //! Files that are opened as images.
 use crate::command_fault::Cause;
 use command_terms::ImageCause;
+use live_memory::MemoryChoice;
 use memory_images::{FileBytes, Image};
 use std::alloc::Global;
 use std::fs::{self, File, Files, Metadata};
@@ -9,6 +10,15 @@ use std::time::SystemTime;
 
 /// A file of pages.
 pub type FileImage = Image<FileBytes>;
+
+/// Returns which mappings of a process are read.
+pub fn choice_of(all_memory: bool) -> MemoryChoice {
+    if all_memory {
+        MemoryChoice::All
+    } else {
+        MemoryChoice::Offered
+    }
+}
 
 /// The length of a file and the time of its last change, which show whether it has changed.
 #[derive(Clone, Copy, PartialEq, Eq)]

@@ -10,8 +10,7 @@ use command_terms::{CommandEnd, DrawnLine, Task, Work, first_failure, line_where
 use merge_run::OpenGate;
 use page_digest::PageHash;
 use share_text::{
-    Noted, Output, Sink, Source, TextFault, ThreadedFault, replay, serial, threaded,
-    threaded_viewed,
+    Noted, Output, Sink, Source, TextFault, replay, serial, threaded, threaded_viewed,
 };
 use std::alloc::Global;
 use std::fs::{self, Files};
@@ -42,7 +41,7 @@ pub fn do_text<
             // A file that can't be opened is an input that can't be read.
             Err(error) => Ending {
                 is_of_script: task.work.is_of_script(),
-                done: Err(ThreadedFault::Text(TextFault::Read)),
+                done: Err(TextFault::Read),
                 failure: Some((task.input_name(), error)),
             },
         },
@@ -54,7 +53,7 @@ pub fn do_text<
 pub fn report_memory(rt: &impl Eprint, is_terminal: bool) -> io::Result<CommandEnd> {
     let ending = Ending {
         is_of_script: false,
-        done: Err(ThreadedFault::Text(TextFault::OutOfMemory)),
+        done: Err(TextFault::OutOfMemory),
         failure: None,
     };
     report_ending(rt, is_terminal, &ending)
@@ -79,8 +78,8 @@ fn done_of<
     let mut input = Noted::new(reader);
     let mut output = Noted::new(writer);
     let done = match task.work {
-        Work::Replay => replay(alloc, &mut input, &mut output, hash).map_err(ThreadedFault::Text),
-        Work::Serial => serial(alloc, &mut input, &mut output, hash).map_err(ThreadedFault::Text),
+        Work::Replay => replay(alloc, &mut input, &mut output, hash),
+        Work::Serial => serial(alloc, &mut input, &mut output, hash),
         Work::Run {
             is_journal,
             progress,
@@ -114,7 +113,7 @@ fn run<T: Threads + Wait + Sync + Eprint + Clock, R: Source, W: Sink, H: PageHas
     form: Output,
     line: Option<DrawnLine<'_, T>>,
     hash: H,
-) -> Result<(), ThreadedFault>
+) -> Result<(), TextFault>
     requires reader { R.has_failed reader.old ≡ false }
     requires writer { W.has_failed writer.old ≡ false }
 {

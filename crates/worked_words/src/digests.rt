@@ -48,7 +48,7 @@ fn reads_the_words_of_a_digest(rt: HostRuntime) -> Result<(), Fail> {
             Drawn::Auto,
         ),
         (
-            "--pid 4294967295 --name a_Z",
+            "--pid 4294967295 --all-memory --name a_Z",
             process,
             "a_Z",
             0,
@@ -69,6 +69,7 @@ fn reads_the_words_of_a_digest(rt: HostRuntime) -> Result<(), Fail> {
         ),
     ];
     for (line, source, name, salt, sample, workers, raw, progress) in asked {
+        let all_memory = line.contains("--all-memory");
         let given = words(alloc, line)?;
         let guest = GuestName::new(name.as_bytes()).ok_or("no name")?;
         let sample = Sample::new(sample).ok_or("no sample")?;
@@ -79,6 +80,7 @@ fn reads_the_words_of_a_digest(rt: HostRuntime) -> Result<(), Fail> {
             sample,
             workers,
             raw,
+            all_memory,
             progress,
         });
         assert_eq!(rt; asked_of(alloc, &given, VERSION).ok(), Some(due));

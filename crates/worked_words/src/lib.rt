@@ -6,6 +6,8 @@
 #[cfg(test)]
 mod digests;
 #[cfg(test)]
+mod equal;
+#[cfg(test)]
 mod fleets;
 #[cfg(test)]
 mod lines;

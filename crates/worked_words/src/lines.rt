@@ -1,4 +1,5 @@
 //! The lines that show how far the work is.
+use crate::equal::equal;
 use command_terms::{ReadSoFar, RunSoFar};
 use std::test::Fail;
 
@@ -31,7 +32,7 @@ fn how_much_was_read(rt: HostRuntime) -> Result<(), Fail> {
             total,
             elapsed,
         };
-        assert_eq!(rt; format!(in rt.alloc(); "{so_far}")?.as_str(), text);
+        equal(&rt, format!(in rt.alloc(); "{so_far}")?.as_str(), text);
     }
     Ok(())
 }
@@ -48,6 +49,6 @@ fn how_far_a_run_is(rt: HostRuntime) -> Result<(), Fail> {
     };
     let shown =
         " 33 %  1000 of 3000 requests  4000 a second  12 pages mapped, 8 shared, 5 reclaimed";
-    assert_eq!(rt; format!(in rt.alloc(); "{so_far}")?.as_str(), shown);
+    equal(&rt, format!(in rt.alloc(); "{so_far}")?.as_str(), shown);
     Ok(())
 }

@@ -1,4 +1,5 @@
 //! What the words of a command line ask for.
+use crate::equal::equal;
 use clap::error::ErrorKind;
 use command_terms::{Asked, Drawn, EstimateWords, Task, Work};
 use command_words::asked_of;
@@ -109,7 +110,7 @@ fn reads_the_words(rt: HostRuntime) -> Result<(), Fail> {
     for (texts, kind) in mistakes {
         let given = words(alloc, texts)?;
         let error = asked_of(alloc, &given, VERSION).err().ok_or("no error")?;
-        assert_eq!(rt; error.kind(), kind);
+        equal(&rt, error.kind(), kind);
     }
     Ok(())
 }
@@ -125,14 +126,14 @@ fn estimate_of<'a>(alloc: Global, words: &'a [String]) -> Result<EstimateWords<'
 fn reads_the_words_of_an_estimate(rt: HostRuntime) -> Result<(), Fail> {
     let given = words(rt.alloc(), &["estimate", "a.raw", "b.core"])?;
     let asked = estimate_of(rt.alloc(), &given)?;
-    assert_eq!(rt; asked.images.len(), 2);
-    assert_eq!(rt; asked.images.first().copied(), Some("a.raw"));
-    assert_eq!(rt; asked.images.last().copied(), Some("b.core"));
+    equal(&rt, asked.images.len(), 2);
+    equal(&rt, asked.images.first().copied(), Some("a.raw"));
+    equal(&rt, asked.images.last().copied(), Some("b.core"));
     assert!(rt; asked.salts.is_empty() && asked.processes.is_empty());
-    assert_eq!(rt; asked.workers, None);
-    assert!(rt; !asked.raw && !asked.json && !asked.in_pages);
-    assert_eq!(rt; asked.svg, None);
-    assert_eq!(rt; asked.progress, Drawn::Auto);
+    equal(&rt, asked.workers, None);
+    assert!(rt; !asked.raw && !asked.json && !asked.in_pages && !asked.all_memory);
+    equal(&rt, asked.svg, None);
+    equal(&rt, asked.progress, Drawn::Auto);
     Ok(())
 }
 
@@ -154,13 +155,13 @@ fn reads_the_options_of_an_estimate(rt: HostRuntime) -> Result<(), Fail> {
     ];
     let given = words(rt.alloc(), &options)?;
     let asked = estimate_of(rt.alloc(), &given)?;
-    assert_eq!(rt; asked.images.len(), 2);
-    assert_eq!(rt; asked.images.last().copied(), Some("a.raw"));
-    assert_eq!(rt; asked.salts.as_slice(), [0, u32::MAX].as_slice());
-    assert_eq!(rt; asked.workers, Some(64));
+    equal(&rt, asked.images.len(), 2);
+    equal(&rt, asked.images.last().copied(), Some("a.raw"));
+    equal(&rt, asked.salts.as_slice(), [0, u32::MAX].as_slice());
+    equal(&rt, asked.workers, Some(64));
     assert!(rt; asked.raw && asked.json);
-    assert_eq!(rt; asked.svg, Some("a.svg"));
-    assert_eq!(rt; asked.progress, Drawn::Never);
+    equal(&rt, asked.svg, Some("a.svg"));
+    equal(&rt, asked.progress, Drawn::Never);
     Ok(())
 }
 
@@ -174,17 +175,18 @@ fn reads_the_processes_of_an_estimate(rt: HostRuntime) -> Result<(), Fail> {
         "--unit=pages",
         "--salts",
         "1,2,3",
+        "--all-memory",
         "--pid=4294967295",
     ];
     let given = words(rt.alloc(), &options)?;
     let asked = estimate_of(rt.alloc(), &given)?;
-    assert_eq!(rt; asked.images.as_slice(), ["a.raw"].as_slice());
-    assert_eq!(rt; asked.processes.as_slice(), [4711, u32::MAX].as_slice());
-    assert_eq!(rt; asked.salts.as_slice(), [1, 2, 3].as_slice());
-    assert!(rt; asked.in_pages);
-    assert_eq!(rt; (asked.guests(), asked.others()), (3, 2));
-    assert_eq!(rt; asked.process_of(0), None);
-    assert_eq!(rt; asked.process_of(2), Some(u32::MAX));
-    assert_eq!(rt; asked.process_of(3), None);
+    equal(&rt, asked.images.as_slice(), ["a.raw"].as_slice());
+    equal(&rt, asked.processes.as_slice(), [4711, u32::MAX].as_slice());
+    equal(&rt, asked.salts.as_slice(), [1, 2, 3].as_slice());
+    assert!(rt; asked.in_pages && asked.all_memory);
+    equal(&rt, (asked.guests(), asked.others()), (3, 2));
+    equal(&rt, asked.process_of(0), None);
+    equal(&rt, asked.process_of(2), Some(u32::MAX));
+    equal(&rt, asked.process_of(3), None);
     Ok(())
 }

@@ -8,6 +8,8 @@ pub struct Counted {
     pub guests: Vec<GuestNumbers>,
     pub total: TotalNumbers,
     pub copies: Vec<CopiesClass>,
+    /// How many pages of the processes aren't one process's alone; none where no process was read.
+    pub shared_already: Option<u64>,
 }
 
 impl From<CensusNumbers<Global>> for Counted {
@@ -16,6 +18,7 @@ impl From<CensusNumbers<Global>> for Counted {
             guests: numbers.guests,
             total: numbers.total,
             copies: numbers.copies,
+            shared_already: None,
         }
     }
 }

@@ -3,13 +3,14 @@ use crate::command_fault::{Cause, CommandFault};
 use crate::estimate::counted::Counted;
 use crate::estimate::images::{Images, check_images, open_images};
 use crate::estimate::merged::counted;
+use crate::images::choice_of;
 use crate::reading::Reading;
 use crate::workers::workers_of;
 use command_terms::{EstimateWords, ImageCause, line_where};
 use digest_text::{DigestReader, GuestName, write_digests};
 use fleet_census::{Pairs, merge};
 use guest_digests::{DigestLine, Sample, Sampling, digest_pages};
-use live_memory::{LiveImage, open_process};
+use live_memory::{LiveProcess, MemoryChoice, open_process};
 use memory_pages::PageSource;
 use std::alloc::{AllocError, Global};
 use std::fs::{File, Files};
@@ -44,17 +45,26 @@ pub fn count_live<'a, R: Threads + Sync + Files<File = File> + Eprint + Clock>(
     reading.end();
     let digests = digests?;
     check_images(rt, words, &images)?;
-    merge_all(alloc, &digests).map_err(|refused| CommandFault::of_estimate(
+    merge_all(alloc, &digests, shared_of(&memories)).map_err(|refused| CommandFault::of_estimate(
         words,
         Cause::from(refused),
     ))
 }
 
 /// Returns how many pages the images and the processes have.
-fn pages_of(images: &Images, memories: &[LiveImage]) -> u64 {
+fn pages_of(images: &Images, memories: &[LiveProcess]) -> u64 {
     let mut pages = images.pages;
     for memory in memories {
-        pages = pages.saturating_add(u64::from(memory.count()));
+        pages = pages.saturating_add(u64::from(memory.image.count()));
+    }
+    pages
+}
+
+/// Returns how many pages of the processes aren't one process's alone.
+fn shared_of(memories: &[LiveProcess]) -> u64 {
+    let mut pages: u64 = 0;
+    for memory in memories {
+        pages = pages.saturating_add(memory.shared);
     }
     pages
 }
@@ -65,11 +75,12 @@ fn open_processes<'a, R: Files<File = File>>(
     alloc: Global,
     words: &EstimateWords<'a>,
     images: &Images,
-) -> Result<Vec<LiveImage>, CommandFault<'a>> {
+) -> Result<Vec<LiveProcess>, CommandFault<'a>> {
     let mut memories = Vec::new(alloc);
     for (n, pid) in words.processes.iter().enumerate() {
         let guest = images.guests.len().saturating_add(n);
-        open_next(rt, alloc, *pid, &mut memories).map_err(|cause| CommandFault::of_guest(
+        let choice = choice_of(words.all_memory);
+        open_next(rt, alloc, *pid, choice, &mut memories).map_err(|cause| CommandFault::of_guest(
             words, guest, cause,
         ))?;
         if pages_of(images, &memories) > u64::from(u32::MAX) {
@@ -84,9 +95,10 @@ fn open_next<R: Files<File = File>>(
     rt: &R,
     alloc: Global,
     pid: u32,
-    memories: &mut Vec<LiveImage>,
+    choice: MemoryChoice,
+    memories: &mut Vec<LiveProcess>,
 ) -> Result<(), Cause> {
-    let memory = open_process(rt, alloc, pid)?;
+    let memory = open_process(rt, alloc, pid, choice)?;
     memories.push(memory)?;
     Ok(())
 }
@@ -97,7 +109,7 @@ fn digest_all<'a, R: Threads + Sync + Eprint + Clock>(
     alloc: Global,
     words: &EstimateWords<'a>,
     images: &Images,
-    memories: &[LiveImage],
+    memories: &[LiveProcess],
     reading: &Reading<'_, R>,
 ) -> Result<Digests, CommandFault<'a>> {
     let mut digests = Digests {
@@ -116,13 +128,13 @@ fn digest_processes<'a, R: Threads + Sync + Eprint + Clock>(
     rt: &R,
     alloc: Global,
     words: &EstimateWords<'a>,
-    memories: &[LiveImage],
+    memories: &[LiveProcess],
     reading: &Reading<'_, R>,
     digests: &mut Digests,
 ) -> Result<(), CommandFault<'a>> {
     for (n, memory) in memories.iter().enumerate() {
         let guest = words.images.len().saturating_add(n);
-        digest_next(rt, alloc, words, guest, memory, reading, digests)?;
+        digest_next(rt, alloc, words, guest, &memory.image, reading, digests)?;
     }
     Ok(())
 }
@@ -179,7 +191,7 @@ fn within_of(lines: &[DigestLine]) -> u64 {
 }
 
 /// Merges the digests, and counts. They are in memory, and in the form that they are read in, so only memory can be refused.
-fn merge_all(alloc: Global, digests: &Digests) -> Result<Counted, AllocError> {
+fn merge_all(alloc: Global, digests: &Digests, shared_already: u64) -> Result<Counted, AllocError> {
     let mut readers = Vec::new(alloc);
     for text in &digests.texts {
         push_reader(alloc, text, &mut readers)?;
@@ -188,7 +200,7 @@ fn merge_all(alloc: Global, digests: &Digests) -> Result<Counted, AllocError> {
         return Err(AllocError);
     }
     match merge(alloc, &mut readers, Pairs::Omitted) {
-        Ok(merged) => counted(alloc, &merged, &digests.within),
+        Ok(merged) => counted(alloc, &merged, &digests.within, shared_already),
         Err(_fault) => Err(AllocError),
     }
 }

@@ -5,11 +5,12 @@ use page_census::{CopiesClass, GuestNumbers, TotalNumbers};
 use std::alloc::{AllocError, Global};
 
 /// Returns the numbers of a merge of whole digests. `within` has for each guest the pages whose content another of its own pages has,
-/// which a merge doesn't count.
+/// and `shared_already` is how many pages of processes aren't one process's alone, which a merge doesn't count.
 pub fn counted(
     alloc: Global,
     merged: &FleetNumbers<Global>,
     within: &[u64],
+    shared_already: u64,
 ) -> Result<Counted, AllocError> {
     let mut guests = Vec::new(alloc);
     for (guest, own) in merged.guests.iter().zip(within) {
@@ -23,6 +24,7 @@ pub fn counted(
         guests,
         total: total_of(&merged.total),
         copies,
+        shared_already: Some(shared_already),
     })
 }
 

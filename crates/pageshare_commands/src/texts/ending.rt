@@ -1,6 +1,6 @@
 //! What is printed of a fault of a journal or a script on standard error.
 use command_terms::{CommandEnd, ScriptFault, error_line, script_fault};
-use share_text::ThreadedFault;
+use share_text::TextFault;
 use std::io;
 
 /// How the work on a journal or a script ended; if a read or a write failed, also what it failed on and the system's
@@ -8,7 +8,7 @@ use std::io;
 #[derive(Drop)]
 pub struct Ending<'a> {
     pub is_of_script: bool,
-    pub done: Result<(), ThreadedFault>,
+    pub done: Result<(), TextFault>,
     pub failure: Option<(&'a str, io::Error)>,
 }
 
@@ -31,15 +31,15 @@ pub fn report_ending(
 }
 
 /// Returns the line on standard error for a fault; `None` if the output has it.
-fn line_of(fault: &ThreadedFault) -> Option<&'static str> {
-    match fault {
-        ThreadedFault::Text(fault) => error_line(fault),
-        ThreadedFault::NoThread => None,
+fn line_of(fault: &TextFault) -> Option<&'static str> {
+    match fault.plain() {
+        Ok(fault) => error_line(&fault),
+        Err(_) => None,
     }
 }
 
 /// Explains the fault: in the system's own words if there are any, and else by what was expected.
-fn explain(rt: &impl Eprint, fault: &ThreadedFault, ending: &Ending<'_>) -> io::Result<()> {
+fn explain(rt: &impl Eprint, fault: &TextFault, ending: &Ending<'_>) -> io::Result<()> {
     if let Some((name, error)) = &ending.failure {
         return eprintln!(rt; "{name}: {error}");
     }
@@ -50,9 +50,9 @@ fn explain(rt: &impl Eprint, fault: &ThreadedFault, ending: &Ending<'_>) -> io::
 }
 
 /// Returns the fault of a script; `None` if the fault's own words serve.
-fn script_fault_of(fault: &ThreadedFault, is_of_script: bool) -> Option<ScriptFault> {
-    match fault {
-        ThreadedFault::Text(fault) if is_of_script => script_fault(fault),
+fn script_fault_of(fault: &TextFault, is_of_script: bool) -> Option<ScriptFault> {
+    match fault.plain() {
+        Ok(fault) if is_of_script => script_fault(&fault),
         _ => None,
     }
 }

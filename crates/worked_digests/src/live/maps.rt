@@ -1,14 +1,14 @@
 //! Lists of a process's mappings, as the system writes them.
-use live_memory::{LiveFault, writable_segments};
+use live_memory::{LiveFault, WritableMapping, writable_mappings};
 use memory_images::Segment;
 use std::alloc::Global;
 use std::process::Abort;
 use std::test::Fail;
 
 // The mappings that are kept of a text, or the number of the line at fault.
-fn kept(rt: &impl Abort, alloc: Global, maps: &[u8]) -> Result<Vec<Segment>, u64> {
-    match writable_segments(alloc, maps) {
-        Ok(segments) => Ok(segments),
+fn kept(rt: &impl Abort, alloc: Global, maps: &[u8]) -> Result<Vec<WritableMapping>, u64> {
+    match writable_mappings(alloc, maps) {
+        Ok(mappings) => Ok(mappings),
         Err(LiveFault::Line(line)) => Err(line),
         Err(_) => panic!(rt; "another fault"),
     }
@@ -44,8 +44,8 @@ fn keeps_what_is_no_files(rt: HostRuntime) -> Result<(), Fail> {
         (0x7ffc47500000, 0x21000),
     ];
     assert_eq!(rt; found.len(), due.len());
-    for (segment, (offset, len)) in found.iter().zip(due) {
-        assert_eq!(rt; *segment, Segment { offset, len });
+    for (mapping, (offset, len)) in found.iter().zip(due) {
+        assert_eq!(rt; mapping.segment, Segment { offset, len });
     }
     assert!(rt; kept(&rt, rt.alloc(), b"").is_ok_and(|found| found.is_empty()));
     Ok(())
@@ -70,6 +70,47 @@ fn lines_of_another_form(rt: HostRuntime) -> Result<(), Fail> {
         let mut text = Vec::from_slice(rt.alloc(), b"1000-2000 rw-p 00000000 00:00 0 \n")?;
         text.extend_from_slice(line.as_bytes())?;
         assert!(rt; kept(&rt, rt.alloc(), &text) == Err(2), "{line}");
+    }
+    Ok(())
+}
+
+// A guest of QEMU as the system shows it, shortened. One of its mappings shows frames of a host.
+const SMAPS: &[u8] = b"7f8ee2400000-7f8ee2600000 rw-p 00000000 00:00 0 
+Size:               2048 kB
+KernelPageSize:        4 kB
+Rss:                1024 kB
+THPeligible:           0
+VmFlags: rd wr mr mw me ac sd mg 
+7f8ee2700000-7f8ee2701000 rw-p 00000000 00:00 0                          [heap]
+Size:                  4 kB
+VmFlags: rd wr mr mw me ac sd 
+7f8ee2800000-7f8ee2802000 rw-p 00003000 00:01 2051                       /memfd:pageshare-frames (deleted)
+Size:                  8 kB
+VmFlags: rd wr mr mw me ac sd dd 
+7f8ee2900000-7f8ee2901000 rw-s 00000000 00:01 1026                       /memfd:pc.ram (deleted)
+Size:                  4 kB
+VmFlags: rd wr sh mr mw me ms sd mgx 
+";
+
+#[test]
+fn reads_what_is_known_of_mappings(rt: HostRuntime) -> Result<(), Fail> {
+    let found = kept(&rt, rt.alloc(), SMAPS).ok().expect(&rt, "mappings");
+    let due = [
+        (0x7f8ee2400000, 0x200000, true, true, false),
+        (0x7f8ee2700000, 0x1000, false, true, false),
+        (0x7f8ee2800000, 0x2000, false, false, true),
+        (0x7f8ee2900000, 0x1000, false, false, false),
+    ];
+    assert_eq!(rt; found.len(), due.len());
+    for (mapping, (offset, len, is_offered, is_anonymous, shows_frames)) in found.iter().zip(due) {
+        let segment = Segment { offset, len };
+        let due = WritableMapping {
+            segment,
+            is_offered,
+            is_anonymous,
+            shows_frames,
+        };
+        assert_eq!(rt; *mapping, due);
     }
     Ok(())
 }
