@@ -1,6 +1,7 @@
 //! Two shared frames and a hint of one truncated hash, in one of two buckets.
 ghost use Rattle.std.specs.Prelude.{◌≡◌, IfOk};
 
+use crate::equal::equal;
 use packed_entries::{Chains, Entry, Key, U24};
 use std::alloc::{AllocError, Allocator, Global};
 use std::process::Abort;
@@ -117,7 +118,7 @@ fn found<A: Allocator>(chains: &Chains<A>) -> Found {
 #[test]
 fn new_chains_are_empty(rt: HostRuntime) -> Result<(), Fail> {
     let chains = new_chains(rt.alloc())?;
-    assert_eq!(rt; (chains.len(), chains.bytes()), (0, 56));
+    equal(&rt, (chains.len(), chains.bytes()), (0, 56));
     Ok(())
 }
 
@@ -149,8 +150,8 @@ const STEPS: [(Step, u16, Found); 6] = [
 
 fn take_steps(rt: &impl Abort, chains: &mut Chains<Global>) {
     for (step, before, after) in STEPS {
-        assert_eq!(rt; take_step(rt, chains, step), before);
-        assert_eq!(rt; found(chains), after);
+        equal(rt, take_step(rt, chains, step), before);
+        equal(rt, found(chains), after);
     }
 }
 
@@ -158,7 +159,7 @@ fn take_steps(rt: &impl Abort, chains: &mut Chains<Global>) {
 fn one_bucket(rt: HostRuntime) -> Result<(), Fail> {
     let mut chains = three_entries(&rt, rt.alloc())?;
     let whole = (3, Some((5, 65_534)), Some((6, 1)), HINTED);
-    assert_eq!(rt; found(&chains), whole);
+    equal(&rt, found(&chains), whole);
     take_steps(&rt, &mut chains);
     Ok(())
 }

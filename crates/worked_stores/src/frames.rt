@@ -1,6 +1,7 @@
 //! Frames at their limits, frames taken, copied and given back, and frames with memory refused.
 ghost use Rattle.machine_frames.specs.FrameMap.{IsTaken};
 
+use crate::equal::equal;
 use machine_frames::{Frames, FramesFault};
 use page_model::{MAX_FRAMES, PAGE_BYTES, Page};
 use refusing::Refusing;
@@ -31,14 +32,14 @@ fn limits(rt: HostRuntime) {
 fn write_end<A: Allocator>(rt: &impl Abort, frames: &mut Frames<A>) {
     let mpn = frames.take_zeroed().expect(rt, "full");
     frames.write(mpn, 4095, &[0x43]);
-    assert_eq!(rt; (frames.bytes(mpn)[4095], frames.used()), (0x43, 1));
+    equal(rt, (frames.bytes(mpn)[4095], frames.used()), (0x43, 1));
 }
 
 // The most frames that there can be: their room is reserved, and the memory of only one is touched.
 #[test]
 fn most_frames(rt: HostRuntime) -> Result<(), Fail> {
     let mut frames = new_frames(rt.alloc(), MAX_FRAMES)?;
-    assert_eq!(rt; (frames.total(), frames.used()), (MAX_FRAMES, 0));
+    equal(&rt, (frames.total(), frames.used()), (MAX_FRAMES, 0));
     write_end(&rt, &mut frames);
     Ok(())
 }
@@ -66,14 +67,14 @@ fn take_again<A: Allocator>(rt: &impl Abort, frames: &mut Frames<A>, mpn: u32)
     frames.give_back(mpn);
     let again = frames.take_zeroed().expect(rt, "full");
     assert!(rt; is_blank(frames.bytes(again)));
-    assert_eq!(rt; (frames.used(), frames.total()), (2, 2));
+    equal(rt, (frames.used(), frames.total()), (2, 2));
 }
 
 /// Takes, writes, copies and gives back, on two frames.
 fn use_two<A: Allocator>(rt: &impl Abort, frames: &mut Frames<A>) {
     let (letter, copy) = take_two(rt, frames);
     assert!(rt; frames.bytes(letter) == frames.bytes(copy));
-    assert_eq!(rt; frames.bytes(copy)[0], 0x41);
+    equal(rt, frames.bytes(copy)[0], 0x41);
     take_again(rt, frames, letter);
 }
 
@@ -98,9 +99,9 @@ fn use_another<A: Allocator>(rt: &impl Abort, frames: &mut Frames<A>, mpn: u32)
 fn copy_over<A: Allocator>(rt: &impl Abort, frames: &mut Frames<A>, mpn: u32)
     requires { IsTaken frames.old mpn }
 {
-    assert_eq!(rt; frames.used(), 1);
+    equal(rt, frames.used(), 1);
     let copy = frames.take_copy(mpn).expect(rt, "full");
-    assert_eq!(rt; (frames.bytes(copy)[4095], frames.used()), (0, 2));
+    equal(rt, (frames.bytes(copy)[4095], frames.used()), (0, 2));
     assert!(rt; frames.take_copy(copy).is_none());
 }
 
@@ -148,7 +149,7 @@ fn refused_growth(rt: HostRuntime) {
             break;
         }
     }
-    assert_eq!(rt; whole_at, Some(4));
+    equal(&rt, whole_at, Some(4));
 }
 
 // Once the frames are made, no call takes memory.
@@ -163,6 +164,6 @@ fn no_memory_after_new(rt: HostRuntime) {
 #[test]
 fn frames_fault_says_what_to_do(rt: HostRuntime) -> Result<(), Fail> {
     let said = format!(in rt.alloc(); "{}", FramesFault::Frames)?;
-    assert_eq!(rt; said.as_str(), "ask for 1 to 1,048,576 frames");
+    equal(&rt, said.as_str(), "ask for 1 to 1,048,576 frames");
     Ok(())
 }

@@ -5,6 +5,8 @@
 #[cfg(test)]
 mod chains;
 #[cfg(test)]
+mod equal;
+#[cfg(test)]
 mod frames;
 #[cfg(test)]
 mod hashes;

@@ -1,5 +1,6 @@
 ghost use Rattle.std.specs.Prelude.{◌≡◌, IfOk};
 
+use crate::equal::equal;
 use packed_entries::Packed;
 use refusing::Refusing;
 use share_table::{HintFrame, Table};
@@ -152,10 +153,10 @@ fn table_hint(rt: HostRuntime) -> Result<(), Fail> {
         mpn: 1,
     };
     let mut table = table_of(&rt, rt.alloc(), 2, &[Row::Hint(7, hint)])?;
-    assert_eq!(rt; found(&table), ([1, 0, 0], None, None, Some(hint)));
+    equal(&rt, found(&table), ([1, 0, 0], None, None, Some(hint)));
     drop_hint(&rt, &mut table, 7);
-    assert_eq!(rt; found(&table), ([0, 0, 0], None, None, None));
-    assert_eq!(rt; table.count(7), 0);
+    equal(&rt, found(&table), ([0, 0, 0], None, None, None));
+    equal(&rt, table.count(7), 0);
     Ok(())
 }
 
@@ -187,8 +188,8 @@ const STEPS: [(Step, u32, Found); 4] = [
 
 fn take_steps(rt: &impl Abort, table: &mut Table) {
     for (step, count, after) in STEPS {
-        assert_eq!(rt; take_step(rt, table, step), count);
-        assert_eq!(rt; found(table), after);
+        equal(rt, take_step(rt, table, step), count);
+        equal(rt, found(table), after);
     }
 }
 
@@ -202,7 +203,7 @@ fn one_chain(rt: HostRuntime) -> Result<(), Fail> {
     ];
     let mut table = table_of(&rt, rt.alloc(), 3, &entries)?;
     let whole = ([3, 4, 2], Some((0, 2)), Some((1, 2)), Some(HINT));
-    assert_eq!(rt; found(&table), whole);
+    equal(&rt, found(&table), whole);
     take_steps(&rt, &mut table);
     Ok(())
 }
@@ -215,14 +216,14 @@ fn shown<A: Allocator>(table: &Table<A>) -> (u32, Option<u16>, u32) {
 /// Joins pages to the frame under 7, so that its count goes up from `first` to `last`.
 fn joins<A: Allocator>(rt: &impl Abort, table: &mut Table<A>, first: u32, last: u32) {
     for n in first..=last {
-        assert_eq!(rt; join(rt, table, 7), n);
+        equal(rt, join(rt, table, 7), n);
     }
 }
 
 /// Takes pages from the frame under 7, so that its count goes down from `first` to `last`.
 fn leaves<A: Allocator>(rt: &impl Abort, table: &mut Table<A>, first: u32, last: u32) {
     for n in (last..=first).rev() {
-        assert_eq!(rt; leave(rt, table, 7), n);
+        equal(rt, leave(rt, table, 7), n);
     }
 }
 
@@ -231,10 +232,10 @@ fn widen<A: Allocator>(rt: &impl Abort, table: &mut Table<A>)
     requires { table.old.capacity ≡ 1 }
 {
     add(rt, table, 1, 7, 0);
-    assert_eq!(rt; shown(table), (2, Some(2), 0));
+    equal(rt, shown(table), (2, Some(2), 0));
     go_up(rt, table);
     go_down(rt, table);
-    assert_eq!(rt; (table.find_shared(7), table.len()), (None, 0));
+    equal(rt, (table.find_shared(7), table.len()), (None, 0));
 }
 
 fn go_up<A: Allocator>(rt: &impl Abort, table: &mut Table<A>) {
@@ -243,7 +244,7 @@ fn go_up<A: Allocator>(rt: &impl Abort, table: &mut Table<A>) {
         (65_536, 65_536, (65_536, Some(0), 1)),
     ] {
         joins(rt, table, first, last);
-        assert_eq!(rt; shown(table), after);
+        equal(rt, shown(table), after);
     }
 }
 
@@ -254,7 +255,7 @@ fn go_down<A: Allocator>(rt: &impl Abort, table: &mut Table<A>) {
         (0, 0, (0, None, 0)),
     ] {
         leaves(rt, table, first, last);
-        assert_eq!(rt; shown(table), after);
+        equal(rt, shown(table), after);
     }
 }
 
@@ -290,16 +291,16 @@ fn new_refused_in_turn(rt: HostRuntime) {
             break;
         }
     }
-    assert_eq!(rt; whole_at, Some(2));
+    equal(&rt, whole_at, Some(2));
 }
 
 // A table of the greatest capacity. Its frames are written as they are made, and its bucket heads.
 #[test]
 fn greatest_capacity(rt: HostRuntime) -> Result<(), Fail> {
     let table = table_of(&rt, rt.alloc(), 1_048_576, &[Row::Shared(7, 16_777_215)])?;
-    assert_eq!(rt; table.bytes(), 20_971_520);
-    assert_eq!(rt; table.find_shared(7), Some((16_777_215, 2)));
-    assert_eq!(rt; table.len(), 1);
+    equal(&rt, table.bytes(), 20_971_520);
+    equal(&rt, table.find_shared(7), Some((16_777_215, 2)));
+    equal(&rt, table.len(), 1);
     Ok(())
 }
 
@@ -320,7 +321,7 @@ fn bytes_a_frame(rt: HostRuntime) -> Result<(), Fail> {
         (1025, 20_496),
     ] {
         let bytes = bytes_of(&rt, rt.alloc(), capacity)?;
-        assert_eq!(rt; bytes, want);
+        equal(&rt, bytes, want);
         assert!(rt; bytes.saturating_mul(200) < u64::from(capacity) * 4096);
     }
     Ok(())

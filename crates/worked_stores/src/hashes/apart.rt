@@ -1,6 +1,7 @@
 //! A hash of two pages, each of which waits for the other, so that two workers are needed.
 ghost use Rattle.std.specs.Prelude.{◌≡◌};
 
+use crate::equal::equal;
 use crate::hashes::makes::{pairs_of, two_frames};
 use page_digest::{PageHash, hash_many};
 use page_model::{HashFunction, Page};
@@ -62,7 +63,7 @@ fn by_two_workers(rt: HostRuntime) -> Result<(), Fail> {
     let two = two_frames(heap)?;
     let pairs = pairs_of(heap, &two, 2)?;
     let hashes = hash_many(&rt, heap, 2, &hash, &two.frames, &pairs)?;
-    assert_eq!(rt; hashes.as_slice(), [0, 0x41].as_slice());
+    equal(&rt, hashes.as_slice(), [0, 0x41].as_slice());
     assert!(rt; !hash.missed.load(Ordering::SeqCst));
     Ok(())
 }

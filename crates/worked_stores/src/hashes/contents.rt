@@ -1,4 +1,5 @@
 //! Digests of contents, checked against `sha256sum`: the first sixteen bytes of what it prints.
+use crate::equal::equal;
 use page_digest::{digest_content, digest_four_contents};
 use page_model::Page;
 
@@ -22,9 +23,10 @@ fn contents_by_sha256sum(rt: HostRuntime) {
         0xd67c_656e_0175_6650_d777_17b0_8399_85a0,
         0xad7f_acb2_586f_c6e9_66c0_04d7_d1d1_6b02,
     ];
-    assert_eq!(rt;
+    equal(
+        &rt,
         digest_four_contents(0, &zeros, &last, &counts, &zeros),
-        plain
+        plain,
     );
     let salted = [
         0x84cd_408d_412e_dbd1_4680_fcac_6d1f_deb7,
@@ -32,10 +34,11 @@ fn contents_by_sha256sum(rt: HostRuntime) {
         0x1432_05dc_0daf_6793_4d2f_6296_fa72_f8fc,
         0x84cd_408d_412e_dbd1_4680_fcac_6d1f_deb7,
     ];
-    assert_eq!(rt;
+    equal(
+        &rt,
         digest_four_contents(7, &counts, &zeros, &last, &counts),
-        salted
+        salted,
     );
-    assert_eq!(rt; digest_content(0, &counts), plain[2]);
-    assert_eq!(rt; digest_content(7, &last), salted[2]);
+    equal(&rt, digest_content(0, &counts), plain[2]);
+    equal(&rt, digest_content(7, &last), salted[2]);
 }

@@ -1,4 +1,5 @@
 //! Eight pages hashed at once.
+use crate::equal::equal;
 use page_digest::{PageHash, Sha256Hash, TwoByteHash, WideSha256Hash};
 use page_model::Page;
 
@@ -42,14 +43,14 @@ fn by_two_fours(rt: HostRuntime) {
 fn by_default(rt: HostRuntime) {
     let hashes = hashes_of(&TwoByteHash, [0, 1, 2, 3, 4, 5, 6, 7]);
     for place in 0..8usize {
-        assert_eq!(rt; hashes[place] >> 32, 0x41 + place as u64);
+        equal(&rt, hashes[place] >> 32, 0x41 + place as u64);
     }
 }
 
 #[test]
 fn wide_hash_of_one_and_of_four(rt: HostRuntime) {
     let page = page_of(0x41);
-    assert_eq!(rt; WideSha256Hash.hash(0, &page), KNOWN[0]);
+    equal(&rt, WideSha256Hash.hash(0, &page), KNOWN[0]);
     let other = page_of(0x42);
     let hashes = WideSha256Hash.hash_four([0, 1, 1, 0], &page, &other, &other, &page);
     assert!(rt; hashes == [KNOWN[0], KNOWN[1], KNOWN[1], KNOWN[0]]);

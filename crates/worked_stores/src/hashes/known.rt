@@ -1,4 +1,5 @@
 //! Hashes of known pages.
+use crate::equal::equal;
 use page_digest::{FirstByteHash, PageHash, Sha256Hash, TwoByteHash};
 use page_model::Page;
 
@@ -15,9 +16,9 @@ fn page_of(first: u8, second: u8, last: u8) -> Page {
 fn sha256_hashes(rt: HostRuntime) {
     let blank = page_of(0, 0, 0);
     let letter = page_of(0x41, 0, 0);
-    assert_eq!(rt; Sha256Hash.hash(0, &blank), 0xad7f_acb2_586f_c6e9);
-    assert_eq!(rt; Sha256Hash.hash(0, &letter), 0x9aab_2ec0_0da3_0c5d);
-    assert_eq!(rt; Sha256Hash.hash(1, &letter), 0x2ec9_ff62_4454_1407);
+    equal(&rt, Sha256Hash.hash(0, &blank), 0xad7f_acb2_586f_c6e9);
+    equal(&rt, Sha256Hash.hash(0, &letter), 0x9aab_2ec0_0da3_0c5d);
+    equal(&rt, Sha256Hash.hash(1, &letter), 0x2ec9_ff62_4454_1407);
 }
 
 #[test]
@@ -25,10 +26,10 @@ fn four_sha256_hashes(rt: HostRuntime) {
     let blank = page_of(0, 0, 0);
     let letter = page_of(0x41, 0, 0);
     let hashes = Sha256Hash.hash_four([0, 1, 0, 1], &blank, &letter, &letter, &letter);
-    assert_eq!(rt; hashes[0], 0xad7f_acb2_586f_c6e9);
-    assert_eq!(rt; hashes[1], 0x2ec9_ff62_4454_1407);
-    assert_eq!(rt; hashes[2], 0x9aab_2ec0_0da3_0c5d);
-    assert_eq!(rt; hashes[3], 0x2ec9_ff62_4454_1407);
+    equal(&rt, hashes[0], 0xad7f_acb2_586f_c6e9);
+    equal(&rt, hashes[1], 0x2ec9_ff62_4454_1407);
+    equal(&rt, hashes[2], 0x9aab_2ec0_0da3_0c5d);
+    equal(&rt, hashes[3], 0x2ec9_ff62_4454_1407);
 }
 
 #[test]
@@ -42,7 +43,11 @@ fn four_as_each_alone(rt: HostRuntime) {
     let salts = [0, 9, 0xffff_ffff, 0];
     let hashes = Sha256Hash.hash_four(salts, &pages[0], &pages[1], &pages[2], &pages[3]);
     for place in 0..4usize {
-        assert_eq!(rt; hashes[place], Sha256Hash.hash(salts[place], &pages[place]));
+        equal(
+            &rt,
+            hashes[place],
+            Sha256Hash.hash(salts[place], &pages[place]),
+        );
     }
 }
 
@@ -51,8 +56,8 @@ fn weak_hashes(rt: HostRuntime) {
     let page = page_of(0x41, 0x07, 0);
     let other = page_of(0x42, 0x08, 0);
     for salt in [0, 1] {
-        assert_eq!(rt; FirstByteHash.hash(salt, &page), 0x41);
-        assert_eq!(rt; TwoByteHash.hash(salt, &page), 0x41_0000_0007);
+        equal(&rt, FirstByteHash.hash(salt, &page), 0x41);
+        equal(&rt, TwoByteHash.hash(salt, &page), 0x41_0000_0007);
     }
     let hashes = FirstByteHash.hash_four([0, 1, 2, 3], &page, &other, &page, &other);
     assert!(rt; hashes == [0x41, 0x42, 0x41, 0x42]);

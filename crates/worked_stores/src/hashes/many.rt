@@ -1,4 +1,5 @@
 //! Many frames, hashed by several workers.
+use crate::equal::equal;
 use crate::hashes::makes::{pairs_of, two_frames};
 use page_digest::{HashFault, PageHash, Sha256Hash, WideSha256Hash, hash_many};
 use refusing::Refusing;
@@ -56,9 +57,9 @@ fn wide_hashes<R: Threads + Wait + Abort + Sync>(
 fn frames(rt: HostRuntime) -> Result<(), Fail> {
     for workers in [1, 4] {
         let none = all_hashes(&rt, rt.alloc(), workers, 0)?;
-        assert_eq!(rt; none.len(), 0);
+        equal(&rt, none.len(), 0);
         let both = all_hashes(&rt, rt.alloc(), workers, 2)?;
-        assert_eq!(rt; both.as_slice(), [BLANK, LETTER].as_slice());
+        equal(&rt, both.as_slice(), [BLANK, LETTER].as_slice());
     }
     Ok(())
 }
@@ -83,7 +84,7 @@ fn are_as_alone(rt: &impl Abort, hashes: &[u64]) {
 fn as_each_alone(rt: HostRuntime) -> Result<(), Fail> {
     for workers in 1..8 {
         let hashes = all_hashes(&rt, rt.alloc(), workers, 23)?;
-        assert_eq!(rt; hashes.len(), 23);
+        equal(&rt, hashes.len(), 23);
         are_as_alone(&rt, &hashes);
     }
     Ok(())
@@ -94,7 +95,7 @@ fn as_each_alone(rt: HostRuntime) -> Result<(), Fail> {
 fn by_eights(rt: HostRuntime) -> Result<(), Fail> {
     for count in [3, 4, 7, 8, 9, 11, 12, 13, 15, 16, 17, 23, 24, 28] {
         let hashes = wide_hashes(&rt, rt.alloc(), 1, count)?;
-        assert_eq!(rt; hashes.len(), usize::from(count));
+        equal(&rt, hashes.len(), usize::from(count));
         are_as_alone(&rt, &hashes);
     }
     for workers in 2..5 {
@@ -106,8 +107,8 @@ fn by_eights(rt: HostRuntime) -> Result<(), Fail> {
 #[test]
 fn most_workers(rt: HostRuntime) -> Result<(), Fail> {
     let hashes = all_hashes(&rt, rt.alloc(), 64, 64)?;
-    assert_eq!(rt; hashes.len(), 64);
-    assert_eq!(rt; hashes.get(1), Some(&LETTER));
+    equal(&rt, hashes.len(), 64);
+    equal(&rt, hashes.get(1), Some(&LETTER));
     Ok(())
 }
 
@@ -135,12 +136,12 @@ fn refused_in_turn(rt: HostRuntime) -> Result<(), Fail> {
         assert!(rt; heap.has_refused() == hashes.is_none(), "at {n}");
         assert!(rt; heap.holds_nothing(), "at {n}");
         if hashes.is_some() {
-            assert_eq!(rt; hashes, Some((6, BLANK)));
+            equal(&rt, hashes, Some((6, BLANK)));
             whole_at = Some(n);
             break;
         }
     }
     // The hashes, the tasks, a list for each of two threads, and the handles.
-    assert_eq!(rt; whole_at, Some(5));
+    equal(&rt, whole_at, Some(5));
     Ok(())
 }
