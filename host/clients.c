@@ -203,22 +203,12 @@ static bool comes_too_often(struct domain *domain, const struct ucred *peer) {
     return connects_of(domain->users, USERS_COUNTED, peer->uid) > rate;
 }
 
-/* Why a peer isn't taken, or NULL with an entry for it. */
-static const char *why_not(struct domain *domain, const struct ucred *peer, struct client **client) {
-    if (!is_trusted(domain, peer)) return "it could write shared pages (see --trust-peers)";
-    if (comes_too_often(domain, peer)) return "it or its user connects too often (see --connection-rate)";
+/* Why a peer isn't taken, or REFUSAL_NONE with an entry for it. */
+static enum refusal why_not(struct domain *domain, const struct ucred *peer, struct client **client) {
+    if (!is_trusted(domain, peer)) return REFUSAL_UNTRUSTED;
+    if (comes_too_often(domain, peer)) return REFUSAL_TOO_OFTEN;
     *client = free_entry(domain, peer->pid);
-    return *client ? NULL : "there are as many clients, or connections of it, as may be (see --clients)";
-}
-
-static void turn_away(struct domain *domain, int socket, const struct ucred *peer, const char *why) {
-    uint64_t left_out;
-    domain->turned_away++;
-    closing_close(&domain->closing, socket);
-    if (!seldom_is_due(&domain->not_taken, &left_out)) return;
-    log_line("domain %s: process %d of user %u isn't taken: %s", domain->settings.name, (int)peer->pid, (unsigned)peer->uid, why);
-    if (left_out)
-        log_line("domain %s: %llu more weren't since the last such line", domain->settings.name, (unsigned long long)left_out);
+    return *client ? REFUSAL_NONE : REFUSAL_FULL;
 }
 
 /* Whether the other end was closed while the connection waited. */
@@ -237,9 +227,10 @@ static void take(struct domain *domain, int socket) {
         return;
     }
     if (getsockopt(socket, SOL_SOCKET, SO_PEERCRED, &peer, &size) != 0) peer = (struct ucred){0};
-    const char *why = why_not(domain, &peer, &client);
-    if (why) turn_away(domain, socket, &peer, why);
-    else if (!enter(domain, client, socket, &peer)) domain->turned_away++;
+    enum refusal why = why_not(domain, &peer, &client);
+    if (why != REFUSAL_NONE) closing_close(&domain->closing, socket);
+    else if (!enter(domain, client, socket, &peer)) why = REFUSAL_SYSTEM;
+    if (why != REFUSAL_NONE) refusals_count(&domain->refusals, domain->settings.name, &peer, why);
 }
 
 void clients_accept(struct domain *domain) {
@@ -373,11 +364,20 @@ static size_t extend_loans(uint8_t *reply, size_t length, uint32_t count) {
     return length;
 }
 
+/* A client of another version is told which one this host has: by the beginning of WELCOME, which all versions have. */
+static void refuse_version(const struct client *client) {
+    const uint32_t head[2] = {PAGESHARE_HOST_WELCOME, PAGESHARE_HOST_VERSION};
+    reply(client, (const uint8_t *)head, sizeof head, NULL, 0);
+}
+
 static bool is_fault(struct domain *domain, const struct client *client, uint32_t status) {
+    static const char *const words[] = {"sent what is no message", "has a library of another version"};
+    bool is_version = status == PAGESHARE_HOST_FAULT_VERSION;
     if (status == PAGESHARE_HOST_OK) return false;
+    if (is_version) refuse_version(client);
     if (domain->faults++ < 10)
-        log_line("domain %s: process %d sent what is no message (%u); its connection ends", domain->settings.name,
-                 (int)client->pid, (unsigned)status);
+        log_line("domain %s: process %d %s (%u); its connection ends", domain->settings.name, (int)client->pid, words[is_version],
+                 (unsigned)status);
     return true;
 }
 
@@ -521,6 +521,7 @@ static void hear_connections(struct domain *domain) {
     domain->ticks = 0;
     memset(domain->users, 0, sizeof domain->users);
     memset(domain->processes, 0, sizeof domain->processes);
+    refusals_report(&domain->refusals, domain->settings.name);
 }
 
 void clients_tick(struct domain *domain) {

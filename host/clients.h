@@ -35,7 +35,7 @@ void clients_lend_again(struct domain *domain);
 void clients_ended(struct domain *domain, union event_key key);
 /* Releases some slots of one client whose process has ended. */
 void clients_release_some(struct domain *domain);
-/* Each tenth of a second: who was paused is heard again, and who connected and says nothing is let go. */
+/* Each tenth of a second: reads of paused clients again, and ends connections that have said nothing. */
 void clients_tick(struct domain *domain);
 /* The system has no descriptor or memory to send a status by: nobody is sent one until the next tick. */
 void clients_defer_status(struct domain *domain);

@@ -1,5 +1,7 @@
 #define _GNU_SOURCE
 #include "connection.h"
+#include "budget.h"
+#include "memory.h"
 #include "remote.h"
 #include "sharing.h"
 #include "slices.h"
@@ -7,7 +9,9 @@
 #include <fcntl.h>
 #include <pthread.h>
 #include <stdlib.h>
+#include <sys/socket.h>
 #include <sys/syscall.h>
+#include <sys/un.h>
 #include <unistd.h>
 
 enum {
@@ -17,33 +21,53 @@ enum {
     CALM_LOOKS = 30,  /* looks that find nothing until then */
     MUCH_PART = 128,  /* a look that finds one in so many pages, and MUCH of them, makes the next one come sooner */
     MUCH = 256,
+    LEAST_PART = 16,       /* between two looks that last long the thread sleeps for a so many-th of the period */
+    MANY_MAPPINGS = 65536, /* what is said of mappings is a multiple of this */
     LITTLE = 4,
     EAGER_LOOKS = 8,  /* looks that come sooner after there is a new host or a new window */
     FIRST_NICE = -10, /* the nice value of the thread, where it may have it */
+    CPU_PERCENT = 2,  /* of one processor, which the thread may use where nobody says; and for what is new */
+    BURST_PERCENT = 25,
+    HUGE_FROM = 64,  /* pages of a huge page that could be shared, until which it stays whole */
+    TURNS_LEAST = 8, /* looks until a page that nobody else has is asked about again, where looks are short; and at most */
+    TURNS_MOST = 512,
+    AGAIN_NS = 600, /* processor time that asking about a page again takes, about */
+    REST_MOST = 7,  /* looks that leave out a part of a window where nothing changes */
+    /* processor time that may be used at the burst's rate: for each page of a new window or beside a new host, for one that is new in its
+     * window, and for one that was lent or given back */
+    FIRST_NS = 2000,
+    FRESH_NS = 6000,
+    SHARED_NS = 15000,
     PATH_ROOM = 256
 };
-static const uint64_t retry_ns = 1000000000;
+static const uint64_t retry_ns = 1000000000, chores_ns = 1000000000, nap_most_ns = 100000000;
 
 /* What the environment says. */
 static struct {
     char socket[PATH_ROOM];
     char trace[PATH_ROOM];
     unsigned period_ms;
-    unsigned flags; /* of window_make */
-    int counts;     /* a file for the counts, or NOTHING */
-} settings = {.period_ms = PERIOD_MS, .counts = NOTHING};
+    unsigned cpu_percent; /* of one processor; 0: nobody says */
+    unsigned huge_from;   /* as in windows_tuning */
+    bool is_hasty;        /* as never_wait of windows_config; for tests */
+    unsigned flags;       /* of window_make */
+    int counts;           /* a file for the counts, or NOTHING */
+} settings = {.period_ms = PERIOD_MS, .huge_from = HUGE_FROM, .counts = NOTHING};
 
 /* The thread's own. */
 static struct {
     struct remote remote;
     struct windows *windows;
     bool is_attached, was_reported, is_refused, was_crowded, was_short;
-    uint64_t next_try_ns;
-    struct windows_counts before;
-    unsigned period_ms, calm, eager;
+    uint64_t next_try_ns, next_chores_ns, look_begun_ns;
+    bool was_connected; /* when the look under way began */
+    bool is_memory_short;
+    struct budget budget;
+    struct windows_counts before, at_chores;
+    unsigned period_ms, calm, eager, turns;
     size_t windows_before;
     enum window_status trouble; /* of the last look, so that it is printed once */
-} my = {.remote = REMOTE_CLOSED};
+} my = {.remote = REMOTE_CLOSED, .turns = TURNS_LEAST};
 
 bool connection_is_wanted(void) {
     const char *path = getenv("PAGESHARE_SOCKET");
@@ -74,6 +98,17 @@ static void read_path(const char *name, char to[PATH_ROOM]) {
     snprintf(to, PATH_ROOM, "%s", value ? value : "");
 }
 
+/* A number that the environment may set. */
+static unsigned read_number(const char *name, unsigned otherwise, unsigned most) {
+    const char *value = getenv(name);
+    char *end = NULL;
+    if (!value || !*value) return otherwise;
+    unsigned long number = *value >= '0' && *value <= '9' ? strtoul(value, &end, 10) : 0;
+    if (number >= 1 && number <= most && !*end) return (unsigned)number;
+    log_line("%s=%s: not a number from 1 to %u; it is left out", name, value, most);
+    return otherwise;
+}
+
 void connection_prepare(void) {
     char counts[PATH_ROOM];
     const char *period = getenv("PAGESHARE_PERIOD_MS"), *fork = getenv("PAGESHARE_DONTFORK");
@@ -82,6 +117,9 @@ void connection_prepare(void) {
     read_path("PAGESHARE_COUNTS", counts);
     unsigned long asked = period ? strtoul(period, NULL, 10) : PERIOD_MS;
     settings.period_ms = asked >= 1 && asked <= 3600000 ? (unsigned)asked : PERIOD_MS;
+    settings.cpu_percent = read_number("PAGESHARE_CPU", 0, 100);
+    settings.huge_from = read_number("PAGESHARE_HUGE", HUGE_FROM, WINDOWS_HUGE_PAGES + 1);
+    settings.is_hasty = getenv("PAGESHARE_HASTY") != NULL;
     settings.flags = fork && strcmp(fork, "1") == 0 ? WINDOW_NO_CHILD : 0;
     if (*counts)
         settings.counts = sharing_own((int)syscall(SYS_openat, AT_FDCWD, counts, O_WRONLY | O_CREAT | O_TRUNC | O_CLOEXEC, 0644));
@@ -97,10 +135,22 @@ static enum windows_pins find_pins(void *unused) {
     return devices_still_open() < DEVICES_PIN_PAGES ? WINDOWS_PINS_NEVER : WINDOWS_PINS_POSSIBLE;
 }
 
+static bool pace(void *unused);
+
+/* Where memory is short no part of a window stays whole of which anything could be shared. */
+static struct windows_tuning tuning(void) {
+    bool is_split = my.is_memory_short && settings.huge_from <= WINDOWS_HUGE_PAGES;
+    return (struct windows_tuning){
+        .huge_from = (uint16_t)(is_split ? 1 : settings.huge_from), .rest_most = REST_MOST, .turns = (uint16_t)my.turns};
+}
+
 /* Makes the set of windows, which needs the host's descriptor where the process may make no userfaultfd itself. */
 static bool make_windows(void) {
     struct windows_config config = {.pins = find_pins(NULL),
                                     .find_pins = find_pins,
+                                    .tuning = tuning(),
+                                    .pace = pace,
+                                    .never_wait = settings.is_hasty,
                                     .faults = my.remote.faults_device > 0 ? my.remote.faults_device : 0,
                                     .trace = *settings.trace ? settings.trace : NULL};
     struct window_result result = windows_make(&my.windows, &config);
@@ -127,7 +177,23 @@ static void attach(void) {
     struct window_result result = windows_attach(my.windows, &lender);
     my.is_attached = result.status == WINDOW_OK;
     my.eager = EAGER_LOOKS;
+    budget_give_credit(&my.budget, FIRST_NS * (uint64_t)my.before.pages);
     if (!my.is_attached) log_line("the host's frames can't be used: %s", window_status_words(result.status));
+}
+
+static void report_no_host(int cause) {
+    if (cause == EPROTONOSUPPORT)
+        log_line("the host at %s is of another version than this library; it is tried again each second", settings.socket);
+    else if (cause == ECONNRESET || cause == EPIPE)
+        log_line("the host at %s refused the connection, and its log says why; it is tried again each second", settings.socket);
+    else log_line("no host at %s (%s); it is tried again each second", settings.socket, strerror(cause));
+}
+
+/* The thread's processor time: what the environment says, or the host, or the less of both. */
+static void set_budget(void) {
+    unsigned said = settings.cpu_percent, granted = my.remote.client_cpu;
+    unsigned both = said < granted ? said : granted, one = said ? said : granted ? granted : CPU_PERCENT;
+    budget_set(&my.budget, said && granted ? both : one, BURST_PERCENT);
 }
 
 /* Connects where there is no connection, not too often. Returns whether there is one. */
@@ -137,11 +203,12 @@ static bool connect_host(void) {
     my.next_try_ns = now_ns() + retry_ns;
     enum remote_found found = remote_connect(&my.remote, settings.socket);
     if (found == REMOTE_NONE) {
-        if (!my.was_reported) log_line("no host at %s (%s); it is tried again each second", settings.socket, strerror(errno));
+        if (!my.was_reported) report_no_host(errno);
         my.was_reported = true;
         return false;
     }
     if (my.was_reported) log_line("connected to the host at %s", settings.socket);
+    set_budget();
     my.was_reported = false;
     if (!my.windows && !make_windows()) return false;
     if (found == REMOTE_NEW || !my.is_attached) attach();
@@ -169,8 +236,87 @@ static void report_look(struct window_result result) {
 static void report_crowd(const struct windows_counts *now) {
     if (now->pause != WINDOWS_CROWDED || my.was_crowded) return;
     my.was_crowded = true;
-    log_line("no more pages are lent: windows take %zu of the %zu mappings that they may; raise vm.max_map_count", now->mappings,
-             now->mappings_most);
+    size_t wanted = (now->pages / MANY_MAPPINGS + 1) * MANY_MAPPINGS;
+    log_line("no more pages are lent: windows take %zu of the %zu mappings that they may; sysctl -w vm.max_map_count=%zu leaves "
+             "room for all",
+             now->mappings, now->mappings_most, wanted + wanted / 4);
+}
+
+/* ---- the thread's processor time ---- */
+
+/* Credits what has become of pages since the last time. What lends took is credited as it was: on a busy computer they take longer. */
+static void give_credits(const struct windows_counts *now) {
+    const struct windows_counts *before = &my.at_chores;
+    uint64_t shared = now->lends - before->lends + now->zeros - before->zeros;
+    uint64_t new_pages = now->pages > before->pages ? now->pages - before->pages : 0;
+    uint64_t lending_ns = now->map_ns - before->map_ns + now->lend_ns - before->lend_ns;
+    uint64_t new_ns = FRESH_NS * (now->fresh - before->fresh) + FIRST_NS * new_pages;
+    budget_give_credit(&my.budget, new_ns + SHARED_NS * shared + lending_ns);
+    my.at_chores = *now;
+}
+
+static void write_counts(const struct windows_counts *now);
+
+/* What is to be done before each look, and each second while one lasts. */
+static void do_chores(bool is_look) {
+    struct windows_counts counts;
+    bool is_due = now_ns() >= my.next_chores_ns;
+    if (is_look && !is_due) return;
+    ranges_found(devices_open()); /* (descriptors that came by a socket are seen here alone) */
+    if (my.is_attached && my.remote.socket >= 0) ranges_open(settings.flags);
+    if (!is_due) return;
+    my.next_chores_ns = now_ns() + chores_ns;
+    my.is_memory_short = memory_is_short();
+    const struct windows_tuning now = tuning();
+    windows_tune(my.windows, &now);
+    windows_count(my.windows, &counts);
+    give_credits(&counts);
+    write_counts(&counts);
+}
+
+/* Whether a host listens at the socket. */
+static bool is_host_there(void) {
+    struct sockaddr_un name = {.sun_family = AF_UNIX};
+    if (strlen(settings.socket) >= sizeof name.sun_path) return false;
+    memcpy(name.sun_path, settings.socket, strlen(settings.socket) + 1);
+    int asks = sharing_own(socket(AF_UNIX, SOCK_SEQPACKET | SOCK_CLOEXEC | SOCK_NONBLOCK, 0));
+    bool is_there = asks >= 0 && connect(asks, (const struct sockaddr *)&name, sizeof name) == 0;
+    if (asks >= 0) close(asks);
+    return is_there;
+}
+
+/* Whether a look is to end: the host was lost in it, or is there again. */
+static bool is_to_end(void) {
+    bool is_connected = my.remote.socket >= 0;
+    if (is_connected || my.was_connected) return my.was_connected && !is_connected;
+    if (my.is_refused || now_ns() < my.next_try_ns) return false;
+    my.next_try_ns = now_ns() + retry_ns;
+    if (!is_host_there()) return false;
+    my.next_try_ns = 0;
+    return true;
+}
+
+/* In a look: sleeps until the processor time that it used is paid for. Returns whether the look goes on. */
+static bool pace(void *unused) {
+    (void)unused;
+    do_chores(true);
+    for (uint64_t wait_ns; (wait_ns = budget_settle(&my.budget)) > 0;) {
+        struct timespec nap = {.tv_nsec = (long)(wait_ns < nap_most_ns ? wait_ns : nap_most_ns)};
+        nanosleep(&nap, NULL);
+        do_chores(true);
+    }
+    return !is_to_end();
+}
+
+/*
+ * How often pages that nobody else has are asked about again. Where a look lasts long for them fewer of them take their turn in it, so that
+ * what has just changed is looked at again soon.
+ */
+static void choose_turns(const struct windows_counts *now) {
+    uint64_t took_ms = (now_ns() - my.look_begun_ns) / 1000000, all_ns = now->look_ns - my.before.look_ns;
+    uint64_t again_ns = AGAIN_NS * (now->again - my.before.again);
+    if (took_ms > 2 * (uint64_t)settings.period_ms && 2 * again_ns > all_ns && my.turns < TURNS_MOST) my.turns *= 2;
+    else if ((2 * took_ms < settings.period_ms || 8 * again_ns < all_ns) && my.turns > TURNS_LEAST) my.turns /= 2;
 }
 
 /* The time until the next look. */
@@ -200,7 +346,7 @@ static void write_times(const uint64_t *held, char *text, size_t room) {
 
 /* The counts as JSON, for tests and for who wants to know. */
 static void write_counts(const struct windows_counts *now) {
-    char text[2560], held[WINDOWS_TIMES * 21];
+    char text[3584], held[WINDOWS_TIMES * 21];
     if (settings.counts < 0) return;
     write_times(now->held, held, sizeof held);
     int length =
@@ -211,7 +357,10 @@ static void write_counts(const struct windows_counts *now) {
                  "llu,\"changed\":%llu,"
                  "\"pinned\":%llu,\"no_frame\":%llu,\"no_mapping\":%llu,\"lender_failures\":%llu,\"look_ns\":%llu,\"ask_ns\":%"
                  "llu,\"lend_ns\":%llu,"
-                 "\"map_ns\":%llu,\"hold_most_ns\":%llu,\"processor_ns\":%llu,\"period_ms\":%u,\"devices\":%d,\"held\":[%s]}\n",
+                 "\"map_ns\":%llu,\"hold_most_ns\":%llu,\"processor_ns\":%llu,\"period_ms\":%u,\"devices\":%d,"
+                 "\"parts_whole\":%zu,\"parts_split\":%zu,\"splits\":%llu,\"made_whole\":%llu,\"not_made_whole\":%llu,"
+                 "\"huge_from\":%u,\"reads\":%llu,\"fresh\":%llu,\"round_ms\":%llu,\"cpu_percent\":%u,\"credit_ms\":%lld,"
+                 "\"memory_is_short\":%d,\"turns\":%u,\"held\":[%s]}\n",
                  my.remote.socket >= 0, (int)now->pause, now->windows, now->pages, now->lent, now->zeros_now, now->mappings,
                  now->mappings_most, now->table_bytes, (unsigned long long)now->looks, (unsigned long long)now->lends,
                  (unsigned long long)now->copied, (unsigned long long)now->zeros, (unsigned long long)now->discarded,
@@ -220,7 +369,10 @@ static void write_counts(const struct windows_counts *now) {
                  (unsigned long long)now->no_mapping, (unsigned long long)now->lender_failures, (unsigned long long)now->look_ns,
                  (unsigned long long)now->ask_ns, (unsigned long long)now->lend_ns, (unsigned long long)now->map_ns,
                  (unsigned long long)now->hold_most_ns, (unsigned long long)clock_ns(CLOCK_THREAD_CPUTIME_ID), my.period_ms,
-                 (int)ranges_devices(), held);
+                 (int)ranges_devices(), now->parts_whole, now->parts_split, (unsigned long long)now->splits,
+                 (unsigned long long)now->made_whole, (unsigned long long)now->not_made_whole, (unsigned)tuning().huge_from,
+                 (unsigned long long)now->reads, (unsigned long long)now->fresh, (unsigned long long)(now->round_ns / 1000000),
+                 my.budget.percent, (long long)(my.budget.credit_ns / 1000000), my.is_memory_short, my.turns, held);
     bool fits = length > 0 && (size_t)length < sizeof text;
     if (!fits || pwrite(settings.counts, text, (size_t)length, 0) != length || ftruncate(settings.counts, length) != 0) {
         close(settings.counts);
@@ -228,29 +380,41 @@ static void write_counts(const struct windows_counts *now) {
     }
 }
 
+/* How long the thread sleeps between two looks. What the last one took is a part of the period. */
+static unsigned until_look_ms(void) {
+    uint64_t took_ms = my.look_begun_ns > 0 ? (now_ns() - my.look_begun_ns) / 1000000 : 0;
+    unsigned least_ms = my.period_ms / LEAST_PART + 1;
+    return took_ms + least_ms < my.period_ms ? my.period_ms - (unsigned)took_ms : least_ms;
+}
+
 /* One turn of the thread. */
 static void turn(void) {
     struct windows_counts counts;
-    bool is_connected = connect_host();
-    if (my.windows) ranges_found(devices_open()); /* (descriptors that came by a socket are seen here alone) */
-    if (is_connected) ranges_open(settings.flags);
+    connect_host();
     if (!my.windows) return;
+    do_chores(false);
+    my.look_begun_ns = now_ns();
+    my.was_connected = my.remote.socket >= 0;
     report_look(windows_look(my.windows));
     windows_count(my.windows, &counts);
     report_crowd(&counts);
+    choose_turns(&counts);
     choose_period(&counts);
     write_counts(&counts);
 }
 
 /* Says which of the files that the library reads are denied to it, for example by a profile of AppArmor. */
 static void report_denied(void) {
-    static const char *const paths[] = {
-        "/proc/self/pagemap", "/proc/self/smaps",  "/proc/self/maps",     "/proc/self/status",
-        "/proc/self/fd",      "/proc/self/fdinfo", "/proc/sys/fs/aio-nr", "/proc/sys/vm/max_map_count"};
+    static const char *const paths[] = {"/proc/self/pagemap",  "/proc/self/smaps",
+                                        "/proc/self/maps",     "/proc/self/status",
+                                        "/proc/self/fd",       "/proc/self/fdinfo",
+                                        "/proc/sys/fs/aio-nr", "/proc/sys/vm/max_map_count",
+                                        "/proc/meminfo",       "/sys/kernel/mm/transparent_hugepage/enabled"};
     for (size_t i = 0; i < sizeof paths / sizeof paths[0]; i++) {
         int file = (int)syscall(SYS_openat, AT_FDCWD, paths[i], O_RDONLY | O_CLOEXEC);
         if (file >= 0) syscall(SYS_close, file);
-        else log_line("%s: %s; less is lent for want of it, or nothing", paths[i], strerror(errno));
+        else if (errno != ENOENT) /* (a kernel may have no huge pages) */
+            log_line("%s: %s; less is lent for want of it, or nothing", paths[i], strerror(errno));
     }
 }
 
@@ -261,8 +425,10 @@ void *connection_thread(void *unused) {
     /* Who touches a page that is held waits for this thread. (Where a higher priority isn't allowed it has the monitor's.) */
     if (getpriority(PRIO_PROCESS, 0) > FIRST_NICE) setpriority(PRIO_PROCESS, 0, FIRST_NICE);
     ask_for_short_slices();
+    set_budget();
     for (;;) {
-        struct timespec pause = {.tv_sec = my.period_ms / 1000, .tv_nsec = (long)(my.period_ms % 1000) * 1000000};
+        unsigned pause_ms = until_look_ms();
+        struct timespec pause = {.tv_sec = pause_ms / 1000, .tv_nsec = (long)(pause_ms % 1000) * 1000000};
         nanosleep(&pause, NULL);
         turn();
     }

@@ -205,7 +205,7 @@ static bool may_submit(void) {
 static struct {
     atomic_int devices;
     atomic_bool has_ring; /* then what is registered with it may change at any time */
-    atomic_long count;    /* of descriptors; 0 where the system doesn't tell */
+    atomic_long count;    /* of descriptors; 0 if the system doesn't show it */
     atomic_uint closes;
 } last;
 static atomic_uint closes;

@@ -10,7 +10,7 @@
 enum devices {
     DEVICES_NONE,
     DEVICES_READ,      /* files by O_DIRECT, into which calls of the C library read: these are seen, and so is their end */
-    DEVICES_PIN_PAGES, /* some pages, at times that nobody tells: the kernel refuses to move these */
+    DEVICES_PIN_PAGES, /* some pages, at times that nobody knows: the kernel refuses to move these */
     DEVICES_WRITE_ALL  /* all of a guest's memory, at any time; or it isn't known that what they write to is pinned */
 };
 

@@ -99,7 +99,8 @@ static struct pageshare_host_shape shape_of(const struct domain_settings *settin
                                          .frames = (uint32_t)(of_one < MACHINE_MOST ? of_one : MACHINE_MOST),
                                          .sessions = client_most,
                                          .recent = (uint32_t)recent,
-                                         .quota = (uint32_t)(quota < UINT32_MAX ? quota : UINT32_MAX)};
+                                         .quota = (uint32_t)(quota < UINT32_MAX ? quota : UINT32_MAX),
+                                         .client_cpu = settings->client_cpu};
 }
 
 static bool make_host(struct domain *domain) {

@@ -6,6 +6,7 @@
 #include "frames.h"
 #include "pageshare_host.h"
 #include "punching.h"
+#include "refusals.h"
 #include "seldom.h"
 #include "settings.h"
 #include "status.h"
@@ -73,10 +74,11 @@ struct domain {
     struct connects users[USERS_COUNTED], processes[PROCESSES_COUNTED];
     struct closing closing;
     struct punching punching;
-    struct seldom no_connection, no_buffer, no_status, not_taken; /* lines that may be due often */
-    struct pageshare_host_totals counted;                         /* the library's totals, as they were last counted */
-    uint64_t counted_until_ns;                                    /* and until when they are reported */
-    uint64_t start_ns, next_tick_ns, messages, asked, lends, releases, refused, faults, turned_away;
+    struct seldom no_connection, no_buffer, no_status; /* lines that may be due often */
+    struct refusals refusals;
+    struct pageshare_host_totals counted; /* the library's totals, as they were last counted */
+    uint64_t counted_until_ns;            /* and until when they are reported */
+    uint64_t start_ns, next_tick_ns, messages, asked, lends, releases, refused, faults;
     pthread_t thread;
     bool has_thread;
     atomic_bool must_end;

@@ -32,7 +32,7 @@ struct frames {
      */
     pthread_mutex_t lending;
     atomic_bool
-        is_wanted;  /* a lend waits for the lock: whoever gives memory back calls frames_free_again when it has given it back */
+        is_wanted;  /* a lend waits for the lock: who gives memory back calls frames_free_again afterwards */
     int free_again; /* an eventfd, which is readable then */
 };
 

@@ -8,6 +8,7 @@
  * (mprotect, mlock, a userfaultfd of the monitor's own), that let devices write to memory (open with O_DIRECT, VFIO), and that
  * close descriptors of which the monitor doesn't know.
  */
+#include "kvm_offer.h"
 #include "sharing.h"
 #include "trouble.h"
 #include <dlfcn.h>
@@ -71,8 +72,9 @@ static int advise_window(void *at, size_t bytes, int advice) {
     case MADV_DOFORK:
     case MADV_DONTDUMP:
     case MADV_DODUMP: return sharing_advise(at, bytes, advice);
-    case MADV_HUGEPAGE: /* a huge page that is lent in part gives no memory back */
-    case MADV_COLLAPSE: return 0;
+    case MADV_HUGEPAGE: return sharing_say_huge(at, bytes, true);
+    case MADV_NOHUGEPAGE: return sharing_say_huge(at, bytes, false);
+    case MADV_COLLAPSE: return 0; /* (a part of a window that is lent from mustn't become a huge page) */
     case MADV_NORMAL:
     case MADV_RANDOM:
     case MADV_SEQUENTIAL:
@@ -80,7 +82,6 @@ static int advise_window(void *at, size_t bytes, int advice) {
     case MADV_REMOVE: /* (of private memory the system refuses it) */
     case MADV_COLD:
     case MADV_PAGEOUT:
-    case MADV_NOHUGEPAGE:
     case MADV_POPULATE_READ:
     case MADV_POPULATE_WRITE: return system_madvise(at, bytes, advice);
     default: return advise_otherwise(at, bytes, advice);
@@ -195,6 +196,7 @@ PUBLIC int ioctl(int descriptor, unsigned long request, ...) {
     va_end(rest);
     if (!sharing_is_inside() && !prepare_request(request, with)) return -1;
     int status = (int)syscall(SYS_ioctl, descriptor, request, with);
+    if (status == 0 && !sharing_is_inside()) kvm_offer_seen(descriptor, request, with);
     return request == USERFAULTFD_IOC_NEW && sharing_is_inside() ? sharing_own(status) : status;
 }
 

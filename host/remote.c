@@ -11,8 +11,9 @@
 
 _Static_assert(WINDOW_BATCH == PAGESHARE_HOST_MAX_PAGES, "a window's batch is a message");
 _Static_assert(WINDOW_NO_FRAME == PAGESHARE_HOST_NO_FRAME, "the same number means no frame");
+_Static_assert(REMOTE_UNHEARD % WINDOW_BATCH == 0, "slots that may be unheard of are whole batches");
 
-enum { PATIENCE_SECONDS = 5, DESCRIPTORS = 3 };
+enum { PATIENCE_SECONDS = 5, DESCRIPTORS = 3, HEAD_BYTES = 8 };
 static const size_t buffer_bytes = (size_t)WINDOW_BATCH * WINDOW_PAGE_BYTES;
 
 static void shut(int *descriptor) {
@@ -35,7 +36,7 @@ static int say(struct remote *remote, const void *message, size_t bytes) {
     return sent == (ssize_t)bytes ? 0 : broken(remote, sent < 0 ? errno : EPIPE);
 }
 
-/* Takes a reply of exactly `bytes` bytes, whose head is this kind and count. */
+/* Takes a reply of exactly `bytes` bytes, whose head is this kind and count. Then the host has heard of all that was said before. */
 static int hear(struct remote *remote, void *reply, size_t bytes, uint32_t kind, size_t count) {
     uint32_t head[2];
     ssize_t got;
@@ -43,20 +44,26 @@ static int hear(struct remote *remote, void *reply, size_t bytes, uint32_t kind,
     while (got < 0 && errno == EINTR);
     if (got != (ssize_t)bytes) return broken(remote, got < 0 ? errno : got == 0 ? ECONNRESET : EPROTO);
     memcpy(head, reply, sizeof head);
-    return head[0] == kind && head[1] == count ? 0 : broken(remote, EPROTO);
+    if (head[0] != kind || head[1] != count) return broken(remote, EPROTO);
+    remote->unheard_count = 0;
+    return 0;
 }
 
 /* ---- the lender's calls ---- */
 
-static int ask(void *opaque, const uint32_t *pages, const uint64_t *fingerprints, size_t count, unsigned char *seen) {
+static int ask(void *opaque, const uint32_t *pages, const uint64_t *fingerprints, const bool *passing, size_t count,
+               unsigned char *seen) {
     struct remote *remote = opaque;
     struct pageshare_host_ask message = {.kind = PAGESHARE_HOST_ASK, .count = (uint32_t)count};
     struct pageshare_host_seen answer;
     if (count > WINDOW_BATCH) return EINVAL;
-    for (size_t i = 0; i < count; i++) message.questions[i] = (struct pageshare_host_question){pages[i], fingerprints[i]};
+    for (size_t i = 0; i < count; i++) {
+        uint64_t page = pages[i] | (passing[i] ? PAGESHARE_HOST_PASSING : 0);
+        message.questions[i] = (struct pageshare_host_question){page, fingerprints[i]};
+    }
     int cause = say(remote, &message, offsetof(struct pageshare_host_ask, questions) + count * sizeof *message.questions);
     if (cause == 0) cause = hear(remote, &answer, offsetof(struct pageshare_host_seen, seen) + count, PAGESHARE_HOST_SEEN, count);
-    if (cause == 0) memcpy(seen, answer.seen, count);
+    if (cause == 0 && count > 0) memcpy(seen, answer.seen, count);
     return cause;
 }
 
@@ -74,15 +81,36 @@ static int lend(void *opaque, const uint32_t *pages, size_t count, struct window
             cause = broken(remote, EPROTO);
     for (size_t i = 0; cause == 0 && i < count; i++)
         loans[i] = (struct window_loan){.frame = answer.loans[i].frame, .slot = answer.loans[i].slot};
+    remote->loans += cause == 0; /* (slots of a reply that isn't counted are released when the session is taken up) */
     return cause;
 }
 
-static int release(void *opaque, const uint64_t *slots, size_t count) {
-    struct remote *remote = opaque;
+static int say_released(struct remote *remote, const uint64_t *slots, size_t count) {
     struct pageshare_host_release message = {.kind = PAGESHARE_HOST_RELEASE, .count = (uint32_t)count};
-    if (count > WINDOW_BATCH) return EINVAL;
     memcpy(message.slots, slots, count * sizeof *slots);
     return say(remote, &message, offsetof(struct pageshare_host_release, slots) + count * sizeof *slots);
+}
+
+/* A release has no reply, so its slots are kept until the next reply of the host: one that got lost is said again. */
+static int release(void *opaque, const uint64_t *slots, size_t count) {
+    struct remote *remote = opaque;
+    if (count > WINDOW_BATCH) return EINVAL;
+    int cause = remote->unheard_count + count > REMOTE_UNHEARD ? ask(remote, NULL, NULL, NULL, 0, NULL) : 0;
+    if (cause == 0) cause = say_released(remote, slots, count);
+    if (cause != 0) return cause;
+    memcpy(remote->unheard + remote->unheard_count, slots, count * sizeof *slots);
+    remote->unheard_count += count;
+    return 0;
+}
+
+/* Says again what the host may not have heard. A slot that it has released already stays as it is. */
+static bool release_again(struct remote *remote) {
+    for (size_t done = 0; done < remote->unheard_count; done += WINDOW_BATCH) {
+        size_t left = remote->unheard_count - done;
+        int cause = say_released(remote, remote->unheard + done, left < WINDOW_BATCH ? left : WINDOW_BATCH);
+        if (cause != 0) return (errno = cause, false);
+    }
+    return true;
 }
 
 struct window_lender remote_lender(struct remote *remote) {
@@ -127,14 +155,15 @@ static bool hear_welcome(struct remote *remote, struct pageshare_host_welcome *w
         size_t count = (head->cmsg_len - CMSG_LEN(0)) / sizeof(int);
         memcpy(got, CMSG_DATA(head), (count < DESCRIPTORS ? count : DESCRIPTORS) * sizeof(int));
     }
-    errno = EPROTO;
+    bool is_other = bytes >= HEAD_BYTES && welcome->kind == PAGESHARE_HOST_WELCOME && welcome->version != PAGESHARE_HOST_VERSION;
+    errno = is_other ? EPROTONOSUPPORT : bytes == 0 ? ECONNRESET : EPROTO;
     return bytes == sizeof *welcome && (message.msg_flags & MSG_TRUNC) == 0 && welcome->kind == PAGESHARE_HOST_WELCOME &&
            welcome->version == PAGESHARE_HOST_VERSION && welcome->most >= WINDOW_BATCH && welcome->frames > 0 &&
            welcome->frames <= WINDOW_FRAMES_MOST && got[0] >= 0 && got[1] >= 0;
 }
 
 static bool say_hello(struct remote *remote) {
-    struct pageshare_host_hello hello = {.kind = PAGESHARE_HOST_HELLO, .version = PAGESHARE_HOST_VERSION};
+    struct pageshare_host_hello hello = {.kind = PAGESHARE_HOST_HELLO, .version = PAGESHARE_HOST_VERSION, .loans = remote->loans};
     memcpy(hello.name, remote->name, sizeof hello.name);
     return say(remote, &hello, remote->has_name ? sizeof hello : offsetof(struct pageshare_host_hello, name)) == 0;
 }
@@ -152,9 +181,9 @@ static bool map_buffer(struct remote *remote, int buffer) {
 static bool adopt(struct remote *remote, const struct pageshare_host_welcome *welcome, int got[DESCRIPTORS], bool *is_same) {
     struct stat file, before;
     if (fstat(got[0], &file) != 0 || file.st_size != (off_t)welcome->frames * WINDOW_PAGE_BYTES) return (errno = EPROTO, false);
-    *is_same = remote->has_name && memcmp(remote->name, welcome->name, sizeof welcome->name) == 0 && file.st_ino == remote->file &&
-               welcome->frames == remote->frame_count && welcome->salt == remote->salt && fstat(remote->frames, &before) == 0 &&
-               before.st_ino == file.st_ino;
+    bool has_same_name = remote->has_name && memcmp(remote->name, welcome->name, sizeof welcome->name) == 0;
+    *is_same = has_same_name && file.st_ino == remote->file && welcome->frames == remote->frame_count &&
+               welcome->salt == remote->salt && fstat(remote->frames, &before) == 0 && before.st_ino == file.st_ino;
     if (!map_buffer(remote, got[1])) return false;
     if (!*is_same) {
         shut(&remote->frames);
@@ -168,6 +197,8 @@ static bool adopt(struct remote *remote, const struct pageshare_host_welcome *we
     remote->file = file.st_ino;
     remote->frame_count = welcome->frames;
     remote->salt = welcome->salt;
+    remote->client_cpu = welcome->client_cpu;
+    if (!has_same_name) remote->loans = remote->unheard_count = 0;
     remote->has_name = true;
     memcpy(remote->name, welcome->name, sizeof remote->name);
     return true;
@@ -178,7 +209,7 @@ enum remote_found remote_connect(struct remote *remote, const char *path) {
     int got[DESCRIPTORS] = {NOTHING, NOTHING, NOTHING};
     bool is_same = false;
     bool good = open_socket(remote, path) && say_hello(remote) && hear_welcome(remote, &welcome, got) &&
-                adopt(remote, &welcome, got, &is_same);
+                adopt(remote, &welcome, got, &is_same) && (!is_same || release_again(remote));
     int cause = errno;
     for (int i = 0; i < DESCRIPTORS; i++) shut(&got[i]);
     if (good) return is_same ? REMOTE_RESUMED : REMOTE_NEW;

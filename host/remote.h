@@ -11,14 +11,20 @@
 #include <stdbool.h>
 #include <sys/types.h>
 
+enum { REMOTE_UNHEARD = 8 * WINDOW_BATCH };
+
 struct remote {
     int socket;        /* NOTHING where there is no connection */
     int frames;        /* the file of frames, open for reading; stays open when the connection breaks */
     int faults_device; /* /dev/userfaultfd, or NOTHING where the host had none to give */
     unsigned char (*pages)[WINDOW_PAGE_BYTES];
     uint32_t frame_count, salt;
+    uint32_t client_cpu; /* the percentage of one processor that the host grants, or 0: it says nothing */
     bool has_name;
     uint8_t name[PAGESHARE_HOST_NAME_BYTES]; /* the session's: a new connection takes it up by this name */
+    uint64_t loans;                          /* how many replies to a lend were got in the session */
+    uint64_t unheard[REMOTE_UNHEARD]; /* slots that were given up since the last reply: the host may not have heard of it */
+    size_t unheard_count;
     ino_t file; /* of the frames' file, so that another host's is known */
 };
 
@@ -29,9 +35,10 @@ enum remote_found {
     REMOTE_NEW      /* another session: no slot of before counts */
 };
 
-#define REMOTE_CLOSED {.socket = -1, .frames = -1, .faults_device = -1}
+#define REMOTE_CLOSED                                                                                                            \
+    { .socket = -1, .frames = -1, .faults_device = -1 }
 
-/* Connects to the host at a path. Where it returns REMOTE_NEW, whoever used the lender before has to attach it anew. */
+/* Connects to the host at a path. If it returns REMOTE_NEW, attach the lender again. */
 enum remote_found remote_connect(struct remote *remote, const char *path);
 /* Ends the connection; frames that are mapped stay, and so does what remote_connect takes a session up by. */
 void remote_disconnect(struct remote *remote);

@@ -68,7 +68,7 @@ static void fill(struct domain *domain, struct status_totals *totals, struct sta
                                      .releases = domain->releases,
                                      .refused = domain->refused,
                                      .faults = domain->faults,
-                                     .turned_away = domain->turned_away,
+                                     .turned_away = domain->refusals.total,
                                      .machine_ns = clock_ns(CLOCK_THREAD_CPUTIME_ID) + punching_ns(&domain->punching),
                                      .uptime_ns = now_ns() - domain->start_ns};
     memcpy(totals->domain, domain->settings.name, sizeof totals->domain);

@@ -17,6 +17,7 @@ const char settings_help[] =
     "  --clients N            the most clients at a time (default 64)\n"
     "  --client-memory SIZE   the most memory that one client may have lent (default: no limit)\n"
     "  --client-rate N        the most messages that are taken of one client in a second (default 20000)\n"
+    "  --client-cpu PERCENT   the most of one processor that a client is told to use, 1 to 100 (default: the client decides)\n"
     "  --connection-rate N    the most connections that are taken of one user in a second (default 64)\n"
     "  --group NAME           the group of the socket\n"
     "  --mode OCTAL           the mode of the socket (default 0660)\n"
@@ -142,6 +143,9 @@ static bool read_numbers(struct domain_settings *domain, const char *option, con
     } else if (strcmp(option, "client-rate") == 0) {
         if (!read_number(option, value, 10, 1, UINT32_MAX, &number)) return false;
         domain->client_rate = (uint32_t)number;
+    } else if (strcmp(option, "client-cpu") == 0) {
+        if (!read_number(option, value, 10, 1, 100, &number)) return false;
+        domain->client_cpu = (uint32_t)number;
     } else if (strcmp(option, "connection-rate") == 0) {
         if (!read_number(option, value, 10, 1, UINT32_MAX, &number)) return false;
         domain->connection_rate = (uint32_t)number;

@@ -21,6 +21,7 @@ struct domain_settings {
     uint32_t clients;         /* the most at a time */
     uint32_t client_rate;     /* messages that are taken of one client in a second */
     uint32_t connection_rate; /* connections that are taken of one user in a second */
+    uint32_t client_cpu;      /* the percentage of one processor that a client is told to use at most; 0: nothing is said */
     mode_t mode;              /* of the socket */
     gid_t group;              /* of the socket; (gid_t)-1: as it comes */
     bool trust_peers;         /* takes clients that are root or of the host's own user */

@@ -246,6 +246,29 @@ int sharing_advise(void *from, size_t bytes, int advice) {
     return -1;
 }
 
+int sharing_say_huge(void *from, size_t bytes, bool may) {
+    uint8_t *at = from, *end = end_of(at, bytes);
+    const int advice = may ? MADV_HUGEPAGE : MADV_NOHUGEPAGE;
+    int cause = 0;
+    if (!is_aligned(at)) return (errno = EINVAL, -1);
+    enter();
+    while (at < end) {
+        struct range *range = ranges_next(at, end);
+        struct piece piece = range ? range_piece(range, at, end) : (struct piece){end, 0};
+        if (piece.at > at && syscall(SYS_madvise, at, (size_t)(piece.at - at), advice) != 0) cause = errno;
+        int refused = 0;
+        if (range && range->window) refused = window_say_huge(range->window, range_first(range, piece), piece.bytes / PAGE, may);
+        else if (range && syscall(SYS_madvise, piece.at, piece.bytes, advice) != 0) refused = errno;
+        if (range) range->said_ns = now_ns();
+        if (refused != 0) cause = refused;
+        at = piece.at + piece.bytes;
+    }
+    leave();
+    if (cause == 0) return 0;
+    errno = cause;
+    return -1;
+}
+
 /* All ranges leave their windows. With the lock. */
 static struct window_result leave_all(void) {
     struct window_result result = {.status = WINDOW_OK};

@@ -24,6 +24,9 @@ int sharing_discard(void *at, size_t bytes, int advice);
 /* What is said of a range, and concerns no content: MADV_DONTFORK and the like. Returns 0, or -1 with errno. */
 int sharing_advise(void *at, size_t bytes, int advice);
 
+/* The monitor says that a range may be huge pages (MADV_HUGEPAGE), or that it may not. Returns 0, or -1 with errno. */
+int sharing_say_huge(void *at, size_t bytes, bool may);
+
 /* What became of a range that was to leave its windows. */
 enum sharing_left {
     SHARING_REFUSED, /* the system had no memory for it; errno says so. The range must stay as it is */

@@ -1,6 +1,7 @@
 #define _GNU_SOURCE
 #include "status.h"
 #include "devices.h"
+#include "naming.h"
 #include "trouble.h"
 #include <stdlib.h>
 #include <sys/socket.h>
@@ -12,6 +13,13 @@ struct report {
     struct status_totals totals;
     struct status_client clients[STATUS_CLIENTS_MOST];
 };
+
+/* What the reader finds out itself. */
+static struct {
+    char names[STATUS_CLIENTS_MOST][GUEST_NAME_MOST]; /* of the clients' guests */
+    uint64_t table_bytes;                             /* page tables of all clients */
+    int64_t net_bytes;                                /* what is left of what is reclaimed */
+} found;
 
 /*
  * A number that is printed: its name in JSON and, behind "pageshare_", for Prometheus. A time is in nanoseconds, but for Prometheus in
@@ -30,6 +38,9 @@ struct number {
     { NAME, HELP, IS_COUNTER, offsetof(struct status_client, MEMBER), UNIT, NULL }
 #define TIME_OF_TOTALS(NAME, SECONDS, MEMBER, IS_COUNTER, HELP)                                                                  \
     { NAME, HELP, IS_COUNTER, offsetof(struct status_totals, MEMBER), 1, SECONDS }
+
+#define TIME_OF_CLIENT(NAME, SECONDS, MEMBER, IS_COUNTER, HELP)                                                                  \
+    { NAME, HELP, IS_COUNTER, offsetof(struct status_client, MEMBER), 1, SECONDS }
 
 static const struct number of_totals[] = {
     OF_TOTALS("clients", clients, false, 1, "Processes that have lent pages or may"),
@@ -59,6 +70,9 @@ static const struct number of_client[] = {
     OF_CLIENT("client_lent_bytes", lent_pages, false, PAGE, "Memory that the client has lent"),
     OF_CLIENT("client_messages_total", messages, true, 1, "Messages taken of the client"),
     OF_CLIENT("client_lent_pages_total", lends, true, 1, "Pages that the client has lent"),
+    OF_CLIENT("client_table_bytes", table_bytes, false, 1, "Page tables of the client"),
+    TIME_OF_CLIENT("client_processor_nanoseconds_total", "client_processor_seconds_total", looks_ns, true,
+                   "Processor time of the library's thread in the client"),
     OF_CLIENT("client_devices", devices, false, 1, "0: none that pins pages, 1: seen calls, 2: unseen ones, 3: all, 4: unknown"),
 };
 enum { TOTALS_COUNT = sizeof of_totals / sizeof *of_totals, CLIENT_COUNT = sizeof of_client / sizeof *of_client, LABELS = 3 };
@@ -95,13 +109,20 @@ static bool receive(const char *socket_path, struct report *report) {
 
 static double mib(uint64_t pages) { return (double)pages * PAGE / (1 << 20); }
 
-/* Finds what devices of clients may do to memory. */
-static void find_devices(struct report *report) {
-    for (size_t i = 0; i < report->totals.listed; i++) {
+/* Finds what can be seen of clients' processes: what devices may do to their memory, their guests' names and their page tables. */
+static void find(struct report *report) {
+    const struct status_totals *totals = &report->totals;
+    found.table_bytes = 0;
+    for (size_t i = 0; i < totals->listed; i++) {
         struct status_client *client = &report->clients[i];
         enum devices devices;
         client->devices = devices_of_process(client->pid, &devices) ? (uint64_t)devices : STATUS_DEVICES_UNKNOWN;
+        client->table_bytes = naming_tables_of(client->pid);
+        client->looks_ns = naming_processor_of(client->pid);
+        naming_of_guest(client->pid, found.names[i]);
+        found.table_bytes += client->table_bytes;
     }
+    found.net_bytes = (int64_t)(totals->reclaimed_pages * PAGE) - (int64_t)totals->host_bytes - (int64_t)found.table_bytes;
 }
 
 /* The clients of a table, and what to do about some. */
@@ -113,13 +134,15 @@ static void show_clients(const struct report *report) {
                                         [STATUS_DEVICES_UNKNOWN] = "?"};
     bool any_unseen = false;
     if (report->totals.listed)
-        printf("%12s %12s %12s %12s %12s  %s\n", "process", "user", "lent MiB", "messages", "devices", "connected");
+        printf("%12s %12s %12s %12s %12s %12s %12s  %s\n", "process", "user", "lent MiB", "page tables", "messages", "devices",
+               "connected", "guest");
     for (size_t i = 0; i < report->totals.listed; i++) {
         const struct status_client *client = &report->clients[i];
         any_unseen = any_unseen || client->devices == DEVICES_PIN_PAGES;
-        printf("%12llu %12llu %12.1f %12llu %12s  %s\n", (unsigned long long)client->pid, (unsigned long long)client->uid,
-               mib(client->lent_pages), (unsigned long long)client->messages, words[client->devices],
-               client->connected ? "yes" : "no");
+        printf("%12llu %12llu %12.1f %12.1f %12llu %12s %12s  %s\n", (unsigned long long)client->pid,
+               (unsigned long long)client->uid, mib(client->lent_pages), (double)client->table_bytes / (1 << 20),
+               (unsigned long long)client->messages, words[client->devices], client->connected ? "yes" : "no",
+               *found.names[i] ? found.names[i] : "-");
     }
     if (any_unseen)
         puts("unseen: pages that were shared and written stay private, since a device may have pinned them; use aio=threads");
@@ -138,6 +161,8 @@ static void show_table(const struct report *report) {
            (double)totals->frame_bytes / (1 << 20), (double)totals->free_bytes / (1 << 20),
            (double)totals->host_bytes / (1 << 20), (unsigned long long)totals->lends, (unsigned long long)totals->releases,
            (unsigned long long)totals->refused, (unsigned long long)totals->faults, (unsigned long long)totals->turned_away);
+    printf("net gain %.1f MiB: reclaimed less the host and %.1f MiB of clients' page tables\n",
+           (double)found.net_bytes / (1 << 20), (double)found.table_bytes / (1 << 20));
     show_clients(report);
     if (totals->listed < totals->clients)
         printf("%12s and %llu more\n", "", (unsigned long long)(totals->clients - totals->listed));
@@ -147,43 +172,60 @@ static void show_json(const struct report *report) {
     printf("{\"domain\":\"%s\"", report->totals.domain); /* (a name has no character that JSON escapes) */
     for (size_t i = 0; i < TOTALS_COUNT; i++)
         printf(",\"%s\":%llu", of_totals[i].name, (unsigned long long)value_of(&of_totals[i], &report->totals));
-    printf(",\"processes\":[");
-    for (size_t c = 0; c < report->totals.listed; c++)
+    printf(",\"table_bytes\":%llu,\"net_bytes\":%lld,\"processes\":[", (unsigned long long)found.table_bytes,
+           (long long)found.net_bytes);
+    for (size_t c = 0; c < report->totals.listed; c++) {
+        printf("%s{\"guest\":\"%s\"", c ? "," : "", found.names[c]); /* (nor has that of a guest) */
         for (size_t i = 0; i < CLIENT_COUNT; i++)
-            printf("%s\"%s\":%llu%s",
-                   i   ? ","
-                   : c ? ",{"
-                       : "{",
-                   of_client[i].name, (unsigned long long)value_of(&of_client[i], &report->clients[c]),
-                   i + 1 == CLIENT_COUNT ? "}" : "");
+            printf(",\"%s\":%llu", of_client[i].name, (unsigned long long)value_of(&of_client[i], &report->clients[c]));
+        printf("}");
+    }
     printf("]}\n");
+}
+
+static const char *name_of(const struct number *number) { return number->seconds ? number->seconds : number->name; }
+
+static void show_head(const char *name, const char *help, bool is_counter) {
+    printf("# HELP pageshare_%s %s\n# TYPE pageshare_%s %s\n", name, help, name, is_counter ? "counter" : "gauge");
+}
+
+/* The value of a number for Prometheus, at the end of its line. */
+static void show_value(const struct number *number, unsigned long long value) {
+    enum { NS_OF_SECOND = 1000000000 };
+    if (number->seconds) printf("%llu.%09llu\n", value / NS_OF_SECOND, value % NS_OF_SECOND);
+    else printf("%llu\n", value);
 }
 
 /* A number of a domain for Prometheus. */
 static void show_metric(const struct number *number, const struct report *report) {
-    enum { NS_OF_SECOND = 1000000000 };
-    const char *name = number->seconds ? number->seconds : number->name;
-    unsigned long long value = value_of(number, &report->totals);
-    printf("# HELP pageshare_%s %s\n# TYPE pageshare_%s %s\n", name, number->help, name,
-           number->is_counter ? "counter" : "gauge");
-    printf("pageshare_%s{domain=\"%s\"} ", name, report->totals.domain);
-    if (number->seconds) printf("%llu.%09llu\n", value / NS_OF_SECOND, value % NS_OF_SECOND);
-    else printf("%llu\n", value);
+    show_head(name_of(number), number->help, number->is_counter);
+    printf("pageshare_%s{domain=\"%s\"} ", name_of(number), report->totals.domain);
+    show_value(number, value_of(number, &report->totals));
+}
+
+/* A number that the reader has found. */
+static void show_found(const char *name, const char *help, const char *domain, int64_t value) {
+    show_head(name, help, false);
+    printf("pageshare_%s{domain=\"%s\"} %lld\n", name, domain, (long long)value);
+}
+
+/* A number of each client, by this name. */
+static void show_of_clients(const struct number *number, const char *name, const struct report *report) {
+    show_head(name, number->help, number->is_counter);
+    for (size_t c = 0; c < report->totals.listed; c++) {
+        printf("pageshare_%s{domain=\"%s\",pid=\"%llu\",uid=\"%llu\",guest=\"%s\"} ", name, report->totals.domain,
+               (unsigned long long)report->clients[c].pid, (unsigned long long)report->clients[c].uid, found.names[c]);
+        show_value(number, value_of(number, &report->clients[c]));
+    }
 }
 
 static void show_prometheus(const struct report *report) {
     const char *domain = report->totals.domain;
     for (size_t i = 0; i < TOTALS_COUNT; i++) show_metric(&of_totals[i], report);
-    for (size_t i = LABELS - 1; i < CLIENT_COUNT; i++) {
-        const struct number *number = &of_client[i];
-        const char *name = i < LABELS ? "client_connected" : number->name;
-        printf("# HELP pageshare_%s %s\n# TYPE pageshare_%s %s\n", name, number->help, name,
-               number->is_counter ? "counter" : "gauge");
-        for (size_t c = 0; c < report->totals.listed; c++)
-            printf("pageshare_%s{domain=\"%s\",pid=\"%llu\",uid=\"%llu\"} %llu\n", name, domain,
-                   (unsigned long long)report->clients[c].pid, (unsigned long long)report->clients[c].uid,
-                   (unsigned long long)value_of(number, &report->clients[c]));
-    }
+    show_found("table_bytes", "Page tables of clients", domain, (int64_t)found.table_bytes);
+    show_found("net_bytes", "Reclaimed memory less that of the host and of clients' page tables", domain, found.net_bytes);
+    for (size_t i = LABELS - 1; i < CLIENT_COUNT; i++)
+        show_of_clients(&of_client[i], i < LABELS ? "client_connected" : name_of(&of_client[i]), report);
 }
 
 /* A line for one second, where a table is watched that goes to no terminal. */
@@ -200,7 +242,7 @@ int status_show(const char *socket_path, enum status_form form, bool watch) {
     bool is_terminal = isatty(STDOUT_FILENO) == 1;
     for (bool is_first = true;; is_first = false) {
         if (!receive(socket_path, &report)) return 1;
-        find_devices(&report);
+        find(&report);
         if (form == STATUS_JSON) show_json(&report);
         else if (form == STATUS_PROMETHEUS) show_prometheus(&report);
         else if (watch && !is_terminal) show_line(&report, is_first);

@@ -2,7 +2,7 @@
  * What a domain reports of itself, for operators: on a socket of its own beside the domain's (SOCKET.status), which only the host's
  * user and root may open, since totals show a client what others have.
  *
- * Whoever connects is sent one message: a struct status_totals and its clients, and then the connection ends. Host and reader are the
+ * Each connection gets one message: a struct status_totals and its clients, and then the connection ends. Host and reader are the
  * same program; a version keeps different builds apart.
  */
 #ifndef HOST_STATUS_H
@@ -11,7 +11,7 @@
 #include "settings.h"
 
 #define STATUS_SUFFIX ".status"
-enum { STATUS_VERSION = 3, STATUS_CLIENTS_MOST = 1024, STATUS_DEVICES_UNKNOWN = 4 };
+enum { STATUS_VERSION = 4, STATUS_CLIENTS_MOST = 1024, STATUS_DEVICES_UNKNOWN = 4 };
 
 struct status_totals {
     uint64_t version;
@@ -43,8 +43,10 @@ struct status_client {
     uint64_t lent_pages;
     uint64_t messages;
     uint64_t lends;
-    uint64_t
-        devices; /* an enum devices, or STATUS_DEVICES_UNKNOWN: found by the reader, not by the host, which may not look there */
+    /* What the reader finds, and not the host, which may not look there: */
+    uint64_t devices;     /* an enum devices, or STATUS_DEVICES_UNKNOWN */
+    uint64_t table_bytes; /* page tables of the process, or 0 */
+    uint64_t looks_ns;    /* processor time of the library's thread, or 0 */
 };
 
 /* Prints what the domain at `socket` reports, in the form asked for; with `watch` each second until the reader ends it. Returns the

@@ -37,8 +37,11 @@ static struct lender_result result_of(enum lender_status status, int cause) {
     return (struct lender_result){.status = status, .cause = cause};
 }
 
-static int ask(void *opaque, const uint32_t *pages, const uint64_t *fingerprints, size_t count, unsigned char *seen) {
+/* (A domain remembers all questions, also those in passing.) */
+static int ask(void *opaque, const uint32_t *pages, const uint64_t *fingerprints, const bool *passing, size_t count,
+               unsigned char *seen) {
     struct lender *lender = opaque;
+    (void)passing;
     for (size_t i = 0; i < count; i++)
         if (pageshare_domain_ask(&lender->domain, lender->client, pages[i], fingerprints[i], seen + i) != PAGESHARE_OK)
             return EINVAL;

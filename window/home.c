@@ -27,7 +27,7 @@ static void note_given_up(struct window *window, size_t first, size_t count, boo
     for (size_t page = first; page < first + count; page++) {
         stop_showing(window, page);
         note_zero(window, page, false);
-        window->pages[page].looks = 0;
+        forget_content(window, page);
         if (is_cleared) trace_copy(windows->trace, window->base + (uint32_t)page, address_of(window, page));
         else trace_discard(windows->trace, window->base + (uint32_t)page);
     }
@@ -73,7 +73,7 @@ static struct window_result give_up_all_left(struct window *window, size_t first
 struct window_result for_parts(struct window *window, size_t first, size_t count, step *one) {
     struct window_result result = result_of(WINDOW_OK, 0);
     for (size_t done = 0, part = 0; done < count && result.status == WINDOW_OK; done += part) {
-        part = least(count - done, PART - (first + done) % PART);
+        part = least(count - done, rest_of_part(window, first + done));
         lock_set(window->windows);
         int cause = free_stuck(window->windows);
         result = cause == 0 ? one(window, first + done, part) : result_of(WINDOW_STUCK, cause);
@@ -122,7 +122,7 @@ static int begin_home(struct home *home) {
     home->at = mmap(NULL, bytes_of(home->count), PROT_READ | PROT_WRITE, kind, NO_FILE, 0);
     if (home->at == MAP_FAILED) return errno;
     int cause = advice_begin(home->at, home->count);
-    if (cause == 0) cause = advice_set(&window->advice, home->at, home->count, false);
+    if (cause == 0) cause = advice_set(&window->advice, home->at, home->count, MEMORY_SMALL);
     if (cause == 0)
         cause = faults_watch(&window->windows->faults, address_of(window, home->first), home->count, FAULTS_OF_WRITES);
     if (cause != 0) munmap(home->at, bytes_of(home->count));
@@ -151,7 +151,7 @@ static int bring(struct home *home, size_t from, size_t count) {
     if (mremap(copies, bytes_of(count), bytes_of(count), MREMAP_MAYMOVE | MREMAP_FIXED, to) == MAP_FAILED) return errno;
     note_moved(window, home->first + from, count);
     for (size_t i = from; i < from + count; i++) {
-        window->pages[home->first + i].looks = 0;
+        forget_content(window, home->first + i);
         trace_copy(window->windows->trace, window->base + (uint32_t)(home->first + i), to + bytes_of(i - from));
     }
     window->windows->counts.taken_home += count;
@@ -222,8 +222,8 @@ void take_all_home(struct windows *windows) {
         return;
     }
     for (struct window *window = windows->first; window != NULL; window = window->next) {
-        for (size_t first = 0; first < window->count && !window->ended; first += PART) {
-            struct window_result result = take_home(window, first, least(PART, window->count - first));
+        for (size_t first = 0; first < window->count && !window->ended; first += rest_of_part(window, first)) {
+            struct window_result result = take_home(window, first, rest_of_part(window, first));
             if (result.status != WINDOW_OK) note_failure(windows, result.status, result.cause);
             unlock_set(windows);
             if (result.status == WINDOW_STUCK) return;
@@ -248,6 +248,7 @@ static struct window_result cut_part(struct window *window, size_t first, size_t
     end_advice(window, first, count);
     for (size_t page = first; page < first + count; page++) {
         note_zero(window, page, false);
+        note_seen(window, page, false);
         window->pages[page].out = 1;
     }
     return result;
@@ -270,6 +271,7 @@ void window_forget(struct window *window, size_t first, size_t count) {
     for (size_t page = first; page < first + count; page++) {
         if (is_here(window, page)) trace_discard(windows->trace, window->base + (uint32_t)page);
         stop_showing(window, page);
+        forget_content(window, page);
         note_zero(window, page, false);
         window->pages[page].over = window->pages[page].past = 0;
         window->pages[page].moved = window->pages[page].begins = 0;

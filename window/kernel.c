@@ -37,7 +37,14 @@ struct region {
     uint64_t start, end, categories;
 };
 #define SCAN_PAGES _IOWR('f', 16, struct scan)
-enum { IS_UNGUARDED = 1 << 1, IS_FILE = 1 << 2, IS_PRESENT = 1 << 3, IS_SWAPPED = 1 << 4, IS_ZERO_PAGE = 1 << 5 };
+enum {
+    IS_UNGUARDED = 1 << 1,
+    IS_FILE = 1 << 2,
+    IS_PRESENT = 1 << 3,
+    IS_SWAPPED = 1 << 4,
+    IS_ZERO_PAGE = 1 << 5,
+    IS_HUGE = 1 << 6
+};
 
 /* Bits of an entry of /proc/self/pagemap. */
 static const uint64_t ENTRY_PRESENT = 1ull << 63, ENTRY_SWAPPED = 1ull << 62, ENTRY_FILE = 1ull << 61, ENTRY_GUARDED = 1ull << 57;
@@ -141,7 +148,7 @@ int pagemap_open(struct pagemap *pagemap, bool never_scan) {
     return 0;
 }
 
-static int find_by_scan(int fd, const void *at, size_t pages, uint8_t *found) {
+static int find_by_scan(int fd, const void *at, size_t pages, uint8_t *found, bool *is_huge) {
     struct region regions[PAGEMAP_MOST];
     struct scan scan = {.size = sizeof scan,
                         .start = (uintptr_t)at,
@@ -151,7 +158,8 @@ static int find_by_scan(int fd, const void *at, size_t pages, uint8_t *found) {
                         .inverted = IS_FILE | IS_ZERO_PAGE,
                         .all_of = IS_FILE | IS_ZERO_PAGE | IS_UNGUARDED,
                         .any_of = IS_PRESENT | IS_SWAPPED,
-                        .answered = IS_PRESENT};
+                        .answered = IS_PRESENT | IS_HUGE};
+    *is_huge = false;
     while (scan.start < scan.end) {
         int count = ioctl(fd, SCAN_PAGES, &scan);
         if (count < 0) return errno;
@@ -159,6 +167,7 @@ static int find_by_scan(int fd, const void *at, size_t pages, uint8_t *found) {
             size_t first = (regions[i].start - (uintptr_t)at) / WINDOW_PAGE_BYTES;
             size_t end = (regions[i].end - (uintptr_t)at) / WINDOW_PAGE_BYTES;
             memset(found + first, (regions[i].categories & IS_PRESENT) != 0 ? PAGE_PRESENT : PAGE_SWAPPED, end - first);
+            *is_huge = *is_huge || ((regions[i].categories & IS_HUGE) != 0 && end - first == PAGEMAP_MOST);
         }
         if (scan.walk_end <= scan.start) return EIO;
         scan.start = scan.walk_end;
@@ -179,10 +188,11 @@ static int read_entries(int fd, const void *at, size_t pages, uint64_t *entries)
     return (size_t)got == wanted ? 0 : EIO;
 }
 
-int pagemap_find(const struct pagemap *pagemap, const void *at, size_t pages, uint8_t *found) {
+int pagemap_find(const struct pagemap *pagemap, const void *at, size_t pages, uint8_t *found, bool *is_huge) {
     uint64_t entries[PAGEMAP_MOST];
     memset(found, PAGE_NONE, pages);
-    if (pagemap->scans) return find_by_scan(pagemap->fd, at, pages, found);
+    *is_huge = true;
+    if (pagemap->scans) return find_by_scan(pagemap->fd, at, pages, found, is_huge);
     int cause = read_entries(pagemap->fd, at, pages, entries);
     for (size_t i = 0; i < pages && cause == 0; i++) found[i] = kind_of(entries[i]);
     return cause;
@@ -192,6 +202,22 @@ int pagemap_find_copies(const struct pagemap *pagemap, const void *at, size_t pa
     uint64_t entries[PAGEMAP_MOST];
     int cause = read_entries(pagemap->fd, at, pages, entries);
     for (size_t i = 0; i < pages && cause == 0; i++) own[i] = (entries[i] & (ENTRY_PRESENT | ENTRY_FILE)) == ENTRY_PRESENT;
+    return cause;
+}
+
+bool pagemap_is_huge(const struct pagemap *pagemap, const void *at) {
+    uint8_t found[PAGEMAP_MOST];
+    bool is_huge = false;
+    return pagemap->scans && find_by_scan(pagemap->fd, at, PAGEMAP_MOST, found, &is_huge) == 0 && is_huge;
+}
+
+int pagemap_are_guarded(const struct pagemap *pagemap, const void *at, size_t pages) {
+    uint64_t entries[PAGEMAP_MOST];
+    int cause = read_entries(pagemap->fd, at, pages, entries);
+    for (size_t i = 0; i < pages && cause == 0; i++) {
+        bool is_there = (entries[i] & (ENTRY_PRESENT | ENTRY_SWAPPED)) != 0;
+        if (!is_there || (entries[i] & ENTRY_GUARDED) == 0) cause = EBUSY;
+    }
     return cause;
 }
 

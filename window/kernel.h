@@ -20,7 +20,7 @@ struct faults {
 /* `device`: a descriptor of /dev/userfaultfd, or 0: it is opened, or else the system call is tried. */
 int faults_open(struct faults *faults, int device, bool never_move);
 
-/* Whoever touches a page that is missing there, or writes to one that is protected, waits. */
+/* Makes threads wait that touch a missing page (FAULTS_OF_MISSING) or write to a protected one (FAULTS_OF_WRITES). */
 enum faults_of { FAULTS_OF_MISSING, FAULTS_OF_WRITES };
 int faults_watch(const struct faults *faults, void *at, size_t pages, enum faults_of of);
 /* Ends that, lifts write protection, and wakes who waits. The range may have been mapped anew in between. */
@@ -48,8 +48,15 @@ struct pagemap {
 };
 int pagemap_open(struct pagemap *pagemap, bool never_scan);
 enum { PAGEMAP_MOST = 512 };
-/* Tells of up to PAGEMAP_MOST pages whether each has memory of its own: no file's page, not the page of zeros, no guard's mark. */
-int pagemap_find(const struct pagemap *pagemap, const void *at, size_t pages, uint8_t *found);
+/*
+ * Tells of up to PAGEMAP_MOST pages whether each has memory of its own: no file's page, not the page of zeros, no guard's mark. `*is_huge`:
+ * all of PAGEMAP_MOST pages are one huge page; true also where the system doesn't say.
+ */
+int pagemap_find(const struct pagemap *pagemap, const void *at, size_t pages, uint8_t *found, bool *is_huge);
+/* Whether PAGEMAP_MOST pages are one huge page; false where the system doesn't say. */
+bool pagemap_is_huge(const struct pagemap *pagemap, const void *at);
+/* Returns 0 where each of up to PAGEMAP_MOST pages is there and guarded against writes, and else an errno. */
+int pagemap_are_guarded(const struct pagemap *pagemap, const void *at, size_t pages);
 /* Tells of up to PAGEMAP_MOST pages whether each has memory of its own that isn't swapped out. Pages may be guarded, but not missing. */
 int pagemap_find_copies(const struct pagemap *pagemap, const void *at, size_t pages, bool *own);
 /* Whether this page has memory of its own, asked in another way; false where that can't be known. */
@@ -84,8 +91,14 @@ struct mapping_facts {
 /* Reads in which mapping a page is, of `most` pages from there on. */
 int mapping_read(struct mapping_facts *facts, const void *at, size_t most);
 
-/* Says of a range that was mapped anew what was said of the window. `is_file`: frames are mapped there. */
-int advice_set(const struct advice *advice, void *at, size_t pages, bool is_file);
+/* What is mapped anew: frames, memory in pages of 4,096 bytes, or memory that may be huge pages. */
+enum memory { MEMORY_OF_FRAMES, MEMORY_SMALL, MEMORY_HUGE };
+/* Says of a range that was mapped anew what was said of the window. */
+int advice_set(const struct advice *advice, void *at, size_t pages, enum memory memory);
+/* Whether the system may back memory of which this was said by huge pages of PAGEMAP_MOST pages. */
+bool advice_allows_huge(const struct advice *advice);
+/* The huge page there becomes small pages; huge pages leave the range alone from then on. */
+int advice_split(void *at, size_t pages, bool is_huge);
 /* Says that huge pages leave the range alone, or puts back what was said before, also of KSM. */
 int advice_begin(void *at, size_t pages);
 int advice_end(const struct advice *advice, void *at, size_t pages);
@@ -105,7 +118,7 @@ int mapping_copy(void *at, const void *from, size_t pages);
 
 /* KiB of this process that are locked. */
 size_t locked_kib(void);
-/* KiB of this process that the kernel's KSM has merged, rounded up; 0 where the system doesn't tell. */
+/* KiB of this process that the kernel's KSM has merged, rounded up; 0 if the system doesn't show them. */
 size_t merged_kib(void);
 /* The system's limit of a process's mappings. */
 size_t mappings_limit(void);

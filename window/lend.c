@@ -95,16 +95,27 @@ static size_t run_of(const struct hold *hold, size_t i) {
     return end - i;
 }
 
+/* (each of these pages is asked about again at one of so many looks) */
+void note_crowded(struct windows *windows, size_t pages) {
+    windows->counts.no_mapping += pages;
+    windows->counts.pause = WINDOWS_CROWDED;
+    windows->crowded_until = windows->counts.looks + (1u << ASKS_APART_MOST);
+}
+
+void note_hold(struct windows *windows, uint64_t begun_ns, size_t pages) {
+    struct windows_counts *counts = &windows->counts;
+    uint64_t took = clock_now_ns() - begun_ns;
+    size_t class = 0;
+    if (pages == 0) return;
+    while (class + 1 < WINDOWS_TIMES && took / 1000 >= (uint64_t)1 << class) class ++;
+    counts->held[class] += pages;
+    if (took > counts->hold_most_ns) counts->hold_most_ns = took;
+}
+
 /* Counts how long pages were held that are held no longer. */
 static void note_held(struct hold *hold, size_t count) {
-    struct windows_counts *counts = &hold->window->windows->counts;
-    uint64_t took = clock_now_ns() - hold->begun_ns;
-    size_t class = 0;
-    if (count == 0) return;
     hold->left -= count;
-    while (class + 1 < WINDOWS_TIMES && took / 1000 >= (uint64_t)1 << class) class ++;
-    counts->held[class] += count;
-    if (took > counts->hold_most_ns) counts->hold_most_ns = took;
+    note_hold(hold->window->windows, hold->begun_ns, count);
 }
 
 /* Maps what is to be shown, and lets those go on who wait for it. */
@@ -118,8 +129,7 @@ static void map(struct hold *hold) {
         const int protection = PROT_READ | PROT_WRITE;
         int cause = is_mapped ? map_pages(hold->window, hold->first + i, count, hold->targets[i], protection) : 0;
         if (cause != 0) {
-            windows->counts.no_mapping += count;
-            windows->counts.pause = WINDOWS_CROWDED;
+            note_crowded(windows, count);
             note_failure(windows, WINDOW_NO_MAPPING, cause);
             continue;
         }
@@ -175,13 +185,13 @@ static void note_page(const struct hold *hold, size_t i) {
     size_t number = hold->first + i;
     struct page *page = &hold->window->pages[number];
     bool is_lent = hold->shown[i] && hold->targets[i] != ZEROS;
-    page->looks = 0;
+    page->looks = hold->held[i] ? 0 : 1;
     page->asks = hold->held[i] ? 0 : ASKS_APART_MOST; /* (what is pinned is tried again later) */
     if (!hold->held[i]) windows->counts.pinned++;
     else if (!hold->equal[i]) windows->counts.changed++;
     if (is_lent) {
         page->shows = 1;
-        hold->window->parts[number / PART].releases--;
+        part_of(hold->window, number)->releases--;
         windows->counts.lends++;
         windows->counts.lent++;
         trace_map(windows->trace, number_of(hold, i));
@@ -225,12 +235,17 @@ static void settle(struct hold *hold) {
     windows->counts.map_ns += clock_spent_ns() - spent;
 }
 
-/* Whether a page may be held. It is asked when it is found idle, and again when it is held, since all of it may have changed. With the lock. */
-static bool can_settle(const struct window *window, size_t number) {
+/* Whether a page could be lent if its part were split. With the lock. */
+static bool could_lend(const struct window *window, size_t number) {
     const struct page *page = &window->pages[number];
     if (!can_lend(window) || page->out == 1 || is_pinned(window, number)) return false;
     if (page->over == 1 && page->shows == 0 && may_pin(window->windows)) return false;
     return page->shows == 0 || page->past == 1;
+}
+
+/* Whether a page may be held. It is asked when it is found idle, and again when it is held, since all of it may have changed. With the lock. */
+static bool can_settle(const struct window *window, size_t number) {
+    return could_lend(window, number) && !part_of(window, number)->whole && !window->windows->is_locked;
 }
 
 /*
@@ -245,12 +260,10 @@ static bool seems_equal(const struct window *window, size_t number, uint32_t tar
 /* A page that was written since its bytes were copied stays private. */
 static void note_changed(struct window *window, size_t number) {
     window->windows->counts.changed++;
-    window->pages[number].looks = 0;
-    window->pages[number].asks = 0;
+    forget_content(window, number);
 }
 
-/* Lets others run, where this thread has run for long since it got its processor, so that it doesn't lose it while it holds pages. */
-static void begin_turn(struct turn *turn) {
+void begin_turn(struct turn *turn) {
     uint64_t losses = losses_of_processor(), now = clock_spent_ns();
     if (losses != turn->losses) turn->begun_ns = turn->counted_ns;
     if (now - turn->begun_ns >= turn_ns) {
@@ -287,7 +300,10 @@ static size_t settle_run(struct windows *windows, const struct batch *batch, siz
 }
 
 static void settle_all(struct windows *windows, struct batch *batch, const uint32_t *targets) {
-    for (size_t i = 0; i < batch->count;) i += settle_run(windows, batch, i, targets);
+    for (size_t i = 0; i < batch->count;) {
+        i += settle_run(windows, batch, i, targets);
+        keep_pace(windows);
+    }
     batch->count = 0;
 }
 
@@ -306,56 +322,89 @@ void lender_failed(struct windows *windows, int cause) {
     unlock_set(windows);
 }
 
-/* Leaves those pages of the batch that others have. Returns false where the lender didn't answer. */
-static bool ask(struct windows *windows, struct batch *batch) {
-    uint32_t numbers[WINDOW_BATCH];
-    unsigned char seen[WINDOW_BATCH] = {0};
-    size_t kept = 0;
-    for (size_t i = 0; i < batch->count; i++) numbers[i] = batch->window->base + batch->pages[i];
-    uint64_t begun = clock_spent_ns();
-    int cause = windows->lender.ask(windows->lender.opaque, numbers, batch->fingerprints, batch->count, seen);
-    uint64_t took = clock_spent_ns() - begun;
-    if (cause != 0) {
-        lender_failed(windows, cause);
-        return false;
-    }
-    lock_for_look(windows);
-    windows->counts.ask_ns += took;
-    windows->counts.asked += batch->count;
-    for (size_t i = 0; i < batch->count; i++) {
-        struct page *page = &batch->window->pages[batch->pages[i]];
-        if (seen[i] != 0) batch->pages[kept++] = batch->pages[i];
-        else if (page->asks < ASKS_APART_MOST) page->asks++;
-    }
-    windows->counts.seen += kept;
-    unlock_set(windows);
-    batch->count = kept;
-    return true;
-}
-
 /* How many mappings more there may be when a page comes to show a frame: it may be one by itself, between two others. */
 static size_t mappings_added(const struct window *window, size_t page) {
     size_t most = (page > 0 ? 1u : 0u) + (page + 1 < window->count ? 1u : 0u), now = mappings_of(window, page, 1);
     return most - now;
 }
 
-/* Leaves those pages of the batch that can be lent, and for which the system has mappings. Takes the lock. */
+/*
+ * Whether the system has mappings for a page that comes to show a frame, beside `*more` that others will take. Adds what the page takes to
+ * them. Otherwise the page is asked about again later. With the lock.
+ */
+static bool has_mappings(struct window *window, size_t number, size_t *more) {
+    struct windows *windows = window->windows;
+    size_t added = mappings_added(window, number);
+    if (added > 0 && windows->counts.mappings + *more + added > windows->mappings_most) {
+        note_crowded(windows, 1);
+        window->pages[number].asks = ASKS_APART_MOST;
+        return false;
+    }
+    *more += added;
+    return true;
+}
+
+/*
+ * Whether others mustn't find a page by the question about it. Those of a whole part are found at their first question, so that guests with
+ * the same pages meet, and seldom later: otherwise others would lend what may stay where it is here.
+ */
+static bool asks_in_passing(const struct window *window, size_t number) {
+    enum { EACH = 1 << ASKS_APART_MOST, NOTED = 4 };
+    uint64_t turn = window->windows->counts.looks / EACH + number / TOGETHER;
+    return part_of(window, number)->whole && window->pages[number].asks > 0 && turn % NOTED != 0;
+}
+
+/* Takes the answers to questions. Leaves those pages of the batch that others have, and that can be lent. Takes the lock. */
+static void take_answers(struct windows *windows, struct batch *batch, const unsigned char *seen) {
+    size_t kept = 0, mappings = 0;
+    lock_for_look(windows);
+    for (size_t i = 0; i < batch->count; i++) {
+        struct page *page = &batch->window->pages[batch->pages[i]];
+        bool is_whole = part_of(batch->window, batch->pages[i])->whole, is_seen = seen[i] != 0;
+        windows->counts.seen += is_seen ? 1 : 0;
+        if (is_seen && !is_whole) {
+            if (!has_mappings(batch->window, batch->pages[i], &mappings)) continue;
+            batch->fingerprints[kept] = batch->fingerprints[i];
+            batch->pages[kept++] = batch->pages[i];
+            continue;
+        }
+        if (page->asks < ASKS_APART_MOST) page->asks = (page->asks + 1u) & 3u;
+        /* (the page may have been given up meanwhile) */
+        if (is_whole && page->looks == STILL && page->kept == batch->fingerprints[i])
+            note_seen(batch->window, batch->pages[i], is_seen);
+    }
+    windows->counts.asked += batch->count;
+    unlock_set(windows);
+    batch->count = kept;
+}
+
+/* Leaves those pages of the batch that others have. Returns false where the lender didn't answer. Takes the lock. */
+static bool ask(struct windows *windows, struct batch *batch) {
+    uint32_t numbers[WINDOW_BATCH];
+    bool passing[WINDOW_BATCH];
+    unsigned char seen[WINDOW_BATCH] = {0};
+    lock_for_look(windows);
+    for (size_t i = 0; i < batch->count; i++) {
+        numbers[i] = batch->window->base + batch->pages[i];
+        passing[i] = asks_in_passing(batch->window, batch->pages[i]);
+    }
+    unlock_set(windows);
+    uint64_t begun = clock_spent_ns();
+    int cause = windows->lender.ask(windows->lender.opaque, numbers, batch->fingerprints, passing, batch->count, seen);
+    windows->counts.ask_ns += clock_spent_ns() - begun;
+    if (cause == 0) take_answers(windows, batch, seen);
+    else lender_failed(windows, cause);
+    return cause == 0;
+}
+
+/* Leaves those pages of the batch that could be lent, and for each of which by itself the system has mappings. Takes the lock. */
 static void keep_lendable(struct windows *windows, struct batch *batch) {
     size_t kept = 0;
     lock_for_look(windows);
-    size_t mappings = windows->counts.mappings;
     for (size_t i = 0; i < batch->count; i++) {
         uint32_t number = batch->pages[i];
-        struct page *page = &batch->window->pages[number];
-        if (!can_settle(batch->window, number) || page->holds == 1) continue;
-        size_t added = mappings_added(batch->window, number);
-        if (added > 0 && mappings + added > windows->mappings_most) {
-            windows->counts.no_mapping++;
-            windows->counts.pause = WINDOWS_CROWDED;
-            page->asks = ASKS_APART_MOST;
-            continue;
-        }
-        mappings += added;
+        if (!could_lend(batch->window, number) || batch->window->pages[number].holds == 1) continue;
+        if (!part_of(batch->window, number)->whole && !has_mappings(batch->window, number, &(size_t){0})) continue;
         batch->fingerprints[kept] = batch->fingerprints[i];
         batch->pages[kept++] = number;
     }
@@ -371,7 +420,10 @@ static void copy(struct windows *windows, struct batch *batch) {
         uint32_t page = batch->pages[i];
         if (!can_settle(batch->window, page)) continue;
         copy_page(windows->lender.pages[kept], address_of(batch->window, page));
-        if (!is_zero(windows->lender.pages[kept])) batch->pages[kept++] = page;
+        /* (its fingerprint may be that of an earlier look) */
+        uint64_t fingerprint = fingerprint_of(windows->lender.salt, windows->lender.pages[kept]);
+        if (fingerprint != batch->fingerprints[i]) note_changed(batch->window, page);
+        else if (!is_zero(windows->lender.pages[kept])) batch->pages[kept++] = page;
     }
     unlock_set(windows);
     batch->count = kept;
@@ -390,9 +442,10 @@ static void take_loans(struct windows *windows, const struct batch *batch, const
             continue;
         }
         /* (nothing but this thread gives a page a slot, so it has none) */
-        page->slot = loans[i].slot;
+        page->kept = loans[i].slot;
+        page->looks = 0;
         page->holds = 1;
-        batch->window->parts[number / PART].releases++;
+        part_of(batch->window, number)->releases++;
         if (loans[i].frame >= windows->lender.frame_count) {
             note_failure(windows, WINDOW_LENDER_FAILED, EPROTO);
             continue;

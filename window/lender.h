@@ -7,6 +7,7 @@
 #ifndef PAGESHARE_WINDOW_LENDER_H
 #define PAGESHARE_WINDOW_LENDER_H
 
+#include <stdbool.h>
 #include <stddef.h>
 #include <stdint.h>
 
@@ -41,8 +42,12 @@ struct window_lender {
     uint32_t salt;        /* of fingerprints: the same for all who lend to one domain, and never the domain's secret salt */
     unsigned char (*pages)[WINDOW_PAGE_BYTES]; /* buffer for WINDOW_BATCH pages */
 
-    /* Tells of each page whether another page with its fingerprint was asked about or lent lately: seen[i] is 1 or 0. */
-    int (*ask)(void *opaque, const uint32_t *pages, const uint64_t *fingerprints, size_t count, unsigned char *seen);
+    /*
+     * Tells of each page whether another page with its fingerprint was asked about or lent lately: seen[i] is 1 or 0. A question in passing,
+     * where passing[i] is true, needn't be remembered: others needn't find this page by it.
+     */
+    int (*ask)(void *opaque, const uint32_t *pages, const uint64_t *fingerprints, const bool *passing, size_t count,
+               unsigned char *seen);
 
     /* Lends `count` pages, at most WINDOW_BATCH, whose bytes are in the buffer: loans[i] is of pages[i]. */
     int (*lend)(void *opaque, const uint32_t *pages, size_t count, struct window_loan *loans);

@@ -5,8 +5,15 @@
 #include <errno.h>
 #include <sys/mman.h>
 
-/* Parts of which a look says MADV_UNMERGEABLE at most, while KSM has merged something. */
-enum { READY_PARTS = 64 };
+enum {
+    READY_PARTS = 64,  /* parts of which a look says MADV_UNMERGEABLE at most, while KSM has merged something */
+    WHOLE_TURNS = 4,   /* how much more seldom a page of a whole part is read and asked about again */
+    CALM_PART = 64,    /* a part is calm where at most a so many-th of its pages with memory of their own has changed */
+    LIMIT_EACH = 16,   /* looks until the system's limit of mappings is read again */
+    LEFT_OUT_EACH = 64 /* parts that are left out, until the pace is kept */
+};
+/* Between two times that the pace is kept, of processor time; and that a look attends to what may not wait for its end, by the clock. */
+static const uint64_t pace_ns = 400000, attend_ns = 1000000000;
 
 /* What a look makes of a page. */
 enum finding { FOUND_NOTHING, FOUND_IDLE, FOUND_ZERO };
@@ -14,7 +21,8 @@ enum finding { FOUND_NOTHING, FOUND_IDLE, FOUND_ZERO };
 /* Pages of a part that are idle. */
 struct findings {
     size_t count;
-    bool changes; /* something in the part changes, or is about to be idle */
+    size_t changes;   /* pages that changed, or are about to be idle */
+    bool is_left_out; /* the part rests */
     uint32_t pages[PART];
     uint64_t fingerprints[PART];
     bool zero[PART], asked_before[PART];
@@ -29,26 +37,53 @@ static void find_copy(struct window *window, size_t number) {
     stop_showing(window, number);
 }
 
-/* Whether it isn't this look's turn to ask about a page that nobody else had before. Looks that left its part out count. */
+/*
+ * Whether it isn't this look's turn to ask about a page that nobody else had before, or to read one that changes always. Looks that left its
+ * part out count. Pages of whole parts come more seldom: next to none of them can be lent.
+ */
 static bool waits(const struct window *window, const struct page *page, size_t number) {
-    if (page->asks == 0 || page->looks < STILL) return false;
-    uint64_t taken = window->parts[number / PART].rest + 1u, apart = (1u << page->asks) / taken;
-    return apart > 1 && (window->windows->counts.looks / taken + number) % apart != 0;
+    const struct part *part = part_of(window, number);
+    uint64_t taken = part->rest + 1u, apart = 1u << page->asks, turns = window->windows->tuning.turns;
+    if (page->asks == 0 || page->looks == 0) return false;
+    if (page->looks == STILL && page->asks == ASKS_APART_MOST) {
+        if (turns > apart) apart = turns;
+        if (part->whole) apart *= WHOLE_TURNS;
+    }
+    apart /= taken;
+    return apart > 1 && (window->windows->counts.looks / taken + number / TOGETHER) % apart != 0;
 }
 
-/* Takes a page's fingerprint, and compares it with the last look's. */
-static enum finding take_fingerprint(struct window *window, size_t number, uint64_t *fingerprint) {
+/* Reads a page, and notes what that says of it. Returns its fingerprint. */
+static uint64_t read_page(struct window *window, size_t number) {
     struct windows *windows = window->windows;
     struct page *page = &window->pages[number];
+    uint64_t fingerprint = fingerprint_of(windows->lender.salt, address_of(window, number));
+    bool is_same = page->looks > 0 && page->kept == fingerprint, is_hot = !is_same && page->looks == 1;
+    windows->counts.reads++;
+    windows->counts.fresh += page->looks == 0 && page->over == 0 ? 1 : 0;
+    if (!is_same) note_seen(window, number, false);
+    if (!is_same || page->looks < STILL)
+        page->asks = !is_hot ? 0 : page->asks < ASKS_APART_MOST ? (page->asks + 1u) & 3u : ASKS_APART_MOST;
+    page->looks = !is_same ? 1u : page->looks < STILL ? (page->looks + 1u) & 3u : STILL;
+    page->kept = fingerprint;
+    page->unread = 0;
+    return fingerprint;
+}
+
+/*
+ * Takes a page's fingerprint, and compares it with the last look's. A page that nobody else has is read only each second time where nothing
+ * changes: between them it is asked about by what is kept. What it has become meanwhile is found when it is to be lent.
+ */
+static enum finding take_fingerprint(struct window *window, size_t number, uint64_t *fingerprint) {
+    struct page *page = &window->pages[number];
     if (waits(window, page, number)) return FOUND_NOTHING;
-    *fingerprint = fingerprint_of(windows->lender.salt, address_of(window, number));
-    uint32_t part = (uint32_t)(*fingerprint & ((1u << FINGERPRINT_BITS) - 1));
-    bool is_same = page->looks > 0 && page->fingerprint == part;
-    if (!is_same) page->asks = 0;
-    page->looks = is_same ? (page->looks < STILL ? page->looks + 1u : STILL) & 3u : 1u;
-    page->fingerprint = part & ((1u << FINGERPRINT_BITS) - 1);
+    bool is_again = page->looks == STILL && page->asks == ASKS_APART_MOST;
+    bool is_kept = is_again && page->unread == 0 && part_of(window, number)->is_still;
+    if (is_kept) page->unread = 1;
+    window->windows->counts.again += is_again ? 1 : 0;
+    *fingerprint = is_kept ? page->kept : read_page(window, number);
     if (page->looks < STILL) return FOUND_NOTHING;
-    return *fingerprint == windows->fingerprint_of_zeros ? FOUND_ZERO : FOUND_IDLE;
+    return *fingerprint == window->windows->fingerprint_of_zeros ? FOUND_ZERO : FOUND_IDLE;
 }
 
 static enum finding look_at(struct window *window, size_t number, uint8_t found, uint64_t *fingerprint) {
@@ -104,51 +139,75 @@ static bool rests(struct part *part) {
     return true;
 }
 
-/* Where the same few pages have memory of their own, and none is new to the idle ones, fewer looks do: what is late then is memory. */
-static void set_rest(const struct windows *windows, struct part *part, const struct findings *findings, uint16_t own) {
-    bool is_calm = !findings->changes && own == part->own;
-    for (size_t i = 0; i < findings->count; i++) is_calm = is_calm && findings->asked_before[i];
-    unsigned rest = is_calm ? 2u * part->rest + 1 : 0;
-    part->rest = (uint8_t)(rest > windows->rest_most ? windows->rest_most : rest);
+/* Where next to nothing changes, and next to no page is new to the idle ones, fewer looks do: what is late then is memory. */
+static void set_rest(const struct windows *windows, struct part *part, const struct findings *findings, size_t own) {
+    size_t changes = findings->changes + (own > part->own ? own - part->own : 0);
+    for (size_t i = 0; i < findings->count; i++) changes += findings->asked_before[i] ? 0 : 1;
+    unsigned rest = changes * CALM_PART <= own ? 2u * part->rest + 1 : 0, most = windows->tuning.rest_most;
+    part->rest = (uint8_t)(rest > most ? most : rest);
     part->left = part->rest;
-    part->own = own;
+    part->is_still = changes == 0;
+    part->own = (uint16_t)own;
+}
+
+/* A page of zeros in a whole part stays where it is, and counts. */
+static void count_zero(struct window *window, size_t number) {
+    struct page *page = &window->pages[number];
+    note_seen(window, number, true);
+    if (page->asks < ASKS_APART_MOST) page->asks = (page->asks + 1u) & 3u;
+}
+
+/* Looks at a page that has memory of its own, and adds it to the findings if it is idle. */
+static void add_finding(struct window *window, size_t number, uint8_t found, struct findings *findings) {
+    const struct page *page = &window->pages[number];
+    unsigned before = page->looks;
+    uint64_t fingerprint = 0;
+    enum finding finding = look_at(window, number, found, &fingerprint);
+    bool is_kept_back = finding == FOUND_ZERO && part_of(window, number)->whole;
+    /* (it is about to be idle, or is so no more; what is written at each look changes nothing) */
+    findings->changes += page->looks < STILL && (page->looks > 1 || before == STILL) ? 1 : 0;
+    if (is_kept_back) count_zero(window, number);
+    if (finding == FOUND_NOTHING || is_kept_back) return;
+    findings->pages[findings->count] = (uint32_t)number;
+    findings->fingerprints[findings->count] = fingerprint;
+    findings->asked_before[findings->count] = page->asks == ASKS_APART_MOST;
+    findings->zero[findings->count++] = finding == FOUND_ZERO;
+}
+
+/* Looks at pages of a part that doesn't rest. With the lock. */
+static void find_in_part(struct window *window, size_t first, size_t count, struct findings *findings) {
+    struct windows *windows = window->windows;
+    uint8_t found[PART];
+    bool is_huge = false;
+    size_t own = 0;
+    int cause = pagemap_find(&windows->pagemap, address_of(window, first), count, found, &is_huge);
+    if (cause != 0) {
+        note_failure(windows, WINDOW_NO_PAGEMAP, cause);
+        return;
+    }
+    for (size_t i = 0; i < count; i++) own += found[i] != PAGE_NONE ? 1 : 0;
+    settle_part(window, first, own, is_huge);
+    for (size_t i = 0; i < count && windows->stuck_count == 0; i++)
+        if (found[i] != PAGE_NONE || windows->past > 0) add_finding(window, first + i, found[i], findings);
+    set_rest(windows, part_of(window, first), findings, own);
+#ifdef WINDOW_TRACE
+    if (windows->trace != NULL) trace_part(window, first, count);
+#endif
 }
 
 /* Looks at a part. Returns false where the window has ended. Takes the lock. */
 static bool look_at_part(struct window *window, size_t first, size_t count, struct findings *findings, size_t *unready) {
     struct windows *windows = window->windows;
-    uint8_t found[PART];
-    uint16_t own = 0;
-    findings->count = 0;
-    findings->changes = false;
+    findings->count = findings->changes = 0;
+    /* (the part may become whole) */
+    if (part_of(window, first)->alone > 0) begin_turn(&windows->turn);
     lock_for_look(windows);
     bool goes_on = !window->ended && windows->stuck_count == 0;
-    if (goes_on && rests(&window->parts[first / PART])) {
-        unlock_set(windows);
-        return true;
+    findings->is_left_out = goes_on && rests(part_of(window, first));
+    if (goes_on && !findings->is_left_out) {
+        make_ready(window, first, count, unready);
+        find_in_part(window, first, count, findings);
     }
-    make_ready(window, first, count, unready);
-    int cause = goes_on ? pagemap_find(&windows->pagemap, address_of(window, first), count, found) : 0;
-    if (cause != 0) note_failure(windows, WINDOW_NO_PAGEMAP, cause);
-    for (size_t i = 0; i < count && goes_on && cause == 0; i++) {
-        if (found[i] == PAGE_NONE && windows->past == 0) continue;
-        uint64_t fingerprint = 0;
-        const struct page *page = &window->pages[first + i];
-        unsigned before = page->looks;
-        enum finding finding = look_at(window, first + i, found[i], &fingerprint);
-        own++;
-        /* (it is about to be idle, or is so no more; what is written at each look changes nothing) */
-        findings->changes = findings->changes || (page->looks < STILL && (page->looks > 1 || before == STILL));
-        if (finding == FOUND_NOTHING) continue;
-        findings->pages[findings->count] = (uint32_t)(first + i);
-        findings->fingerprints[findings->count] = fingerprint;
-        findings->asked_before[findings->count] = window->pages[first + i].asks == ASKS_APART_MOST;
-        findings->zero[findings->count++] = finding == FOUND_ZERO;
-    }
-    if (goes_on) set_rest(windows, &window->parts[first / PART], findings, own);
-#ifdef WINDOW_TRACE
-    if (goes_on && windows->trace != NULL) trace_part(window, first, count);
-#endif
     unlock_set(windows);
     return goes_on;
 }
@@ -158,20 +217,39 @@ static void add(struct batch *batch, const struct findings *findings, size_t i) 
     batch->fingerprints[batch->count++] = findings->fingerprints[i];
 }
 
+/* Does what is to be done with pages that were found, as soon as there are many. */
+static void settle_findings(struct windows *windows, const struct findings *findings, struct batch *zeros, struct batch *idle) {
+    for (size_t i = 0; i < findings->count && !windows->is_cut_short; i++) {
+        struct batch *batch = findings->zero[i] ? zeros : idle;
+        add(batch, findings, i);
+        if (batch->count < WINDOW_BATCH) continue;
+        if (findings->zero[i]) give_zeros_back(windows, zeros);
+        else share(windows, idle);
+    }
+}
+
+bool keep_pace(struct windows *windows) {
+    uint64_t spent = windows->pace != NULL ? clock_spent_ns() : 0;
+    if (windows->pace == NULL || windows->is_cut_short || spent - windows->paced_ns < pace_ns) return !windows->is_cut_short;
+    windows->is_cut_short = !windows->pace(windows->pace_opaque);
+    windows->paced_ns = clock_spent_ns();
+    return !windows->is_cut_short;
+}
+
+static void attend(struct windows *windows);
+
 static void look_at_window(struct windows *windows, struct window *window, size_t *unready) {
     struct findings findings;
     struct batch zeros = {.window = window}, idle = {.window = window};
     bool goes_on = true;
-    for (size_t first = 0; first < window->count && goes_on; first += PART) {
-        size_t count = window->count - first < PART ? window->count - first : PART;
+    size_t left_out = 0;
+    for (size_t first = 0, count = 0; first < window->count && goes_on; first += count) {
+        count = rest_of_part(window, first);
         goes_on = look_at_part(window, first, count, &findings, unready);
-        for (size_t i = 0; i < findings.count; i++) {
-            struct batch *batch = findings.zero[i] ? &zeros : &idle;
-            add(batch, &findings, i);
-            if (batch->count < WINDOW_BATCH) continue;
-            if (findings.zero[i]) give_zeros_back(windows, &zeros);
-            else share(windows, &idle);
-        }
+        settle_findings(windows, &findings, &zeros, &idle);
+        if (findings.is_left_out && ++left_out % LEFT_OUT_EACH != 0) continue;
+        goes_on = keep_pace(windows) && goes_on;
+        attend(windows);
     }
     give_zeros_back(windows, &zeros);
     share(windows, &idle);
@@ -186,11 +264,12 @@ struct slots {
 };
 
 static void collect_part(struct slots *slots, struct window *window, size_t first) {
-    for (size_t page = first; page < window->count && page < first + PART && slots->count < WINDOW_BATCH; page++) {
+    size_t end = first + rest_of_part(window, first);
+    for (size_t page = first; page < end && slots->count < WINDOW_BATCH; page++) {
         const struct page *its = &window->pages[page];
         if (its->holds == 0 || (its->shows == 1 && its->past == 0)) continue;
         if (is_in_transfer(window, page)) continue; /* (a device may be reading the frame, as the page showed it when it began) */
-        slots->slots[slots->count] = window->pages[page].slot;
+        slots->slots[slots->count] = window->pages[page].kept;
         slots->windows[slots->count] = window;
         slots->pages[slots->count++] = (uint32_t)page;
     }
@@ -200,8 +279,8 @@ static void collect(struct windows *windows, struct slots *slots) {
     slots->count = 0;
     lock_for_look(windows);
     for (struct window *window = windows->first; window != NULL && slots->count < WINDOW_BATCH; window = window->next)
-        for (size_t first = 0; first < window->count; first += PART)
-            if (window->parts[first / PART].releases > 0) collect_part(slots, window, first);
+        for (size_t first = 0; first < window->count; first += rest_of_part(window, first))
+            if (part_of(window, first)->releases > 0) collect_part(slots, window, first);
     unlock_set(windows);
 }
 
@@ -218,7 +297,7 @@ void release_slots(struct windows *windows) {
         lock_for_look(windows);
         for (size_t i = 0; i < slots.count; i++) {
             slots.windows[i]->pages[slots.pages[i]].holds = 0;
-            slots.windows[i]->parts[slots.pages[i] / PART].releases--;
+            part_of(slots.windows[i], slots.pages[i])->releases--;
             trace_release(windows->trace, slots.windows[i]->base + slots.pages[i]);
         }
         unlock_set(windows);
@@ -226,7 +305,7 @@ void release_slots(struct windows *windows) {
 }
 
 static bool has_slots(const struct window *window) {
-    for (size_t part = 0; part < (window->count + PART - 1) / PART; part++)
+    for (size_t part = 0; part < parts_in(window); part++)
         if (window->parts[part].releases > 0) return true;
     return false;
 }
@@ -266,7 +345,7 @@ static bool has_page_between(void *set, const uint8_t *begin, const uint8_t *end
  * done for a small part of the time only, and never with the lock.
  */
 static void look_for_locks(struct windows *windows) {
-    enum { TIMES = 50 };
+    enum { TIMES = 200 };
     size_t kib = locked_kib();
     uint64_t begun = clock_now_ns();
     if (kib == windows->locked_kib || (kib > 0 && begun < windows->locks_after_ns)) return;
@@ -284,14 +363,32 @@ static void look_for_locks(struct windows *windows) {
     unlock_set(windows);
 }
 
+/* In a look that lasts: slots are released, and devices and locks looked for, as at the beginning of a look. */
+static void attend(struct windows *windows) {
+    uint64_t now = clock_now_ns();
+    if (now - windows->attended_ns < attend_ns) return;
+    windows->attended_ns = now;
+    look_for_locks(windows);
+    if (windows->is_locked) windows->is_cut_short = true;
+    lock_for_look(windows);
+    find_pins(windows);
+    unlock_set(windows);
+    release_slots(windows);
+}
+
 /* What a look begins with. Returns false where nothing can be looked at. */
 static bool begin(struct windows *windows) {
+    windows->is_cut_short = false;
+    windows->paced_ns = clock_spent_ns();
+    windows->attended_ns = clock_now_ns();
     look_for_locks(windows);
     lock_for_look(windows);
     int cause = free_stuck(windows);
     windows->counts.looks++;
+    if (windows->counts.looks % LIMIT_EACH == 0) follow_limit(windows);
     find_pins(windows);
-    windows->counts.pause = !windows->has_lender ? WINDOWS_NO_LENDER : WINDOWS_LENDING;
+    windows->counts.pause = windows->counts.looks <= windows->crowded_until ? WINDOWS_CROWDED : WINDOWS_LENDING;
+    if (!windows->has_lender) windows->counts.pause = WINDOWS_NO_LENDER;
     if (windows->is_locked) windows->counts.pause = WINDOWS_LOCKED;
     if (cause != 0) windows->counts.pause = WINDOWS_HELD;
     if (cause != 0) note_failure(windows, WINDOW_STUCK, cause);
@@ -304,7 +401,7 @@ static bool begin(struct windows *windows) {
 
 struct window_result windows_look(struct windows *windows) {
     static const unsigned char zeros[WINDOW_PAGE_BYTES] __attribute__((aligned(8)));
-    uint64_t begun = clock_spent_ns();
+    uint64_t begun = clock_spent_ns(), begun_ns = clock_now_ns();
     windows->result = result_of(WINDOW_OK, 0);
     windows->lender_waits = false;
     windows->fingerprint_of_zeros = fingerprint_of(windows->lender.salt, zeros);
@@ -314,13 +411,15 @@ struct window_result windows_look(struct windows *windows) {
     lock_for_look(windows);
     struct window *window = windows->first;
     unlock_set(windows);
-    for (; window != NULL && can_look && !windows->is_locked; window = window->next) look_at_window(windows, window, &unready);
+    for (; window != NULL && can_look && !windows->is_locked && !windows->is_cut_short; window = window->next)
+        look_at_window(windows, window, &unready);
     release_slots(windows);
     free_ended(windows);
     lock_for_look(windows);
     int cause = clear_scratch(windows);
     if (cause != 0 && !windows->is_locked) note_failure(windows, WINDOW_NO_MAPPING, cause);
     windows->counts.look_ns += clock_spent_ns() - begun;
+    if (!windows->is_cut_short) windows->counts.round_ns = clock_now_ns() - begun_ns;
     unlock_set(windows);
     return windows->result;
 }

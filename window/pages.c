@@ -44,10 +44,12 @@ size_t alike(const struct window *window, size_t first, size_t most) {
     return count;
 }
 
-bool are_one_mapping(const struct page *before, const struct page *after) {
+bool is_one_mapping(const struct window *window, size_t number) {
+    const struct page *after = &window->pages[number], *before = after - 1;
     if (before->over != after->over) return false;
-    if (before->over == 0) return before->moved == after->moved && after->begins == 0;
-    return before->past == after->past && before->frame + 1 == after->frame;
+    if (before->over == 1) return before->past == after->past && before->frame + 1 == after->frame;
+    bool is_moved_alike = before->moved == after->moved && after->begins == 0;
+    return is_moved_alike && part_of(window, number - 1)->whole == part_of(window, number)->whole;
 }
 
 /* Notes what lies at the place of pages in a row since now: frames, or memory of their own. What they showed before they don't show. */
@@ -74,23 +76,36 @@ void note_moved(struct window *window, size_t first, size_t count) { note_memory
 size_t mappings_of(const struct window *window, size_t first, size_t count) {
     size_t found = 0;
     for (size_t page = first > 0 ? first : 1; page <= first + count && page < window->count; page++)
-        found += are_one_mapping(&window->pages[page - 1], &window->pages[page]) ? 0 : 1;
+        found += is_one_mapping(window, page) ? 0 : 1;
     return found;
+}
+
+void note_seen(struct window *window, size_t number, bool is_seen) {
+    struct page *page = &window->pages[number];
+    struct part *part = part_of(window, number);
+    part->shareable = (uint16_t)(part->shareable + (is_seen ? 1 : 0) - page->seen);
+    page->seen = is_seen ? 1 : 0;
+}
+
+void forget_content(struct window *window, size_t number) {
+    struct page *page = &window->pages[number];
+    page->looks = 0;
+    page->asks = 0;
+    note_seen(window, number, false);
 }
 
 void stop_showing(struct window *window, size_t number) {
     struct page *page = &window->pages[number];
     if (page->shows == 0) return;
     page->shows = 0;
-    page->looks = 0;
-    page->asks = 0;
+    forget_content(window, number);
     if (page->past == 1) {
         /* (a slot that it holds is another lender's, and is to be released already) */
         window->windows->past--;
         return;
     }
     window->windows->counts.lent--;
-    window->parts[number / PART].releases++;
+    part_of(window, number)->releases++;
 }
 
 /* Whether what is put in the place of pages can be a copy of a mapping that is there already, with all that was said of it. */
@@ -118,7 +133,7 @@ int map_pages(struct window *window, size_t first, size_t count, uint32_t frame,
 }
 
 void say_again(struct window *window, size_t first, size_t count, bool is_file) {
-    int cause = advice_set(&window->advice, address_of(window, first), count, is_file);
+    int cause = advice_set(&window->advice, address_of(window, first), count, is_file ? MEMORY_OF_FRAMES : MEMORY_SMALL);
     if (cause != 0) window->windows->advice_cause = cause;
 }
 
@@ -148,7 +163,7 @@ int clear_scratch(struct windows *windows) {
 int let_waiters_go(struct window *window, size_t first, size_t count) {
     struct windows *windows = window->windows;
     int cause = faults_end_watch(&windows->faults, address_of(window, first), count);
-    for (size_t page = first; page < first + count && cause != 0 && windows->stuck_count < HOME_MOST; page++)
+    for (size_t page = first; page < first + count && cause != 0 && windows->stuck_count < PART; page++)
         windows->stuck[windows->stuck_count++] = (struct stuck){.window = window, .page = (uint32_t)page, .scratch = NOWHERE};
     return cause;
 }

@@ -9,15 +9,15 @@
 #include <stdatomic.h>
 
 enum {
-    PART = PAGEMAP_MOST, /* pages that one step of a look, or of a long call, handles under the lock */
+    PART = PAGEMAP_MOST, /* pages that a huge page has, and that one step of a look, or of a long call, handles under the lock */
     HOLD_MOST = 16,      /* pages that are held at once */
     SCRATCH = 512,       /* pages that were taken out are discarded together, since that interrupts all processors */
     HOME_MOST = 64,      /* pages that are guarded at once while they are copied home */
     STILL = 3,           /* looks with the same fingerprint that make a page idle */
     ASKS_APART_MOST = 3, /* a page that nobody else has is asked about at each 2^n-th look, n up to this */
+    TOGETHER = 64,       /* pages in a row are asked about in the same looks, so that runs of them get frames in a row */
     PINS_MOST = UINT16_MAX,
-    TRANSFERS_MOST = 128, /* transfers under way that are kept by their places */
-    FINGERPRINT_BITS = 24
+    TRANSFERS_MOST = 128 /* transfers under way that are kept by their places */
 };
 
 /* In place of a frame's number: the page is zeros, and goes back to the system. */
@@ -30,28 +30,38 @@ static const uint32_t ZEROS = WINDOW_NO_FRAME - 1;
  * A page that has left its window is the caller's alone, unless a frame is mapped at its place still: then its own copy, which a device
  * may have pinned, stays where it is. Nothing is lent of it any more, but a discard must not uncover the frame.
  */
-struct page {
-    uint64_t slot;
-    uint32_t frame : 26;                     /* that is mapped at its place */
-    uint32_t over : 1;                       /* a frame is mapped at its place; the page is that frame or a private copy */
-    uint32_t shows : 1;                      /* as far as is known it is the frame */
-    uint32_t holds : 1;                      /* the lender counts the slot */
-    uint32_t past : 1;                       /* the frame is of a lender that is gone */
-    uint32_t out : 1;                        /* it has left the window */
-    uint32_t zero : 1;                       /* it was given back as zeros, and has no memory since */
-    uint32_t fingerprint : FINGERPRINT_BITS; /* its last bits, at the last look */
-    uint32_t looks : 2;                      /* looks with that fingerprint, at most STILL */
-    uint32_t asks : 3;                       /* how often it was asked about in vain, at most ASKS_APART_MOST */
-    uint32_t moved : 1;  /* its memory was moved to its place, and so is in no mapping with what is beside it */
-    uint32_t begins : 1; /* it is the first page of what was moved */
+struct __attribute__((packed)) page {
+    uint64_t kept;       /* the slot, if it holds one; otherwise its fingerprint when it was read last, where `looks` isn't 0 */
+    uint32_t frame : 26; /* that is mapped at its place */
+    uint32_t over : 1;   /* a frame is mapped at its place; the page is that frame or a private copy */
+    uint32_t shows : 1;  /* as far as is known it is the frame */
+    uint32_t holds : 1;  /* the lender counts the slot */
+    uint32_t past : 1;   /* the frame is of a lender that is gone */
+    uint32_t out : 1;    /* it has left the window */
+    uint32_t zero : 1;   /* it was given back as zeros, and has no memory since */
+    uint8_t looks : 2;   /* looks with that fingerprint, at most STILL */
+    uint8_t asks : 2;   /* how often it was asked about in vain; or, where `looks` is 1, changed again. At most ASKS_APART_MOST */
+    uint8_t unread : 1; /* it was asked about by what is kept, so the next time it is read */
+    uint8_t seen : 1;   /* it counts among its part's `shareable` */
+    uint8_t moved : 1;  /* its memory was moved to its place, and so is in no mapping with what is beside it */
+    uint8_t begins : 1; /* it is the first page of what was moved */
 };
+_Static_assert(sizeof(struct page) == 13, "a page takes 13 bytes of tables");
 
-/* PART pages of a window. */
+/*
+ * PART pages of a window that one huge page could hold; at the ends of a window fewer. A whole part is left to the system's huge pages:
+ * nothing of it is lent or given back, so no frame lies under its pages. It is split before pages of it are lent.
+ */
 struct part {
-    uint16_t releases; /* slots that are to be released */
-    uint16_t own;      /* pages that had memory of their own at the last look */
-    uint8_t rest;      /* looks that leave it out, since nothing changes there; and how many of them are left */
+    uint16_t releases;  /* slots that are to be released */
+    uint16_t own;       /* pages that had memory of their own at the last look */
+    uint16_t shareable; /* of a whole part: pages that are zeros or were seen elsewhere */
+    uint8_t rest;       /* looks that leave it out, since nothing changes there; and how many of them are left */
     uint8_t left;
+    uint8_t alone; /* looks in a row that found nearly all pages of a split part with memory of their own */
+    uint8_t pause; /* looks at it until it may be split, or become whole, again */
+    bool whole;
+    bool is_still; /* nothing at all had changed there when it was looked at last */
 };
 
 struct window {
@@ -59,15 +69,17 @@ struct window {
     struct window *next;
     uint8_t *at;
     size_t count;  /* of pages */
+    size_t lead;   /* pages of its first part that lie before it */
     uint32_t base; /* the number of its first page among all windows' */
     struct page *pages;
     struct part *parts;
     uint16_t *pins;      /* of each page; NULL: none was pinned yet */
     struct advice found; /* what was said of the range before it was a window */
     struct advice advice;
-    size_t ready; /* its pages before this one are left alone by KSM */
-    bool ends;    /* nothing is lent of it any more */
-    bool ended;   /* the range is the caller's again; only slots are left to release */
+    size_t ready;    /* its pages before this one are left alone by KSM */
+    bool keeps_huge; /* the system may back parts of it by huge pages */
+    bool ends;       /* nothing is lent of it any more */
+    bool ended;      /* the range is the caller's again; only slots are left to release */
 };
 
 /* Memory of which a transfer by O_DIRECT is under way, which may have pinned its pages. `begin` is NULL where there is none. */
@@ -98,7 +110,7 @@ struct windows {
     uint8_t *scratch; /* place for SCRATCH pages that are held, or were */
     uint8_t *zeros;   /* PART pages that nobody touches, and no child has; NULL where there are none */
     size_t scratch_used;
-    struct stuck stuck[HOME_MOST];
+    struct stuck stuck[PART];
     size_t stuck_count;
     size_t past; /* pages that show frames of a lender that is gone */
     enum windows_pins pins;
@@ -108,8 +120,13 @@ struct windows {
     size_t transfers_count;     /* how many places have one */
     size_t transfers_elsewhere; /* transfers under way that have no place there */
     size_t mappings_most, locked_kib;
+    bool follows_limit;      /* nobody said how many mappings there may be: the system's limit counts, also when it is raised */
     uint64_t locks_after_ns; /* smaps isn't read before this time */
-    unsigned rest_most;
+    struct windows_tuning tuning;
+    bool (*pace)(void *opaque);
+    void *pace_opaque;
+    bool never_wait;        /* for a part to stay as it is for some looks */
+    uint64_t crowded_until; /* this look: a page wasn't lent lately since mappings are short */
     bool is_locked;
     bool is_over;     /* nothing is lent any more, for good */
     int advice_cause; /* what the system refused advice with, since the last look; or 0 */
@@ -125,10 +142,23 @@ struct windows {
     uint8_t *frames_at;    /* the frames' file, for reading */
     bool frames_are_given; /* it is mapped as windows show frames, and no child has it: parts of it can be put in a window */
     uint64_t fingerprint_of_zeros;
+    uint64_t paced_ns;           /* processor time of the thread when it last kept the pace */
+    uint64_t attended_ns;        /* when it last attended to what may not wait for the end of a look */
+    bool is_cut_short;           /* the look under way is to end */
     struct window_result result; /* of the look under way: the first thing that went wrong */
 };
 
 static inline uint8_t *address_of(const struct window *window, size_t page) { return window->at + bytes_of(page); }
+
+static inline struct part *part_of(const struct window *window, size_t page) {
+    return &window->parts[(page + window->lead) / PART];
+}
+static inline size_t parts_in(const struct window *window) { return (window->count + window->lead + PART - 1) / PART; }
+/* How many pages there are from `first` on to the end of its part. */
+static inline size_t rest_of_part(const struct window *window, size_t first) {
+    size_t most = PART - (first + window->lead) % PART, left = window->count - first;
+    return left < most ? left : most;
+}
 
 static inline struct window_result result_of(enum window_status status, int cause) {
     return (struct window_result){.status = status, .cause = cause};
@@ -168,8 +198,8 @@ static inline void unlock_set(struct windows *windows) { pthread_mutex_unlock(&w
 /* Notes something that went wrong in a look; the first is what the look returns. */
 void note_failure(struct windows *windows, enum window_status status, int cause);
 
-/* Whether one mapping of the system can hold both pages. */
-bool are_one_mapping(const struct page *before, const struct page *after);
+/* Whether one mapping of the system can hold a page and the one before it. */
+bool is_one_mapping(const struct window *window, size_t page);
 /* How many mappings begin at these pages, or at the one behind them. */
 size_t mappings_of(const struct window *window, size_t first, size_t count);
 
@@ -179,7 +209,12 @@ static inline void note_zero(struct window *window, size_t page, bool is_zero) {
     window->pages[page].zero = is_zero ? 1 : 0;
 }
 
-/* What a page shows no longer: its slot, if it holds one, is to be released. */
+/* What is known of a page's content counts no more. */
+void forget_content(struct window *window, size_t page);
+/* Notes whether a page of a whole part could be shared. */
+void note_seen(struct window *window, size_t page, bool is_seen);
+
+/* Marks a page as no longer showing its frame; its slot, if any, will be released. */
 void stop_showing(struct window *window, size_t page);
 
 /* Makes the scratch area, or makes it anew. Returns 0 or an errno. */
@@ -207,6 +242,24 @@ typedef struct window_result step(struct window *window, size_t first, size_t co
 /* Does a step after the other up to the first that fails, and takes the lock for each, so that nobody waits long. */
 struct window_result for_parts(struct window *window, size_t first, size_t count, step *one);
 
+/* Says that huge pages leave a new window alone, but for parts that can be huge pages, which are whole. Returns 0 or an errno. */
+int begin_parts(struct window *window);
+/* Counts a window's parts, or counts them no more. With the lock. */
+void count_parts(struct window *window, bool is_more);
+/* Splits a whole part, or makes a split one whole, where that is worth it by what a look has found of it. With the lock. */
+void settle_part(struct window *window, size_t first, size_t own, bool is_huge);
+
+/* Lets others run where there is a pace, and attends to what may not wait for the end of a look. Not with the lock, nor while pages are
+ * held. Returns whether the look goes on. */
+bool keep_pace(struct windows *windows);
+/* Notes that so many pages weren't lent since mappings are short. With the lock. */
+void note_crowded(struct windows *windows, size_t pages);
+/* Notes how long pages were held that are held no longer. */
+void note_hold(struct windows *windows, uint64_t begun_ns, size_t pages);
+
+/* Reads the system's limit of mappings, where that counts. With the lock, or before there is a window. */
+void follow_limit(struct windows *windows);
+
 /* Frees a window's tables. */
 void free_window(struct window *window);
 
@@ -232,6 +285,9 @@ struct batch {
 };
 /* Notes that a lender's call failed. One that isn't there is asked nothing more in this look. Takes the lock. */
 void lender_failed(struct windows *windows, int cause);
+/* Lets others run, where this thread has run for long since it got its processor, so that it doesn't lose it while it holds pages. Not with
+ * the lock. */
+void begin_turn(struct turn *turn);
 /* Gives idle pages of zeros back to the system. Empties the batch. */
 void give_zeros_back(struct windows *windows, struct batch *batch);
 /* Asks about idle pages and lends those that others have. Empties the batch. */

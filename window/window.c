@@ -50,18 +50,26 @@ static struct window_result read_range(void *at, size_t bytes, struct range_fact
 static struct window *make_tables(struct windows *windows, void *at, size_t pages) {
     struct window *window = calloc(1, sizeof *window);
     if (window == NULL) return NULL;
-    *window = (struct window){.windows = windows, .at = at, .count = pages};
+    *window = (struct window){.windows = windows, .at = at, .count = pages, .lead = (uintptr_t)at / WINDOW_PAGE_BYTES % PART};
     window->pages = calloc(pages, sizeof *window->pages);
-    window->parts = calloc((pages + PART - 1) / PART, sizeof *window->parts);
+    window->parts = calloc(parts_in(window), sizeof *window->parts);
     if (window->pages != NULL && window->parts != NULL) return window;
     free_window(window);
     return NULL;
 }
 
+/* How many mappings more a new window takes than one, since parts of it are whole. */
+static size_t mappings_of_parts(const struct window *window) {
+    size_t found = 0;
+    for (size_t first = rest_of_part(window, 0); first < window->count; first += rest_of_part(window, first))
+        found += is_one_mapping(window, first) ? 0 : 1;
+    return found;
+}
+
 /* Says for a new window what its range needs. */
 static struct window_result prepare(struct window *window, const struct range_facts *facts, unsigned flags) {
     window->found = window->advice = facts->advice;
-    int cause = advice_begin(window->at, window->count);
+    int cause = begin_parts(window);
     if (cause == 0 && merged_kib() == 0) {
         cause = advice_say(window->at, window->count, MADV_UNMERGEABLE);
         window->ready = window->count;
@@ -89,7 +97,8 @@ struct window_result window_make(struct window **made, struct windows *windows, 
         windows->first = window;
         windows->counts.windows++;
         windows->counts.pages += window->count;
-        windows->counts.mappings++;
+        windows->counts.mappings += 1 + mappings_of_parts(window);
+        count_parts(window, true);
         *made = window;
     }
     unlock_set(windows);
@@ -128,6 +137,7 @@ struct window_result window_free(struct window *window, enum window_end end) {
     windows->counts.windows--;
     windows->counts.pages -= window->count;
     windows->counts.mappings -= 1 + mappings_of(window, 0, window->count);
+    count_parts(window, false);
     for (size_t page = 0; page < window->count; page++) note_zero(window, page, false);
     end_advice(window, 0, window->count);
     window->ended = window->ends = true; /* (the looking thread may free it from now on) */

@@ -14,11 +14,11 @@
  * windows_look, windows_attach and windows_detach are called by one thread at a time. All other calls may come from any thread at any
  * time, but windows_free. Nobody waits long: the lock inside is never held while a lender is called, nor over a long run of pages.
  *
- * What whoever uses the memory owes:
- * - Nobody discards (madvise), maps, unmaps, moves or protects a part of a window: window_discard, window_cut and window_forget are
- *   there for it. A private page can be the copy of a frame, and a discard would uncover the frame.
- * - Nobody else registers a part of a window with a userfaultfd, or locks its memory (mlock): window_cut or window_free first.
- * - Devices that write to pages by their physical addresses: see enum windows_pins.
+ * Callers must:
+ * - not discard (madvise), map, unmap, move or protect a part of a window, but by window_discard, window_cut and window_forget. A
+ *   private page can be the copy of a frame, and a discard would uncover the frame;
+ * - call window_cut or window_free before they register a part of a window with a userfaultfd of their own, or lock it (mlock);
+ * - say whether devices may write to pages by their physical addresses: see enum windows_pins.
  */
 #ifndef PAGESHARE_WINDOW_H
 #define PAGESHARE_WINDOW_H
@@ -32,8 +32,8 @@
 enum window_status {
     WINDOW_OK,
     WINDOW_NO_MEMORY,     /* for tables */
-    WINDOW_NO_FAULTS,     /* no userfaultfd that write-protects shared memory: Linux 5.19, and the right to it */
-    WINDOW_NO_PAGEMAP,    /* the system doesn't tell which pages were copied */
+    WINDOW_NO_FAULTS,     /* no userfaultfd that write-protects shared memory (docs/INSTALL.md, Which Linux), or no right to it */
+    WINDOW_NO_PAGEMAP,    /* the system doesn't show which pages were copied */
     WINDOW_LOCKED,        /* memory is locked (mlock, mlockall): the kernel would copy each frame that is mapped */
     WINDOW_BAD_RANGE,     /* not whole pages, out of the window, too many pages, or in another window already */
     WINDOW_BAD_MEMORY,    /* not private anonymous memory that is readable and writable, or not of one kind throughout */
@@ -42,7 +42,7 @@ enum window_status {
     WINDOW_PINNED,        /* pages that a device may have pinned would have to leave their memory */
     WINDOW_TOO_MANY_PINS, /* a page is pinned 65,535 times */
     WINDOW_NO_MAPPING,    /* the system has no mapping, or no memory: the pages show what they showed */
-    WINDOW_STUCK, /* the system refused to put pages back that were held: the next look tries again. Whoever uses them waits */
+    WINDOW_STUCK, /* the system refused to put pages back that were held: the next look tries again. Threads that use them wait */
     WINDOW_LENDER_FAILED, /* the lender returned `cause` */
     WINDOW_ADVICE,        /* the system refused to set a range's advice or memory policy again */
 };
@@ -66,6 +66,24 @@ struct window;
  */
 enum windows_pins { WINDOWS_PINS_POSSIBLE, WINDOWS_PINS_NEVER };
 
+enum {
+    WINDOWS_HUGE_PAGES = 512 /* pages of a part, which is 2 MiB */
+};
+
+/* What may be changed between looks. */
+struct windows_tuning {
+    /*
+     * A part of a window is 2 MiB, aligned to 2 MiB. It stays whole, as the system's huge pages have it, until so many of its pages could
+     * be shared: they are zeros, or were seen elsewhere. Then it is split, and lent from. 0: no part stays whole, as if the range had no
+     * huge pages. 1: a part is split as soon as any page could be shared. More than WINDOWS_HUGE_PAGES: no huge page is split.
+     */
+    uint16_t huge_from;
+    /* A part where next to nothing changes is left out of up to so many looks, 1, 3, 7 and so on; 0: of none. */
+    uint8_t rest_most;
+    /* A page that nobody else has is read and asked about again at each so many-th look; less than 8: at each 8th. */
+    uint16_t turns;
+};
+
 /* Zeros are good defaults. */
 struct windows_config {
     enum windows_pins pins;
@@ -76,12 +94,19 @@ struct windows_config {
      */
     enum windows_pins (*find_pins)(void *opaque);
     void *find_pins_opaque;
-    int faults;           /* a descriptor of /dev/userfaultfd, for who may not open it; 0: it is opened. Stays the caller's */
-    size_t mappings_most; /* mappings that windows may need in all; 0: the system's limit less 2,000 */
-    uint8_t
-        rest_most; /* a part of a window where nothing changes is left out of up to so many looks, 1, 3, 7 and so on; 0: of none */
+    int faults; /* an open descriptor of /dev/userfaultfd, or 0 to open it here. The caller keeps ownership */
+    /* Mappings that windows may need in all; 0: the system's limit less a tenth of it, and less at least 4,000. */
+    size_t mappings_most;
+    struct windows_tuning tuning;
+    /*
+     * Called in a look, by the thread that looks, after each 0.4 ms or so of its processor time, with nothing held and no lock. It may
+     * sleep, and may call anything of windows but what that thread alone calls. Returns false where the look is to end early. NULL: none.
+     */
+    bool (*pace)(void *opaque);
+    void *pace_opaque;
     bool never_move;   /* as on a kernel without UFFDIO_MOVE; for tests */
     bool never_scan;   /* as on a kernel without PAGEMAP_SCAN; for tests */
+    bool never_wait;   /* parts are split and made whole at any look that finds a cause; for tests */
     const char *trace; /* a file for a record of events, where the library was built with WINDOW_TRACE; NULL: none */
 };
 
@@ -100,6 +125,9 @@ void windows_detach(struct windows *windows);
 /* Calls `each` for every slot that is not released yet, until it returns something else than 0, and returns that or 0. `shown`:
  * the page may show the slot's frame still. By the thread that looks. */
 int windows_each_slot(struct windows *windows, int (*each)(void *opaque, uint32_t page, uint64_t slot, bool shown), void *opaque);
+
+/* From now on, also for windows that there are. A window that was made with huge_from 0 keeps no huge pages. */
+void windows_tune(struct windows *windows, const struct windows_tuning *tuning);
 
 /* Devices may pin from now on, or no longer. */
 void windows_set_pins(struct windows *windows, enum windows_pins pins);
@@ -128,15 +156,15 @@ enum {
 };
 /*
  * Makes a range of private anonymous memory a window, of whole pages, with what it contains. Its advice is set again for frames that
- * are mapped: MADV_DONTDUMP, DONTFORK, NOHUGEPAGE and a memory policy (mbind). MADV_NOHUGEPAGE is said for it, and MADV_UNMERGEABLE,
- * since the kernel's KSM would merge pages that are held; window_free puts both back. Nothing is lent of a range that a child would
- * have (no MADV_DONTFORK): a child would go on showing frames that are released.
+ * are mapped: MADV_DONTDUMP, DONTFORK, NOHUGEPAGE and a memory policy (mbind). MADV_NOHUGEPAGE is said for it, but for parts that stay
+ * whole (struct windows_tuning), and MADV_UNMERGEABLE, since the kernel's KSM would merge pages that are held; window_free puts both back.
+ * Nothing is lent of a range that a child would have (no MADV_DONTFORK): a child would go on showing frames that are released.
  */
 struct window_result window_make(struct window **made, struct windows *windows, void *at, size_t bytes, unsigned flags);
 
 /* How a window ends. */
 enum window_end {
-    WINDOW_TAKE_HOME, /* each page gets memory of its own: whoever uses the range goes on */
+    WINDOW_TAKE_HOME, /* each page gets memory of its own: the range's users go on */
     WINDOW_DROP,      /* nobody uses the range any more: it is zeros afterwards */
 };
 /*
@@ -146,9 +174,15 @@ enum window_end {
  */
 struct window_result window_free(struct window *window, enum window_end end);
 
-/* Says `advice` for all pages of the window, now and for frames that are mapped later: MADV_DONTFORK, MADV_DOFORK, MADV_DONTDUMP or
- * MADV_DODUMP; else WINDOW_ADVICE with EINVAL. MADV_DOFORK is refused with WINDOW_PINNED where copies have to stay over frames. */
+/*
+ * Says `advice` for all pages of the window, now and for frames that are mapped later: MADV_DONTFORK, MADV_DOFORK, MADV_DONTDUMP or
+ * MADV_DODUMP; else WINDOW_ADVICE with EINVAL. MADV_DOFORK is refused with WINDOW_PINNED where copies have to stay over frames.
+ */
 struct window_result window_advise(struct window *window, int advice);
+
+/* Says that pages may be huge pages (MADV_HUGEPAGE), as far as parts of the window are whole; or that none may be, and that no part becomes
+ * whole any more. Returns 0 or an errno. */
+int window_say_huge(struct window *window, size_t first, size_t count, bool may);
 
 /*
  * The pages' content is given up: they are zeros and take no memory. Pages that aren't the window's any more are left alone. Where the
@@ -179,6 +213,7 @@ void window_forget(struct window *window, size_t first, size_t count);
 /*
  * A look at all windows, to be called once a second or so:
  *   find     copies, whose slots are released; pages of zeros, which the system gets back;
+ *   settle   which parts are whole, and which are split;
  *   idle     pages with the same fingerprint at three looks;
  *   ask      which of them the lender has seen elsewhere, too. The others stay where they are;
  *   lend     those, from copies of their bytes, with nothing guarded;
@@ -213,6 +248,12 @@ struct windows_counts {
     uint64_t pinned;               /* pages that the system refused to move or guard */
     uint64_t no_frame, no_mapping; /* pages that weren't lent since the lender, or the system, had none */
     uint64_t lender_failures;
+    size_t parts_whole, parts_split; /* parts as they are now; of those that can never be whole none is counted */
+    uint64_t splits, made_whole;     /* parts that were split, or became whole again */
+    uint64_t not_made_whole; /* parts that stay split, since the system had no huge page or a device may have pinned pages */
+    uint64_t again;          /* pages that were read or asked about again, since nobody else has them */
+    uint64_t reads, fresh;   /* fingerprints that were taken; those of pages that weren't read before, and are no copies */
+    uint64_t round_ns;       /* how long the last look took by the clock, with all pauses */
     uint64_t look_ns, ask_ns, lend_ns, map_ns; /* processor time of looks: all; in the lender's calls; from hold to wake */
     uint64_t hold_most_ns;                     /* the longest time that a page was held, by the clock */
     uint64_t held[WINDOWS_TIMES]; /* pages that were held for less than 2^i microseconds, and not for less than half of it */

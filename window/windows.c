@@ -9,8 +9,8 @@
 #include <sys/stat.h>
 #include <unistd.h>
 
-/* Mappings that are left to the rest of the process. */
-enum { MAPPINGS_SPARE = 2000 };
+/* Mappings that are left to the rest of the process: a part of the system's limit, and at least so many. */
+enum { MAPPINGS_SPARE_PART = 10, MAPPINGS_SPARE_LEAST = 4000 };
 
 const char *window_status_words(enum window_status status) {
     static const char *const words[] = {
@@ -74,6 +74,13 @@ static struct window_result open_parts(struct windows *windows, const struct win
     return refused == 0 ? result_of(WINDOW_OK, 0) : result_of(WINDOW_NO_MAPPING, refused);
 }
 
+void follow_limit(struct windows *windows) {
+    if (!windows->follows_limit) return;
+    size_t limit = mappings_limit(), spare = limit / MAPPINGS_SPARE_PART;
+    if (spare < MAPPINGS_SPARE_LEAST) spare = MAPPINGS_SPARE_LEAST;
+    windows->mappings_most = windows->counts.mappings_most = limit > spare ? limit - spare : 0;
+}
+
 struct window_result windows_make(struct windows **made, const struct windows_config *config) {
     struct windows *windows = calloc(1, sizeof *windows);
     *made = NULL;
@@ -85,11 +92,12 @@ struct window_result windows_make(struct windows **made, const struct windows_co
     windows->find_pins_opaque = config->find_pins_opaque;
     windows->trace_path = config->trace;
     windows->mappings_most = config->mappings_most;
-    windows->rest_most = config->rest_most;
-    if (windows->mappings_most == 0) {
-        size_t limit = mappings_limit();
-        windows->mappings_most = limit > MAPPINGS_SPARE ? limit - MAPPINGS_SPARE : 0;
-    }
+    windows->tuning = config->tuning;
+    windows->pace = config->pace;
+    windows->never_wait = config->never_wait;
+    windows->pace_opaque = config->pace_opaque;
+    windows->follows_limit = config->mappings_most == 0;
+    follow_limit(windows);
     windows->counts.mappings_most = windows->mappings_most;
     windows->counts.pause = WINDOWS_NO_LENDER;
     struct window_result result = open_parts(windows, config);
@@ -176,9 +184,9 @@ static void detach_window(struct window *window) {
         if (is_lent) windows->counts.lent--;
         if (page->over == 1) page->past = 1;
         page->holds = 0;
-        page->looks = 0;
+        forget_content(window, i);
     }
-    memset(window->parts, 0, (window->count + PART - 1) / PART * sizeof window->parts[0]);
+    for (size_t i = 0; i < parts_in(window); i++) window->parts[i] = (struct part){.whole = window->parts[i].whole};
 }
 
 void windows_detach(struct windows *windows) {
@@ -198,10 +206,16 @@ int windows_each_slot(struct windows *windows, int (*each)(void *opaque, uint32_
         for (size_t i = 0; i < window->count && stopped == 0; i++) {
             const struct page *page = &window->pages[i];
             bool is_lent = page->shows == 1 && page->past == 0;
-            if (page->holds == 1) stopped = each(opaque, window->base + (uint32_t)i, page->slot, is_lent);
+            if (page->holds == 1) stopped = each(opaque, window->base + (uint32_t)i, page->kept, is_lent);
         }
     unlock_set(windows);
     return stopped;
+}
+
+void windows_tune(struct windows *windows, const struct windows_tuning *tuning) {
+    lock_set(windows);
+    windows->tuning = *tuning;
+    unlock_set(windows);
 }
 
 void windows_set_pins(struct windows *windows, enum windows_pins pins) {
@@ -255,7 +269,7 @@ void windows_count(struct windows *windows, struct windows_counts *counts) {
     *counts = windows->counts;
     counts->table_bytes = sizeof *windows;
     for (const struct window *window = windows->first; window != NULL; window = window->next) {
-        size_t parts = (window->count + PART - 1) / PART;
+        size_t parts = parts_in(window);
         counts->table_bytes += sizeof *window + window->count * sizeof window->pages[0] + parts * sizeof window->parts[0];
         if (window->pins != NULL) counts->table_bytes += window->count * sizeof window->pins[0];
     }

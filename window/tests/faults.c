@@ -63,7 +63,11 @@ int __wrap_ioctl(int fd, unsigned long request, ...) {
 }
 
 int __wrap_madvise(void *at, size_t bytes, int advice) {
+    bool is_in = (uintptr_t)at >= planned.window && (uintptr_t)at < planned.window_end;
     if (advice == MADV_POPULATE_WRITE && fails(&planned.populates)) return refuse(EINVAL);
+    if (advice == MADV_POPULATE_READ && fails(&planned.reads)) return refuse(ENOMEM);
+    if (advice == MADV_HUGEPAGE && fails(&planned.huge)) return refuse(ENOMEM);
+    if (advice == MADV_NOHUGEPAGE && is_in && fails(&planned.small)) return refuse(ENOMEM);
     return __real_madvise(at, bytes, advice);
 }
 

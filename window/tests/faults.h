@@ -8,12 +8,14 @@
 
 /* Each counts calls that are yet to fail. */
 struct planned {
-    int protects;                 /* write protection fails half-way, having protected half of the range */
-    int puts;                     /* a page can't be moved into a window, nor copied, nor remapped */
-    int releases;                 /* a registration isn't ended */
-    int populates;                /* MADV_POPULATE_WRITE fails with EINVAL */
-    int punches;                  /* fallocate fails with EINTR */
-    uintptr_t window, window_end; /* where pages can't be put */
+    int protects;                                /* write protection fails half-way, having protected half of the range */
+    int puts;                                    /* a page can't be moved into a window, nor copied, nor remapped */
+    int releases;                                /* a registration isn't ended */
+    int populates;                               /* MADV_POPULATE_WRITE fails with EINVAL */
+    int reads, huge;                             /* MADV_POPULATE_READ, MADV_HUGEPAGE fails with ENOMEM */
+    int small;                                   /* MADV_NOHUGEPAGE of a part of the window fails with ENOMEM */
+    int punches;                                 /* fallocate fails with EINTR */
+    uintptr_t window, window_end;                /* where pages can't be put */
     void (*watches)(uintptr_t at, size_t bytes); /* is called before a part of the window is watched; NULL: nothing */
 };
 extern struct planned planned;

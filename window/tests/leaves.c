@@ -215,9 +215,10 @@ struct meddler {
     const struct window_lender *lender;
     uint8_t *page;
 };
-static int meddle_ask(void *opaque, const uint32_t *pages, const uint64_t *fingerprints, size_t count, unsigned char *seen) {
+static int meddle_ask(void *opaque, const uint32_t *pages, const uint64_t *fingerprints, const bool *passing, size_t count,
+                      unsigned char *seen) {
     const struct meddler *meddler = opaque;
-    return meddler->lender->ask(meddler->lender->opaque, pages, fingerprints, count, seen);
+    return meddler->lender->ask(meddler->lender->opaque, pages, fingerprints, passing, count, seen);
 }
 static int meddle_lend(void *opaque, const uint32_t *pages, size_t count, struct window_loan *loans) {
     const struct meddler *meddler = opaque;
@@ -272,12 +273,12 @@ static void crowded(void) {
     uint8_t *at = memory(PAGES);
     struct window *window = window_over(&fixture, at, PAGES);
     for (size_t i = 0; i < PAGES; i++) memset(at + i * PAGE, i % 2 == 0 ? 1 : (int)i + 2, PAGE);
-    look_often(&fixture, 16);
+    look_often(&fixture, 32);
     struct windows_counts counts = counts_of(&fixture);
     check(counts.lent == 4 && counts.pause == WINDOWS_CROWDED && counts.mappings <= MOST,
           "some pages are lent, until mappings are short");
     memset(at, 1, PAGE);
-    look_often(&fixture, 16);
+    look_often(&fixture, 32);
     check(counts_of(&fixture).lent == 4 && counts_of(&fixture).lends == 5,
           "one that was written is lent again in its own mapping");
     must(window_free(window, WINDOW_TAKE_HOME), "window_free");

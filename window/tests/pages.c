@@ -276,11 +276,12 @@ static void locked(void) {
 static size_t own_pages(const uint8_t *at, size_t pages) {
     struct pagemap pagemap;
     uint8_t found[PAGEMAP_MOST];
+    bool is_huge;
     size_t own = 0;
     check(pagemap_open(&pagemap, true) == 0, "pagemap");
     for (size_t page = 0; page < pages; page += PAGEMAP_MOST) {
         size_t count = pages - page < PAGEMAP_MOST ? pages - page : PAGEMAP_MOST;
-        check(pagemap_find(&pagemap, at + page * PAGE, count, found) == 0, "pages are found");
+        check(pagemap_find(&pagemap, at + page * PAGE, count, found, &is_huge) == 0, "pages are found");
         for (size_t i = 0; i < count; i++) own += found[i] == PAGE_NONE ? 0 : 1;
     }
     close(pagemap.fd);
@@ -403,7 +404,8 @@ static void marks(bool never_scan) {
     fallocate(fd, FALLOC_FL_PUNCH_HOLE | FALLOC_FL_KEEP_SIZE, 5 * PAGE, PAGE); /* (leaves a mark) */
     at[6 * PAGE] = 1;
     fallocate(fd, FALLOC_FL_PUNCH_HOLE | FALLOC_FL_KEEP_SIZE, 6 * PAGE, PAGE);
-    check(pagemap_find(&pagemap, at, KINDS, found) == 0, "pages are found");
+    bool is_huge;
+    check(pagemap_find(&pagemap, at, KINDS, found, &is_huge) == 0, "pages are found");
     for (size_t page = 0; page < KINDS; page++) {
         check(found[page] == wanted[page], "each kind of page is found as what it is");
         check(pagemap_is_own(&pagemap, at + page * PAGE) == (wanted[page] != PAGE_NONE), "in both ways");

@@ -1,9 +1,10 @@
 /*
  * Windows of threads in place of guests. Each writes words of its own and checks them, while a thread looks without a pause, pages
  * are discarded, pinned and swapped out, devices read into pinned pages, windows come and go, and children are forked. There are
- * fewer frames than pages. With --pins 1 windows don't know which pages are pinned.
+ * fewer frames than pages. With --pins 1 windows don't know which pages are pinned. With --huge N parts of the windows may be huge pages,
+ * which are split when N of their pages could be shared, or when any could, or become whole again.
  *
- *     stress [--writes N] [--seconds N] [--trace FILE] [--move 0] [--scan 0] [--pins 1] [--rest N] [--pages N] [--seed N]
+ *     stress [--writes N] [--seconds N] [--trace FILE] [--move 0] [--scan 0] [--pins 1] [--rest N] [--pages N] [--seed N] [--huge N]
  *
  * Ends after so many checked writes, or so many seconds. Prints figures, and "stress: ok" (status 0) or "stress: WRONG" (1).
  */
@@ -49,6 +50,7 @@ static atomic_bool stop;
 static atomic_ullong writes_done;
 static atomic_uint failures;
 static bool pins_unknown, has_ring = true;
+static uint16_t huge_from;
 static int disk;
 static uint64_t device_reads, page_outs;
 
@@ -183,9 +185,16 @@ static void page_out(struct guest *guest, uint64_t *state) {
     page_outs++;
 }
 
+/* Parts are split as they were to be, or each of which any page could be shared; or next to none is any more, and many become whole. */
+static void tune(uint64_t *state) {
+    const uint16_t from[] = {huge_from, 1, WINDOWS_HUGE_PAGES + 1};
+    windows_tune(windows, &(struct windows_tuning){.huge_from = from[draw(state, 3)]});
+}
+
 static void disturb(uint64_t *state) {
     struct guest *guest = &guests[draw(state, GUESTS)];
     uint64_t what = draw(state, 100);
+    if (huge_from > 0 && draw(state, 24) == 0) tune(state);
     if (what < 40) discard(guest, state);
     else if (what >= 90 && has_ring) read_by_device(guest, state);
     else if (what < 70) pin(guest, state);
@@ -195,11 +204,23 @@ static void disturb(uint64_t *state) {
     pause_for(1);
 }
 
-static void make_guests(void) {
+/* Memory for a guest. That which may be huge pages begins and ends amid one. */
+static uint8_t *memory_of(size_t bytes) {
     const int kind = MAP_PRIVATE | MAP_ANONYMOUS | MAP_NORESERVE;
+    const size_t huge = (size_t)WINDOWS_HUGE_PAGES * WINDOW_PAGE_BYTES, before = huge - 40 * (size_t)WINDOW_PAGE_BYTES;
+    uint8_t *at = mmap(NULL, bytes + 2 * huge, PROT_READ | PROT_WRITE, kind, -1, 0);
+    check(at != MAP_FAILED, "memory for a guest");
+    if (huge_from == 0) return at;
+    at += (huge - (uintptr_t)at % huge) % huge;
+    madvise(at, bytes + huge, MADV_HUGEPAGE);
+    memset(at, 0, bytes + huge);
+    return at + before;
+}
+
+static void make_guests(void) {
     for (unsigned i = 0; i < GUESTS; i++) {
         size_t bytes = (size_t)pages * WINDOW_PAGE_BYTES;
-        guests[i].at = mmap(NULL, bytes, PROT_READ | PROT_WRITE, kind, -1, 0);
+        guests[i].at = memory_of(bytes);
         pthread_rwlock_init(&guests[i].lock, NULL);
         must(window_make(&guests[i].window, windows, guests[i].at, bytes, WINDOW_NO_CHILD), "window_make");
         for (unsigned j = 0; j < WRITERS; j++)
@@ -240,6 +261,8 @@ static uint64_t end(void) {
            1e-3 * (double)counts.map_ns / (double)(counts.lends + counts.zeros + 1), 1e-3 * (double)counts.hold_most_ns);
     printf("%" PRIu64 " reads by a device%s, %" PRIu64 " times pages were to be swapped out\n", device_reads,
            has_ring ? "" : " (left out: there is no io_uring)", page_outs);
+    printf("%zu parts whole, %" PRIu64 " were split, %" PRIu64 " became whole, %" PRIu64 " couldn't\n", counts.parts_whole,
+           counts.splits, counts.made_whole, counts.not_made_whole);
     printf("%" PRIu64 " looks, %zu lent now, %" PRIu32 " frames, %zu mappings, %u failures\n", counts.looks, counts.lent,
            totals.frames, counts.mappings, atomic_load(&failures));
     check(counts.lends > 0 && counts.copied > 0, "pages were lent, and copied");
@@ -264,10 +287,13 @@ int main(int count, char **words) {
         if (strcmp(words[i], "--trace") == 0) config.trace = words[i + 1];
         if (strcmp(words[i], "--move") == 0) config.never_move = true;
         if (strcmp(words[i], "--scan") == 0) config.never_scan = true;
-        if (strcmp(words[i], "--rest") == 0) config.rest_most = (uint8_t)strtoul(words[i + 1], NULL, 10);
+        if (strcmp(words[i], "--rest") == 0) config.tuning.rest_most = (uint8_t)strtoul(words[i + 1], NULL, 10);
+        if (strcmp(words[i], "--huge") == 0) huge_from = (uint16_t)strtoul(words[i + 1], NULL, 10);
         if (strcmp(words[i], "--pins") == 0) config.pins = WINDOWS_PINS_POSSIBLE, pins_unknown = true;
     }
     if (pages == 0 || pages > PAGES_MOST) return 2;
+    config.tuning.huge_from = huge_from;
+    config.never_wait = huge_from > 0;
     state = seed * 77;
     make(&config);
     pthread_t looker;

@@ -1,0 +1,24 @@
+#define _GNU_SOURCE
+#include "memory.h"
+#include "trouble.h"
+
+static const double short_percent = 10;
+
+/* The number behind a word in the first line of a file that begins so; -1 where there is none. */
+static double number_behind(const char *path, const char *line_begin, const char *word) {
+    char line[256];
+    double number = -1;
+    FILE *file = fopen(path, "re");
+    while (file && number < 0 && fgets(line, sizeof line, file)) {
+        const char *at = strncmp(line, line_begin, strlen(line_begin)) == 0 ? strstr(line, word) : NULL;
+        if (at && sscanf(at + strlen(word), "%lf", &number) != 1) number = -1;
+    }
+    if (file) fclose(file);
+    return number;
+}
+
+bool memory_is_short(void) {
+    double all = number_behind("/proc/meminfo", "MemTotal", ":"), available = number_behind("/proc/meminfo", "MemAvailable", ":");
+    if (all > 0 && available >= 0 && available * 100 < all * short_percent) return true;
+    return number_behind("/proc/pressure/memory", "some", "avg10=") > short_percent;
+}

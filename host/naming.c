@@ -1,0 +1,123 @@
+#define _GNU_SOURCE
+#include "naming.h"
+#include <ctype.h>
+#include <dirent.h>
+#include <fcntl.h>
+#include <stdbool.h>
+#include <stdio.h>
+#include <string.h>
+#include <unistd.h>
+
+enum { WORDS_MOST = 65536 }; /* of a command line that is longer the rest isn't looked at */
+
+static int open_of(uint64_t process, const char *what) {
+    char path[128];
+    snprintf(path, sizeof path, "/proc/%llu/%s", (unsigned long long)process, what);
+    return open(path, O_RDONLY | O_CLOEXEC);
+}
+
+/* Reads a file as far as there is room. Returns how many bytes it has got. */
+static size_t read_all(int file, char *bytes, size_t room) {
+    size_t done = 0;
+    for (ssize_t got; done < room && (got = read(file, bytes + done, room - done)) > 0;) done += (size_t)got;
+    return done;
+}
+
+static bool may_stay(char byte) {
+    return isascii((unsigned char)byte) && (isalnum((unsigned char)byte) || strchr("._+:@-", byte));
+}
+
+/* Copies a value, in which each comma is written twice. */
+static void copy_value(const char *value, const char *end, char name[GUEST_NAME_MOST]) {
+    size_t length = 0;
+    for (; value < end && length + 1 < GUEST_NAME_MOST; value += *value == ',' ? 2 : 1)
+        name[length++] = may_stay(*value) ? *value : '?';
+    name[length] = 0;
+}
+
+/* The end of a part of an option's value: at a comma that isn't written twice, or the end. */
+static const char *part_end(const char *part, const char *end) {
+    while (part < end && (*part != ',' || (part + 1 < end && part[1] == ','))) part += *part == ',' ? 2 : 1;
+    return part;
+}
+
+/* The value of -name: its part that says guest=, or its first one where that has no name of its own. */
+static void read_option(const char *option, const char *end, char name[GUEST_NAME_MOST]) {
+    static const char guest[] = "guest=";
+    const size_t length = sizeof guest - 1;
+    for (const char *part = option, *next; part < end; part = next + 1) {
+        next = part_end(part, end);
+        bool is_said = (size_t)(next - part) >= length && memcmp(part, guest, length) == 0;
+        if (is_said) copy_value(part + length, next, name);
+        else if (part == option && !memchr(part, '=', (size_t)(next - part))) copy_value(part, next, name);
+    }
+}
+
+void naming_of_words(const char *words, size_t bytes, char name[GUEST_NAME_MOST]) {
+    const char *end = words + bytes;
+    bool is_next = false;
+    name[0] = 0;
+    for (const char *word = words, *zero; word < end; word = zero + 1) {
+        zero = memchr(word, 0, (size_t)(end - word));
+        if (!zero) return; /* a word that was cut off */
+        if (is_next) {
+            read_option(word, zero, name);
+            return;
+        }
+        is_next = strcmp(word, "-name") == 0 || strcmp(word, "--name") == 0;
+    }
+}
+
+void naming_of_guest(uint64_t process, char name[GUEST_NAME_MOST]) {
+    static char words[WORDS_MOST];
+    int file = open_of(process, "cmdline");
+    name[0] = 0;
+    if (file < 0) return;
+    naming_of_words(words, read_all(file, words, sizeof words), name);
+    close(file);
+}
+
+uint64_t naming_tables_of(uint64_t process) {
+    char text[4096];
+    unsigned long long kibibytes = 0;
+    int file = open_of(process, "status");
+    if (file < 0) return 0;
+    text[read_all(file, text, sizeof text - 1)] = 0;
+    close(file);
+    const char *line = strstr(text, "\nVmPTE:");
+    return line && sscanf(line, "\nVmPTE: %llu kB", &kibibytes) == 1 ? kibibytes * 1024 : 0;
+}
+
+/* Reads a text of a thread. Returns false where there is none. */
+static bool read_thread(uint64_t process, const char *thread, const char *what, char *text, size_t room) {
+    char path[64];
+    snprintf(path, sizeof path, "task/%.20s/%s", thread, what);
+    int file = open_of(process, path);
+    if (file < 0) return false;
+    text[read_all(file, text, room - 1)] = 0;
+    close(file);
+    return true;
+}
+
+/* The processor time of a thread, of whose name nobody knows what it contains. */
+static uint64_t time_of(uint64_t process, const char *thread) {
+    char text[1024];
+    unsigned long long user = 0, system = 0;
+    const long ticks = sysconf(_SC_CLK_TCK);
+    const char *end = read_thread(process, thread, "stat", text, sizeof text) ? strrchr(text, ')') : NULL;
+    if (!end || ticks <= 0 || sscanf(end, ") %*c %*d %*d %*d %*d %*d %*u %*u %*u %*u %*u %llu %llu", &user, &system) != 2)
+        return 0;
+    return (user + system) * (UINT64_C(1000000000) / (uint64_t)ticks);
+}
+
+uint64_t naming_processor_of(uint64_t process) {
+    char path[64], name[32];
+    uint64_t taken = 0;
+    snprintf(path, sizeof path, "/proc/%llu/task", (unsigned long long)process);
+    DIR *threads = opendir(path);
+    for (const struct dirent *it; threads && (it = readdir(threads)) != NULL;)
+        if (*it->d_name != '.' && read_thread(process, it->d_name, "comm", name, sizeof name) && strcmp(name, "pageshare\n") == 0)
+            taken += time_of(process, it->d_name);
+    if (threads) closedir(threads);
+    return taken;
+}

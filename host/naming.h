@@ -1,0 +1,23 @@
+/* What can be seen of a client's process from outside: the name of its guest, its page tables, and the time that the library takes. */
+#ifndef HOST_NAMING_H
+#define HOST_NAMING_H
+
+#include <stddef.h>
+#include <stdint.h>
+
+enum { GUEST_NAME_MOST = 64 };
+
+/*
+ * Finds the name that QEMU's command line gives a process's guest (-name), without what else that option has. Anybody may write
+ * anything there: of it letters, digits and "._+:@-" stay, and each other byte becomes '?'. An empty name: there is none, or the command
+ * line can't be read.
+ */
+void naming_of_guest(uint64_t process, char name[GUEST_NAME_MOST]);
+/* The same of the words of a command line, each of which ends with a zero. */
+void naming_of_words(const char *words, size_t bytes, char name[GUEST_NAME_MOST]);
+/* What a process's page tables take, in bytes; 0 where that can't be seen. */
+uint64_t naming_tables_of(uint64_t process);
+/* The processor time of the thread by which the library looks in a process, in nanoseconds; 0 where there is none. */
+uint64_t naming_processor_of(uint64_t process);
+
+#endif
