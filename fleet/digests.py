@@ -1,7 +1,11 @@
 """Reads the text of a digest (docs/FORMATS.md): a guest's lines, or the first fault. Standard library only."""
+from __future__ import annotations
+
 import dataclasses
 import hashlib
 import re
+from collections.abc import Iterator, Sequence
+from typing import IO, NoReturn
 
 PAGE_BYTES = 4096
 HEADER = b"guest,salt,pages,sample,digest,copies\n"
@@ -18,12 +22,12 @@ LINE = re.compile(rb"([A-Za-z0-9._-]{1,64}),(%s),(%s),([1-9][0-9]*),([0-9a-f]{32
 class Fault(Exception):
     """A file that is no digest: the first line at fault, and its first cause."""
 
-    def __init__(self, path, line, cause):
+    def __init__(self, path: str, line: int, cause: str) -> None:
         super().__init__(f"{path}: fault line {line}: {cause}")
         self.path, self.line, self.cause = path, line, cause
 
     # (so that a worker can send it)
-    def __reduce__(self):
+    def __reduce__(self) -> tuple[type[Fault], tuple[str, int, str]]:
         return Fault, (self.path, self.line, self.cause)
 
 
@@ -37,13 +41,13 @@ class Head:
     sample: int
 
 
-def zeros_digest(salt):
+def zeros_digest(salt: int) -> str:
     """The digest of a page of zeros."""
     message = (salt.to_bytes(4, "big") if salt else b"") + bytes(PAGE_BYTES)
     return hashlib.sha256(message).hexdigest()[:32]
 
 
-def parsed(line):
+def parsed(line: bytes) -> tuple[Head, bytes, int] | None:
     """The head, the digest and the copies of a line; None if it isn't of the form."""
     found = LINE.fullmatch(line) if len(line) <= MOST_LINE_BYTES + 1 else None
     if not found:
@@ -56,20 +60,20 @@ def parsed(line):
     return Head(guest, salt, pages, sample), digest, copies
 
 
-def header_cause(line):
+def header_cause(line: bytes) -> str | None:
     """What is wrong with the first line; None if nothing is."""
     if not line.endswith(b"\n") or len(line) > MOST_LINE_BYTES + 1 or line.count(b",") != 5:
         return "form"
     return None if line == HEADER else "head"
 
 
-def capped_lines(file):
+def capped_lines(file: IO[bytes]) -> Iterator[bytes]:
     """The lines of a file. Of a line that is too long there is a part without a line feed."""
     while line := file.readline(2 * MOST_LINE_BYTES):
         yield line
 
 
-def lines(path):
+def lines(path: str) -> Iterator[tuple[Head, str, int]]:
     """Each line's head, digest and copies, or a Fault where the first line at fault comes."""
     with open(path, "rb") as file:
         cause = header_cause(file.readline(2 * MOST_LINE_BYTES))
@@ -93,7 +97,7 @@ def lines(path):
             raise Fault(path, number, "total")
 
 
-def row_cause(head, own, last, digest, left, zeros):
+def row_cause(head: Head, own: Head, last: bytes, digest: bytes, left: int, zeros: bytes) -> str | None:
     """What is wrong with a line of the form, after the lines before it; None if nothing is."""
     if own != head:
         return "guest"
@@ -104,19 +108,19 @@ def row_cause(head, own, last, digest, left, zeros):
     return "total" if head.sample > 1 and left < 0 else None
 
 
-def raise_fault(path):
+def raise_fault(path: str) -> NoReturn:
     """Raises the first fault of a file that has one."""
     for _line in lines(path):
         pass
     raise OSError(f"{path}: changed while it was read")
 
 
-def head_of(path):
+def head_of(path: str) -> Head | None:
     """The head of a digest by its first line; None if there is none."""
     return next((head for head, _digest, _copies in lines(path)), None)
 
 
-def heads_of(paths):
+def heads_of(paths: Sequence[str]) -> list[Head | None]:
     """Each file's head, all with one sample, and with no more pages in all than can be merged."""
     heads = [head_of(path) for path in paths]
     first = next((head.sample for head in heads if head), 1)
@@ -128,7 +132,7 @@ def heads_of(paths):
     return heads
 
 
-def blocks(file):
+def blocks(file: IO[bytes]) -> Iterator[bytes]:
     """Blocks of whole lines, but for the last one, which may end anywhere."""
     rest = b""
     while data := file.read(BLOCK_BYTES):

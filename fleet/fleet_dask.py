@@ -9,11 +9,15 @@ gets one line on standard error, with its first line at fault, and status 1. --h
 fleet` takes. --contents writes a table for place.py: which guests have the contents that at least two guests have. Needs Debian's python3-dask, python3-distributed and
 python3-pandas.
 """
+from __future__ import annotations
+
 import argparse
 import json
 import logging
 import pathlib
 import sys
+from collections.abc import Mapping, Sequence
+from typing import Any
 
 import dask.dataframe
 from dask import delayed
@@ -21,7 +25,7 @@ from distributed import Client, LocalCluster
 
 import digests
 import tallies
-from fleet_numbers import Content, Line, fleet_numbers
+from fleet_numbers import Content, Line, Numbers, fleet_numbers
 from hosts import host_numbers, listed_hosts
 
 HERE = pathlib.Path(__file__).resolve().parent
@@ -29,25 +33,26 @@ HERE = pathlib.Path(__file__).resolve().parent
 PART_BYTES = 128 << 20
 
 
-def groups_of(paths, parts):
+def groups_of(paths: Sequence[str], parts: int) -> list[list[tuple[int, str]]]:
     """The files, as pairs of a number and a path, in so many groups of about the same size, as far as whole files allow."""
     files = sorted(enumerate(paths), key=lambda file: -tallies.bytes_of(file[1:]))
-    groups = [[0, []] for _ in range(max(1, min(parts, len(files))))]
+    groups: list[list[tuple[int, str]]] = [[] for _ in range(max(1, min(parts, len(files))))]
+    sizes = [0] * len(groups)
     for number, path in files:
-        least = min(groups, key=lambda group: group[0])
-        least[0] += tallies.bytes_of([path])
-        least[1].append((number, path))
-    return [files for _bytes, files in groups]
+        least = sizes.index(min(sizes))
+        sizes[least] += tallies.bytes_of([path])
+        groups[least].append((number, path))
+    return groups
 
 
-def lines_by_digest(paths, parts):
+def lines_by_digest(paths: Sequence[str], parts: int) -> Any:
     """All lines as one frame, grouped by digest among the workers."""
     frames = [delayed(tallies.frame_of_files)(group) for group in groups_of(paths, parts)]
     lines = dask.dataframe.from_delayed(frames, meta=tallies.no_lines())
     return lines.shuffle(on=tallies.DIGEST, npartitions=parts)
 
 
-def merged(paths, client, listed, contents_path):
+def merged(paths: Sequence[str], client: Any, listed: Mapping[str, str] | None, contents_path: str | None) -> Numbers:
     """The object of the fleet. Also writes the table of contents, if that is asked for."""
     heads = digests.heads_of(paths)
     hosts = host_numbers(heads, listed)
@@ -56,18 +61,20 @@ def merged(paths, client, listed, contents_path):
     kinds = lines.map_partitions(tallies.kinds_of, [number for number, _name in hosts], meta=tallies.no_kinds()).compute()
     if contents_path:
         write_contents(contents_path, heads, lines.map_partitions(tallies.table_of, meta=tallies.no_table()).compute())
-    of_lines, contents, by_host = {}, {}, {}
+    of_lines: dict[Line, int] = {}
+    contents: dict[Content, int] = {}
+    by_host: dict[int, dict[Content, int]] = {}
     for file, zero, copies, guests, shared, times in kinds.itertuples(index=False):
         if file >= 0:
-            place, kind = of_lines, Line(file, zero, copies, shared)
+            line = Line(file, zero, copies, shared)
+            of_lines[line] = of_lines.get(line, 0) + times
         else:
-            place = contents if file == -1 else by_host.setdefault(-2 - file, {})
-            kind = Content(zero, copies, guests)
-        place[kind] = place.get(kind, 0) + times
+            place, kind = contents if file == -1 else by_host.setdefault(-2 - file, {}), Content(zero, copies, guests)
+            place[kind] = place.get(kind, 0) + times
     return fleet_numbers(heads, of_lines, contents, hosts, by_host)
 
 
-def write_contents(path, heads, table):
+def write_contents(path: str, heads: Sequence[digests.Head | None], table: Any) -> None:
     """Writes the table of contents as CSV."""
     with open(path, "w", encoding="ascii") as out:
         out.write("guest,pages,sample,content,zeros,count,copies\n")
@@ -76,7 +83,7 @@ def write_contents(path, heads, table):
             out.write(f"{head.guest},{head.pages},{head.sample},{word},{int(zero)},{times},{copies}\n")
 
 
-def main():
+def main() -> int:
     words = argparse.ArgumentParser(usage=__doc__.split("\n\n")[1].strip())
     words.add_argument("--scheduler")
     words.add_argument("--workers", type=int, default=2)

@@ -5,13 +5,18 @@ A line is a content of one guest, with `copies`, how many of the guest's pages h
 one stands for K, since K in K contents are as good as drawn at random. The variance of such a sum of x is estimated by K(K - 1)
 times the kept x squared, and its standard error is the root of that, rounded down.
 """
-import math
-from typing import NamedTuple
+from __future__ import annotations
 
-from digests import PAGE_BYTES
+import math
+from collections.abc import Callable, Iterable, Iterator, Mapping, Sequence
+from typing import Any, NamedTuple, TypeVar
+
+from digests import PAGE_BYTES, Head
 
 FOR_A_GUEST = ("distinct", "shared", "alone")
 IN_TOTAL = ("shared", "frames", "reclaimed", "between")
+# The members of an object, by their names.
+Numbers = dict[str, Any]
 
 
 class Line(NamedTuple):
@@ -31,7 +36,10 @@ class Content(NamedTuple):
     guests: int
 
 
-def summed(kinds, sample, worth):
+Kind = TypeVar("Kind", Line, Content)
+
+
+def summed(kinds: Iterable[tuple[Kind, int]], sample: int, worth: Callable[[Kind], int]) -> tuple[int, int]:
     """The sum of what each line or content is worth, and its standard error. `kinds` has how often each kind came."""
     total = squares = 0
     for kind, times in kinds:
@@ -41,11 +49,11 @@ def summed(kinds, sample, worth):
     return total, math.isqrt(sample * (sample - 1) * squares)
 
 
-def shared_pages(kind):
+def shared_pages(kind: Line) -> int:
     return kind.copies if kind.shared else 0
 
 
-def with_errors(known, sums, sample):
+def with_errors(known: Mapping[str, Any], sums: Mapping[str, tuple[int, int]], sample: int) -> Numbers:
     """An object's members: what is known exactly, and what is summed; with a sample, the standard errors of the latter too."""
     members = dict(known)
     members.update((name, value) for name, (value, _error) in sums.items())
@@ -54,16 +62,16 @@ def with_errors(known, sums, sample):
     return members
 
 
-def guest_numbers(head, kinds, sample):
+def guest_numbers(head: Head | None, kinds: Sequence[tuple[Line, int]], sample: int) -> Numbers:
     """The numbers of a guest, from its kinds of lines. A digest without lines has no name, no salt and no pages."""
     zero = sum(kind.copies * times for kind, times in kinds if kind.zero)
     known = {"guest": head and head.guest, "salt": head and head.salt, "pages": head.pages if head else 0, "zero": zero}
-    worth = {"distinct": lambda _: 1, "shared": shared_pages, "alone": lambda kind: kind.copies - 1}
+    worth: dict[str, Callable[[Line], int]] = {"distinct": lambda _: 1, "shared": shared_pages, "alone": lambda kind: kind.copies - 1}
     sums = {name: summed(kinds, sample, worth[name]) for name in FOR_A_GUEST}
     return with_errors(known, sums, sample)
 
 
-def parts_of(zeros, kinds, sample):
+def parts_of(zeros: int, kinds: Sequence[tuple[Content, int]], sample: int) -> tuple[dict[str, int], int]:
     """What could be reclaimed in parts that add up to it, and a bound of the standard error of the last one."""
     others = [(kind, times) for kind, times in kinds if not kind.zero]
     between = sum((kind.guests - 1) * times for kind, times in others)
@@ -73,10 +81,10 @@ def parts_of(zeros, kinds, sample):
     return parts, math.isqrt(sample * (sample - 1) * squares)
 
 
-def total_numbers(guests, kinds, sample):
+def total_numbers(guests: Sequence[Numbers], kinds: Sequence[tuple[Content, int]], sample: int) -> Numbers:
     """The numbers of all guests, from the kinds of contents."""
     zero = sum(guest["zero"] for guest in guests)
-    worth = {
+    worth: dict[str, Callable[[Content], int]] = {
         "shared": lambda kind: kind.copies if kind.copies > 1 else 0, "frames": lambda _: 1,
         "reclaimed": lambda kind: kind.copies - 1, "between": lambda kind: kind.guests - 1,
     }
@@ -91,9 +99,9 @@ def total_numbers(guests, kinds, sample):
     return {name: members[name] for name in order if name in members}
 
 
-def class_numbers(kinds, sample):
+def class_numbers(kinds: Iterable[tuple[Content, int]], sample: int) -> Iterator[Numbers]:
     """The classes of copies, 1, 2, 3 to 4, 5 to 8 and so on, that have contents."""
-    classes = {}
+    classes: dict[int, list[tuple[Content, int]]] = {}
     for kind, times in kinds:
         classes.setdefault((kind.copies - 1).bit_length(), []).append((kind, times))
     for number, own in sorted(classes.items()):
@@ -102,7 +110,7 @@ def class_numbers(kinds, sample):
         yield with_errors(known, sums, sample)
 
 
-def sum_of(rows, pool):
+def sum_of(rows: Sequence[Numbers], pool: Numbers) -> Numbers:
     """The sum of the hosts' numbers. A content is in the sample of all hosts or of none, so the standard errors are added up; but for frames
     they are at most the pool's, in which each content counts at least as much as on all hosts together."""
     members = {name: sum(row[name] for row in rows) for name in rows[0] if name not in ("parts", "errors")}
@@ -113,30 +121,35 @@ def sum_of(rows, pool):
     return members
 
 
-def host_members(guests, hosts, by_host, pool, sample):
+def host_members(
+    guests: Sequence[Numbers], hosts: Sequence[tuple[int, str]], by_host: Mapping[int, Mapping[Content, int]], pool: Numbers, sample: int,
+) -> Numbers:
     """The members of the object that are by host: each file's host is in `hosts`, and its kinds of contents in `by_host`."""
-    rows = {}
+    rows: dict[int, tuple[str, list[Numbers]]] = {}
     for guest, (number, name) in zip(guests, hosts):
         if guest["guest"] is not None:
             rows.setdefault(number, (name, []))[1].append(guest)
-    members = [
+    members: list[Numbers] = [
         {"host": name, "guests": len(own), "total": total_numbers(own, list(by_host.get(number, {}).items()), sample)}
         for number, (name, own) in sorted(rows.items())
     ]
     return {"hosts": members, "on_hosts": sum_of([row["total"] for row in members], pool)}
 
 
-def fleet_numbers(heads, lines, contents, hosts=(), by_host=None):
+def fleet_numbers(
+    heads: Sequence[Head | None], lines: Mapping[Line, int], contents: Mapping[Content, int], hosts: Sequence[tuple[int, str]] = (),
+    by_host: Mapping[int, Mapping[Content, int]] | None = None,
+) -> Numbers:
     """The object of a fleet: each file's head, None where it has no line, and how often each kind of line and of content came. With
     `hosts`, the number and the name of each file's host, and `by_host`, how often each kind of content came on each host, it has the
     numbers by host, too."""
     sample = next((head.sample for head in heads if head), 1)
-    of_files = [[] for _ in heads]
+    of_files: list[list[tuple[Line, int]]] = [[] for _ in heads]
     for kind, times in lines.items():
         of_files[kind.file].append((kind, times))
     guests = [guest_numbers(head, own, sample) for head, own in zip(heads, of_files)]
     kinds = list(contents.items())
-    members = {"page_bytes": PAGE_BYTES}
+    members: Numbers = {"page_bytes": PAGE_BYTES}
     if sample > 1:
         members.update(sample=sample, kept=sum(contents.values()))
     total = total_numbers(guests, kinds, sample)

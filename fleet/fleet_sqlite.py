@@ -6,15 +6,22 @@
 It is a worked example of fleet.sql: SQLite keeps all lines in memory here and uses one thread. A file that is no digest gets one
 line on standard error, with its first line at fault, and status 1. Standard library only.
 """
+from __future__ import annotations
+
+import argparse
 import json
 import math
 import pathlib
 import sqlite3
 import sys
+from collections.abc import Iterator, Mapping, Sequence
+from typing import Any
 
 import digests
 
 HERE = pathlib.Path(__file__).resolve().parent
+# The members of an object, by their names.
+Numbers = dict[str, Any]
 # How the object names what fleet.sql has other names for, since SQL has uses of its own for some of these words.
 NAMES = {
     "zero_pages": "zero", "distinct_contents": "distinct", "shared_pages": "shared", "alone_pages": "alone",
@@ -22,7 +29,7 @@ NAMES = {
 }
 
 
-def load(tables, paths):
+def load(tables: sqlite3.Connection, paths: Sequence[str]) -> list[digests.Head | None]:
     """Fills the tables, and returns each file's head (None where it has no line)."""
     tables.execute(
         "CREATE TABLE lines (file BIGINT, guest VARCHAR(64), salt BIGINT, pages BIGINT, sample BIGINT, digest CHAR(32), copies BIGINT)"
@@ -43,7 +50,7 @@ def load(tables, paths):
     return heads
 
 
-def rows_of(tables, query):
+def rows_of(tables: sqlite3.Connection, query: str) -> Iterator[tuple[Numbers, dict[str, int]]]:
     """The rows of a query, each as an object; standard errors stand in one of their own, rounded down."""
     asked = tables.execute(query)
     names = [column[0] for column in asked.description]
@@ -53,18 +60,18 @@ def rows_of(tables, query):
         yield {name: value for name, value in numbers.items() if not name.endswith("_error")}, errors
 
 
-def with_errors(members, errors, sample):
+def with_errors(members: Numbers, errors: Mapping[str, int], sample: int) -> Numbers:
     return members if sample == 1 else {**members, "errors": errors}
 
 
-def no_guest(sample):
+def no_guest(sample: int) -> Numbers:
     """The numbers of a digest without lines."""
     names = ("distinct", "shared", "alone")
     members = {"guest": None, "salt": None, "pages": 0, "zero": 0, **dict.fromkeys(names, 0)}
     return with_errors(members, dict.fromkeys(names, 0), sample)
 
 
-def merged(tables, heads):
+def merged(tables: sqlite3.Connection, heads: Sequence[digests.Head | None]) -> Numbers:
     """The object of the fleet."""
     sample = next((head.sample for head in heads if head), 1)
     guests = {}
@@ -78,19 +85,22 @@ def merged(tables, heads):
     for row, class_errors in rows_of(tables, "SELECT * FROM copies_table ORDER BY at_most"):
         most = row.pop("at_most")
         copies.append({"from": most // 2 + 1, "to": most, **with_errors(row, class_errors, sample)})
-    found = {"page_bytes": digests.PAGE_BYTES}
+    found: Numbers = {"page_bytes": digests.PAGE_BYTES}
     if sample > 1:
         found |= {"sample": sample, "kept": tables.execute("SELECT COUNT(*) FROM contents").fetchone()[0]}
     found["guests"] = [guests.get(file) or no_guest(sample) for file in range(len(heads))]
     return {**found, "total": with_errors(total, errors, sample), "copies": copies}
 
 
-def main():
+def main() -> int:
+    options = argparse.ArgumentParser(description=__doc__.splitlines()[0])
+    options.add_argument("digests", metavar="DIGEST", nargs="*")
+    paths = options.parse_args().digests
     tables = sqlite3.connect(":memory:")
     # (not every SQLite is built with it)
     tables.create_function("SQRT", 1, lambda value: value if value is None else math.sqrt(value), deterministic=True)
     try:
-        heads = load(tables, sys.argv[1:])
+        heads = load(tables, paths)
     except (digests.Fault, OSError, ValueError) as fault:
         print(fault, file=sys.stderr)
         return 1

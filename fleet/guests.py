@@ -1,6 +1,9 @@
 """The guests that are placed: what their digests say, or a table that fleet_dask.py wrote. Needs numpy and scipy."""
+from __future__ import annotations
+
 import csv
 import dataclasses
+from collections.abc import Sequence
 
 import numpy
 from scipy import sparse
@@ -16,7 +19,7 @@ class Guests:
     """Guests and the contents that at least two of them have. `copies[g, c]` are guest g's pages with content c. All is counted in the
     sample; `weight` and the sums of a guest's own contents are multiplied by it."""
 
-    names: list
+    names: list[str]
     sample: int
     pages: numpy.ndarray
     zero: numpy.ndarray
@@ -26,14 +29,14 @@ class Guests:
     own_frames: numpy.ndarray
     own_shared: numpy.ndarray
 
-    def has(self):
+    def has(self) -> sparse.csr_matrix:
         """Which guest has which content."""
         has = self.copies.copy()
         has.data = numpy.ones_like(has.data)
         return has
 
 
-def made(names, sample, pages, lines):
+def made(names: list[str], sample: int, pages: Sequence[int], lines: Sequence[numpy.ndarray]) -> Guests:
     """Guests of lines: arrays of the guest, the content, whether it is zeros, how many such contents there are, and the copies of each.
     Contents that only one guest has have a number below 0, or one that no other line has."""
     guest, content, zeros, count, copies = lines
@@ -55,7 +58,7 @@ def made(names, sample, pages, lines):
     )
 
 
-def numbered(pairs):
+def numbered(pairs: numpy.ndarray) -> numpy.ndarray:
     """A number for each content, by its digest's two halves."""
     order = numpy.lexsort((pairs[:, 1], pairs[:, 0]))
     later = (pairs[order[1:]] != pairs[order[:-1]]).any(axis=1)
@@ -64,7 +67,7 @@ def numbered(pairs):
     return numbers
 
 
-def of_digests(paths):
+def of_digests(paths: Sequence[str]) -> Guests:
     """The guests of these digests."""
     heads = digests.heads_of(paths)
     known = [(head, path) for head, path in zip(heads, paths) if head]
@@ -77,16 +80,16 @@ def of_digests(paths):
     return made(names, sample, [head.pages for head, _path in known], (guest, numbered(pairs), zeros, numpy.ones_like(copies), copies))
 
 
-def of_table(path):
+def of_table(path: str) -> Guests:
     """The guests of a table that fleet_dask.py wrote."""
     with open(path, encoding="ascii", newline="") as file:
-        rows = csv.DictReader(file)
-        if rows.fieldnames != TABLE:
+        read = csv.DictReader(file)
+        if read.fieldnames != TABLE:
             raise ValueError(f"{path}: begin with the line {','.join(TABLE)}")
-        rows = list(rows)
+        rows = list(read)
     guests = {row["guest"]: int(row["pages"]) for row in rows}
     place = {name: number for number, name in enumerate(guests)}
-    contents = {}
+    contents: dict[str, int] = {}
     for row in rows:
         contents.setdefault(row["content"], len(contents))
     lines = (
@@ -98,7 +101,7 @@ def of_table(path):
     return made(list(guests), int(rows[0]["sample"]) if rows else 1, list(guests.values()), lines)
 
 
-def unique(names):
+def unique(names: list[str]) -> list[str]:
     """These names, none of which may come twice."""
     if len(set(names)) != len(names):
         twice = next(name for name in names if names.count(name) > 1)

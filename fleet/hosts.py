@@ -1,8 +1,13 @@
 """Which host each guest is on. Standard library only."""
+from __future__ import annotations
+
 import csv
+from collections.abc import Mapping, Sequence
+
+from digests import Head
 
 
-def listed_hosts(path):
+def listed_hosts(path: str | None) -> dict[str, str] | None:
     """The hosts that a list gives to guests, as a dictionary; None if there is no list."""
     if path is None:
         return None
@@ -16,12 +21,12 @@ def listed_hosts(path):
     return found
 
 
-def host_of(guest, listed):
+def host_of(guest: str, listed: Mapping[str, str] | None) -> str:
     """A guest's host: as a list says, and else what comes before the first dot of its name."""
     return (listed or {}).get(guest, guest.split(".")[0])
 
 
-def host_numbers(heads, listed):
+def host_numbers(heads: Sequence[Head | None], listed: Mapping[str, str] | None) -> list[tuple[int, str]]:
     """The number and the name of each file's host. None if there are fewer than two hosts, or if there is no list and no two guests of
     different names are on one host: then names have dots for another reason, as those of files have."""
     guests = [head.guest for head in heads if head]

@@ -1,13 +1,20 @@
 """The memory of each host before and after a plan, as SVG. Needs numpy."""
+from __future__ import annotations
+
 import html
+from collections.abc import Iterator, Sequence
+from typing import TYPE_CHECKING
 
 import numpy
+
+if TYPE_CHECKING:
+    from guests import Guests
 
 BAR, GAP, LEFT, WIDE = 9, 12, 190, 700
 FILLS = (("zeros", "#fff"), ("shared", "#1f4e79"), ("alone", "#bbb"))
 
 
-def parts_of(guests, host_of, hosts):
+def parts_of(guests: Guests, host_of: numpy.ndarray, hosts: int) -> numpy.ndarray:
     """The pages of each host: zeros, those that another page on the host has, too, and the others."""
     pages = numpy.bincount(host_of, guests.pages, hosts)
     zeros = numpy.bincount(host_of, guests.zero, hosts)
@@ -20,7 +27,7 @@ def parts_of(guests, host_of, hosts):
     return numpy.stack([zeros, shared, pages - zeros - shared], axis=1)
 
 
-def text_of(guests, hosts, before, after):
+def text_of(guests: Guests, hosts: Sequence[str], before: Sequence[int], after: Sequence[int]) -> str:
     """The picture: two bars for each host."""
     pairs = [parts_of(guests, numpy.asarray(host_of), len(hosts)) for host_of in (before, after)]
     most = max(1.0, *(parts.sum(axis=1).max() for parts in pairs))
@@ -43,7 +50,7 @@ def text_of(guests, hosts, before, after):
     return "\n".join([*lines, "</svg>"]) + "\n"
 
 
-def bar_of(parts, top, scale):
+def bar_of(parts: numpy.ndarray, top: int, scale: float) -> Iterator[str]:
     """A bar, and its pages in MiB behind it."""
     at = float(LEFT)
     for pages, (_name, fill) in zip(parts, FILLS):

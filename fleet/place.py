@@ -8,23 +8,30 @@ Where the guests are now is read from their names, or from --hosts, as `pageshar
 CSV with the head host,memory, in MiB; by default a host has as much as the guests on it have now. The lines of --apart and --together
 are guests with commas between them, which may not be on one host and which must be. --fixed has a guest on each line, which stays.
 --moves is the most guests that are moved. Without --spare a host never gets more guest memory than it has; with it a host may get
-more, as long as so many MiB are left beside the frames that sharing leaves. --seconds bounds the search, by default 20. --plan
-writes the placement for `pageshare fleet --hosts`, and --svg a picture of each host before and after. --contents is a table that
-fleet_dask.py wrote. Needs Debian's python3-numpy and python3-scipy.
+more, as long as so many MiB are left beside the frames that sharing leaves. --seconds is the time, by default 20, of which three fifths
+are for the search and the rest for a bound of what any plan could reclaim. --plan writes the placement for `pageshare fleet --hosts`,
+and --svg a picture of each host before and after. --contents is a table that fleet_dask.py wrote. Needs Debian's python3-numpy and
+python3-scipy.
 """
+from __future__ import annotations
+
 import argparse
+import collections
 import csv
 import dataclasses
 import json
 import sys
 import time
+from collections.abc import Iterable, Mapping, Sequence
+from typing import Any, TextIO
 
 try:
     import numpy
-    import scipy  # noqa: F401
+    from scipy import sparse
 except ImportError:
     sys.exit("fleet/place.py needs numpy and scipy: apt-get install python3-numpy python3-scipy")
 
+import bounds
 import digests
 import guests as of_guests
 import order
@@ -32,13 +39,16 @@ import picture
 import reachable
 from exact import Program
 from hosts import host_of, listed_hosts
-from placing import Placement, Problem, search
+from placing import Placement, Problem
+from search import search
 
 PAGES_OF_A_MEBIBYTE = 256
 MOST_EXACT = 30
+# The rest of the time is for the bound.
+PART_TO_SEARCH = 0.6
 
 
-def lines_of(path):
+def lines_of(path: str | None) -> list[list[str]]:
     """The lines of a file, each a list of fields; none where there is no file."""
     if path is None:
         return []
@@ -46,7 +56,7 @@ def lines_of(path):
         return [row for row in csv.reader(file) if row]
 
 
-def table_of(path, head):
+def table_of(path: str | None, head: list[str]) -> dict[str, str]:
     """A table of two columns with this head, as a dictionary."""
     rows = lines_of(path)
     if path is None:
@@ -65,7 +75,7 @@ def table_of(path, head):
 class Asked:
     """The guests, the hosts, and what must hold."""
 
-    def __init__(self, words):
+    def __init__(self, words: argparse.Namespace) -> None:
         self.words = words
         self.guests = of_guests.of_table(words.contents) if words.contents else of_guests.of_digests(words.digests)
         if not self.guests.names:
@@ -82,15 +92,15 @@ class Asked:
             self.memory[number[host]] = float(memory) * PAGES_OF_A_MEBIBYTE
         self.units = self.grouped(self.groups(words.together))
 
-    def groups(self, path):
+    def groups(self, path: str | None) -> list[list[int]]:
         """The groups of guests of a file. A guest that no digest has is left out."""
         return [[self.place[name] for name in row if name in self.place] for row in lines_of(path)]
 
-    def grouped(self, groups):
+    def grouped(self, groups: list[list[int]]) -> list[list[int]]:
         """The guests as units that stay together."""
         leader = list(range(len(self.guests.names)))
 
-        def top(guest):
+        def top(guest: int) -> int:
             while leader[guest] != guest:
                 guest = leader[guest]
             return guest
@@ -98,40 +108,43 @@ class Asked:
         for group in groups:
             for guest in group[1:]:
                 leader[top(guest)] = top(group[0])
-        units = {}
+        units: dict[int, list[int]] = {}
         for guest in range(len(leader)):
             units.setdefault(top(guest), []).append(guest)
         return list(units.values())
 
-    def problem(self):
-        """The problem of placing the units, and the host on which each begins: for guests that are apart, that of most of them."""
+    def problem(self) -> Problem:
+        """The problem of placing the units."""
         words, guests = self.words, self.guests
         unit_of = {guest: unit for unit, inside in enumerate(self.units) for guest in inside}
         rows = numpy.array([unit_of[guest] for guest in range(len(guests.names))])
-        joined = of_guests.sparse.csr_matrix((numpy.ones(len(rows)), (rows, range(len(rows)))), (len(self.units), len(rows)))
+        joined = sparse.csr_matrix((numpy.ones(len(rows)), (rows, range(len(rows)))), (len(self.units), len(rows)))
         has = (joined @ guests.has()).tocsr()
         has.data[:] = 1
         has.sort_indices()
-        fixed_guests = [name for row in lines_of(words.fixed) for name in row if name in self.place]
+        stays = collections.Counter(zip(rows.tolist(), self.host_of.tolist()))
+        start, fixed = self.starts(unit_of, stays)
+        return Problem(
+            has=has, weight=guests.weight, own=joined @ guests.own_frames, pages=joined @ guests.pages,
+            sizes=numpy.array([len(inside) for inside in self.units]), memory=self.memory, start=start, stays=stays, fixed=fixed,
+            apart=[sorted({unit_of[guest] for guest in group}) for group in self.groups(words.apart)],
+            spare=None if words.spare is None else words.spare * PAGES_OF_A_MEBIBYTE, most_moves=words.moves,
+        )
+
+    def starts(self, unit_of: Mapping[int, int], stays: Mapping[tuple[int, int], int]) -> tuple[numpy.ndarray, numpy.ndarray]:
+        """The host on which each unit begins, that of most of its guests or of one that stays; and which units stay."""
         fixed, start = numpy.zeros(len(self.units), bool), numpy.zeros(len(self.units), int)
-        for unit, inside in enumerate(self.units):
-            places = [self.host_of[guest] for guest in inside]
-            start[unit] = max(sorted(set(places)), key=places.count)
-        for name in fixed_guests:
+        for (unit, host), guests in sorted(stays.items()):
+            if guests > stays.get((unit, int(start[unit])), 0):
+                start[unit] = host
+        for name in (name for row in lines_of(self.words.fixed) for name in row if name in self.place):
             unit, host = unit_of[self.place[name]], self.host_of[self.place[name]]
             if fixed[unit] and start[unit] != host:
                 raise ValueError(f"{name}: stays, but is to be together with a guest that stays on another host")
             fixed[unit], start[unit] = True, host
-        apart = [sorted({unit_of[guest] for guest in group}) for group in self.groups(words.apart)]
-        spare = None if words.spare is None else words.spare * PAGES_OF_A_MEBIBYTE
-        problem = Problem(
-            has=has, weight=guests.weight, own=joined @ guests.own_frames, pages=joined @ guests.pages,
-            sizes=numpy.array([len(inside) for inside in self.units]), memory=self.memory, apart=apart, fixed=fixed, spare=spare,
-            most_moves=words.moves,
-        )
-        return problem, start
+        return start, fixed
 
-    def spread(self, host_of):
+    def spread(self, host_of: Sequence[int]) -> numpy.ndarray:
         """The host of each guest, from those of the units."""
         found = numpy.empty(len(self.guests.names), int)
         for unit, inside in enumerate(self.units):
@@ -139,38 +152,24 @@ class Asked:
         return found
 
 
-def bound_of(problem):
-    """A lower bound of the frames: each content needs as many hosts as its units need memory for, the largest hosts first."""
-    room = numpy.cumsum(numpy.sort(problem.memory - (problem.spare or 0))[::-1])
-    need = problem.pages if problem.spare is None else problem.own
-    inside = problem.has.T @ need
-    hosts = numpy.maximum(numpy.searchsorted(room, inside - 1e-6) + 1, 1)
-    for group in problem.apart:
-        member = numpy.zeros(len(problem.own))
-        member[group] = 1
-        hosts = numpy.maximum(hosts, problem.has.T @ member)
-    return float(problem.own.sum() + (hosts * problem.weight).sum())
-
-
-def solved(problem, start, seconds):
+def solved(problem: Problem, seconds: float) -> tuple[Placement, float, str]:
     """The best placement that is found, a lower bound of its frames, and how that is known."""
     begun = time.monotonic()
-    bound, how = bound_of(problem), "each content on as few hosts as have memory for its guests"
-    candidates = []
-    if len(start) <= MOST_EXACT:
-        host_of, proved = Program(problem, start).solved(max(1, seconds / 2))
-        if proved is not None and proved > bound:
-            bound, how = proved, "a mixed-integer program"
-        if host_of is not None:
-            candidates.append(Placement(problem, host_of, start))
-    candidates.append(search(problem, start, lambda: time.monotonic() - begun > seconds))
+    found = []
+    candidates = [search(problem, lambda: time.monotonic() - begun > PART_TO_SEARCH * seconds)]
+    if len(problem.start) <= MOST_EXACT:
+        host_of, proved = Program(problem).solved(max(1, seconds / 2))
+        found += [] if proved is None else [(proved, "a mixed-integer program")]
+        candidates += [] if host_of is None else [Placement(problem, host_of)]
     sound = [one for one in candidates if one.is_sound()]
     if not sound:
         raise ValueError("no placement was found that holds what must hold")
-    return min(sound, key=lambda one: (round(one.frames(), 3), one.moved())), bound, how
+    placement = min(sound, key=Placement.key)
+    found.append(bounds.best(problem, placement.frames(), lambda: time.monotonic() - begun > seconds))
+    return placement, *max(found)
 
 
-def report(asked, moves, bound, how):
+def report(asked: Asked, moves: Iterable[tuple[int, int]], bound: float, how: str) -> dict[str, Any]:
     """The object of a plan."""
     guests, hosts = asked.guests, asked.hosts
     frames = order.Frames(guests, asked.host_of)
@@ -188,7 +187,7 @@ def report(asked, moves, bound, how):
     }
 
 
-def print_table(found, out=sys.stdout):
+def print_table(found: Mapping[str, Any], out: TextIO = sys.stdout) -> None:
     """The plan as a table for people."""
     wide = max([5, *(len(move["guest"]) for move in found["moves"])])
     if found["sample"] > 1:
@@ -196,45 +195,45 @@ def print_table(found, out=sys.stdout):
     print(f"{'guest':<{wide}}  {'from':<20}  {'to':<20}  {'reclaimed':>10}", file=out)
     for move in found["moves"]:
         print(f"{move['guest']:<{wide}}  {move['from']:<20}  {move['to']:<20}  {move['reclaimed']:>10}", file=out)
-    before, after = found["before"]["frames"], found["after"]["frames"]
+    before, after, bound = found["before"]["frames"], found["after"]["frames"], found["bound"]["frames"]
     print(f"\n{len(found['moves'])} moves: {before} frames before, {after} after, {before - after} reclaimed", file=out)
-    print(f"no plan needs fewer than {found['bound']['frames']} frames, by {found['bound']['by']}", file=out)
+    print(f"no such plan needs fewer than {bound} frames, by {found['bound']['by']}", file=out)
+    if after < before and bound < before:
+        print(f"so this one reclaims at least {100 * (before - after) / (before - bound):.1f} % of what any such plan reclaims", file=out)
 
 
-def planned(asked):
+def planned(asked: Asked) -> tuple[dict[str, Any], numpy.ndarray]:
     """The object of the best plan that is found, and each guest's host after it."""
-    problem, start = asked.problem()
+    problem = asked.problem()
     if len(asked.hosts) ** len(asked.host_of) <= reachable.MOST:
         return planned_whole(asked, problem)
     limits, apart = problem.memory - (problem.spare or 0), asked.groups(asked.words.apart)
     while True:
-        placement, bound, how = solved(problem, start, asked.words.seconds)
+        placement, bound, how = solved(problem, asked.words.seconds)
         target = asked.spread(placement.host_of)
         try:
             moves = order.ordered(asked.guests, asked.host_of, target, limits, apart)
         except order.NoOrder:
             # (fewer moves may have an order)
-            if placement.moved() == 0:
+            if placement.moved == 0:
                 raise
-            problem = dataclasses.replace(problem, most_moves=placement.moved() // 2)
+            problem = dataclasses.replace(problem, most_moves=placement.moved // 2)
         else:
             return report(asked, moves, bound, how), target
 
 
-def planned_whole(asked, problem):
+def planned_whole(asked: Asked, problem: Problem) -> tuple[dict[str, Any], numpy.ndarray]:
     """The same for a fleet so small that all placements can be tried."""
     limits, groups = problem.memory - (problem.spare or 0), asked.groups(asked.words.apart)
     whole = reachable.Reachable(asked.guests, asked.host_of, limits, order.rivals_of(groups, len(asked.host_of)))
     fixed = {guest for unit, inside in enumerate(asked.units) if problem.fixed[unit] for guest in inside if len(inside) == 1}
 
-    def holds(place):
+    def holds(place: Sequence[int]) -> bool:
         units = [[place[guest] for guest in inside] for inside in asked.units]
         if any(len(set(hosts)) > 1 for hosts in units):
             return False
-        placement = Placement(problem, [hosts[0] for hosts in units], asked.problem()[1])
-        stays = all(hosts[0] == host for hosts, host, is_fixed in zip(units, placement.start, problem.fixed) if is_fixed)
-        most = len(place) if problem.most_moves is None else problem.most_moves
-        return stays and placement.is_sound() and sum(a != b for a, b in zip(place, asked.host_of)) <= most
+        placement = Placement(problem, [hosts[0] for hosts in units])
+        return (placement.host_of == problem.start)[problem.fixed].all() and placement.is_sound()
 
     found = whole.best(holds, fixed)
     if found is None:
@@ -243,7 +242,7 @@ def planned_whole(asked, problem):
     return report(asked, moves, whole.frames(tuple(target)), "trying all placements"), target
 
 
-def words_of(arguments):
+def words_of(arguments: Sequence[str] | None) -> argparse.Namespace:
     words = argparse.ArgumentParser(usage=__doc__.split("\n\n")[1].strip())
     for name in ("hosts", "memory", "apart", "together", "fixed", "plan", "svg", "contents"):
         words.add_argument(f"--{name}")
@@ -258,7 +257,7 @@ def words_of(arguments):
     return asked
 
 
-def main(arguments=None):
+def main(arguments: Sequence[str] | None = None) -> int:
     words = words_of(arguments)
     try:
         asked = Asked(words)

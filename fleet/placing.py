@@ -1,8 +1,14 @@
-"""Guests on hosts: what a placement needs in frames, and a search for one that needs fewer. Needs numpy and scipy."""
+"""Guests on hosts: what a placement needs in frames, and which moves and swaps save some. Needs numpy and scipy."""
+from __future__ import annotations
+
+import copy
 import dataclasses
+import functools
+from collections.abc import Iterable, Iterator, Sequence
+from typing import Any
 
 import numpy
-from scipy import optimize, sparse
+from scipy import sparse
 
 
 @dataclasses.dataclass
@@ -10,7 +16,8 @@ class Problem:
     """Units, which are guests that stay together, and hosts. All memory is in pages.
 
     `has[u, c]` is 1 where unit u has content c. Only contents that at least two units have are there; `own[u]` are the frames of the
-    others. `weight[c]` is how many contents c stands for in the sample.
+    others. `weight[c]` is how many contents c stands for in the sample. `stays[u, h]` are unit u's guests that are on host h now, and
+    `start[u]` is the host of most of them.
     """
 
     has: sparse.csr_matrix
@@ -19,59 +26,99 @@ class Problem:
     pages: numpy.ndarray
     sizes: numpy.ndarray
     memory: numpy.ndarray
-    apart: list
+    start: numpy.ndarray
+    stays: dict[tuple[int, int], int]
+    apart: list[list[int]]
     fixed: numpy.ndarray
     spare: float | None
     most_moves: int | None
 
-    def __post_init__(self):
+    def __post_init__(self) -> None:
         self.weighted = self.has.multiply(self.weight).tocsr().astype("f4")
         self.rows = [self.has.indices[a:b] for a, b in zip(self.has.indptr, self.has.indptr[1:])]
-        self.rivals = [set() for _ in self.own]
+        self.rivals: list[set[int]] = [set() for _ in self.own]
         for group in self.apart:
             for unit in group:
                 self.rivals[unit] |= set(group) - {unit}
+
+    def moves(self, unit: int, host: int) -> int:
+        """How many guests of a unit aren't on this host now."""
+        return int(self.sizes[unit]) - self.stays.get((unit, int(host)), 0)
+
+    def limits(self) -> numpy.ndarray:
+        """What each host may hold: guests' pages, or with --spare frames."""
+        return self.memory - (self.spare or 0)
+
+    def part(self, hosts: numpy.ndarray, host_of: numpy.ndarray) -> tuple[Problem, numpy.ndarray]:
+        """The problem of these hosts and the units on them, with the hosts in this order; and the units."""
+        place = {int(host): number for number, host in enumerate(hosts)}
+        units = numpy.flatnonzero(numpy.isin(host_of, hosts))
+        number = {int(unit): at for at, unit in enumerate(units)}
+        has = self.has[units]
+        holders = numpy.bincount(has.indices, minlength=has.shape[1])
+        common = numpy.flatnonzero(holders > 1)
+        return Problem(
+            has=has[:, common], weight=self.weight[common], own=self.own[units] + has @ (self.weight * (holders == 1)),
+            pages=self.pages[units], sizes=self.sizes[units], memory=self.memory[hosts], stays={},
+            start=numpy.array([place[int(host)] for host in host_of[units]]),
+            apart=[[number[unit] for unit in group if unit in number] for group in self.apart],
+            fixed=self.fixed[units], spare=self.spare, most_moves=None,
+        ), units
 
 
 class Placement:
     """Which host each unit is on, and what follows from it."""
 
-    def __init__(self, problem, host_of, start=None):
+    def __init__(self, problem: Problem, host_of: Sequence[int]) -> None:
         self.problem, self.host_of = problem, numpy.array(host_of)
-        self.start = numpy.array(host_of if start is None else start)
-        hosts = len(problem.memory)
-        on = sparse.csr_matrix((numpy.ones(len(self.host_of)), (self.host_of, range(len(self.host_of)))), (hosts, len(self.host_of)))
+        units, hosts = len(self.host_of), len(problem.memory)
+        on = sparse.csr_matrix((numpy.ones(units), (self.host_of, range(units))), (hosts, units))
         self.counts = (on @ problem.has).toarray().astype("i4")
         self.pages = numpy.bincount(self.host_of, problem.pages, hosts)
         self.own = numpy.bincount(self.host_of, problem.own, hosts)
-        self.alone = numpy.array([self.freed(unit) for unit in range(len(self.host_of))])
-        self.added = numpy.empty((len(self.host_of), hosts), "f4")
-        self.refresh(range(hosts))
+        self.moved = sum(problem.moves(unit, host) for unit, host in enumerate(self.host_of))
 
-    def refresh(self, hosts):
-        """Computes anew what each unit would add to these hosts."""
-        hosts = list(hosts)
-        absent = (self.counts[hosts] == 0).astype("f4").T
-        self.added[:, hosts] = self.problem.weighted @ absent
+    def copied(self) -> Placement:
+        """The same placement, apart from this one."""
+        other = copy.copy(self)
+        other.__dict__.update((name, value.copy()) for name, value in vars(self).items() if isinstance(value, numpy.ndarray))
+        return other
 
-    def frames_on(self, host):
-        return self.own[host] + self.problem.weight[self.counts[host] > 0].sum()
+    # (these two cost most of all, and aren't needed to compare placements)
+    @functools.cached_property
+    def alone(self) -> numpy.ndarray:
+        """The frames that its host gets back where each unit leaves, besides its own."""
+        return numpy.array([self.freed(unit) for unit in range(len(self.host_of))])
 
-    def frames(self):
+    @functools.cached_property
+    def added(self) -> numpy.ndarray:
+        """The frames that each unit would add to each host, besides its own."""
+        return self.added_to(slice(None))
+
+    def added_to(self, hosts: Any) -> numpy.ndarray:
+        return self.problem.weighted @ (self.counts[hosts] == 0).astype("f4").T
+
+    def frames(self) -> Any:
         """The frames that all hosts need."""
         return self.own.sum() + ((self.counts > 0) @ self.problem.weight).sum()
 
-    def freed(self, unit):
+    def freed(self, unit: int) -> Any:
         """The frames that its host gets back where a unit leaves, besides its own."""
         row = self.problem.rows[unit]
         return self.problem.weight[row[self.counts[self.host_of[unit], row] == 1]].sum()
 
-    def moved(self):
-        """How many guests aren't where they started."""
-        return int(self.problem.sizes[self.host_of != self.start].sum())
+    def moves_left(self) -> float:
+        """How many more guests may be moved."""
+        most = self.problem.most_moves
+        return float("inf") if most is None else most - self.moved
 
-    def move(self, unit, host, is_last=True):
+    def cost(self, unit: int, host: int) -> int:
+        """How many more guests are moved where a unit goes to a host."""
+        return self.problem.moves(unit, host) - self.problem.moves(unit, self.host_of[unit])
+
+    def move(self, unit: int, host: int, is_last: bool = True) -> None:
         """Moves a unit."""
+        self.moved += self.cost(unit, host)
         old, row = self.host_of[unit], self.problem.rows[unit]
         for place, sign in ((old, -1), (host, 1)):
             self.counts[place, row] += sign
@@ -81,66 +128,59 @@ class Placement:
         if is_last:
             self.settle({old, host})
 
-    def settle(self, hosts):
+    def settle(self, hosts: Iterable[int]) -> None:
         """Computes anew what depends on these hosts."""
-        self.refresh(hosts)
+        self.added[:, list(hosts)] = self.added_to(list(hosts))
         for unit in numpy.flatnonzero(numpy.isin(self.host_of, list(hosts))):
             self.alone[unit] = self.freed(unit)
 
-    def swap(self, unit, other):
+    def swap(self, unit: int, other: int) -> None:
+        """Swaps two units."""
         a, b = self.host_of[unit], self.host_of[other]
         self.move(unit, b, False)
         self.move(other, a, False)
         self.settle({a, b})
 
-    def room_left(self):
+    def room_left(self) -> numpy.ndarray:
         """The memory that is left of each host: what no guest has, or with --spare what no frame needs."""
-        problem = self.problem
-        if problem.spare is None:
-            return problem.memory - self.pages
-        needed = self.own + (self.counts > 0) @ problem.weight
-        return problem.memory - problem.spare - needed
-
-    def need(self):
-        """What each unit takes of the room on each host."""
         if self.problem.spare is None:
-            return numpy.broadcast_to(self.problem.pages[:, None], self.added.shape)
-        return self.added + self.problem.own[:, None]
+            return self.problem.limits() - self.pages
+        return self.problem.limits() - self.own - (self.counts > 0) @ self.problem.weight
 
-    def gives(self):
-        """What each unit gives back on its host."""
-        return self.problem.pages if self.problem.spare is None else self.alone + self.problem.own
+    def room_on(self, host: int) -> Any:
+        """The same of one host."""
+        if self.problem.spare is None:
+            return self.problem.limits()[host] - self.pages[host]
+        return self.problem.limits()[host] - self.own[host] - self.problem.weight[self.counts[host] > 0].sum()
 
-    def has_rival(self, unit, host, but=-1):
+    def need(self) -> numpy.ndarray:
+        """What each unit takes of the room on each host."""
+        return self.problem.pages[:, None] if self.problem.spare is None else self.added + self.problem.own[:, None]
+
+    def has_rival(self, unit: int, host: int, but: int = -1) -> bool:
         return any(self.host_of[it] == host and it != but for it in self.problem.rivals[unit])
 
-    def is_sound(self):
-        """Whether every host has room, and no two guests are together that may not be."""
+    def is_sound(self) -> bool:
+        """Whether every host has room, no two guests are together that may not be, and no more are moved than may be."""
         apart = all(not self.has_rival(unit, self.host_of[unit]) for unit in range(len(self.host_of)))
-        return apart and bool((self.room_left() >= -1e-6).all())
+        return apart and self.moves_left() >= 0 and bool((self.room_left() >= -1e-6).all())
+
+    def key(self) -> tuple[float, int]:
+        """What a placement is compared by: it needs fewer frames, or moves fewer guests for as many."""
+        return round(self.frames(), 3), self.moved
 
 
-def both_have(placement, unit, other):
+def both_have(placement: Placement, unit: int, other: int) -> Any:
     """What a swap saves less than the two moves alone would: of contents that both have, those that only one guest of a host has."""
     problem = placement.problem
-    both = numpy.intersect1d(problem.rows[unit], problem.rows[other], assume_unique=True)
+    is_other = numpy.zeros(len(problem.weight), bool)
+    is_other[problem.rows[other]] = True
+    both = problem.rows[unit][is_other[problem.rows[unit]]]
     alone = (placement.counts[placement.host_of[unit], both] == 1).astype(int) + (placement.counts[placement.host_of[other], both] == 1)
     return (problem.weight[both] * alone).sum()
 
 
-def moves_left(placement):
-    """How many more guests may be moved."""
-    most = placement.problem.most_moves
-    return numpy.inf if most is None else most - placement.moved()
-
-
-def cost_of(placement, unit, host):
-    """How many more guests are moved where a unit goes to a host."""
-    was, now = placement.host_of[unit] != placement.start[unit], host != placement.start[unit]
-    return placement.problem.sizes[unit] * (int(now) - int(was))
-
-
-def best_moves(placement):
+def best_moves(placement: Placement) -> Iterator[tuple[float, int, int]]:
     """The moves of a unit that save frames and that hold, the best first."""
     problem = placement.problem
     saved = placement.alone[:, None] - placement.added
@@ -148,11 +188,11 @@ def best_moves(placement):
     is_open[range(len(placement.host_of)), placement.host_of] = False
     found = numpy.argwhere(is_open)
     for unit, host in found[numpy.argsort(-saved[is_open], kind="stable")][:1000]:
-        if not placement.has_rival(unit, host) and cost_of(placement, unit, host) <= moves_left(placement):
+        if not placement.has_rival(unit, host) and placement.cost(unit, host) <= placement.moves_left():
             yield saved[unit, host], unit, host
 
 
-def best_swaps(placement, count):
+def best_swaps(placement: Placement, count: int) -> list[tuple[float, int, int]]:
     """The swaps of two units that may save frames, with a bound of what each saves, the best first: for each unit and host the best unit
     there."""
     problem, host_of = placement.problem, placement.host_of
@@ -171,168 +211,38 @@ def best_swaps(placement, count):
     return [(bound.flat[it], it // bound.shape[1], it % bound.shape[1]) for it in flat if bound.flat[it] > 1e-6]
 
 
-def swap_holds(placement, unit, other):
+def swap_holds(placement: Placement, unit: int, other: int) -> bool:
     """Whether two units may be swapped: hosts keep room, and nobody meets a rival."""
-    problem = placement.problem
     a, b = placement.host_of[unit], placement.host_of[other]
-    if problem.fixed[other] or placement.has_rival(unit, b, other) or placement.has_rival(other, a, unit):
+    if placement.problem.fixed[other] or placement.has_rival(unit, b, other) or placement.has_rival(other, a, unit):
         return False
-    if cost_of(placement, unit, b) + cost_of(placement, other, a) > moves_left(placement):
+    if placement.cost(unit, b) + placement.cost(other, a) > placement.moves_left():
         return False
-    room, need, gives = placement.room_left(), placement.need(), placement.gives()
     # (with --spare, what both have and only one guest of a host has isn't given back)
-    kept = 0 if problem.spare is None else both_have(placement, unit, other)
-    return need[unit, b] + kept <= room[b] + gives[other] + 1e-6 and need[other, a] + kept <= room[a] + gives[unit] + 1e-6
+    kept = 0 if placement.problem.spare is None else both_have(placement, unit, other)
+    return bool(takes_place(placement, unit, other, kept) and takes_place(placement, other, unit, kept))
 
 
-def apply_moves(placement):
-    """Makes the best moves, each of hosts that no other touched. Returns what they saved."""
-    touched, saved = set(), 0
-    for gain, unit, host in best_moves(placement):
-        hosts = {placement.host_of[unit], host}
-        if not hosts & touched and cost_of(placement, unit, host) <= moves_left(placement):
-            placement.move(unit, host)
-            touched |= hosts
-            saved += gain
-    return saved
+def takes_place(placement: Placement, unit: int, other: int, kept: float) -> Any:
+    """Whether a unit has room on another one's host once that one leaves."""
+    problem, host = placement.problem, placement.host_of[other]
+    if problem.spare is None:
+        return problem.pages[unit] <= placement.room_on(host) + problem.pages[other] + 1e-6
+    need = placement.added[unit, host] + problem.own[unit] + kept
+    return need <= placement.room_on(host) + placement.alone[other] + problem.own[other] + 1e-6
 
 
-def apply_swaps(placement, count=2000):
-    """Makes the best swaps, each of hosts that no other touched. Returns what they saved."""
-    touched, saved = set(), 0
-    for bound, unit, host in best_swaps(placement, count):
-        if {placement.host_of[unit], host} & touched:
-            continue
-        found = best_partner(placement, unit, host)
-        if found and found[0] > 1e-6:
-            hosts = {placement.host_of[unit], host}
-            placement.swap(unit, found[1])
-            touched |= hosts
-            saved += found[0]
-    return saved
-
-
-def best_partner(placement, unit, host):
+def best_partner(placement: Placement, unit: int, host: int) -> tuple[float, int] | None:
     """The unit on a host whose swap with this one saves most, and how much; None if no swap holds."""
-    best = None
-    for other in numpy.flatnonzero(placement.host_of == host):
-        gain = placement.alone[unit] + placement.alone[other] - placement.added[unit, host] - placement.added[other, placement.host_of[unit]]
-        if (best is None or gain > best[0]) and swap_holds(placement, unit, other):
-            gain -= both_have(placement, unit, other)
+    others = numpy.flatnonzero(placement.host_of == host)
+    back = placement.alone[others] - placement.added[others, placement.host_of[unit]]
+    gains = placement.alone[unit] - placement.added[unit, host] + back
+    best: tuple[float, int] | None = None
+    for at in numpy.argsort(-gains, kind="stable"):
+        if gains[at] <= (best[0] if best else 1e-6):
+            break
+        if swap_holds(placement, unit, others[at]):
+            gain = gains[at] - both_have(placement, unit, others[at])
             if best is None or gain > best[0]:
-                best = gain, other
-    return best
-
-
-def improve(placement, is_late):
-    """Moves and swaps units as long as that saves frames and time is left."""
-    while not is_late():
-        if apply_moves(placement) + apply_swaps(placement) < 1e-6:
-            return
-
-
-def fill(problem, start):
-    """A placement from nothing: host after host is filled with the unit that brings least that is new. None where a unit finds no room."""
-    host_of = numpy.where(problem.fixed, start, -1)
-    columns = problem.has.tocsc()
-    new = numpy.asarray(problem.weighted.sum(axis=1)).ravel().astype("f8")
-    order = sorted(range(len(problem.memory)), key=lambda host: (-(host_of == host).sum(), -problem.memory[host], host))
-    for host in order:
-        fill_host(problem, columns, host_of, new.copy(), host)
-    return host_of if (host_of >= 0).all() else None
-
-
-def fill_host(problem, columns, host_of, new, host):
-    """Fills a host with units that have no host yet."""
-    covered = numpy.zeros(len(problem.weight), bool)
-    taken, inside = 0.0, list(numpy.flatnonzero(host_of == host))
-    barred = set().union(*(problem.rivals[unit] for unit in inside)) if inside else set()
-    waiting = list(inside)
-    whole = new.copy()
-    while True:
-        for unit in waiting:
-            row = problem.rows[unit]
-            fresh = row[~covered[row]]
-            taken += problem.pages[unit] if problem.spare is None else problem.own[unit] + problem.weight[fresh].sum()
-            covered[fresh] = True
-            for content in fresh:
-                new[columns.indices[columns.indptr[content]:columns.indptr[content + 1]]] -= problem.weight[content]
-        need = problem.pages if problem.spare is None else problem.own + new
-        limit = problem.memory[host] - (problem.spare or 0)
-        is_open = (host_of < 0) & (taken + need <= limit + 1e-6)
-        for unit in barred:
-            is_open[unit] = False
-        if not is_open.any():
-            return
-        # The first unit is the one with most to share; each other one brings the smallest part that is new.
-        score = numpy.where(is_open, new / (whole + 1) if covered.any() else -whole, numpy.inf)
-        unit = int(score.argmin())
-        host_of[unit] = host
-        barred |= problem.rivals[unit]
-        waiting = [unit]
-
-
-def renamed(placement):
-    """The same groups of units, each on the host where most of its guests are now: among hosts with equal memory and without a unit that stays."""
-    problem, host_of = placement.problem, placement.host_of.copy()
-    pinned = set(placement.host_of[problem.fixed])
-    for memory in numpy.unique(problem.memory):
-        hosts = [host for host in numpy.flatnonzero(problem.memory == memory) if host not in pinned]
-        place = {host: number for number, host in enumerate(hosts)}
-        stays = numpy.zeros((len(hosts), len(hosts)))
-        for unit, (group, start) in enumerate(zip(placement.host_of, placement.start)):
-            if group in place and start in place:
-                stays[place[group], place[start]] += problem.sizes[unit]
-        for group, host in zip(*optimize.linear_sum_assignment(-stays)):
-            host_of[placement.host_of == hosts[group]] = hosts[host]
-    return Placement(problem, host_of, placement.start)
-
-
-def shaken(placement, draw, count):
-    """A placement in which some units of equal size were swapped at random."""
-    problem = placement.problem
-    host_of = placement.host_of.copy()
-    movable = numpy.flatnonzero(~problem.fixed)
-    for _ in range(count):
-        one, other = draw.choice(movable, 2)
-        if problem.pages[one] == problem.pages[other]:
-            host_of[[one, other]] = host_of[[other, one]]
-    return Placement(problem, host_of, placement.start)
-
-
-def search(problem, start, is_late, seed=1):
-    """The best placement that is found: from where the units are, and from nothing if that doesn't move too many guests."""
-    best = Placement(problem, start)
-    improve(best, is_late)
-    free = dataclasses.replace(problem, most_moves=None)
-    filled = fill(free, start)
-    if filled is not None:
-        other = Placement(free, filled, start)
-        improve(other, is_late)
-        best = better(best, renamed(other))
-    if problem.most_moves is None:
-        best = better(best, renamed(shake(best, is_late, numpy.random.default_rng(seed))))
-    return best
-
-
-def better(one, other):
-    """The placement that holds and needs fewer frames, or moves fewer guests for as many."""
-    if not other.is_sound() or other.moved() > (numpy.inf if one.problem.most_moves is None else one.problem.most_moves):
-        return one
-    if not one.is_sound():
-        return other
-    return min(one, other, key=lambda placement: (round(placement.frames(), 3), placement.moved()))
-
-
-def shake(best, is_late, draw):
-    """Tries the neighbours of a placement until time is over, or a hundred of them were no better."""
-    frames, failed = best.frames(), 0
-    while not is_late() and failed < 100 and (~best.problem.fixed).sum() > 1:
-        other = shaken(best, draw, int(draw.integers(2, 7)))
-        if other.is_sound():
-            improve(other, is_late)
-        if other.is_sound() and other.frames() < frames - 1e-6:
-            best, frames, failed = other, other.frames(), 0
-        else:
-            failed += 1
+                best = gain, int(others[at])
     return best

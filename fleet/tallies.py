@@ -1,5 +1,8 @@
 """What Dask's workers do: read digests into frames, and count the kinds of lines and contents of a frame."""
+from __future__ import annotations
+
 import os
+from collections.abc import Iterable, Sequence
 
 import numpy
 import pandas
@@ -16,19 +19,19 @@ KINDS = {"file": "i4", "zero": "?", "copies": "i8", "guests": "i8", "shared": "?
 TABLE = {"file": "i4", "zero": "?", "high": "u8", "low": "u8", "copies": "i8", "times": "i8", "common": "?"}
 
 
-def no_table():
+def no_table() -> pandas.DataFrame:
     return pandas.DataFrame({name: pandas.Series(dtype=kind) for name, kind in TABLE.items()})
 
 
-def no_lines():
+def no_lines() -> pandas.DataFrame:
     return pandas.DataFrame({name: pandas.Series(dtype=kind) for name, kind in COLUMNS.items()})
 
 
-def no_kinds():
+def no_kinds() -> pandas.DataFrame:
     return pandas.DataFrame({name: pandas.Series(dtype=kind) for name, kind in KINDS.items()})
 
 
-def frame_of(file, path):
+def frame_of(file: int, path: str) -> pandas.DataFrame:
     """The lines of a digest, as a frame."""
     head = digests.head_of(path)
     if head is None:
@@ -38,22 +41,22 @@ def frame_of(file, path):
     return frame.astype(COLUMNS)
 
 
-def frame_of_files(files):
+def frame_of_files(files: Iterable[tuple[int, str]]) -> pandas.DataFrame:
     """The lines of several digests, given as pairs of a number and a path."""
     return pandas.concat([no_lines(), *(frame_of(file, path) for file, path in files)], ignore_index=True).astype(COLUMNS)
 
 
-def counted(frame, columns):
+def counted(frame: pandas.DataFrame, columns: list[str]) -> pandas.DataFrame:
     """How often each value of these columns comes."""
     return frame.groupby(columns, sort=False).size().rename("times").reset_index()
 
 
-def contents_in(part, columns):
+def contents_in(part: pandas.DataFrame, columns: list[str]) -> pandas.DataFrame:
     """Each content, apart for each value of some columns: whether it is zeros, its copies, and how many guests have it."""
     return part.groupby(columns, sort=False).agg(zero=("zero", "any"), copies=("copies", "sum"), guests=("file", "size"))
 
 
-def kinds_of(part, hosts=()):
+def kinds_of(part: pandas.DataFrame, hosts: Sequence[int] = ()) -> pandas.DataFrame:
     """How often each kind of line and of content comes in a part of the lines that has all lines of its contents. `hosts` has the number
     of each file's host, if contents are also counted by host: these kinds have the file -2 less the host's number."""
     if part.empty:
@@ -71,7 +74,7 @@ def kinds_of(part, hosts=()):
     return pandas.concat(frames, ignore_index=True)[list(KINDS)].astype(KINDS)
 
 
-def table_of(part):
+def table_of(part: pandas.DataFrame) -> pandas.DataFrame:
     """The lines of contents that at least two guests have, and how often each kind of the other lines comes, with no digest."""
     if part.empty:
         return no_table()
@@ -80,5 +83,5 @@ def table_of(part):
     return pandas.concat([part[common].assign(times=1, common=True), alone], ignore_index=True)[list(TABLE)].astype(TABLE)
 
 
-def bytes_of(paths):
+def bytes_of(paths: Iterable[str]) -> int:
     return sum(map(os.path.getsize, paths))

@@ -3,11 +3,20 @@
 
     fleet/zeros.py SALT ..
 """
-import sys
+from __future__ import annotations
+
+import argparse
 
 from digests import zeros_digest
 
-if __name__ == "__main__":
+
+def main() -> None:
+    options = argparse.ArgumentParser(description=__doc__.splitlines()[0])
+    options.add_argument("salts", metavar="SALT", nargs="*", type=int)
     print("zero_digest")
-    for salt in sorted({int(word) for word in sys.argv[1:]}):
+    for salt in sorted(set(options.parse_args().salts)):
         print(zeros_digest(salt))
+
+
+if __name__ == "__main__":
+    main()
