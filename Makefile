@@ -76,12 +76,12 @@ commands: out/pageshare
 traces: out/window_trace
 	checks/traces.py
 
-# Outside the gate: what `estimate` tells of 1,000 random images, beside a count by hashes in Python (COUNT and SEED may be given).
+# Outside the gate: what `estimate` prints of 1,000 random images, beside a count by hashes in Python (COUNT and SEED may be given).
 estimate: out/pageshare
 	checks/estimate.py $(or $(COUNT),1000) $(SEED)
 
 # Outside the gate: the numbers of fleets by `fleet`, by Dask's distributed engine and by SQL, beside a plain count in Python, and the
-# memory of a live process by `digest` (SEED may be given). What this machine has no packages for is left out, and told.
+# memory of a live process by `digest` (SEED may be given). What this machine has no packages for is skipped, and reported.
 fleet: out/pageshare
 	checks/fleet.py $(SEED)
 	checks/live.py
@@ -122,17 +122,17 @@ bench: out/pageshare out/page_bench
 bench-v3: out/pageshare-v3 out/page_bench-v3 bench
 
 # Outside the gate: the library for C and Rust, left at out/libpageshare.a, or for x86-64-v3 at out/v3/libpageshare.a, with its
-# examples and tests. What this machine has no program for is left out, and told.
+# examples and tests. What this machine has no program for is skipped, and reported.
 embed: out/$(FOLDER)libpageshare.a
 	checks/embed.sh $<
 
 # Outside the gate: windows, through which guests' idle pages are lent (docs/MONITOR.md), by programs of threads, each stress for SECONDS
-# (10) at most. What this machine has no userfaultfd, sanitizer or right for is left out, and told.
+# (10) at most. What this machine has no userfaultfd, sanitizer or right for is skipped, and reported.
 windows: out/libpageshare.a out/window_trace
 	checks/windows.py out/libpageshare.a $(or $(SECONDS),10)
 
 # Outside the gate: guests under KVM whose memory the library shares (docs/MONITOR.md), for SECONDS (30) each, with KSM=1 under the
-# kernel's KSM as well, and with KERNEL=bzImage Linux as well. What this machine has no KVM or userfaultfd for is left out, and told.
+# kernel's KSM as well, and with KERNEL=bzImage Linux as well. What this machine has no KVM or userfaultfd for is skipped, and reported.
 guests: out/libpageshare.a out/pageshare out/window_trace
 	checks/guests.py out/libpageshare.a $(or $(SECONDS),30)
 
@@ -158,8 +158,8 @@ host: $(HOST_PRODUCTS)
 HOST_LIBRARY = out/libpageshare_host.a
 HOST_FLAGS = -std=c11 -O2 -g -Wall -Wextra -Wconversion -Werror -pthread -Iinclude -Iwindow -Ihost $(CFLAGS)
 HOST_LINK = -Wl,--wrap=memset
-HOST_SOURCES = $(addprefix host/,hostd.c settings.c domain.c clients.c closing.c frames.c punching.c tables.c report.c status.c devices.c)
-WINDOW_SOURCES = $(addprefix host/,preload.c transfers.c sharing.c ranges.c connection.c remote.c devices.c) $(wildcard window/*.c)
+HOST_SOURCES = $(addprefix host/,hostd.c settings.c domain.c clients.c closing.c frames.c punching.c tables.c refusals.c report.c status.c naming.c devices.c)
+WINDOW_SOURCES = $(addprefix host/,preload.c transfers.c sharing.c ranges.c connection.c remote.c devices.c kvm_offer.c budget.c memory.c) $(wildcard window/*.c)
 HOST_HEADERS = $(wildcard host/*.h window/*.h include/*.h)
 
 out/host/pageshare-host: $(HOST_SOURCES) $(HOST_HEADERS) $(HOST_LIBRARY)

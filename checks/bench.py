@@ -16,8 +16,12 @@ Each measure is made in turns, ours and theirs, --turns times; the table has the
 ratio of the least ones. The last lines name each ratio above its goal, and the status is then 1. --table writes the
 table as lines of words parted by tabs, from which checks/plots.py draws docs/*.svg.
 """
+from __future__ import annotations
+
 import argparse
+import functools
 import os
+import pathlib
 import random
 import re
 import shutil
@@ -25,26 +29,31 @@ import statistics
 import subprocess
 import sys
 import time
+from collections.abc import Callable, Iterable, Iterator, Mapping, Sequence
+from typing import Any, TypeVar, Union
 
 from common.benches import ROOM, different, journal, output, scanned, seconds
-from harness import OUT, TOP
+from harness import OUT, TOP, StrPath
 
+# A row of the table: a name, the unit, the goal of the ratio or None, and the times of both sides.
+Row = tuple[str, str, Union[float, None], list[float], list[float]]
+T = TypeVar("T")
 GROWTH = [10_000, 30_000, 100_000, 300_000, 1_000_000]
 GUESTS = [1, 2, 4, 8, 64]
 
 
-def in_turn(pages, content):
+def in_turn(pages: int, content: Callable[[int], str]) -> Iterator[str]:
     """Each page is proposed just after it was stored to, so that no hash can be computed ahead."""
     for ppn in range(pages):
         yield f"store {ppn} 0 {content(ppn)}"
         yield f"propose {ppn}"
 
 
-def equal(_):
+def equal(_: int) -> str:
     return "41"
 
 
-def stores_and_loads(count, pages):
+def stores_and_loads(count: int, pages: int) -> Iterator[str]:
     """Stores and loads of 32 bytes, half and half, at random places of random pages."""
     dice = random.Random(7)
     for _ in range(count):
@@ -64,11 +73,11 @@ class Level:
 
     `theirs` is the folder of the opponents' programs, or None."""
 
-    def __init__(self, cpu, suffix, shown, wide):
+    def __init__(self, cpu: str, suffix: str, shown: str, wide: str) -> None:
         self.cpu, self.suffix, self.shown, self.wide = cpu, suffix, shown, wide
-        self.theirs = None
+        self.theirs: str | None = None
 
-    def ours(self, program):
+    def ours(self, program: str) -> str:
         return os.path.join(OUT, program + self.suffix)
 
 
@@ -76,14 +85,14 @@ V2_LEVEL = Level("x86-64-v2", "", "", "")
 V3_LEVEL = Level("x86-64-v3", "-v3", " (v3)", "wide-")
 
 
-def has_v3():
+def has_v3() -> bool:
     """Whether all programs for x86-64-v3 were built, and this processor runs them."""
     with open("/proc/cpuinfo", encoding="ascii") as lines:
-        flags = next((set(line.split()) for line in lines if line.startswith("flags")), set())
+        flags: set[str] = next((set(line.split()) for line in lines if line.startswith("flags")), set())
     return V3 <= flags and all(os.path.exists(V3_LEVEL.ours(name)) for name in ("pageshare", "page_bench"))
 
 
-def build_opponents(crates, instructions, cpu):
+def build_opponents(crates: str | None, instructions: bool, cpu: str) -> tuple[str | None, str | None]:
     """Builds benches/ in out/bench for a processor level, and answers its folder of programs, or why there is none."""
     if not shutil.which("cargo"):
         return None, "there is no cargo"
@@ -104,10 +113,10 @@ def build_opponents(crates, instructions, cpu):
     return os.path.join(target, "release"), None
 
 
-def figures_of(program, words):
+def figures_of(program: str, words: Sequence[str]) -> dict[str, float]:
     """The figures that a benchmark prints, by their names. Of those with one name the least counts."""
     text = subprocess.run([program, *words], capture_output=True, text=True, check=True, timeout=900).stdout
-    figures = {}
+    figures: dict[str, float] = {}
     for line in text.splitlines():
         if found := re.fullmatch(r"(.+): (\d+) in (\d+) ns", line):
             if found[2] == "0":
@@ -126,15 +135,15 @@ def figures_of(program, words):
 class Table:
     """The rows: a name, the unit, the goal of the ratio or None, and the times of both sides."""
 
-    def __init__(self, turns):
+    def __init__(self, turns: int) -> None:
         self.turns = turns
-        self.rows = []
+        self.rows: list[Row] = []
 
-    def add(self, name, unit, goal, ours, theirs):
+    def add(self, name: str, unit: str, goal: float | None, ours: list[float], theirs: list[float]) -> None:
         self.rows.append((name, unit, goal, ours, theirs))
         print(self.line(self.rows[-1]), flush=True)
 
-    def in_turns(self, ours, theirs):
+    def in_turns(self, ours: Callable[[], T], theirs: Callable[[], T] | None) -> tuple[list[T], list[T]]:
         mine, others = [], []
         for _ in range(self.turns):
             mine.append(ours())
@@ -143,7 +152,7 @@ class Table:
         return mine, others
 
     @staticmethod
-    def line(row):
+    def line(row: Row) -> str:
         name, unit, goal, ours, theirs = row
         text = f"{name:<50} {min(ours):>10.1f} {statistics.median(ours):>10.1f}"
         if theirs:
@@ -151,20 +160,30 @@ class Table:
             text += f" {goal:>5.2f}" if goal else "     -"
         return text + f"  {unit}"
 
-    def missed(self):
+    def missed(self) -> list[Row]:
         return [row for row in self.rows if row[4] and row[2] and min(row[3]) / min(row[4]) > row[2]]
 
-    def write(self, path):
+    def write(self, path: str) -> None:
         with open(path, "w", encoding="utf-8") as out:
             for name, unit, _, ours, theirs in self.rows:
                 out.write("\t".join([name, unit, f"{min(ours):.2f}", f"{min(theirs):.2f}" if theirs else "-"]) + "\n")
 
 
-def replays(table, level, quick):
+def program_of(folder: str | None, name: str) -> str | None:
+    """A program of the opponents', or None where there are none."""
+    return os.path.join(folder, name) if folder else None
+
+
+def timed(program: str, words: Sequence[str], path: StrPath) -> Callable[[], float]:
+    """What times a program with a file as its input, in milliseconds."""
+    return lambda: 1e3 * seconds(program, words, path)
+
+
+def replays(table: Table, level: Level, quick: bool) -> None:
     pageshare, is_v3 = level.ours("pageshare"), level is V3_LEVEL
     part = 10 if quick else 1
     scans = journal("different", 30_000, 30_000, scanned(30_000 // part, different))
-    journals = [
+    journals: list[tuple[str, float | None, pathlib.Path]] = [
         ("replay: 30,000 different contents", 0.32 if is_v3 else 0.45, scans),
         ("replay: 70,000 equal pages", 0.3 if is_v3 else 0.5, journal("equal", 70_000, 70_000, scanned(70_000 // part, equal))),
         ("replay: 30,000 different, in turn", 1.0, journal("different-in-turn", 30_000, 30_000, in_turn(30_000 // part, different))),
@@ -175,31 +194,25 @@ def replays(table, level, quick):
         requests = stores_and_loads(count, 2_000)
         journals.append((f"replay: {count:,} requests", None, journal(f"growth-{count}", 2_000, 2_000, requests)))
     for name, goal, path in journals:
-        other = os.path.join(level.theirs, "replay") if level.theirs else None
+        other = program_of(level.theirs, "replay")
         if other and output(pageshare, ["replay"], path) != output(other, [], path):
             sys.exit(f"{name}: the two programs print different verdicts")
-        rows = table.in_turns(
-            lambda p=path: 1e3 * seconds(pageshare, ["replay"], p),
-            (lambda p=path: 1e3 * seconds(other, [], p)) if other else None,
-        )
+        rows = table.in_turns(timed(pageshare, ["replay"], path), timed(other, [], path) if other else None)
         table.add(name + level.shown, "ms", goal, *rows)
     by_hand(table, level, journals[4][2])
 
 
-def by_hand(table, level, path):
+def by_hand(table: Table, level: Level, path: StrPath) -> None:
     """The stores and loads once more, beside Rust that reads and prints the text by hand."""
     pageshare, theirs = level.ours("pageshare"), level.theirs
-    other = os.path.join(theirs, "replay_by_hand") if theirs else None
+    other = program_of(theirs, "replay_by_hand")
     if other and output(pageshare, ["replay"], path) != output(other, [], path):
         sys.exit("by hand: the two programs print different verdicts")
-    rows = table.in_turns(
-        lambda: 1e3 * seconds(pageshare, ["replay"], path),
-        (lambda: 1e3 * seconds(other, [], path)) if other else None,
-    )
+    rows = table.in_turns(timed(pageshare, ["replay"], path), timed(other, [], path) if other else None)
     table.add("replay: the same stores and loads, by hand" + level.shown, "ms", 1.25, *rows)
 
 
-def image(name, seed, pages):
+def image(name: str, seed: int, pages: int) -> str:
     """Writes a raw image of so many pages, and answers where it is: 7 in 10 are zeros, and half of the rest stand in each
     image alike."""
     path = os.path.join(ROOM, name + ".raw")
@@ -213,7 +226,7 @@ def image(name, seed, pages):
     return path
 
 
-def estimates(table, theirs, quick):
+def estimates(table: Table, theirs: str | None, quick: bool) -> None:
     pageshare = V2_LEVEL.ours("pageshare")
     pages = 4096 if quick else 65_536
     images = [image(f"image-{n}", n, pages) for n in range(1, 5)]
@@ -229,17 +242,21 @@ def estimates(table, theirs, quick):
                 table.add(label, "ms", goals[workers] if count == 2 else None, *rows)
 
 
-def run_time(command):
+def run_time(command: Sequence[str]) -> float:
     start = time.perf_counter()
     subprocess.run(command, stdout=subprocess.DEVNULL, check=True)
     return 1e3 * (time.perf_counter() - start)
 
 
-def counted(table, level, program, part, opponent, words, goals, own=()):
+def counted(
+    table: Table, level: Level, program: str, part: str, opponent: str, words: Sequence[str], goals: Mapping[str, float | None],
+    own: Iterable[tuple[str, Any, str, float]] = (),
+) -> None:
     """The figures that a part of a benchmark and its opponent print, and of its own those that stand beside one another."""
     ours, theirs = level.ours(program), level.theirs
-    other = os.path.join(theirs, opponent) if theirs and opponent else None
-    mine, others = table.in_turns(lambda: figures_of(ours, [part, *words]), (lambda: figures_of(other, words)) if other else None)
+    other = program_of(theirs, opponent)
+    figures = functools.partial(figures_of, other, words) if other else None
+    mine, others = table.in_turns(lambda: figures_of(ours, [part, *words]), figures)
     for figure in mine[0]:
         same = "one by one" if figure in ("four at once", "eight at once", "one worker") else figure
         rest = [turn[same] for turn in others] if others and same in others[0] else []
@@ -265,13 +282,13 @@ WORKERS = [("four workers", "one worker", "one worker", 0.30)]
 BY_LEVEL = {"replay", "hash", "run"}
 
 
-def hashes(table, level):
+def hashes(table: Table, level: Level) -> None:
     """Pages hashed; on x86-64-v3 by the hash type for its vectors, of which one worker is to take a fifth of Rust's time."""
     goals = {"": 1.0, "one worker": 0.20} if level is V3_LEVEL else {"": 1.0}
     counted(table, level, "page_bench", level.wide + "hash", "hashing", ["2000"], goals, WORKERS)
 
 
-def main():
+def main() -> None:
     parser = argparse.ArgumentParser(description="Times the proved programs beside plain Rust.")
     parser.add_argument("--crates", default=os.environ.get("CRATES"))
     parser.add_argument("--turns", type=int, default=7)
@@ -292,7 +309,7 @@ def main():
     table = Table(2 if asked.quick else asked.turns)
     size = str(20_000 if asked.quick else 200_000)
     requests = str(2_000 if asked.quick else 20_000)
-    parts = {
+    parts: dict[str, Callable[[Level], None]] = {
         "replay": lambda level: replays(table, level, asked.quick),
         "frames": lambda level: counted(table, level, "page_bench", "frames", "frames", [size], {"": 1.2, "give_back": None}),
         "table": lambda level: counted(table, level, "page_bench", "table", "table", [size], {"": 1.2}),

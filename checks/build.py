@@ -13,6 +13,8 @@ nothing is done where these are as they were.
 --products builds all that is installed and all that `make check` needs, side by side, and ends with 'N passed, M failed'. Status 0
 where each FILE was written, else 1.
 """
+from __future__ import annotations
+
 import argparse
 import concurrent.futures
 import copy
@@ -24,6 +26,8 @@ import subprocess
 import sys
 import tempfile
 import typing
+from collections.abc import Iterable, Mapping, Sequence
+from typing import Any
 
 from common import proved
 from common.kit import load_kit
@@ -42,7 +46,7 @@ class Product(typing.NamedTuple):
     file: pathlib.Path
     cpu: str = DEFAULT
 
-    def is_given(self, crate):
+    def is_given(self, crate: Any) -> bool:
         """Whether it was built when it was proved."""
         return not crate.is_static and self.cpu == DEFAULT
 
@@ -57,16 +61,16 @@ PRODUCTS = [
 ]
 
 
-def note_of(product):
+def note_of(product: Product) -> pathlib.Path:
     return product.file.with_name(f"{product.file.name}.of")
 
 
-def rests_on(product, sums):
+def rests_on(product: Product, sums: Mapping[str, str]) -> str:
     """What a product is built of, as a sum."""
     return hashlib.sha256(repr((sums[product.crate], product.cpu)).encode()).hexdigest()
 
 
-def is_built(product, sums):
+def is_built(product: Product, sums: Mapping[str, str]) -> bool:
     """Whether a product was built of these files. Then it counts as new, so that `make` takes it."""
     note = note_of(product)
     if not product.file.is_file() or not note.is_file() or note.read_text(encoding="utf-8") != rests_on(product, sums):
@@ -75,7 +79,7 @@ def is_built(product, sums):
     return True
 
 
-def wanted_of(every, products):
+def wanted_of(every: Mapping[str, Any], products: Iterable[Product]) -> list[str]:
     """The crates that are to be proved before these products are built: what isn't given is proved as it is built."""
     wanted = []
     for it in products:
@@ -84,12 +88,12 @@ def wanted_of(every, products):
     return list(dict.fromkeys(wanted))
 
 
-def prove_kept(names):
+def prove_kept(names: Iterable[str]) -> bool:
     """Proves crates and those below them with a kit that keeps what it proved, and says how far that is."""
     done, said = 0, []
-    words, how = ["rt", "ci", *names], {"cwd": TOP, "stdin": subprocess.DEVNULL, "stdout": subprocess.PIPE, "stderr": subprocess.STDOUT}
-    with subprocess.Popen(words, env={**os.environ, "CI": ""}, text=True, errors="replace", **how) as ran:
-        for line in ran.stdout:
+    how: dict[str, typing.Any] = {"cwd": TOP, "stdin": subprocess.DEVNULL, "stdout": subprocess.PIPE, "stderr": subprocess.STDOUT}
+    with subprocess.Popen(["rt", "ci", *names], env={**os.environ, "CI": ""}, text=True, errors="replace", **how) as ran:
+        for line in ran.stdout or []:
             said.append(line)
             if line.startswith("rt: ") and line.rstrip().endswith(" proved"):
                 done += 1
@@ -98,7 +102,7 @@ def prove_kept(names):
     return ran.returncode == 0
 
 
-def copied(kit, names, room):
+def copied(kit: Any, names: Sequence[str], room: str) -> dict[str, Any]:
     """The crates of a copy of the sources in this folder, by name, with what was proved of these and of the crates below them."""
     kit.copy_crates(str(TOP), room)
     (pathlib.Path(room) / ".git").mkdir()
@@ -113,7 +117,7 @@ def copied(kit, names, room):
     return found
 
 
-def compiled(kit, crate, product):
+def compiled(kit: Any, crate: Any, product: Product) -> str | None:
     """Builds a crate for a processor level, and returns where its program or library lies."""
     level = "" if product.cpu == DEFAULT else f"-{product.cpu}"
     made = f"{crate.folder}/out/{f'lib{crate.name}{level}.a' if crate.is_static else f'{crate.name}{level}'}"
@@ -130,15 +134,15 @@ def compiled(kit, crate, product):
     return None if status else made
 
 
-def put(made, product):
+def put(made: str, product: Product) -> None:
     product.file.parent.mkdir(parents=True, exist_ok=True)
     shutil.copyfile(made, product.file)
     shutil.copymode(made, product.file)
 
 
-def build_over(kit, every, products, sums):
+def build_over(kit: Any, every: Mapping[str, Any], products: Sequence[Product], sums: Mapping[str, str]) -> list[Product]:
     """Builds products side by side over what is proved of these crates. Returns those that were built."""
-    def build(product):
+    def build(product: Product) -> bool:
         made = compiled(kit, every[product.crate], product)
         print(f"{product.crate} for {product.cpu} {'built' if made else 'NOT BUILT'}", flush=True)
         if made:
@@ -150,7 +154,7 @@ def build_over(kit, every, products, sums):
         return [it for it, is_well in zip(products, lane.map(build, products)) if is_well]
 
 
-def build(kit, products):
+def build(kit: Any, products: Sequence[Product]) -> list[Product]:
     """Builds products from what is proved in this tree, or with a kit that keeps what it proved from that. Returns those that are built."""
     every = proved.crates_of(kit)
     sums = proved.sums_of(kit, every.values())
@@ -167,7 +171,7 @@ def build(kit, products):
         return [*there, *build_over(kit, copied(kit, names, f"{room}/repo"), products, sums)]
 
 
-def main():
+def main() -> int:
     options = argparse.ArgumentParser(description=__doc__.splitlines()[0])
     options.add_argument("--products", action="store_true", help="build all that is installed and that `make check` needs")
     options.add_argument("crate", nargs="?")

@@ -9,12 +9,17 @@ where there is one; `headers`, each public header by itself as C and C++; `bench
 A C file that is in no folder of FLAGS has failed, so that none is left out. The objects go to out/builds. What this machine has no
 compiler for is left out, and so said. The last line is `N passed, M failed`, of files (status 0 where none failed, else 1).
 """
+from __future__ import annotations
+
+import argparse
 import concurrent.futures
+import functools
 import os
 import pathlib
 import shutil
 import subprocess
 import sys
+from collections.abc import Callable, Sequence
 
 from common.benches import built_in_c, built_in_rust
 from harness import OUT, TOP, LeftOut, Tally, needs, run
@@ -25,8 +30,9 @@ STRICT = "-std=c11 -O2 -g -Wall -Wextra -Wconversion -Werror -pthread -Iinclude"
 POSIX = ["-D_POSIX_C_SOURCE=200809L"]
 FREESTANDING = "-ffreestanding -fno-pic -fno-stack-protector -fcf-protection=none -mgeneral-regs-only -mno-red-zone".split()
 # How the C files of each folder, or a file, are compiled: the longest path that a file's begins with counts.
-FLAGS = {
-    "benches/": [], "checks/embed/": POSIX, "checks/host/": [], "checks/host/descriptors.c": ["-Ihost"], "examples/": POSIX, "host/": ["-Iwindow", "-Ihost"],
+FLAGS: dict[str, list[str]] = {
+    "benches/": [], "checks/embed/": POSIX, "checks/host/": [], "checks/host/descriptors.c": ["-Ihost"], "checks/host/remote.c": ["-Iwindow", "-Ihost"],
+    "examples/": POSIX, "host/": ["-Iwindow", "-Ihost"],
     "library/": ["-DPAGESHARE_BUILT_LEVEL=2", "-fPIC"], "monitor/": [], "monitor/guest.c": FREESTANDING, "monitor/standin.c": FREESTANDING,
     "packaging/": ['-DPAGESHARE_COMMIT="a commit"', '-DPAGESHARE_KIT="a kit"'], "window/": [],
 }
@@ -38,31 +44,33 @@ COMPILERS = {"gcc": "g++", "clang": "clang++"}
 REGISTRY = pathlib.Path("/usr/share/cargo/registry")
 CRATES = {"hex-0.4.3": "librust-hex-dev", "rayon-1.6.1": "librust-rayon-dev", "sha2-0.10.5": "librust-sha2-dev", "slab-0.4.4": "librust-slab-dev"}
 SECONDS = 300
+# A call of a compiler: a name, and the words.
+Call = tuple[str, Sequence[str]]
 
 
-def made(tally):
+def made(tally: Tally) -> None:
     """What make builds of C."""
     for name in MADE:
         done = run(["make", "--no-print-directory", f"out/{name}"], seconds=2 * SECONDS, cwd=TOP)
         tally.case(f"make out/{name}", [] if done.returncode == 0 else [(done.stdout + done.stderr).decode("utf-8", "replace")[-3000:]])
 
 
-def files_of(*patterns):
+def files_of(*patterns: str) -> list[str]:
     """The files of the tree, also those that aren't committed yet."""
     words = ["git", "ls-files", "-co", "--exclude-standard", "--", *patterns]
     listed = subprocess.run(words, cwd=TOP, capture_output=True, text=True, check=True).stdout.split()
     return sorted(it for it in listed if (TOP / it).is_file())
 
 
-def flags_of(file):
+def flags_of(file: str) -> list[str] | None:
     """How a C file is compiled; None of a file that is in no folder of FLAGS."""
     known = [it for it in FLAGS if file.startswith(it)]
     return FLAGS[max(known, key=len)] if known else None
 
 
-def variants(file, flags):
+def variants(file: str, flags: list[str]) -> dict[str, list[str]]:
     """The names of the ways in which a file is compiled, each with its flags."""
-    ways = {"plain": [], "with sanitizers": SANITIZERS}
+    ways: dict[str, list[str]] = {"plain": [], "with sanitizers": SANITIZERS}
     if flags is FREESTANDING:
         return {"plain": []}
     if file.startswith(RECORDING):
@@ -70,7 +78,7 @@ def variants(file, flags):
     return ways
 
 
-def compiled(compiler, words, name):
+def compiled(compiler: str, words: Sequence[str], name: str) -> list[str]:
     """What a compiler says of what it can't compile; nothing where it can."""
     path = BUILT / f"{name}.o"
     path.parent.mkdir(parents=True, exist_ok=True)
@@ -78,7 +86,7 @@ def compiled(compiler, words, name):
     return [] if done.returncode == 0 else [done.stderr.decode("utf-8", "replace")[:3000] or f"status {done.returncode}"]
 
 
-def compile_all(tally, compiler, calls):
+def compile_all(tally: Tally, compiler: str, calls: Sequence[Call]) -> None:
     """A case for each call: a name, and the words for the compiler. They run side by side."""
     with concurrent.futures.ThreadPoolExecutor(len(os.sched_getaffinity(0))) as lane:
         said = lane.map(lambda call: compiled(compiler, call[1], f"{compiler}/{call[0]}"), calls)
@@ -86,7 +94,7 @@ def compile_all(tally, compiler, calls):
             tally.case(f"{name} by {compiler}", wrong)
 
 
-def sources(tally):
+def sources(tally: Tally) -> None:
     """Each C file by each compiler."""
     files = [(it, flags_of(it)) for it in files_of("*.c")]
     for file, flags in files:
@@ -99,18 +107,18 @@ def sources(tally):
         tally.part(by_compiler, compiler, calls)
 
 
-def by_compiler(tally, compiler, calls):
+def by_compiler(tally: Tally, compiler: str, calls: Sequence[Call]) -> None:
     needs(f"all of C by {compiler}", compiler)
     compile_all(tally, compiler, calls)
 
 
-def headers(tally):
+def headers(tally: Tally) -> None:
     """Each public header, alone, as C and as C++."""
     for compiler, other in COMPILERS.items():
         tally.part(headers_by, compiler, other)
 
 
-def headers_by(tally, compiler, other):
+def headers_by(tally: Tally, compiler: str, other: str) -> None:
     needs(f"the headers by {compiler} and {other}", compiler, other)
     names = files_of("include/*.h")
     # (twice, as programs may)
@@ -120,7 +128,7 @@ def headers_by(tally, compiler, other):
     compile_all(tally, other, [(f"{it}, as C++", [*words, *twice[it], "-x", "c++", os.devnull]) for it in names])
 
 
-def built(tally, name, call):
+def built(tally: Tally, name: str, call: Callable[[], object]) -> None:
     """A case: a program that is built, or what its compiler said."""
     try:
         call()
@@ -129,31 +137,32 @@ def built(tally, name, call):
         tally.case(name, [str(failure.stderr)[-3000:]])
 
 
-def benches(tally):
+def benches(tally: Tally) -> None:
     """The benchmarks that link the library, in C; and those in Rust."""
     tally.part(benches_in_c)
     tally.part(benches_in_rust)
     tally.part(opponents)
 
 
-def benches_in_c(tally):
+def benches_in_c(tally: Tally) -> None:
     needs("the benchmarks in C", "cc")
     library = OUT / "libpageshare.a"
     for file in files_of("benches/*.c"):
         name = pathlib.Path(file).stem
-        built(tally, f"{file}, linked", lambda name=name: built_in_c(name, library, "-pthread", "-Wall", "-Wextra", "-Wconversion", "-Werror"))
+        flags = ["-pthread", "-Wall", "-Wextra", "-Wconversion", "-Werror"]
+        built(tally, f"{file}, linked", functools.partial(built_in_c, name, library, *flags))
 
 
-def benches_in_rust(tally):
+def benches_in_rust(tally: Tally) -> None:
     needs("the benchmarks in Rust", "rustc")
     in_package = (TOP / "benches/Cargo.toml").read_text()
     for file in files_of("benches/*.rs"):
         name = pathlib.Path(file).stem
         if f'"{name}.rs"' not in in_package and (TOP / f"benches/{name}.c").exists() or name == "lend":
-            built(tally, f"{file}, built", lambda name=name: built_in_rust(name))
+            built(tally, f"{file}, built", functools.partial(built_in_rust, name))
 
 
-def opponents(tally):
+def opponents(tally: Tally) -> None:
     """The Cargo package of benches/, over Debian's crates."""
     needs("the package of benches/", "cargo")
     for crate, package in CRATES.items():
@@ -171,15 +180,17 @@ def opponents(tally):
 PARTS = {"made": made, "sources": sources, "headers": headers, "benches": benches}
 
 
-def main(words):
-    if [it for it in words if it not in PARTS]:
-        print(__doc__, file=sys.stderr)
-        return 2
-    tally = Tally()
-    for name in words or PARTS:
+def main() -> int:
+    options = argparse.ArgumentParser(description=__doc__.splitlines()[0])
+    options.add_argument("parts", metavar="PART", nargs="*", help=", ".join(PARTS))
+    parts, tally = options.parse_args().parts, Tally()
+    for name in parts:
+        if name not in PARTS:
+            options.error(f"there is no part {name}: {', '.join(PARTS)}")
+    for name in parts or PARTS:
         tally.part(PARTS[name])
     return tally.close()
 
 
 if __name__ == "__main__":
-    sys.exit(main(sys.argv[1:]))
+    sys.exit(main())

@@ -11,9 +11,13 @@ fault (common/faults.py), and each front of a journal and of a script; texts tha
 outputs that take nothing, too little memory, no room for a thread's stack; texts of many requests; words that are no command line,
 help and the version; estimates of small images; digests of small images and of a process beside a count in Python; the numbers of
 digests merged, and what each two of their guests have in common; each cause for which there are none of these; and what a terminal
-is told.
+shows.
 """
+from __future__ import annotations
+
+import argparse
 import os
+import pathlib
 import sys
 
 from command_cases import digest, estimate, fleet, processes, texts, words
@@ -22,7 +26,7 @@ from command_cases.subject import Subject
 from harness import PROGRAM, Tally, new_folder
 
 
-def of_texts(subject, folder):
+def of_texts(subject: Subject, folder: pathlib.Path) -> None:
     """The commands that read a journal or a script."""
     texts.journals(subject)
     texts.many_requests(subject)
@@ -35,18 +39,20 @@ def of_texts(subject, folder):
     runs.progress_of_a_long_run(subject)
 
 
-def of_words(subject):
+def of_words(subject: Subject) -> None:
     """Words that name no command."""
     words.command_lines(subject)
     words.version(subject)
 
 
-def of_estimates(subject, folder):
+def of_estimates(subject: Subject, folder: pathlib.Path) -> None:
     """`estimate` of images and processes."""
     estimate.numbers(subject, folder)
     estimate.tables(subject)
     estimate.broken_images(subject, folder)
     estimate.pictures(subject, folder)
+    estimate.amounts(subject, folder)
+    estimate.large(subject, folder)
     estimate.bad_paths(subject, folder)
     estimate.too_much(subject, folder)
     estimate.command_line(subject, folder)
@@ -54,20 +60,24 @@ def of_estimates(subject, folder):
     processes.estimates(subject, folder)
 
 
-def of_digests(subject, folder):
+def of_digests(subject: Subject, folder: pathlib.Path) -> None:
     """`digest` of images and of a process."""
     digest.digests(subject, folder)
+    digest.large(subject, folder)
     digest.cores(subject, folder)
     digest.bad_inputs(subject, folder)
     digest.command_line(subject, folder)
     processes.digests(subject)
 
 
-def of_fleets(subject, folder):
+def of_fleets(subject: Subject, folder: pathlib.Path) -> None:
     """`fleet` of digests."""
     fleet.tables(subject, folder)
     fleet.numbers(subject, folder)
     fleet.pairs(subject, folder)
+    fleet.many_pairs(subject, folder)
+    fleet.extremes(subject, folder)
+    fleet.large(subject, folder)
     fleet.by_host(subject, folder)
     fleet.bad_inputs(subject, folder)
     fleet.too_many(subject, folder)
@@ -76,8 +86,10 @@ def of_fleets(subject, folder):
     fleet.progress_of_slow_reads(subject, folder)
 
 
-def main(program=PROGRAM):
-    tally = Tally()
+def main() -> int:
+    options = argparse.ArgumentParser(description=__doc__.splitlines()[0])
+    options.add_argument("program", metavar="PROGRAM", nargs="?", default=PROGRAM)
+    program, tally = options.parse_args().program, Tally()
     # (absolute, since some cases run in other folders)
     subject = Subject(os.path.abspath(program), tally)
     of_words(subject)
@@ -88,4 +100,4 @@ def main(program=PROGRAM):
 
 
 if __name__ == "__main__":
-    sys.exit(main(*sys.argv[1:2]))
+    sys.exit(main())

@@ -7,6 +7,10 @@ KSM merges a second where it may be asked.
 
 LIBRARY is libpageshare.a, by default out/libpageshare.a. Needs cc and rustc. Nothing else may run meanwhile.
 """
+from __future__ import annotations
+
+import argparse
+import pathlib
 import sys
 
 from common.benches import built_in_c, built_in_rust, must
@@ -14,7 +18,10 @@ from common.ksm import merged_a_second
 from harness import OUT
 
 
-def main(library=OUT / "libpageshare.a"):
+def main() -> int:
+    options = argparse.ArgumentParser(description=__doc__.splitlines()[0])
+    options.add_argument("library", metavar="LIBRARY", nargs="?", type=pathlib.Path, default=OUT / "libpageshare.a")
+    library = options.parse_args().library
     ours, plain = built_in_c("domain", library, "-pthread"), built_in_rust("domain")
     print(must([ours]))
     print(f"plain Rust: lend that joins {must([plain])} ns")
@@ -23,4 +30,4 @@ def main(library=OUT / "libpageshare.a"):
 
 
 if __name__ == "__main__":
-    sys.exit(main(*sys.argv[1:2]))
+    sys.exit(main())

@@ -357,9 +357,9 @@ class Trial:
         elif not said.was_judged:
             self.tell(edit.name, False, f"BAD EDIT: it did not reach the prover: {said.lines[:3]}")
         elif said.refused:
-            self.tell(edit.name, True, said.reason(said.refused))
+            self.tell(edit.name, True, said.reason(said.refused, said.errors()))
         else:
-            self.tell(edit.name, False, f"NOT REFUSED: no function is refused by itself: {said.first_error()}")
+            self.tell(edit.name, False, f"NOT REFUSED: no function is refused by itself: {next(iter(said.errors()), '')}")
 
 
 class Said:
@@ -383,16 +383,17 @@ class Said:
                 if has_more or self.own_error(path) or found[2] == "not proved" and not calls_one:
                     self.refused[path] = line
 
-    def first_error(self, below="proofs/"):
-        return next((it for it in self.lines if it.removeprefix("./").startswith(below) and ": error" in it), "")
+    def errors(self, below="proofs/"):
+        return [it for it in self.lines if it.removeprefix("./").startswith(below) and ": error" in it]
 
     def own_error(self, path):
-        return self.first_error(f"proofs/{'/'.join(path)}/")
+        return next(iter(self.errors(f"proofs/{'/'.join(path)}/")), "")
 
-    def reason(self, paths):
-        """That these functions are refused, with the first error that says something of a contract."""
+    def reason(self, paths, elsewhere=()):
+        """That these functions are refused, with the first error that says something of a contract: of their own proofs, or of one that
+        they cite."""
         errors = [self.own_error(path) or self.refused[path] for path in paths]
-        first = next((it for it in errors if not NAMES.match(it)), "")
+        first = next((it for it in [*errors, *elsewhere] if not NAMES.match(it)), "")
         if not first:
             return (
                 "refused, as it must be (only because a proof file names what the edit took away, so this says little of the"

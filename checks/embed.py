@@ -13,21 +13,25 @@ them, and the output says so. Prints how many journals and lines were compared a
 that differs, which it leaves at out/embed/differs.journal. The last line is `N passed, M failed`, of journals (status 0 where all
 passed, else 1).
 """
+from __future__ import annotations
+
+import argparse
 import collections
 import random
 import sys
+from collections.abc import Iterable, Iterator, Mapping, Sequence
 
 from common.random_texts import header, journal, request, shape, text_of
-from harness import OUT, PROGRAM, Tally, leave, run
+from harness import OUT, PROGRAM, StrPath, Tally, leave, run
 
-PROGRAMS = {
+PROGRAMS: dict[str, list[StrPath]] = {
     "pageshare replay": [PROGRAM, "replay"],
     "C": [OUT / "embed/journal"],
     "Rust": [OUT / "embed/cargo/release/examples/journal"],
 }
 
 # the same, with frames in a region
-IN_REGION = {
+IN_REGION: dict[str, list[StrPath]] = {
     "C, in a region": [*PROGRAMS["C"], "region"],
     "Rust, in a region": [*PROGRAMS["Rust"], "region"],
 }
@@ -35,14 +39,14 @@ IN_REGION = {
 SALTED = "pageshare journal 2\nframes 1\npages 1\nsalts 1\nend 0\n"
 
 
-def replay(words, text):
+def replay(words: Sequence[StrPath], text: str) -> str:
     """What a program writes of a text, or how it ended."""
     done = run(words, text)
     output = done.stdout.decode("utf-8", "replace")
     return output if done.returncode == 0 else f"status {done.returncode}: {output}{done.stderr.decode('utf-8', 'replace')}"
 
 
-def whole_request(rng, pages, kinds=(10, 45, 25, 20)):
+def whole_request(rng: random.Random, pages: Sequence[int], kinds: Sequence[int] = (10, 45, 25, 20)) -> str:
     """A request of a whole page, or one of the others."""
     guest = rng.randrange(len(pages))
     ppn = rng.randrange(pages[guest] + (rng.random() < 0.05))
@@ -55,7 +59,7 @@ def whole_request(rng, pages, kinds=(10, 45, 25, 20)):
     return f"{guest} {kind} {ppn} {page.hex()}"
 
 
-def whole_requests(rng, pages):
+def whole_requests(rng: random.Random, pages: Sequence[int]) -> list[str]:
     """Requests of whole pages, among them lists of lends."""
     lines = []
     for _ in range(rng.choice([5, 15, 30])):
@@ -65,7 +69,7 @@ def whole_requests(rng, pages):
     return lines
 
 
-def meant_by(line, verdict):
+def meant_by(line: str, verdict: str) -> list[str]:
     """The requests that a line stands for, given the verdict that it got: a lend whose stores were refused proposes nothing."""
     guest, kind, *rest = line.split()
     if kind == "take-back":
@@ -77,7 +81,7 @@ def meant_by(line, verdict):
     return [*stores, f"{guest} propose {rest[0]}"] if proposes else stores
 
 
-def verdict_among(line, answers):
+def verdict_among(line: str, answers: Sequence[str]) -> str:
     """The verdict of a line by those of the requests that it stands for, whose later stores follow from the first."""
     stores = [it.split()[1] for it in answers[:64]]
     refused = stores[0] in ("no-page", "no-frame")
@@ -89,10 +93,10 @@ def verdict_among(line, answers):
 class Pages:
     """The bytes last stored to each page."""
 
-    def __init__(self):
-        self.pages = {}
+    def __init__(self) -> None:
+        self.pages: dict[tuple[str, str], str] = {}
 
-    def follow(self, line, verdict):
+    def follow(self, line: str, verdict: str) -> None:
         guest, kind, *rest = line.split()
         if verdict in ("no-page", "no-frame"):
             return
@@ -105,7 +109,7 @@ class Pages:
             self.pages.pop((guest, rest[0]), None)
 
 
-def split_written(lines, written):
+def split_written(lines: Iterable[str], written: str) -> tuple[list[tuple[str, str]], list[str]]:
     """The verdict of each line and what it took back, and the report at the end."""
     answers, rest = [], written.splitlines()
     for line in lines:
@@ -116,7 +120,7 @@ def split_written(lines, written):
     return answers, rest
 
 
-def whole_pages_differ(rng, verdicts):
+def whole_pages_differ(rng: random.Random, verdicts: collections.Counter[str]) -> tuple[str, str]:
     """What is wrong with one journal of whole pages, if anything, with its text."""
     frames, pages, salts = shape(rng)
     head = header("journal", True, frames, pages, salts)
@@ -142,17 +146,17 @@ def whole_pages_differ(rng, verdicts):
     return ("", text) if meant == report else (f"the reports differ: {report} and {meant}", text)
 
 
-def journal_faults(text, written):
+def journal_faults(text: str, written: Mapping[str, str]) -> Iterator[str]:
     """What is wrong with what each way wrote of a journal, if anything."""
     if len(set(written.values())) != 1 or "report" not in written["C"]:
         yield f"it differs; it is at {leave('embed/differs.journal', text)}"
         yield from (f"by {name}:\n{lines}" for name, lines in written.items())
 
 
-def small_requests(tally, rng, count, seed):
+def small_requests(tally: Tally, rng: random.Random, count: int, seed: int) -> None:
     """Random journals by each way, up to the first that differs."""
     knows_salts, unknown = replay(PROGRAMS["pageshare replay"], SALTED).startswith("report"), 0
-    verdicts = collections.Counter()
+    verdicts: collections.Counter[str] = collections.Counter()
     for nth in range(count):
         text = journal(rng)
         is_unknown = not knows_salts and text.startswith("pageshare journal 2")
@@ -168,9 +172,9 @@ def small_requests(tally, rng, count, seed):
     print(", ".join(f"{verdict} {times}" for verdict, times in sorted(verdicts.items())))
 
 
-def whole_pages(tally, rng, count, seed):
+def whole_pages(tally: Tally, rng: random.Random, count: int, seed: int) -> None:
     """Random journals of whole pages by each way, up to the first that differs."""
-    verdicts = collections.Counter()
+    verdicts: collections.Counter[str] = collections.Counter()
     for nth in range(count):
         wrong, text = whole_pages_differ(rng, verdicts)
         faults = [f"{wrong}; it is at {leave('embed/differs.journal', text)}"] if wrong else []
@@ -180,13 +184,17 @@ def whole_pages(tally, rng, count, seed):
     print(", ".join(f"{verdict} {times}" for verdict, times in sorted(verdicts.items())))
 
 
-def main(count="1000", seed="1"):
-    tally, rng = Tally(), random.Random(int(seed))
-    small_requests(tally, rng, int(count), seed)
+def main() -> int:
+    options = argparse.ArgumentParser(description=__doc__.splitlines()[0])
+    options.add_argument("count", metavar="COUNT", nargs="?", type=int, default=1000)
+    options.add_argument("seed", metavar="SEED", nargs="?", type=int, default=1)
+    given = options.parse_args()
+    tally, rng = Tally(), random.Random(given.seed)
+    small_requests(tally, rng, given.count, given.seed)
     if not tally.failed:
-        whole_pages(tally, rng, int(count), seed)
+        whole_pages(tally, rng, given.count, given.seed)
     return tally.close()
 
 
 if __name__ == "__main__":
-    sys.exit(main(*sys.argv[1:3]))
+    sys.exit(main())

@@ -9,10 +9,15 @@ For each few it compares the object of `--json`, the whole table in MiB and in p
 XML. PROGRAM is by default out/pageshare (`make build`). Nothing is built here. Prints each difference, and at the end
 `N passed, M failed`, of images (status 0 where all passed, else 1).
 """
+from __future__ import annotations
+
+import argparse
 import json
+import pathlib
 import random
 import sys
 import xml.dom.minidom
+from collections.abc import Iterator, Sequence
 
 from common import plain_estimate, plain_fleet, plain_table
 from common.plain_images import pages_of_image
@@ -22,7 +27,7 @@ from harness import PROGRAM, Tally, new_folder, parting, run, wrong_end
 UNITS = ("pages", "mib")
 
 
-def table_faults(text, due, unit):
+def table_faults(text: str, due: plain_fleet.Numbers, unit: str) -> Iterator[str]:
     """What is wrong with a table."""
     if sum(due["total"]["parts"].values()) != due["total"]["reclaimed"]:
         yield f"the parts of {due['total']} don't add up"
@@ -32,7 +37,7 @@ def table_faults(text, due, unit):
     yield from [f"{line!r} is printed, and {one!r} was due" for line, one in zip(lines, wanted) if line != one][:5]
 
 
-def written(draw, folder, images):
+def written(draw: random.Random, folder: pathlib.Path, images: list[bytes]) -> tuple[list[str], list[bytes]]:
     """The images as files, now and then one of them twice: their paths, and each one's bytes."""
     names = []
     for n, data in enumerate(images):
@@ -46,13 +51,13 @@ def written(draw, folder, images):
     return names, images
 
 
-def object_faults(program, words, due):
+def object_faults(program: str, words: Sequence[str], due: plain_fleet.Numbers) -> Iterator[str]:
     """What is wrong with the object of `--json`."""
     wanted = json.dumps(due, separators=(",", ":"), ensure_ascii=False) + "\n"
     yield from wrong_end(run([program, "estimate", "--json", *words]), 0, wanted, "")
 
 
-def shown_faults(program, words, due, picture):
+def shown_faults(program: str, words: Sequence[str], due: plain_fleet.Numbers, picture: pathlib.Path) -> Iterator[str]:
     """What is wrong with the tables, and with the names in the picture."""
     for unit in UNITS:
         done = run([program, "estimate", "--unit", unit, "--svg", picture, *words])
@@ -66,7 +71,7 @@ def shown_faults(program, words, due, picture):
         yield f"the picture's names are others: {parting(titles[1:], names)}"
 
 
-def faults_of(draw, program, folder, images):
+def faults_of(draw: random.Random, program: str, folder: pathlib.Path, images: list[bytes]) -> Iterator[str]:
     """What is wrong with the estimates of these images."""
     names, images = written(draw, folder, images)
     is_raw = draw.randrange(5) == 0
@@ -78,16 +83,21 @@ def faults_of(draw, program, folder, images):
     yield from shown_faults(program, words, due, folder / "picture.svg")
 
 
-def main(count="1000", seed="1", program=PROGRAM):
-    draw, tally, made = random.Random(int(seed)), Tally(), 0
+def main() -> int:
+    options = argparse.ArgumentParser(description=__doc__.splitlines()[0])
+    options.add_argument("count", metavar="COUNT", nargs="?", type=int, default=1000)
+    options.add_argument("seed", metavar="SEED", nargs="?", type=int, default=1)
+    options.add_argument("program", metavar="PROGRAM", nargs="?", default=PROGRAM)
+    given = options.parse_args()
+    draw, tally, made = random.Random(given.seed), Tally(), 0
     pool = [draw.randbytes(plain_fleet.PAGE) for _ in range(6)]
-    while made < int(count):
-        images = [random_image(draw, pool) for _ in range(min(int(count) - made, draw.randrange(1, 6)))]
+    while made < given.count:
+        images = [random_image(draw, pool) for _ in range(min(given.count - made, draw.randrange(1, 6)))]
         with new_folder() as folder:
-            tally.case(f"after {made} images of seed {seed}", faults_of(draw, program, folder, images), len(images))
+            tally.case(f"after {made} images of seed {given.seed}", faults_of(draw, given.program, folder, images), len(images))
         made += len(images)
     return tally.close()
 
 
 if __name__ == "__main__":
-    sys.exit(main(*sys.argv[1:4]))
+    sys.exit(main())

@@ -9,33 +9,45 @@ packages aren't at hand, the cases of these are left out, and the output says so
 
 The cases, which follow from SEED, by default 1: random fleets with several salts, samples and digests without lines, and what each
 two of their guests have in common (`fleet --pairs`), by host, and with lists of hosts; plans for fleets of up to 8 guests
-(fleet/place.py) beside all placements, and what `fleet --hosts` counts of them; 200 digests at once, whole and sampled, and their pairs; broken digests, each
+(fleet/place.py) beside all placements, and what `fleet --hosts` counts of them; its bounds and its search beside all placements
+(common/small_fleets.py); 200 digests at once, whole and sampled, and their pairs; broken digests, each
 with its first line at fault; that at least 90 of 100 true numbers of 200 random fleets lie within two standard errors of what one
 content in 16 tells; the example fleet's digests beside its images; random images through `digest` and `fleet` beside `estimate`;
 and the memory that `fleet` takes for 5 million lines. Prints what went wrong, and at the end `N passed, M failed` (status 0 where
 all passed, else 1).
 """
+from __future__ import annotations
+
+import argparse
 import collections
 import contextlib
 import json
+import pathlib
 import random
 import re
 import subprocess
 import sys
 import time
+from collections.abc import Callable, Iterable, Iterator, Sequence
+from typing import Any
 
 from common import plain_fleet, plain_place, plain_table
 from common.plain_images import pages_of_bytes, pages_of_image
 from common.random_images import random_image
-from harness import PROGRAM, TOP, LeftOut, Tally, new_folder, run, wrong_end
+from harness import PROGRAM, TOP, Done, LeftOut, Tally, new_folder, run, wrong_end
 
 sys.path.insert(0, str(TOP / "examples"))
 import make_fleet  # noqa: E402
 
-FLEET = TOP / "fleet"
+FLEET, SMALL_FLEETS = TOP / "fleet", TOP / "checks" / "common" / "small_fleets.py"
 SECONDS = 300
+# What must hold of a placement; and a fleet's sample, the texts of its digests, and what is due of them.
+Rule = Callable[[plain_place.Place], bool]
+Fleet = tuple[int, list[str], plain_fleet.Numbers]
 MOST_MEMORY = 64 << 20
 BIG_LINES = 5_000_000
+# So many small fleets are bounded and searched.
+BOUNDED = 40
 # What each cause is called in sentences.
 CAUSES = {
     "form": "give six fields of their form", "head": "begin with the line", "guest": "repeat the guest", "order": "give each digest once",
@@ -64,14 +76,14 @@ print(os.waitstatus_to_exitcode(status), used.ru_maxrss, file=sys.stderr)
 class Ways:
     """What tells the numbers of digests: each way's name, and the words that the paths come after."""
 
-    def __init__(self, program):
+    def __init__(self, program: str) -> None:
         self.program = program
         self.commands = {word for word in ("digest", "fleet", "estimate") if self.has(word)}
-        self.words = {"fleet.sql": [sys.executable, FLEET / "fleet_sqlite.py"]}
+        self.words: dict[str, list[object]] = {"fleet.sql": [sys.executable, FLEET / "fleet_sqlite.py"]}
         if "fleet" in self.commands:
             self.words["pageshare fleet"] = [program, "fleet", "--json"]
 
-    def has(self, command):
+    def has(self, command: str) -> bool:
         """Whether the program has this command."""
         try:
             return run([self.program, command, "--help"]).returncode == 0
@@ -79,12 +91,12 @@ class Ways:
             return False
 
 
-def ran(words, **how):
+def ran(words: Iterable[object], **how: Any) -> Done:
     """How a way ends."""
     return run(words, seconds=SECONDS, **how)
 
 
-def written(folder, texts):
+def written(folder: pathlib.Path, texts: Sequence[str]) -> list[pathlib.Path]:
     """The texts as files, and their paths."""
     paths = [folder / f"{number}.csv" for number in range(len(texts))]
     for path, text in zip(paths, texts):
@@ -92,7 +104,7 @@ def written(folder, texts):
     return paths
 
 
-def differences(given, due, name=""):
+def differences(given: Any, due: Any, name: str = "") -> Iterator[str]:
     """Where two objects differ."""
     if isinstance(due, dict) and isinstance(given, dict):
         for key in sorted(given.keys() | due.keys()):
@@ -107,19 +119,21 @@ def differences(given, due, name=""):
         yield f"{name} is {str(given)[:200]}, and {str(due)[:200]} was due"
 
 
-def merge_faults(words, paths, due):
+def merge_faults(words: Sequence[object], paths: Sequence[object], due: plain_fleet.Numbers) -> Iterator[str]:
     """What is wrong with the numbers that are told of some digests."""
     done = ran([*words, *paths])
     wrong = list(wrong_end(done, 0, None, ""))
     yield from wrong or list(differences(json.loads(done.stdout), due))[:5]
 
 
-def due_of(way, due):
+def due_of(way: str, due: plain_fleet.Numbers) -> plain_fleet.Numbers:
     """What is due of a way: SQL has no numbers by host."""
     return {name: due[name] for name in due if way != "fleet.sql" or name not in ("hosts", "on_hosts")}
 
 
-def listed_faults(draw, program, folder, paths, texts):
+def listed_faults(
+    draw: random.Random, program: str, folder: pathlib.Path, paths: Sequence[pathlib.Path], texts: Sequence[str],
+) -> Iterator[str]:
     """What is wrong with the numbers by host, where a list says which host some guests are on."""
     names = sorted({row[0] for text in texts for row in plain_fleet.rows_of(text)})
     listed = {name: f"rack-{draw.randrange(3)}" for name in names if draw.randrange(4)}
@@ -131,14 +145,16 @@ def listed_faults(draw, program, folder, paths, texts):
     yield from wrong_end(done, 0, plain_table.table_text(due), "")
 
 
-def table_faults(program, paths, due):
+def table_faults(program: str, paths: Sequence[pathlib.Path], due: plain_fleet.Numbers) -> Iterator[str]:
     """What is wrong with the tables of some digests."""
     for unit in ("mib", "pages"):
         done = ran([program, "fleet", "--unit", unit, *paths])
         yield from (f"in {unit}: {what}" for what in wrong_end(done, 0, plain_table.table_text(due, unit), ""))
 
 
-def pairs_faults(program, folder, paths, texts, due):
+def pairs_faults(
+    program: str, folder: pathlib.Path, paths: Sequence[pathlib.Path], texts: Sequence[str], due: plain_fleet.Numbers,
+) -> Iterator[str]:
     """What is wrong with what is told of each two of some digests, and with the numbers beside it."""
     pairs = folder / "pairs.csv"
     yield from merge_faults([program, "fleet", "--json", "--pairs", pairs], paths, due)
@@ -149,12 +165,12 @@ def pairs_faults(program, folder, paths, texts, due):
     yield from [f"{one!r} is told, and {other!r} was due" for one, other in zip(given, lines) if one != other][:5]
 
 
-def random_copies(draw, pool, most):
+def random_copies(draw: random.Random, pool: Sequence[str], most: int) -> dict[str, int]:
     """How many copies a guest has of some contents of the pool."""
     return {word: draw.choice([1, 1, 1, 2, 3, 50]) for word in draw.sample(pool, draw.randrange(most))}
 
 
-def random_texts(draw, count, sample, most):
+def random_texts(draw: random.Random, count: int, sample: int, most: int) -> list[str]:
     """The digests of a random fleet: of two salts, some without zeros, and now and then one without lines."""
     pools = {salt: [draw.randbytes(16).hex() for _ in range(2 * most)] for salt in (0, 4294967295)}
     texts = []
@@ -169,7 +185,7 @@ def random_texts(draw, count, sample, most):
     return texts
 
 
-def random_fleets(tally, draw, ways):
+def random_fleets(tally: Tally, draw: random.Random, ways: Ways) -> None:
     """The numbers, the pairs and the tables of random fleets, by each way that has them."""
     for number in range(20):
         sample = draw.choice([1, 1, 2, 16, 65536])
@@ -185,7 +201,7 @@ def random_fleets(tally, draw, ways):
                 tally.case(f"{name}, a list of hosts", listed_faults(draw, ways.program, folder, paths, texts))
 
 
-def python_with_scipy():
+def python_with_scipy() -> str:
     """A Python that has numpy and scipy."""
     for python in (sys.executable, "/usr/bin/python3"):
         with contextlib.suppress(OSError):
@@ -194,7 +210,7 @@ def python_with_scipy():
     raise LeftOut("the cases of fleet/place.py, since python3-numpy and python3-scipy aren't at hand")
 
 
-def random_place(draw):
+def random_place(draw: random.Random) -> tuple[list[str], list[str], dict[str, int], plain_place.Place]:
     """A fleet of up to 8 guests on 2 or 3 hosts: its digests' texts, the hosts, their memory, and where the guests are."""
     sample, hosts = draw.choice([1, 1, 16]), ["a", "b", "c"][: draw.choice([2, 3])]
     pool = [draw.randbytes(14).hex() + "0000" for _ in range(60)]
@@ -210,18 +226,22 @@ def random_place(draw):
     return texts, hosts, memory, start
 
 
-def random_rules(draw, folder, names, start):
+def random_rules(
+    draw: random.Random, folder: pathlib.Path, names: list[str], start: plain_place.Place,
+) -> tuple[list[object], list[Rule], list[tuple[str, str]]]:
     """What must hold of a plan, at random: words for place.py, rules for a placement, and pairs of guests that may not be together."""
-    words, rules, rivals = [], [], []
+    words: list[object] = []
+    rules: list[Rule] = []
+    rivals: list[tuple[str, str]] = []
 
-    def add(option, text, rule):
+    def add(option: str, text: str, rule: Rule) -> None:
         (folder / f"{option}.csv").write_text(text)
         words.extend([f"--{option}", folder / f"{option}.csv"])
         rules.append(rule)
 
     if draw.randrange(2):
         add("apart", f"{names[0]},{names[1]}\n", lambda place: place[names[0]] != place[names[1]])
-        rivals.append(names[:2])
+        rivals.append((names[0], names[1]))
     if draw.randrange(3) == 0:
         add("together", f"{names[1]},{names[2]}\n", lambda place: place[names[1]] == place[names[2]])
     if draw.randrange(3) == 0:
@@ -233,7 +253,7 @@ def random_rules(draw, folder, names, start):
     return words, rules, rivals
 
 
-def place_faults(draw, python, ways, folder):
+def place_faults(draw: random.Random, python: str, ways: Ways, folder: pathlib.Path) -> Iterator[str]:
     """What is wrong with the plan of a small fleet, beside all placements."""
     texts, hosts, memory, start = random_place(draw)
     fleet, paths = plain_place.Fleet(texts, hosts, memory), written(folder, texts)
@@ -242,21 +262,26 @@ def place_faults(draw, python, ways, folder):
     spare = draw.choice([None, None, 0, 1])
     words += ["--memory", folder / "memory.csv", *([] if spare is None else ["--spare", spare])]
     room, plan = None if spare is None else 256 * spare, folder / "plan.csv"
-    holds = lambda place: fleet.has_room(place, room) and all(rule(place) for rule in rules)
+
+    def holds(place: plain_place.Place) -> bool:
+        return fleet.has_room(place, room) and all(rule(place) for rule in rules)
+
     best = fleet.best(start, holds, room or 0, rivals)
     done = ran([python, FLEET / "place.py", "--json", "--seconds", 4, "--plan", plan, *words, *paths])
     if best is None:
         if done.returncode != 1 or done.stdout:
-            yield f"no placement holds, and {done.stdout[:200]} is printed"
+            yield f"no placement holds, and {done.stdout[:200]!r} is printed"
     elif done.returncode:
-        yield f"status {done.returncode}, {done.stderr[-300:]}"
+        yield f"status {done.returncode}, {done.stderr[-300:]!r}"
     else:
         yield from plan_faults(fleet, json.loads(done.stdout), start, holds, best, room or 0)
         if "pageshare fleet" in ways.words:
             yield from counted_faults(ways, plan, paths, json.loads(done.stdout))
 
 
-def plan_faults(fleet, found, start, holds, best, spare):
+def plan_faults(
+    fleet: plain_place.Fleet, found: plain_fleet.Numbers, start: plain_place.Place, holds: Rule, best: int, spare: int,
+) -> Iterator[str]:
     """What is wrong with a plan, where the best needs so many frames."""
     place = {one["guest"]: one["host"] for one in found["guests"]}
     if not holds(place):
@@ -270,24 +295,26 @@ def plan_faults(fleet, found, start, holds, best, spare):
     yield from plain_place.order_faults(fleet, start, found, spare)
 
 
-def counted_faults(ways, plan, paths, found):
+def counted_faults(ways: Ways, plan: pathlib.Path, paths: Sequence[pathlib.Path], found: plain_fleet.Numbers) -> Iterator[str]:
     """What is wrong with what the program counts of a plan."""
     done = ran([*ways.words["pageshare fleet"], "--hosts", plan, *paths])
     counted = json.loads(done.stdout) if done.returncode == 0 else {}
     frames = counted.get("on_hosts", counted.get("total", {})).get("frames")
     if frames != found["after"]["frames"]:
-        yield f"the program counts {frames} frames of the plan ({done.stderr[-200:]}), and {found['after']} is printed"
+        yield f"the program counts {frames} frames of the plan ({done.stderr[-200:]!r}), and {found['after']} is printed"
 
 
-def places(tally, draw, ways):
+def places(tally: Tally, draw: random.Random, ways: Ways) -> None:
     """Plans for small fleets, beside all placements and what the program counts of them."""
     python = python_with_scipy()
     for number in range(25):
         with new_folder() as folder:
             tally.case(f"a plan for small fleet {number}", place_faults(draw, python, ways, folder))
+    # (bounds and search beside all placements)
+    tally.ends("bounds and search", ran([python, SMALL_FLEETS, BOUNDED, draw.randrange(1000)]), 0, "", "")
 
 
-def python_with_dask():
+def python_with_dask() -> str:
     """A Python that has Dask's packages."""
     for python in (sys.executable, "/usr/bin/python3"):
         with contextlib.suppress(OSError):
@@ -297,7 +324,7 @@ def python_with_dask():
 
 
 @contextlib.contextmanager
-def scheduler(python, folder):
+def scheduler(python: str, folder: pathlib.Path) -> Iterator[str]:
     """A scheduler and two workers, and the scheduler's address. They end with the case, or else by themselves."""
     told, bounds = folder / "scheduler.json", ["timeout", str(2 * SECONDS), python, "-m"]
     host = ["--host", "127.0.0.1", "--no-dashboard", "--scheduler-file", told]
@@ -317,7 +344,7 @@ def scheduler(python, folder):
             process.wait(30)
 
 
-def at_once(tally, draw, ways):
+def at_once(tally: Tally, draw: random.Random, ways: Ways) -> list[Fleet]:
     """200 digests at once, whole and sampled, by each way but Dask. Returns the texts and what is due of them."""
     fleets = []
     for sample in (1, 16):
@@ -333,7 +360,7 @@ def at_once(tally, draw, ways):
     return fleets
 
 
-def by_dask(tally, fleets):
+def by_dask(tally: Tally, fleets: Sequence[Fleet]) -> None:
     """The same 200 digests by Dask, and broken digests."""
     python = python_with_dask()
     with new_folder() as folder, scheduler(python, folder) as address:
@@ -347,17 +374,18 @@ def by_dask(tally, fleets):
         read_by_workers(tally, python, folder)
 
 
-def table_of_contents_faults(python, words, folder, texts):
+def table_of_contents_faults(python: str, words: Sequence[object], folder: pathlib.Path, texts: Sequence[str]) -> Iterator[str]:
     """Where a plan that place.py makes of Dask's table and one that it makes of the digests differ."""
     texts = [text for text in texts if plain_fleet.rows_of(text)]
     paths, table = written(folder, texts), folder / "contents.csv"
     yield from wrong_end(ran([*words, "--contents", table, *paths]), 0, None, "")
-    plans = [ran([python, FLEET / "place.py", "--json", "--moves", 0, *own]) for own in (["--contents", table], paths)]
+    both: list[list[object]] = [["--contents", table], [*paths]]
+    plans = [ran([python, FLEET / "place.py", "--json", "--moves", 0, *own]) for own in both]
     one, other = (json.loads(done.stdout) if done.returncode == 0 else {"fault": str(done.stderr)} for done in plans)
     yield from differences(one, {**other, "guests": one.get("guests")}, "by the table: ")
 
 
-def read_by_workers(tally, python, folder):
+def read_by_workers(tally: Tally, python: str, folder: pathlib.Path) -> None:
     """Broken digests as a worker reads them, in one process without an engine."""
     texts = broken_texts()
     paths = written(folder, [text for _what, _line, _cause, text in texts])
@@ -367,7 +395,7 @@ def read_by_workers(tally, python, folder):
         tally.equal(f"{what}, a worker", one or done.stderr, f"{path}: fault line {line}: {cause}")
 
 
-def broken_texts():
+def broken_texts() -> list[tuple[str, int, str, str]]:
     """Broken digests, each with its first line at fault and the cause."""
     a, b, c = ("0" * 28 + "a000", "5" * 28 + "b010", "f" * 28 + "c000")
     head, good = plain_fleet.HEADER, plain_fleet.text_of_copies("web", 7, 1, {a: 3, b: 1, c: 2})
@@ -408,7 +436,7 @@ def broken_texts():
     ]
 
 
-def fault_faults(done, path, line, cause):
+def fault_faults(done: Done, path: pathlib.Path, line: int, cause: str) -> Iterator[str]:
     """What is wrong with how a fault is told: one line, with the file, the number of the line at fault and the cause."""
     told = done.stderr.decode("utf-8", "replace")
     if done.returncode != 1 or done.stdout:
@@ -419,7 +447,7 @@ def fault_faults(done, path, line, cause):
         yield f"{told!r} was told, and the cause {cause} was due"
 
 
-def broken(tally, ways):
+def broken(tally: Tally, ways: Ways) -> None:
     """Broken digests by each way, and digests of two samples."""
     with new_folder() as folder:
         for what, line, cause, text in broken_texts():
@@ -433,7 +461,7 @@ def broken(tally, ways):
             tally.ends(f"two samples, {way}", ran([*words, *paths]), 1, "", one_line)
 
 
-def numbers_in(found):
+def numbers_in(found: plain_fleet.Numbers) -> Iterator[tuple[str, int, int, Any]]:
     """The estimated numbers of a fleet, each by its name, its place, its value and its standard error."""
     for number, guest in enumerate(found["guests"]):
         for name in ("distinct", "shared", "alone"):
@@ -445,7 +473,7 @@ def numbers_in(found):
             yield f"a class's {name}", row["to"], row[name], row.get("errors", {}).get(name)
 
 
-def ordinary_copies(draw):
+def ordinary_copies(draw: random.Random) -> Iterator[dict[str, int]]:
     """How many copies of each digest each of six guests has: of a pool that several share, and of its own."""
     pool = [draw.randbytes(16).hex() for _ in range(4000)]
     for _ in range(6):
@@ -455,7 +483,9 @@ def ordinary_copies(draw):
         yield copies
 
 
-def count_within(within, every, due, whole):
+def count_within(
+    within: collections.Counter[str], every: collections.Counter[str], due: plain_fleet.Numbers, whole: plain_fleet.Numbers,
+) -> None:
     """Counts the true numbers of one fleet, and those of them that lie within two standard errors of what is told."""
     told = {(name, place): (value, error) for name, place, value, error in numbers_in(due)}
     for name, place, true, _error in numbers_in(whole):
@@ -466,9 +496,10 @@ def count_within(within, every, due, whole):
             within[name] += abs(true - value) <= 2 * error
 
 
-def standard_errors(tally, draw, ways):
+def standard_errors(tally: Tally, draw: random.Random, ways: Ways) -> None:
     """Of the true numbers at least 90 of 100 lie within two standard errors of what a sample of 16 tells."""
-    within, every = collections.Counter(), collections.Counter()
+    within: collections.Counter[str] = collections.Counter()
+    every: collections.Counter[str] = collections.Counter()
     for number in range(200):
         guests = list(ordinary_copies(draw))
         whole, sampled = ([plain_fleet.text_of_copies(f"g{n}", 0, k, own) for n, own in enumerate(guests)] for k in (1, 16))
@@ -484,7 +515,7 @@ def standard_errors(tally, draw, ways):
         tally.holds(f"standard errors of {name}", share >= 90, share, "at least 90 %")
 
 
-def image_faults(draw, ways, folder, number, images):
+def image_faults(draw: random.Random, ways: Ways, folder: pathlib.Path, number: int, images: Sequence[bytes]) -> Iterator[str]:
     """What is wrong with the digests of some images, and with their numbers."""
     sample, is_raw = draw.choice([1, 1, 2, 16, 65536]), draw.randrange(5) == 0
     salts = [draw.choice([0, 0, 1, 4294967295]) for _ in images]
@@ -509,7 +540,9 @@ def image_faults(draw, ways, folder, number, images):
         yield from beside_estimate(ways, paths, files, salts, is_raw)
 
 
-def beside_estimate(ways, paths, files, salts, is_raw):
+def beside_estimate(
+    ways: Ways, paths: Sequence[pathlib.Path], files: Sequence[pathlib.Path], salts: Sequence[int], is_raw: bool,
+) -> Iterator[str]:
     """Where the numbers of a merge and of `estimate` differ."""
     words = ["estimate", "--json", "--salts", ",".join(map(str, salts)), *(["--raw"] if is_raw else [])]
     due = json.loads(ran([ways.program, *words, *paths]).stdout)
@@ -521,7 +554,7 @@ def beside_estimate(ways, paths, files, salts, is_raw):
     yield from differences(found, due, "beside estimate: ")
 
 
-def random_images(tally, draw, ways):
+def random_images(tally: Tally, draw: random.Random, ways: Ways) -> None:
     """Random images through `digest` and `fleet`, beside `estimate`."""
     if "digest" not in ways.commands:
         raise LeftOut(f"the cases of `pageshare digest`, since {ways.program} has no such command")
@@ -532,7 +565,7 @@ def random_images(tally, draw, ways):
             tally.case(f"images {number}", image_faults(draw, ways, folder, number, images))
 
 
-def example(tally, ways):
+def example(tally: Tally, ways: Ways) -> None:
     """The digests that examples/make_fleet.py writes are those of the images that it writes, here of one host."""
     for guest, sample in [(1, 1), (2, 64)]:
         with new_folder() as folder:
@@ -547,7 +580,7 @@ def example(tally, ways):
                 tally.equal(f"the example's {told}, {way}", given, text)
 
 
-def big_file(folder):
+def big_file(folder: pathlib.Path) -> pathlib.Path:
     """A digest of 5 million lines."""
     path = folder / "big.csv"
     with open(path, "w", encoding="ascii") as out:
@@ -557,7 +590,7 @@ def big_file(folder):
     return path
 
 
-def memory(tally, ways):
+def memory(tally: Tally, ways: Ways) -> None:
     """A merge's memory doesn't grow with the lines."""
     if "fleet" not in ways.commands:
         raise LeftOut(f"the cases of `pageshare fleet`, since {ways.program} has no such command")
@@ -572,10 +605,14 @@ def memory(tally, ways):
         tally.holds("5 million lines", is_right, f"status {status}, {taken} bytes of memory, {told}")
 
 
-def main(seed="1", program=PROGRAM):
-    draw, tally, ways = random.Random(int(seed)), Tally(), Ways(program)
+def main() -> int:
+    options = argparse.ArgumentParser(description=__doc__.splitlines()[0])
+    options.add_argument("seed", metavar="SEED", nargs="?", type=int, default=1)
+    options.add_argument("program", metavar="PROGRAM", nargs="?", default=PROGRAM)
+    given = options.parse_args()
+    draw, tally, ways = random.Random(given.seed), Tally(), Ways(given.program)
     random_fleets(tally, draw, ways)
-    tally.part(places, random.Random(int(seed)), ways)
+    tally.part(places, random.Random(given.seed), ways)
     fleets = at_once(tally, draw, ways)
     tally.part(by_dask, fleets)
     broken(tally, ways)
@@ -587,4 +624,4 @@ def main(seed="1", program=PROGRAM):
 
 
 if __name__ == "__main__":
-    sys.exit(main(*sys.argv[1:3]))
+    sys.exit(main())

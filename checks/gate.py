@@ -24,6 +24,9 @@ out/gate.tsv has a line for each step of these commands: the command, the kind, 
 seconds and its processor seconds, and of a step how much passed and failed. Those of a crate are read off /proc once a second, so
 they are a second or two short; the sum at the end is the system's own.
 """
+from __future__ import annotations
+
+import argparse
 import collections
 import contextlib
 import os
@@ -37,6 +40,8 @@ import sys
 import threading
 import time
 import typing
+from collections.abc import Mapping, Sequence
+from typing import TextIO
 
 from common import proved
 from common.kit import load_kit
@@ -52,7 +57,7 @@ class Work(typing.NamedTuple):
     """A step of a command: the words that run it, whether they take --anew, and after how many seconds it is ended, if at all."""
 
     name: str
-    words: list
+    words: list[str]
     takes_anew: bool = False
     seconds: typing.Optional[int] = None
 
@@ -65,6 +70,7 @@ COMMANDS = {
         Work("harness", ["checks/harness_test.py"]),
         Work("documents", ["checks/names.py"]),
         Work("limits", ["checks/limits.py"]),
+        Work("structs of C", ["checks/structs.py"]),
         Work("map of crates", ["checks/map.py", "--check"]),
     ],
     "edits": [Work("edits' test", ["checks/edits_test.py"]), Work("edits", ["checks/edits.py"], takes_anew=True)],
@@ -79,6 +85,7 @@ COMMANDS = {
         Work("host", ["checks/host.py", "--gate"], seconds=2400),
         Work("installed", ["checks/package.py", "--installed"], seconds=900),
         Work("fleet", ["checks/fleet.py"], seconds=900),
+        Work("python", ["checks/python.py"], seconds=600),
     ],
 }
 # What each command takes from nothing, in processor minutes (measured on processors of 2.5 GHz); `check` after `make test`.
@@ -98,27 +105,29 @@ FAILED_EDIT = re.compile(r"^FAILED: (?:edit )?(\w+)[/:]")
 class Step:
     """What is known of one step: when it was first and last seen, and the processor seconds of each of its processes."""
 
-    def __init__(self, start):
-        self.start, self.end, self.used = start, start, {}
+    def __init__(self, start: float) -> None:
+        self.start, self.end = start, start
+        self.used: dict[tuple[str, str], float] = {}
 
-    def row(self, begun):
+    def row(self, begun: float) -> list[str]:
         return [f"{self.start - begun:.0f}", f"{self.end - self.start:.0f}", f"{sum(self.used.values()):.0f}", "", "", ""]
 
 
 class Watch(threading.Thread):
     """Looks once a second at which crates the prover works on."""
 
-    def __init__(self):
+    def __init__(self) -> None:
         super().__init__(daemon=True)
-        self.phase, self.steps, self.is_over = "", {}, threading.Event()
+        self.phase, self.is_over = "", threading.Event()
+        self.steps: dict[tuple[str, str], Step] = {}
 
-    def run(self):
+    def run(self) -> None:
         while not self.is_over.wait(1):
             for entry in os.scandir("/proc"):
                 if entry.name.isdigit():
                     self.look_at(entry.name)
 
-    def look_at(self, process):
+    def look_at(self, process: str) -> None:
         try:
             words = pathlib.Path(f"/proc/{process}/cmdline").read_bytes().decode(errors="replace").split("\0")
             if not words[0].endswith("/rattle") or "--crate-name" not in words:
@@ -134,7 +143,7 @@ class Watch(threading.Thread):
         step.end = time.time()
         step.used[process, numbers[19]] = (int(numbers[11]) + int(numbers[12])) / TICKS
 
-    def kind_of(self, words, folder):
+    def kind_of(self, words: Sequence[str], folder: str) -> str:
         if "/rt-edit-" in folder:
             return "must-fail" if self.phase == "rt ci" else self.phase
         return "tests" if "--test" in words else "proof"
@@ -143,15 +152,21 @@ class Watch(threading.Thread):
 class Progress:
     """Shows how far a step is, and keeps what it said of failures."""
 
-    def __init__(self, name, log):
+    def __init__(self, name: str, log: TextIO) -> None:
         self.name, self.log, self.begun = name, log, time.time()
-        self.proved, self.tested, self.edits = set(), set(), 0
+        self.proved: set[str] = set()
+        self.tested: set[str] = set()
+        self.edits = 0
         self.crates = sum(":" in line.partition("#")[0] for line in (TOP / "crates.txt").read_text().splitlines())
         self.of_edits = len([*TOP.glob("crates/*/edits/*.edit")])
-        self.is_drawn, self.section, self.sections, self.last, self.wrong = sys.stdout.isatty(), [], {}, [], []
-        self.left_out = []
+        self.is_drawn = sys.stdout.isatty()
+        self.section: list[str] = []
+        self.sections: dict[str, list[str]] = {}
+        self.last: list[str] = []
+        self.wrong: list[str] = []
+        self.left_out: list[str] = []
 
-    def hear(self, line):
+    def hear(self, line: str) -> None:
         """Takes a line that the step printed."""
         print(line, file=self.log, flush=True)
         self.last = [*self.last[-29:], line]
@@ -167,19 +182,19 @@ class Progress:
         if TRIED.match(line):
             self.edits += 1
             self.show(line if not self.is_drawn else "")
-        elif FAILED.match(line):
-            self.wrong += re.split(r"\s(?!\()", FAILED.match(line)[1])
-        elif FAILED_EDIT.match(line):
-            self.wrong.append(FAILED_EDIT.match(line)[1])
+        elif failed := FAILED.match(line):
+            self.wrong += re.split(r"\s(?!\()", failed[1])
+        elif failed := FAILED_EDIT.match(line):
+            self.wrong.append(failed[1])
 
-    def note_section(self, line):
+    def note_section(self, line: str) -> None:
         """Keeps what `rt ci` printed of each crate, until its next one."""
         found = SECTION.match(line)
         if found:
             self.section = self.sections.setdefault(found[1], [])
         self.section.append(line)
 
-    def show(self, what):
+    def show(self, what: str) -> None:
         """Says how far the step is: in a line that is redrawn on a terminal, and in one for each crate or edit elsewhere."""
         if self.name == "edits":
             far = f"{self.edits} of {self.of_edits} edits"
@@ -192,25 +207,25 @@ class Progress:
         else:
             print(f"{self.name}: {far}: {what}", flush=True)
 
-    def end(self):
+    def end(self) -> None:
         if self.is_drawn:
             print("\r\x1b[K", end="")
 
-    def failures(self, words):
+    def failures(self, words: Sequence[str]) -> list[str]:
         """What to print of what failed: of each crate its last lines and the command that repeats it; else the step's own."""
-        told = []
-        for name in dict.fromkeys(re.match(r"\w+", it)[0] for it in self.wrong if re.match(r"\w+", it)):
-            told += [f"-- {it}" for it in self.sections.get(name, [])[-30:]] if self.name == "rt ci" else []
-            told.append(f"FAILED: {name}: repeat it by `checks/{'prove.py' if self.name == 'rt ci' else 'edits.py'} {name}`")
-        return told or [f"-- {it}" for it in self.last] + [f"FAILED: {self.name}: repeat it by `{' '.join(words)}`"]
+        lines: list[str] = []
+        for name in dict.fromkeys(found[0] for found in (re.match(r"\w+", it) for it in self.wrong) if found):
+            lines += [f"-- {it}" for it in self.sections.get(name, [])[-30:]] if self.name == "rt ci" else []
+            lines.append(f"FAILED: {name}: repeat it by `checks/{'prove.py' if self.name == 'rt ci' else 'edits.py'} {name}`")
+        return lines or [f"-- {it}" for it in self.last] + [f"FAILED: {self.name}: repeat it by `{' '.join(words)}`"]
 
 
-def used_so_far():
+def used_so_far() -> float:
     used = resource.getrusage(resource.RUSAGE_CHILDREN)
     return used.ru_utime + used.ru_stime
 
 
-def end_group(ran):
+def end_group(ran: subprocess.Popen[str]) -> None:
     """Ends a step with all that it started: kindly, and then at once."""
     for number, seconds in ((signal.SIGTERM, 10), (signal.SIGKILL, 0)):
         with contextlib.suppress(ProcessLookupError):
@@ -218,17 +233,17 @@ def end_group(ran):
         time.sleep(seconds)
 
 
-def run_step(work, words, log):
+def run_step(work: Work, words: Sequence[str], log: TextIO) -> tuple[tuple[int, int, int], Progress]:
     """Runs a step by these words. Returns how many passed, failed and were skipped by its last line; and what was heard of it."""
     counts, progress = None, Progress(work.name, log)
-    how = {"stdin": subprocess.DEVNULL, "stdout": subprocess.PIPE, "stderr": subprocess.STDOUT, "text": True, "errors": "replace"}
-    how |= {"cwd": TOP, "env": {**os.environ, "RT_JOBS": str(lanes())}, "start_new_session": work.seconds is not None}
+    how: dict[str, typing.Any] = {"stdin": subprocess.DEVNULL, "stdout": subprocess.PIPE, "stderr": subprocess.STDOUT, "text": True}
+    how |= {"errors": "replace", "cwd": TOP, "env": {**os.environ, "RT_JOBS": str(lanes())}, "start_new_session": work.seconds is not None}
     with subprocess.Popen(words, **how) as ran:
         clock = threading.Timer(work.seconds or 0, end_group, [ran])
         if work.seconds:
             clock.start()
         try:
-            for line in ran.stdout:
+            for line in ran.stdout or []:
                 counts = counts_of(line) or counts
                 progress.hear(line.rstrip("\n"))
         except BaseException:
@@ -243,26 +258,29 @@ def run_step(work, words, log):
     return (passed, max(failed, int(ran.returncode != 0)), max(skipped, len(progress.left_out))), progress
 
 
-def remove_libraries():
+def remove_libraries() -> None:
     """Removes what earlier checks built, which `rt ci` would else put back in the place of the libraries that edits are tried over."""
     for built in TOP.glob("crates/*/out/rlib"):
         shutil.rmtree(built)
 
 
-def read_table():
+def read_table() -> list[list[str]]:
     lines = TABLE.read_text().splitlines()[1:] if TABLE.exists() else []
     return [row for row in (line.split("\t") for line in lines) if len(row) == len(HEAD)]
 
 
-def write_table(command, begun, rows, steps):
+def write_table(command: str, begun: float, rows: list[list[str]], steps: Mapping[tuple[str, str], Step]) -> None:
     """Writes this command's rows in the place of those that an earlier run of it wrote."""
     others = [row for row in read_table() if row[0] != command]
     own = [*rows, *([command, *key, *step.row(begun)] for key, step in sorted(steps.items()))]
     TABLE.write_text("".join("\t".join(it) + "\n" for it in [HEAD, *others, *own]))
 
 
-def run_command(command, is_anew):
-    begun, watch, rows, sums, failures, left_out = time.time(), Watch(), [], [0, 0, 0], [], []
+def run_command(command: str, is_anew: bool) -> int:
+    begun, watch, sums = time.time(), Watch(), [0, 0, 0]
+    rows: list[list[str]] = []
+    failures: list[str] = []
+    left_out: list[str] = []
     minutes, kit = MINUTES[command], load_kit()
     rests = proved.sums_now(kit)
     print(f"make {command}: from nothing this takes some {minutes} processor minutes, {minutes / lanes():.0f} minutes here")
@@ -289,13 +307,13 @@ def run_command(command, is_anew):
     watch.join()
     print(f"make {command} took {time.time() - begun:.0f} s, and {used_so_far() / 60:.0f} processor minutes")
     print("".join(f"{it}\n" for it in [*left_out, *failures]), end="")
-    return close(*sums[:2], sums[2] if command == "check" else sums[2] or None)
+    return close(sums[0], sums[1], sums[2] if command == "check" else sums[2] or None)
 
 
-def show():
+def show() -> list[list[str]]:
     rows = read_table()
     dearest = sorted((it for it in rows if it[1] != "step"), key=lambda it: -int(it[5]))[:10]
-    kinds = collections.Counter()
+    kinds: collections.Counter[str] = collections.Counter()
     for row in rows:
         kinds[row[1]] += int(row[5])
     print("the ten dearest (command, kind, name, start, wall and processor seconds):")
@@ -307,7 +325,7 @@ def show():
     return [row for row in rows if row[1] == "step"]
 
 
-def show_sum():
+def show_sum() -> int:
     """Prints what all commands took and did. A command that didn't run, or a step that didn't, has failed."""
     steps = show()
     passed, failed, skipped = (sum(int(row[at]) for row in steps) for at in (6, 7, 8))
@@ -318,18 +336,20 @@ def show_sum():
     return close(passed, failed + len(lacking), skipped)
 
 
-def main(words):
-    is_anew, words = "--anew" in words, [it for it in words if it != "--anew"]
-    if len(words) == 1 and words[0] in COMMANDS:
-        return run_command(words[0], is_anew)
-    if words == ["sum"] and not is_anew:
+def main() -> int:
+    options = argparse.ArgumentParser(description=__doc__.splitlines()[0])
+    options.add_argument("command", nargs="?", choices=[*COMMANDS, "sum"])
+    options.add_argument("--anew", action="store_true", help="take nothing from an earlier run")
+    given = options.parse_args()
+    if given.anew and given.command not in ("test", "edits"):
+        options.error("--anew goes with test and edits")
+    if given.command in COMMANDS:
+        return run_command(given.command, given.anew)
+    if given.command == "sum":
         return show_sum()
-    if words or is_anew:
-        print(__doc__, file=sys.stderr)
-        return 2
     show()
     return 0
 
 
 if __name__ == "__main__":
-    sys.exit(main(sys.argv[1:]))
+    sys.exit(main())

@@ -19,15 +19,20 @@ compiler than cc, and CFLAGS more words for it.
 A guest that saw a wrong word or did not run prints that. The last line is `N passed, M failed`, of the programs that ran (status 0 where
 all passed, else 1).
 """
+from __future__ import annotations
+
+import argparse
 import json
 import os
 import pathlib
 import struct
 import sys
+from collections.abc import Sequence
+from typing import Any
 
 from common.c_programs import CC, FLAGS, LENDER, WINDOW, can_open, compile_c, needs_windows, passes, play, run
 from harness import OUT as BUILT
-from harness import TOP, LeftOut, Tally, leave, needs
+from harness import TOP, LeftOut, StrPath, Tally, leave, needs
 
 SOURCES, OUT = TOP / "monitor", BUILT / "monitor"
 GUEST_FLAGS = (
@@ -38,32 +43,34 @@ PROGRAMS = {"tiny": ["vm"], "fleet": ["looker", "vm", "linux", "voices", "count"
 # (a journal ends where a page more might be too much, up to 65 requests before this number)
 REQUESTS = 100_100
 KSM = pathlib.Path("/sys/kernel/mm/ksm")
+# What a fleet says of itself, by its names in --json.
+Figures = dict[str, Any]
 
 
-def build(name, library, more=(), suffix=""):
+def build(name: str, library: StrPath, more: Sequence[str] = (), suffix: str = "") -> pathlib.Path:
     """Builds a program, and returns its path."""
     sources = [SOURCES / f"{part}.c" for part in [name, *PROGRAMS[name]]]
     return compile_c([*FLAGS, *more, f"-I{TOP / 'include'}", *sources, *LENDER, *WINDOW, library], OUT / (name + suffix))
 
 
-def build_guest():
+def build_guest() -> pathlib.Path:
     """A guest's own program, without a system below it."""
     return compile_c([*GUEST_FLAGS, SOURCES / "guest.c"], OUT / "guest")
 
 
-def padded(data):
+def padded(data: bytes) -> bytes:
     """Filled up to four bytes."""
     return data + bytes(-len(data) % 4)
 
 
-def entry(number, name, mode, data):
+def entry(number: int, name: bytes, mode: int, data: bytes) -> bytes:
     """An entry of an archive: thirteen numbers, of which here count inode, mode, links, size, and the name's length."""
     numbers = [number, mode, 0, 0, 1, 0, len(data), 0, 0, 0, 0, len(name) + 1, 0]
     head = b"070701" + b"".join(b"%08X" % of for of in numbers) + name + b"\0"
     return padded(head) + padded(data)
 
 
-def build_initramfs():
+def build_initramfs() -> pathlib.Path:
     """An archive (cpio, newc) with one file, the first process of a Linux guest."""
     init = compile_c([*FLAGS, "-static", "-DGUEST_OF_LINUX", SOURCES / "init.c", SOURCES / "guest.c"], OUT / "init")
     path = OUT / "initramfs"
@@ -71,7 +78,7 @@ def build_initramfs():
     return path
 
 
-def build_standin():
+def build_standin() -> pathlib.Path:
     """A bzImage of standin.c: two sectors with a header (at 0x1f1), and the program, which is entered 0x200 behind its beginning."""
     at, room, path = 0x1000000, 0x100000, OUT / "standin"
     places = f"-Wl,--section-start=.begin={at + 0x200:#x},-Ttext={at + 0x1000:#x},--build-id=none,--oformat=binary,-e,begin"
@@ -92,7 +99,7 @@ def build_standin():
     return path
 
 
-def wrong_program(tally, fleet, guest):
+def wrong_program(tally: Tally, fleet: pathlib.Path, guest: pathlib.Path) -> None:
     """A guest's program whose segment would wrap round the end of addresses is refused."""
     image = bytearray(guest.read_bytes())
     at, size, count = struct.unpack_from("<Q", image, 32)[0], *struct.unpack_from("<HH", image, 54)
@@ -109,7 +116,7 @@ def wrong_program(tally, fleet, guest):
 class Settings:
     """KSM's settings. A process of its own puts them back when this one's end of a pipe is closed, whatever closed it."""
 
-    def __init__(self):
+    def __init__(self) -> None:
         names = ["sleep_millisecs", "pages_to_scan", "run"]
         self.before = [(name, (KSM / name).read_text()) for name in names]
         ours, self.pipe = os.pipe()
@@ -124,24 +131,24 @@ class Settings:
             os._exit(0)
         os.close(ours)
 
-    def set(self, sleep, pages):
+    def set(self, sleep: int, pages: int) -> None:
         """KSM at this speed, with nothing merged."""
         (KSM / "run").write_text("2")
         (KSM / "sleep_millisecs").write_text(str(sleep))
         (KSM / "pages_to_scan").write_text(str(pages))
         (KSM / "run").write_text("1")
 
-    def off(self):
+    def off(self) -> None:
         """No KSM, with nothing merged."""
         (KSM / "run").write_text("2")
 
-    def put_back(self):
+    def put_back(self) -> None:
         """Lets the settings be put back."""
         os.close(self.pipe)
         os.waitpid(self.keeper, 0)
 
 
-def ksmd():
+def ksmd() -> str:
     """The number of KSM's thread."""
     for path in pathlib.Path("/proc").glob("[0-9]*/comm"):
         if path.read_text().strip() == "ksmd":
@@ -149,7 +156,7 @@ def ksmd():
     return ""
 
 
-def row(name, of):
+def row(name: str, of: Figures) -> str:
     """A line of the table."""
     share = 100 * of["saved"] / of["bound"]
     return (
@@ -159,13 +166,13 @@ def row(name, of):
     )
 
 
-def compare(tally, fleet, guest, seconds):
+def compare(tally: Tally, fleet: pathlib.Path, guest: pathlib.Path, seconds: str) -> None:
     """The same guests under the library, KSM and nothing: one table."""
     if not os.access(KSM / "run", os.W_OK) or os.geteuid() != 0:
         raise LeftOut("KSM, which takes root and a kernel that has it")
-    ways = [("plain", "plain", None), ("lend", "lend", None)]
+    ways: list[tuple[str, str, tuple[int, int] | None]] = [("plain", "plain", None), ("lend", "lend", None)]
     ways += [(f"KSM {sleep} ms x {pages}", "ksm", (sleep, pages)) for sleep, pages in [(20, 100), (20, 1000)]]
-    rows = []
+    rows: list[str] = []
     settings = Settings()
     try:
         for name, way, speed in ways:
@@ -174,7 +181,7 @@ def compare(tally, fleet, guest, seconds):
             else:
                 settings.off()
             path = OUT / f"way{len(rows)}.json"
-            words = [fleet, "--seconds", seconds, "--way", way, "--json", path, guest]
+            words: list[StrPath] = [fleet, "--seconds", seconds, "--way", way, "--json", path, guest]
             if passes(tally, words, env={**os.environ, "KSMD": ksmd()}):
                 rows.append(row(name, json.loads(path.read_text())))
     finally:
@@ -185,7 +192,7 @@ def compare(tally, fleet, guest, seconds):
     print("\n".join(rows))
 
 
-def goals(lend):
+def goals(lend: Figures) -> None:
     """A table of a fleet's figures beside their goals, which are for an idle machine: here none fails the run."""
     rows = [
         ("saved of the bound, %", "at least 99.5", 100 * lend["saved"] / lend["bound"]),
@@ -200,16 +207,16 @@ def goals(lend):
         print(f"| {what} | {goal} | {here:.1f} |")
 
 
-def trace(tally, library, guest):
+def trace(tally: Tally, library: StrPath, guest: pathlib.Path) -> None:
     """A record of a fleet's events through the proved program that plays them."""
     text = OUT / "fleet.trace"
     fleet = build("fleet", library, ["-DWINDOW_TRACE"], "_trace")
-    words = ["--seconds", "10", "--guests", "2", "--mib", "6", "--round", "50", "--renew", "3", "--trace", text]
+    words: list[StrPath] = ["--seconds", "10", "--guests", "2", "--mib", "6", "--round", "50", "--renew", "3", "--trace", text]
     if passes(tally, [fleet, *words, guest]):
         tally.part(play, text)
 
 
-def replay(tally, text):
+def replay(tally: Tally, text: pathlib.Path) -> None:
     """A fleet's journal through the proved replay."""
     program = BUILT / "pageshare"
     if not program.exists():
@@ -223,24 +230,25 @@ def replay(tally, text):
     print(f"replayed: {len(lines) - 1:,} verdicts as the monitor got them, and {lines[-1]}")
 
 
-def journal(tally, fleet, guest):
+def journal(tally: Tally, fleet: pathlib.Path, guest: pathlib.Path) -> None:
     """A fleet's journal, and its replay."""
     text = OUT / "fleet.journal"
-    words = ["--seconds", "60", "--guests", "2", "--mib", "6", "--round", "50", "--requests", str(REQUESTS), "--journal", text]
+    words: list[StrPath] = ["--seconds", "60", "--guests", "2", "--mib", "6", "--round", "50"]
+    words += ["--requests", str(REQUESTS), "--journal", text]
     if passes(tally, [fleet, *words, guest]):
         tally.part(replay, text)
 
 
-def kernels(tally, fleet, seconds):
+def kernels(tally: Tally, fleet: pathlib.Path, seconds: str) -> None:
     """A stand-in for a kernel, booted as Linux is; and Linux, if KERNEL names one."""
     initramfs = build_initramfs()
     passes(tally, [fleet, "--seconds", "3", "--mib", "32", "--kernel", build_standin(), "--initrd", initramfs])
     if os.environ.get("KERNEL"):
-        words = ["--kernel", os.environ["KERNEL"], "--initrd", initramfs]
+        words: list[StrPath] = ["--kernel", os.environ["KERNEL"], "--initrd", initramfs]
         passes(tally, [fleet, "--seconds", str(max(int(seconds), 60)), "--mib", "256", *words])
 
 
-def builds(tally, library):
+def builds(tally: Tally, library: StrPath) -> None:
     """Every program, and a fleet that records events."""
     needs("the monitor", CC)
     makes = {
@@ -252,10 +260,10 @@ def builds(tally, library):
         try:
             tally.case(f"{name} is built", [] if make() else ["it isn't"])
         except SystemExit as cause:
-            tally.case(f"{name} is built", [cause])
+            tally.case(f"{name} is built", [str(cause)])
 
 
-def with_guests(tally, library, seconds):
+def with_guests(tally: Tally, library: StrPath, seconds: str) -> None:
     """Each run of guests in turn."""
     needs_windows()
     if not can_open("/dev/kvm"):
@@ -275,13 +283,20 @@ def with_guests(tally, library, seconds):
         tally.part(compare, fleet, guest, seconds)
 
 
-def main(library=BUILT / "libpageshare.a", seconds="30"):
-    if not pathlib.Path(library).exists():
-        sys.exit(f"there is no library {library}")
+def main() -> int:
+    options = argparse.ArgumentParser(description=__doc__.splitlines()[0])
+    options.add_argument("library", metavar="LIBRARY", nargs="?", type=pathlib.Path, default=BUILT / "libpageshare.a")
+    options.add_argument("seconds", metavar="SECONDS", nargs="?", type=int, default=30)
+    given = options.parse_args()
+    if not given.library.exists():
+        sys.exit(f"there is no library {given.library}")
     tally = Tally()
-    tally.part(*([builds, library] if seconds == "0" else [with_guests, library, seconds]))
+    if given.seconds == 0:
+        tally.part(builds, given.library)
+    else:
+        tally.part(with_guests, given.library, str(given.seconds))
     return tally.close()
 
 
 if __name__ == "__main__":
-    sys.exit(main(*sys.argv[1:3]))
+    sys.exit(main())

@@ -12,6 +12,8 @@ Each of these lines but the last two is a case. A case that fails is printed: it
 else 1. A part is a function that takes the tally; if it raises LeftOut, this machine can't do it, which is printed and counted as
 skipped. With NOTHING_LEFT_OUT=1 in the environment it counts as failed as well if Debian has a package for it that this machine lacks.
 """
+from __future__ import annotations
+
 import contextlib
 import functools
 import os
@@ -20,13 +22,21 @@ import re
 import shutil
 import subprocess
 import tempfile
+from collections.abc import Callable, Iterable, Iterator
+from typing import Any, Union
 
 TOP = pathlib.Path(__file__).resolve().parent.parent
 OUT = TOP / "out"
 # The program that most checks are of, unless they are called with another one (`make build` leaves it there).
 PROGRAM = str(OUT / "pageshare")
-# The status of a program that didn't end in time.
-LATE = "too late"
+# How a program ended, and its status: a number, or LATE of one that didn't end in time.
+Done = subprocess.CompletedProcess[bytes]
+Status = Union[int, str]
+LATE: Any = "too late"
+# A path, or a word of a command.
+StrPath = Union[str, "os.PathLike[str]"]
+# What an output must be: a text, a pattern of it, or None if nobody looks at it.
+Due = Union[str, re.Pattern[str], None]
 # Any text but the empty one.
 ANY = re.compile(".+", re.S)
 CLOSING = re.compile(r"(\d+) passed, (\d+) failed(?:, (\d+) skipped)?\n?")
@@ -35,7 +45,8 @@ PACKAGES = {
     "cc": "gcc", "c++": "g++", "gcc": "gcc", "g++": "g++", "clang": "clang", "clang++": "clang", "ar": "binutils", "nm": "binutils",
     "cargo": "cargo", "rustc": "rustc", "valgrind": "valgrind", "pkg-config": "pkg-config", "mandoc": "mandoc", "man": "man-db",
     "zsh": "zsh", "fish": "fish", "qemu-x86_64": "qemu-user", "qemu-system-x86_64": "qemu-system-x86", "qemu-img": "qemu-utils",
-    "busybox": "busybox-static", "setpriv": "util-linux", "promtool": "prometheus", "systemd-analyze": "systemd",
+    "busybox": "busybox-static", "setpriv": "util-linux", "promtool": "prometheus", "systemd-analyze": "systemd", "mypy": "mypy",
+    "mmdebstrap": "mmdebstrap", "systemd-nspawn": "systemd-container", "dpkg-deb": "dpkg",
 }
 # How much of a long text is shown, and how much of that comes before the first difference.
 MOST, BEFORE = 300, 60
@@ -44,12 +55,12 @@ MOST, BEFORE = 300, 60
 class LeftOut(Exception):
     """What this machine can't do, and why; with the package of Debian that would mend it, if there is one."""
 
-    def __init__(self, what, package=None):
+    def __init__(self, what: object, package: str | None = None) -> None:
         super().__init__(f"{what} (Debian's {package})" if package else what)
         self.package = package
 
 
-def needs(what, *programs):
+def needs(what: str, *programs: str) -> None:
     """Leaves `what` out if one of these programs isn't there."""
     for program in programs:
         if shutil.which(program) is None:
@@ -57,7 +68,7 @@ def needs(what, *programs):
 
 
 @functools.cache
-def has_package(package):
+def has_package(package: str) -> bool:
     """Whether this machine's apt-get could install a package of Debian."""
     if shutil.which("apt-cache") is None:
         return False
@@ -65,32 +76,32 @@ def has_package(package):
     return bool(re.search(r"Candidate: (?!\(none\))", said))
 
 
-def must_not_lack(package):
+def must_not_lack(package: str | None) -> bool:
     """Whether a part that was left out for want of this package has failed."""
     return os.environ.get("NOTHING_LEFT_OUT") == "1" and package is not None and has_package(package)
 
 
-def run(words, text="", seconds=60, **how):
+def run(words: Iterable[object], text: str | bytes = "", seconds: float = 60, **how: Any) -> Done:
     """Runs a program with this standard input. Its output is bytes, and its status is LATE if it is ended after these seconds.
 
     `how` goes on to subprocess.run.
     """
-    words, given = list(map(str, words)), text.encode() if isinstance(text, str) else text
+    called, given = list(map(str, words)), text.encode() if isinstance(text, str) else text
     try:
         how = {"stdout": subprocess.PIPE, "stderr": subprocess.PIPE, **how}
-        return subprocess.run(words, input=given, timeout=seconds, check=False, **how)
+        return subprocess.run(called, input=given, timeout=seconds, check=False, **how)
     except subprocess.TimeoutExpired as late:
-        return subprocess.CompletedProcess(words, LATE, late.stdout or b"", late.stderr or b"")
+        return subprocess.CompletedProcess(called, LATE, late.stdout or b"", late.stderr or b"")
 
 
 @contextlib.contextmanager
-def new_folder():
+def new_folder() -> Iterator[pathlib.Path]:
     """The path of an empty folder, which is removed in the end."""
     with tempfile.TemporaryDirectory(prefix="checks-") as name:
         yield pathlib.Path(name)
 
 
-def leave(name, text):
+def leave(name: str, text: str | bytes) -> pathlib.Path:
     """Leaves what failed at out/NAME, and returns where that is."""
     place = OUT / name
     place.parent.mkdir(parents=True, exist_ok=True)
@@ -98,16 +109,16 @@ def leave(name, text):
     return place
 
 
-def shown(value, start=0):
+def shown(value: Any, start: int = 0) -> str:
     """How a case prints a value: of a long one a part from here on."""
     value = value.pattern if isinstance(value, re.Pattern) else value
-    text = value if isinstance(value, (str, bytes)) else repr(value)
+    text: Any = value if isinstance(value, (str, bytes)) else repr(value)
     part = text[start : start + MOST]
     place = f" ({start} to {start + len(part)} of {len(text)})" if len(part) < len(text) else ""
-    return (part if text is not value else repr(part)) + place
+    return str(part if text is not value else repr(part)) + place
 
 
-def parting(given, due):
+def parting(given: Any, due: Any) -> str:
     """What was got and what was due. Two texts are shown from shortly before the place where they part."""
     start = 0
     if isinstance(given, (str, bytes)) and isinstance(due, type(given)):
@@ -116,25 +127,25 @@ def parting(given, due):
     return f"{shown(given, start)}, and {shown(due, start)} was due"
 
 
-def wrong_end(done, status, out, err):
+def wrong_end(done: Done, status: Status, out: Due, err: Due) -> Iterator[str]:
     """What is wrong with how a program ended, see Tally.ends."""
     if done.returncode != status:
         yield f"status {done.returncode}, and {status} was due"
     for what, due, given in [("output", out, done.stdout), ("error", err, done.stderr)]:
         if due is not None:
-            given = given.decode("utf-8", "replace")
-            is_right = due.fullmatch(given) if isinstance(due, re.Pattern) else given == due
+            text = given.decode("utf-8", "replace")
+            is_right = due.fullmatch(text) if isinstance(due, re.Pattern) else text == due
             if not is_right:
-                yield f"standard {what} is {parting(given, due)}"
+                yield f"standard {what} is {parting(text, due)}"
 
 
-def close(passed, failed, skipped=None):
+def close(passed: int, failed: int, skipped: int | None = None) -> int:
     """Prints the closing line, and returns the status that goes with it. It says how much was skipped unless that is None."""
     print(f"{passed} passed, {failed} failed{'' if skipped is None else f', {skipped} skipped'}", flush=True)
     return 1 if failed else 0
 
 
-def counts_of(line):
+def counts_of(line: str) -> tuple[int, int, int] | None:
     """How many passed, failed and were skipped by a closing line; None of another line."""
     found = CLOSING.fullmatch(line)
     return (int(found[1]), int(found[2]), int(found[3] or 0)) if found else None
@@ -143,10 +154,10 @@ def counts_of(line):
 class Tally:
     """The cases so far. What adds a case returns whether it passed."""
 
-    def __init__(self):
+    def __init__(self) -> None:
         self.passed = self.failed = self.skipped = 0
 
-    def case(self, name, wrong, count=1):
+    def case(self, name: str, wrong: Iterable[str], count: int = 1) -> bool:
         """A case, or so many, with the list of what is wrong: nothing where it passed."""
         wrong = list(wrong)
         for what in wrong:
@@ -155,32 +166,32 @@ class Tally:
         self.failed += count if wrong else 0
         return not wrong
 
-    def equal(self, name, given, due):
+    def equal(self, name: str, given: object, due: object) -> bool:
         """Whether a value is the one that was due."""
         return self.case(name, [] if given == due else [parting(given, due)])
 
-    def holds(self, name, is_so, given, due=""):
+    def holds(self, name: str, is_so: object, given: object, due: str = "") -> bool:
         """Whether something holds of a value. `due` says in words what that is, where the name doesn't."""
         return self.case(name, [] if is_so else [f"not so of {shown(given)}" + (f", and {due} was due" if due else "")])
 
-    def ends(self, name, done, status=0, out="", err=""):
+    def ends(self, name: str, done: Done, status: Status = 0, out: Due = "", err: Due = "") -> bool:
         """Whether a program ended as was due: each output is a whole text, a pattern of it, or None if nobody looks at it."""
         return self.case(name, wrong_end(done, status, out, err))
 
-    def part(self, function, *words):
+    def part(self, function: Callable[..., object], *words: object) -> None:
         """A part of the check, which takes this tally and these words, or is left out."""
         try:
             function(self, *words)
         except LeftOut as what:
             self.leave_out(what, what.package)
 
-    def leave_out(self, what, package=None):
+    def leave_out(self, what: object, package: str | None = None) -> None:
         """Counts what was left out, and prints it."""
         self.skipped += 1
         print(f"left out: {what}", flush=True)
         if must_not_lack(package):
             self.case("nothing may be left out here", [f"there is a package {package}"])
 
-    def close(self):
+    def close(self) -> int:
         """Ends the check: prints the closing line, and returns the status."""
         return close(self.passed, self.failed, self.skipped or None)

@@ -7,16 +7,20 @@ A harness that compares can be wrong itself: it might count a wrong program as r
 as it was due, and others that differ in one byte, in the status or in time. It counts without the harness. Likewise
 checks/common/proved.py gets crates that changed since they were proved. Prints what went wrong, and last `N passed, M failed`.
 """
+from __future__ import annotations
+
 import contextlib
 import io
 import os
+import pathlib
 import re
 import sys
 import types
+from collections.abc import Callable
 from unittest import mock
 
 from common import proved
-from harness import ANY, LATE, LeftOut, Tally, close, counts_of, has_package, leave, needs, new_folder, parting, run, shown
+from harness import ANY, LATE, Done, LeftOut, Tally, close, counts_of, has_package, leave, needs, new_folder, parting, run, shown
 
 # A program that repeats its standard input but for so many bytes, says its words on standard error, and ends with a status.
 ECHO = """
@@ -30,7 +34,7 @@ TEXT = "report entries 0\n"
 LONG = "a" * 1000 + "b" + "a" * 1000
 
 
-def echo(less=0, status=0, *words):
+def echo(less: int = 0, status: int = 0, *words: str) -> Done:
     """How that program ends with TEXT."""
     return run([sys.executable, "-c", ECHO, less, status, *words], TEXT)
 
@@ -38,17 +42,17 @@ def echo(less=0, status=0, *words):
 class Plain:
     """What was looked at so far, counted without the harness."""
 
-    def __init__(self):
+    def __init__(self) -> None:
         self.passed = self.failed = 0
 
-    def same(self, name, given, due):
+    def same(self, name: str, given: object, due: object) -> None:
         """Two values that must be equal."""
         self.passed += given == due
         self.failed += given != due
         print("" if given == due else f"{name}: {given!r}, and {due!r} was due\n", end="")
 
 
-def tried(call, *words):
+def tried(call: str, *words: object) -> tuple[tuple[int, int], object, str]:
     """What a call of a new tally counts, whether it says so, and what it prints."""
     tally, printed = Tally(), io.StringIO()
     with contextlib.redirect_stdout(printed):
@@ -56,7 +60,7 @@ def tried(call, *words):
     return (tally.passed, tally.failed), passed, printed.getvalue()
 
 
-def right_ones(plain):
+def right_ones(plain: Plain) -> None:
     """Cases that must pass, and print nothing."""
     for name, call, words in [
         ("a program", "ends", (echo(), 0, TEXT, "")),
@@ -72,7 +76,7 @@ def right_ones(plain):
     plain.same("three cases in one", tried("case", "three", [], 3), ((3, 0), True, ""))
 
 
-def wrong_ones(plain):
+def wrong_ones(plain: Plain) -> None:
     """Cases that must fail, and be printed with their names."""
     for name, call, words in [
         ("a byte less", "ends", (echo(1), 0, TEXT, "")),
@@ -98,7 +102,7 @@ def wrong_ones(plain):
     plain.same("three cases in one that fail", (counts, passed, printed), ((0, 3), False, "three: one\nthree: two\n"))
 
 
-def printed_of(function, *words):
+def printed_of(function: Callable[..., object], *words: object) -> tuple[object, str]:
     """What a function returns and prints."""
     printed = io.StringIO()
     with contextlib.redirect_stdout(printed):
@@ -106,7 +110,7 @@ def printed_of(function, *words):
     return returned, printed.getvalue()
 
 
-def closing_lines(plain):
+def closing_lines(plain: Plain) -> None:
     """The line at the end, and what is read of lines."""
     plain.same("all passed", printed_of(close, 3, 0), (0, "3 passed, 0 failed\n"))
     plain.same("one failed", printed_of(close, 3, 1), (1, "3 passed, 1 failed\n"))
@@ -118,9 +122,9 @@ def closing_lines(plain):
         plain.same(f"the counts of {line!r}", counts_of(line), due)
 
 
-def tallied(is_whole, package):
+def tallied(is_whole: bool, package: str | None) -> tuple[int, int, int]:
     """What a tally counts of a part that lacks a package, where nothing may be left out and where anything may."""
-    def part(_of):
+    def part(_of: Tally) -> None:
         raise LeftOut("a part", package)
 
     tally = Tally()
@@ -130,9 +134,9 @@ def tallied(is_whole, package):
     return tally.passed, tally.failed, tally.skipped
 
 
-def left_out(plain):
+def left_out(plain: Plain) -> None:
     """What a machine can't do is said, and counts as skipped; what it can do is done."""
-    def part(of, program):
+    def part(of: Tally, program: str) -> None:
         needs("a part", "sh", program)
         of.case("it is done", [])
 
@@ -145,22 +149,22 @@ def left_out(plain):
         plain.same("a program that isn't there", "nothing was left out", "")
     except LeftOut as what:
         plain.same("a program that isn't there", f"left out: {what}\n", due)
-    for is_whole, package, due in [
+    for is_whole, package, counts in [
         (False, "there", (0, 0, 1)), (True, "there", (0, 1, 1)), (True, "nowhere", (0, 0, 1)), (True, None, (0, 0, 1)),
     ]:
-        plain.same(f"a part that lacks the package {package}, whole: {is_whole}", tallied(is_whole, package), due)
+        plain.same(f"a part that lacks the package {package}, whole: {is_whole}", tallied(is_whole, package), counts)
     plain.same("a package that there isn't", has_package("no-such-package-anywhere"), False)
 
 
-def readable(plain):
+def readable(plain: Plain) -> None:
     """Long texts are cut, around the place where they part."""
-    told = parting(LONG, LONG.replace("b", "c"))
-    plain.same("where long texts part", (len(told) < 800, "ab" in told, "ac" in told), (True, True, True))
+    parted = parting(LONG, LONG.replace("b", "c"))
+    plain.same("where long texts part", (len(parted) < 800, "ab" in parted, "ac" in parted), (True, True, True))
     plain.same("a short text", shown("a\n"), repr("a\n"))
     plain.same("a long text", (len(shown(LONG)) < 400, "of 2001" in shown(LONG)), (True, True))
 
 
-def folders(plain):
+def folders(plain: Plain) -> None:
     """A folder that goes away, and a text that stays."""
     with new_folder() as folder:
         (folder / "file").write_text(TEXT)
@@ -173,7 +177,7 @@ def folders(plain):
     plain.same("a program that is too late", run(["sleep", "9"], seconds=0.1).returncode, LATE)
 
 
-def crate_in(folder, name, *below):
+def crate_in(folder: pathlib.Path, name: str, *below: types.SimpleNamespace) -> types.SimpleNamespace:
     """A crate as the kit has it, with a file and a folder out/."""
     (folder / name / "src").mkdir(parents=True)
     (folder / name / "out").mkdir()
@@ -181,13 +185,16 @@ def crate_in(folder, name, *below):
     return types.SimpleNamespace(name=name, folder=f"{folder / name}", deps=below, of_kit=["core"], is_static=False)
 
 
-def notes(plain):
+def notes(plain: Plain) -> None:
     """A crate counts as proved only of the files that it and the crates below it had, and only over the library of `rt ci`."""
     with new_folder() as folder:
         (folder / "KIT-ID").write_text("kit")
         kit, low = types.SimpleNamespace(KIT=folder), crate_in(folder, "low")
         high = crate_in(folder, "high", low)
-        are_proved = lambda: [proved.is_proved(it, proved.sums_of(kit, [low, high])[it.name]) for it in (low, high)]
+
+        def are_proved() -> list[bool]:
+            return [proved.is_proved(it, proved.sums_of(kit, [low, high])[it.name]) for it in (low, high)]
+
         plain.same("crates without a note", are_proved(), [False, False])
         sums = proved.sums_of(kit, [low, high])
         for it in (low, high):
@@ -208,7 +215,7 @@ def notes(plain):
         plain.same("the files of before", are_proved(), [True, True])
 
 
-def main():
+def main() -> int:
     plain = Plain()
     for part in (right_ones, wrong_ones, closing_lines, left_out, readable, folders, notes):
         part(plain)

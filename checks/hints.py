@@ -10,7 +10,10 @@ must count all the hints, and the least time of the longer journal may be 1.2 ti
 is searched from its front takes about --times squared. Prints both times (status 0, or 1 where it takes longer). Nothing else
 may run on the machine meanwhile.
 """
+from __future__ import annotations
+
 import argparse
+import pathlib
 import sys
 
 from common.benches import ROOM, different, journal, output, scanned, seconds
@@ -19,7 +22,7 @@ from harness import PROGRAM
 SLACK = 1.2
 
 
-def hinted(program, count):
+def hinted(program: str, count: int) -> pathlib.Path:
     """The journal of so many hints, once its report has counted them all."""
     path = journal(f"hints-{count}", count, count, scanned(count, different))
     report = output(program, ["replay"], path).decode("ascii").splitlines()[-1]
@@ -29,7 +32,7 @@ def hinted(program, count):
     return path
 
 
-def main():
+def main() -> None:
     parser = argparse.ArgumentParser(description="Looks that a replay's time grows with its hints and no faster.")
     parser.add_argument("--program", default=PROGRAM)
     parser.add_argument("--few", type=int, default=10_000)

@@ -1,15 +1,20 @@
 #!/usr/bin/env python3
-"""The map of crates, crates/README.md, made of crates.txt and the crates' READMEs.
+"""The map of crates, crates/README.md, and the index of docs/DECISIONS.md, made of crates.txt and the crates' READMEs.
 
-    checks/map.py           writes it
-    checks/map.py --check   says whether it is current
+    checks/map.py           writes both
+    checks/map.py --check   says whether they are current
 
 A layer is a comment line of crates.txt, up to a bracket. The first line of each crate's README is '# NAME: WHAT IT DOES'. A line
-'Proved in a line: WHAT.' says what is proved of the crate; a layer in which one crate has that line needs it of each. Prints what
+'Proved in a line: WHAT.' says what is proved of the crate; a layer in which one crate has that line needs it of each. The index
+has each crate whose README has a section 'Why it is so', with the bold words that its paragraphs begin with. Prints what
 is missing, and with --check last 'N passed, M failed' (status 0 where M is 0, else 1).
 """
+from __future__ import annotations
+
+import argparse
 import re
 import sys
+from collections.abc import Sequence
 
 from harness import TOP, close
 
@@ -26,22 +31,33 @@ The right column says in a line what is proved: each clause of the crate's contr
 name. A crate's README has the clauses, what is only tested, and what is neither. [PROMISE.md](../docs/PROMISE.md) has the promise of \
 the whole, and [GLOSSARY.md](../docs/GLOSSARY.md) the words.
 """
+DECISIONS = TOP / "docs/DECISIONS.md"
+INDEX = """\
+## Index
+
+`checks/map.py` makes this table of the crates' READMEs: what the paragraphs of their section *Why it is so* begin with.
+
+| crate | decided there |
+|---|---|
+"""
+# The bold words that a paragraph begins with.
+LEAD = re.compile(r"\n\n\*\*(.+?)\*\*")
 FORM = "# NAME: WHAT IT DOES"
 PROVED = "Proved in a line: "
 
 
-def layers():
+def layers() -> list[tuple[str, list[str]]]:
     """The layers of crates.txt, each a heading and the names of its crates."""
-    found = []
+    found: list[tuple[str, list[str]]] = []
     for line in (TOP / "crates.txt").read_text().splitlines():
         if line.startswith("#"):
             found.append((line.lstrip("# ").partition(" (")[0], []))
         elif ":" in line:
-            found[-1][1].append(re.match(r"\w+", line)[0])
+            found[-1][1].append(re.split(r"\W", line, maxsplit=1)[0])
     return found
 
 
-def lines_of(name):
+def lines_of(name: str) -> tuple[str | None, str | None]:
     """What a crate does, and what is proved of it in a line; None for what its README doesn't have."""
     file = TOP / f"crates/{name}/README.md"
     lines = file.read_text().splitlines() if file.is_file() else []
@@ -50,7 +66,7 @@ def lines_of(name):
     return does, proved
 
 
-def table(rows):
+def table(rows: Sequence[tuple[str, str | None, str | None]]) -> tuple[str, list[str]]:
     """A layer's table, and what its crates lack."""
     are_proved = any(proved for _, _, proved in rows)
     head = ["crate", "what it does", "what is proved, in a line"][: 3 if are_proved else 2]
@@ -65,9 +81,10 @@ def table(rows):
     return "".join(f"{it}\n" for it in lines), lacking
 
 
-def drawn():
+def drawn() -> tuple[str, int, list[str]]:
     """The map's text, how many crates it has, and what these lack."""
-    text, crates, lacking = INTRODUCTION, 0, []
+    text, crates = INTRODUCTION, 0
+    lacking: list[str] = []
     for heading, names in layers():
         of_layer, lacks = table([(name, *lines_of(name)) for name in names])
         text += f"\n## {heading}\n\n{of_layer}"
@@ -75,20 +92,36 @@ def drawn():
     return text, crates, lacking
 
 
-def main(words):
-    if words not in ([], ["--check"]):
-        print(__doc__, file=sys.stderr)
-        return 2
+def decided(name: str) -> list[str]:
+    """What a crate's README gives reasons for."""
+    file = TOP / f"crates/{name}/README.md"
+    text = file.read_text() if file.is_file() else ""
+    section = text.partition("\n## Why it is so\n")[2].partition("\n## ")[0]
+    return [it.rstrip(".,") for it in LEAD.findall(f"\n{section}")]
+
+
+def indexed() -> str:
+    """The decisions' text with its index as it should be."""
+    crates = [name for _, names in layers() for name in names]
+    rows = "".join(f"| [{it}](../crates/{it}/README.md) | {'. '.join(decided(it))} |\n" for it in crates if decided(it))
+    return DECISIONS.read_text().partition("## Index\n")[0] + INDEX + rows
+
+
+def main() -> int:
+    options = argparse.ArgumentParser(description=__doc__.splitlines()[0])
+    options.add_argument("--check", action="store_true", help="say whether the files are current, and write none")
+    is_check = options.parse_args().check
     text, crates, wrong = drawn()
-    if not words:
-        MAP.write_text(text)
-    elif not MAP.is_file() or MAP.read_text() != text:
-        wrong.append("crates/README.md isn't current: run checks/map.py")
+    for file, due in ((MAP, text), (DECISIONS, indexed())):
+        if not is_check:
+            file.write_text(due)
+        elif not file.is_file() or file.read_text() != due:
+            wrong.append(f"{file.relative_to(TOP)} isn't current: run checks/map.py")
     print("".join(f"{it}\n" for it in wrong), end="")
-    if words:
-        close(crates + 1 - len(wrong), len(wrong))
+    if is_check:
+        close(crates + 2 - len(wrong), len(wrong))
     return 1 if wrong else 0
 
 
 if __name__ == "__main__":
-    sys.exit(main(sys.argv[1:]))
+    sys.exit(main())

@@ -9,9 +9,12 @@ the form of a name in code (such as `hash_ahead`, `Core::apply` or `IsNew`) must
 Names of other projects are listed in OTHERS. Prints what is missing, with its line, and
 last 'N passed, M failed' (status 0 where M is 0, else 1).
 """
+from __future__ import annotations
+
 import re
 import subprocess
 import sys
+from collections.abc import Container, Iterator
 
 from harness import TOP, Tally
 
@@ -30,22 +33,22 @@ TARGET = re.compile(r"(?m)^([a-z][\w-]*):")
 OTHERS = set(
     "svirt_t lib_t pageshare_host_t"
     " e_type e_shoff e_phentsize e_shentsize use_zero_pages kvm_pvm memory_region_get_ram_ptr memory_region_get_fd ram_block_discard_range"
-    " ram_block_discard_disable GuestMemory GuestMemoryMmap MmapRegion build_raw for_each_mut".split()
+    " ram_block_discard_disable RssShmem GuestMemory GuestMemoryMmap MmapRegion build_raw for_each_mut".split()
 )
 
 
-def documents():
+def documents() -> list[str]:
     listed = subprocess.run(["git", "ls-files", "-co", "--exclude-standard"], cwd=TOP, capture_output=True, text=True, check=True)
     return [it for it in listed.stdout.splitlines() if (TOP / it).is_file()]
 
 
-def anchors(text):
+def anchors(text: str) -> set[str]:
     """The anchors of a document's headings, as a forge makes them."""
     heads = re.findall(r"(?m)^#+ (.*)$", text)
     return {re.sub(r"[^\w\- ]", "", head.lower()).strip().replace(" ", "-") for head in heads}
 
 
-def lines_of(text):
+def lines_of(text: str) -> Iterator[tuple[int, str]]:
     """The lines of a document that aren't code of their own, with their numbers."""
     is_code = False
     for number, line in enumerate(text.splitlines(), 1):
@@ -55,7 +58,7 @@ def lines_of(text):
             yield number, line
 
 
-def wrong_link(file, target):
+def wrong_link(file: str, target: str) -> bool:
     path, _, anchor = target.partition("#")
     if re.match(r"\w+:", target):
         return False
@@ -63,19 +66,19 @@ def wrong_link(file, target):
     return not found.exists() or bool(anchor) and anchor not in anchors(found.read_text())
 
 
-def wrong_path(file, path):
+def wrong_path(file: str, path: str) -> bool:
     if path.split("/")[0] not in FOLDERS or re.search(r"\b[A-Z]{2,}\b|NAME", path):
         return False
     return not any((at / path).exists() for at in (TOP, (TOP / file).parent))
 
 
-def wrong_name(name, words):
+def wrong_name(name: str, words: Container[str]) -> bool:
     plain = name.removesuffix("()")
     is_name = "::" in plain or re.search(r"[a-z0-9]_[a-z0-9]|[a-z][A-Z]", plain)
     return bool(is_name) and any(it not in words and it not in OTHERS for it in WORD.findall(plain))
 
 
-def looked_at(file, text, words, targets):
+def looked_at(file: str, text: str, words: Container[str], targets: Container[str]) -> Iterator[tuple[int, str, bool]]:
     """What a document names, each as a line, the name and whether it is missing."""
     for number, line in lines_of(text):
         for target in LINK.findall(line):
@@ -90,7 +93,7 @@ def looked_at(file, text, words, targets):
                 yield number, code, wrong_name(code, words)
 
 
-def main():
+def main() -> int:
     files = documents()
     words = {*FOLDERS}
     for file in files:

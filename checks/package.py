@@ -21,6 +21,9 @@ the network or a package.
 What this machine has no program for is left out, and named. Prints each case that went wrong, and last `N passed, M failed` (status 0
 where all passed, else 1).
 """
+from __future__ import annotations
+
+import argparse
 import functools
 import hashlib
 import json
@@ -31,9 +34,10 @@ import shutil
 import subprocess
 import sys
 import time
+from collections.abc import Callable, Iterable, Mapping, Sequence
 
 import harness
-from harness import OUT, TOP, LeftOut, Tally, needs, new_folder
+from harness import OUT, TOP, LeftOut, StrPath, Tally, needs, new_folder
 
 ROWS = TOP / "examples/rows"
 ESTIMATE = ["estimate", "--json", "--salts", "0,0,5", "first.raw", "second.core", "first.raw"]
@@ -52,6 +56,9 @@ UNITS = ("pageshare-host@.service", "pageshare-host-metrics.service", "pageshare
 EXPOSURE_MOST = 1.5
 # What systemd-sysusers leaves of the files of users that it changed.
 BACKUPS = {"etc/passwd-", "etc/group-", "etc/shadow-", "etc/gshadow-", "etc/.pwd.lock"}
+# How a program ended: its status, its output and its errors; and what runs a program in another system.
+Said = tuple[int, str, str]
+Inside = Callable[..., Said]
 PROGRAM = """\
 #include <pageshare.h>
 #include <stdio.h>
@@ -90,24 +97,24 @@ fn main() {
 """
 
 
-def run(*words, env=PLAIN, folder=None):
+def run(*words: StrPath, env: Mapping[str, str] = PLAIN, folder: StrPath | None = None) -> Said:
     """The status, the output and the errors of a program, which may take long."""
     done = harness.run(words, seconds=3600, env=env, cwd=folder)
     return done.returncode, done.stdout.decode("utf-8", "replace"), done.stderr.decode("utf-8", "replace")
 
 
-def has(name):
+def has(name: str) -> bool:
     """Whether this machine has a program."""
     return shutil.which(name) is not None
 
 
-def is_estimate(said):
+def is_estimate(said: Said) -> bool:
     """Whether a run of ESTIMATE printed these totals, and ended well."""
     code, out, err = said
     return code == 0 and not err and TOTAL.items() <= json.loads(out or "{}").get("total", {}).items()
 
 
-def try_program(tally, program):
+def try_program(tally: Tally, program: pathlib.Path) -> None:
     """The program at each level that this processor has, and at a level that there isn't."""
     for level in ["", "v2", *(["v3"] if HAS_V3 else [])]:
         env = {**PLAIN, "PAGESHARE_LEVEL": level}
@@ -122,30 +129,30 @@ def try_program(tally, program):
     tally.part(try_older, program)
 
 
-def try_older(tally, program):
+def try_older(tally: Tally, program: pathlib.Path) -> None:
     """The build for x86-64-v3 on an emulated processor without AVX2."""
     needs("older processors", "qemu-x86_64")
     old = run("qemu-x86_64", "-cpu", "Nehalem", program, "--version", env={**PLAIN, "PAGESHARE_LEVEL": "v3"})
     tally.holds("v3 on an older processor", old[0] == 127 and "older than x86-64-v3" in old[2], old)
 
 
-def flags_of(prefix, *words):
+def flags_of(prefix: pathlib.Path, *words: str) -> list[str]:
     """What pkg-config says of the library."""
     env = {**PLAIN, "PKG_CONFIG_PATH": f"{prefix}/lib/pkgconfig"}
     return run("pkg-config", *words, "pageshare", env=env)[1].split()
 
 
-def is_paired(said, level):
+def is_paired(said: Said, level: int) -> bool:
     """Whether a program in C printed what it should over the library of this level."""
     return said[1].startswith("paired\n") and said[1].endswith(f"level {level} status 0 free 0\n")
 
 
-def try_c(tally, prefix, room):
+def try_c(tally: Tally, prefix: pathlib.Path, room: pathlib.Path) -> None:
     """Programs in C over the shared and the static libraries."""
     needs("C", "cc", "pkg-config")
     source, library = room / "user.c", prefix / "lib"
     source.write_text(PROGRAM)
-    strict = ["cc", "-std=c11", "-Wall", "-Wextra", "-Wpedantic", "-Werror", source]
+    strict = ["cc", "-std=c11", "-Wall", "-Wextra", "-Wpedantic", "-Werror", str(source)]
     shared = run(*strict, *flags_of(prefix, "--cflags", "--libs"), "-o", room / "shared")
     tally.holds("C, shared: compiled", shared[0] == 0, shared)
     said = run(room / "shared", env={**PLAIN, "LD_LIBRARY_PATH": str(library)})
@@ -163,7 +170,7 @@ def try_c(tally, prefix, room):
         tally.holds("the library for v3 refuses an older processor", is_refused, said)
 
 
-def try_rust(tally, prefix, room):
+def try_rust(tally: Tally, prefix: pathlib.Path, room: pathlib.Path) -> None:
     """A program in Rust, which finds the library in each of both ways."""
     needs("Rust", "cargo")
     (room / "user/src").mkdir(parents=True)
@@ -179,7 +186,7 @@ def try_rust(tally, prefix, room):
         tally.holds(f"Rust by {how}", said[:2] == (0, "paired\n"), said)
 
 
-def try_exports(tally, prefix):
+def try_exports(tally: Tally, prefix: pathlib.Path) -> None:
     """The names that the shared libraries export."""
     needs("exports", "nm")
     for file in sorted((prefix / "lib").rglob("libpageshare.so.*.*")):
@@ -189,7 +196,7 @@ def try_exports(tally, prefix):
         tally.holds(f"{file.name} exports pageshare_* alone", is_right, names)
 
 
-def try_pages(tally, prefix, wanted):
+def try_pages(tally: Tally, prefix: pathlib.Path, wanted: Iterable[str]) -> None:
     """The man pages that there should be."""
     pages = sorted(it for it in (prefix / "share/man").rglob("*.[0-9]") if not it.is_symlink())
     names = [it.name for it in pages]
@@ -199,7 +206,7 @@ def try_pages(tally, prefix, wanted):
         tally.part(try_reader, reader, pages)
 
 
-def try_reader(tally, reader, pages):
+def try_reader(tally: Tally, reader: str, pages: Sequence[pathlib.Path]) -> None:
     """Each man page as a program reads it, without a warning."""
     needs(f"man pages by {reader}", reader)
     for page in pages:
@@ -208,13 +215,13 @@ def try_reader(tally, reader, pages):
         tally.holds(f"{page.name} by {reader}", code == 0 and not said, said)
 
 
-def try_shell(tally, shell, file):
+def try_shell(tally: Tally, shell: str, file: pathlib.Path) -> None:
     """A shell reads its completions."""
     needs(f"the completion for {shell}", shell)
     tally.equal(f"the completion for {shell}", run(shell, "-n", file), (0, "", ""))
 
 
-def try_completions(tally, prefix, name, words, wanted):
+def try_completions(tally: Tally, prefix: pathlib.Path, name: str, words: str, wanted: str) -> None:
     """The completions of a program for each shell, and what bash completes behind these words."""
     for shell, path in COMPLETIONS.items():
         tally.part(try_shell, shell, prefix / "share" / path.format(name))
@@ -224,14 +231,14 @@ def try_completions(tally, prefix, name, words, wanted):
     tally.equal(f"bash completes {words}", said[1], wanted)
 
 
-def try_rules(tally, folder):
+def try_rules(tally: Tally, folder: pathlib.Path) -> None:
     """What Prometheus says of the host's rules."""
     needs("the rules for Prometheus", "promtool")
     said = run("promtool", "check", "rules", folder / "pageshare.rules.yml")
     tally.holds("the rules for Prometheus", said[0] == 0, said)
 
 
-def try_dashboard(tally, folder):
+def try_dashboard(tally: Tally, folder: pathlib.Path) -> None:
     """Each number that Grafana's dashboard shows is one that a status has."""
     text = (folder / "grafana.json").read_text()
     panels = json.loads(text)["panels"]
@@ -242,7 +249,7 @@ def try_dashboard(tally, folder):
     tally.equal("numbers of the dashboard that no status has", missing, [])
 
 
-def try_unit(tally, folder, name):
+def try_unit(tally: Tally, folder: pathlib.Path, name: str) -> None:
     """What systemd says of a unit: it can be loaded, and what it may do."""
     needs("the units of systemd", "systemd-analyze")
     said = run("systemd-analyze", "verify", "--man=no", folder / name)
@@ -256,7 +263,7 @@ def try_unit(tally, folder, name):
     tally.holds(f"the exposure of {name} is at most {EXPOSURE_MOST}", code == 0 and level and float(level[1]) <= EXPOSURE_MOST, out[-200:] + err)
 
 
-def try_udev(tally, prefix):
+def try_udev(tally: Tally, prefix: pathlib.Path) -> None:
     """What udev says of the rule. (Its group need not be here.)"""
     needs("the rule for udev", "udevadm")
     code, out, err = run("udevadm", "verify", "--resolve-names=never", prefix / "lib/udev/rules.d/60-pageshare-host.rules")
@@ -265,7 +272,7 @@ def try_udev(tally, prefix):
     tally.holds("udevadm verify", code == 0, out + err)
 
 
-def try_users(tally, prefix, room):
+def try_users(tally: Tally, prefix: pathlib.Path, room: pathlib.Path) -> None:
     """The users and groups that the host needs, made below an empty folder."""
     needs("the host's user", "systemd-sysusers")
     root = room / "users"
@@ -277,7 +284,7 @@ def try_users(tally, prefix, room):
     tally.holds("systemd-sysusers makes the user and the group", re.findall(r"(?m)^pageshare-host:|^kvm:", made), (said, made))
 
 
-def try_names(tally, prefix):
+def try_names(tally: Tally, prefix: pathlib.Path) -> None:
     """No text that is installed has a word that should have been replaced, and each names this prefix alone."""
     folders = [prefix / "lib", prefix / "bin", prefix / "libexec", prefix / "share/pageshare"]
     texts = [it for folder in folders for it in folder.rglob("*") if it.is_file() and b"\x7fELF" not in it.read_bytes()[:4]]
@@ -285,18 +292,18 @@ def try_names(tally, prefix):
     tally.equal("texts with a word that is to be replaced", left, [])
     for name in UNITS[:2]:
         text = (prefix / "lib/systemd/system" / name).read_text()
-        program = re.search(r"(?m)^ExecStart=(\S+)", text)[1]
+        (program,) = re.findall(r"(?m)^ExecStart=(\S+)", text)
         tally.holds(f"{name} starts what is installed", program.startswith(f"{prefix}/") and os.access(program, os.X_OK), program)
 
 
-def try_soname(tally, library):
+def try_soname(tally: Tally, library: pathlib.Path) -> None:
     """The library that monitors preload has its own name."""
     needs("the name of libpageshare-window.so", "objdump")
     said = run("objdump", "-p", library)
     tally.holds("libpageshare-window.so has its soname", "SONAME               libpageshare-window.so\n" in said[1], said)
 
 
-def try_metrics(tally, prefix, room):
+def try_metrics(tally: Tally, prefix: pathlib.Path, room: pathlib.Path) -> None:
     """A host is started, and Prometheus reads its numbers."""
     host, socket = prefix / "bin/pageshare-host", room / "web.sock"
     with subprocess.Popen([host, "--domain", f"web={socket}", "--memory", "16M"], stderr=subprocess.DEVNULL) as ran:
@@ -311,7 +318,7 @@ def try_metrics(tally, prefix, room):
     tally.equal("promtool check metrics", (checked.returncode, checked.stdout, checked.stderr), (0, b"", b""))
 
 
-def try_emulator(tally, prefix):
+def try_emulator(tally: Tally, prefix: pathlib.Path) -> None:
     """The emulator for libvirt starts a QEMU whatever is missing, and says what that is."""
     emulator, settings = prefix / "bin/pageshare-qemu", pathlib.Path("/etc/pageshare/guests.conf")
     tally.equal("sh reads pageshare-qemu and write-metrics", [run("sh", "-n", it)[0] for it in (emulator, prefix / "libexec/pageshare/write-metrics")], [0, 0])
@@ -326,7 +333,7 @@ def try_emulator(tally, prefix):
     tally.holds("without a host QEMU starts", said[0] == 0 and "QEMU" in said[1] and "ld.so" not in said[2], said)
 
 
-def try_host(tally, prefix, room):
+def try_host(tally: Tally, prefix: pathlib.Path, room: pathlib.Path) -> None:
     """What is installed of the host, as its users read it."""
     tally.part(try_soname, prefix / "lib/libpageshare-window.so")
     try_names(tally, prefix)
@@ -341,7 +348,7 @@ def try_host(tally, prefix, room):
     try_completions(tally, prefix, "pageshare-host", "pageshare-host --prom", "--prometheus\n")
 
 
-def try_prefix(tally, prefix, room):
+def try_prefix(tally: Tally, prefix: pathlib.Path, room: pathlib.Path) -> None:
     """What is installed below a prefix."""
     try_program(tally, prefix / "bin/pageshare")
     tally.part(try_c, prefix, room)
@@ -354,7 +361,7 @@ def try_prefix(tally, prefix, room):
     try_host(tally, prefix, room)
 
 
-def try_tarball(tally, file, room):
+def try_tarball(tally: Tally, file: pathlib.Path, room: pathlib.Path) -> None:
     """The tarball: unpacked, installed twice, tried, and uninstalled."""
     tally.equal("the tarball unpacks", run("tar", "xf", file, "-C", room)[0], 0)
     tree = next(it for it in room.iterdir() if it.name.startswith("pageshare-"))
@@ -369,7 +376,7 @@ def try_tarball(tally, file, room):
     tally.holds("install.sh --uninstall leaves nothing", said[0] == 0 and not root.exists(), said)
 
 
-def try_make(tally, room):
+def try_make(tally: Tally, room: pathlib.Path) -> None:
     """`make install` into a new folder, as a packager and as a user call it, what is installed there, and `make uninstall`."""
     for destination, prefix in [("", room / "below/prefix"), (room / "destination", pathlib.Path("/opt/pageshare"))]:
         words = [f"PREFIX={prefix}", f"DESTDIR={destination}"]
@@ -385,21 +392,21 @@ def try_make(tally, room):
         tally.holds("make uninstall leaves nothing", said[0] == 0 and not root.parent.exists(), said)
 
 
-def try_sums(tally, folder):
+def try_sums(tally: Tally, folder: pathlib.Path) -> None:
     """The sum of each package."""
     for line in (folder / "SHA256SUMS").read_text().splitlines():
         wanted, name = line.split("  ")
         tally.equal(f"the sum of {name}", hashlib.sha256((folder / name).read_bytes()).hexdigest(), wanted)
 
 
-def try_again(tally, folder, room):
+def try_again(tally: Tally, folder: pathlib.Path, room: pathlib.Path) -> None:
     """The packages made once more."""
     said = run(sys.executable, TOP / "packaging/dist.py", room / "again", env=dict(os.environ))
     sums = (room / "again/SHA256SUMS").read_text() if said[0] == 0 else ""
     tally.holds("the same tree makes the same bytes", sums == (folder / "SHA256SUMS").read_text(), said)
 
 
-def files_of(root):
+def files_of(root: pathlib.Path) -> set[str]:
     """What a system has below its folders that isn't of a run: each path."""
     skipped = ("proc", "sys", "dev", "tmp", "run", "var/cache", "var/log", "var/lib/dpkg")
     found = set()
@@ -410,14 +417,14 @@ def files_of(root):
     return found
 
 
-def unmount_below(root):
+def unmount_below(root: pathlib.Path) -> None:
     """Unmounts what is mounted below a folder, which otherwise could not be removed."""
     mounted = [line.split()[1] for line in pathlib.Path("/proc/mounts").read_text().splitlines()]
     for place in reversed([it for it in mounted if it.startswith(f"{root}/")]):
         run("umount", place)
 
 
-def new_debian(root):
+def new_debian(root: pathlib.Path) -> Inside:
     """A Debian that has systemd and udev, which the host needs, and nothing else; and what runs a program inside."""
     env = {**PLAIN, "PATH": "/usr/sbin:/usr/bin:/sbin:/bin"}
     made = run("debootstrap", "--variant=minbase", "--include=systemd,udev", SUITE, root, env=env)
@@ -427,7 +434,7 @@ def new_debian(root):
     return lambda *words: run("chroot", root, *words, env=env)
 
 
-def try_inside(tally, inside, root, room):
+def try_inside(tally: Tally, inside: Inside, root: pathlib.Path, room: pathlib.Path) -> None:
     """What the installed package does."""
     said = inside("sh", "-c", f"cd /tmp && pageshare {' '.join(ESTIMATE)}")
     tally.holds("estimate in an empty Debian", is_estimate(said), said)
@@ -439,7 +446,7 @@ def try_inside(tally, inside, root, room):
         tally.holds("a C program finds the shared library", said[0] == 0 and said[1].startswith("paired\n"), said)
 
 
-def try_host_inside(tally, inside, root):
+def try_host_inside(tally: Tally, inside: Inside, root: pathlib.Path) -> None:
     """What the installed host has made, and what an upgrade keeps."""
     said = inside("id", "-nu", "pageshare-host")
     tally.equal("the host's user", said[:2], (0, "pageshare-host\n"))
@@ -452,14 +459,14 @@ def try_host_inside(tally, inside, root):
     tally.holds("a removal takes the program", not (root / "usr/bin/pageshare-host").exists(), said)
 
 
-def try_lintian(tally, file):
+def try_lintian(tally: Tally, file: pathlib.Path) -> None:
     """What Debian's own check says of a package."""
     needs("lintian", "lintian")
     said = run("lintian", "--allow-root", "--fail-on", "error", file)
     tally.holds(f"lintian finds no error in {file.name}", said[0] == 0, said)
 
 
-def try_debian(tally, files, room):
+def try_debian(tally: Tally, files: Sequence[pathlib.Path], room: pathlib.Path) -> None:
     """The Debian packages: installed, tried, upgraded and removed in a Debian that has nothing else."""
     if not files or not has("debootstrap") or os.geteuid() != 0:
         raise LeftOut("the Debian packages: they need dpkg-deb, debootstrap and root")
@@ -480,7 +487,7 @@ def try_debian(tally, files, room):
     tally.equal("dpkg -P leaves nothing", sorted((files_of(root) ^ before) - BACKUPS), [])
 
 
-def host_alone(tally, room):
+def host_alone(tally: Tally, room: pathlib.Path) -> None:
     """The host below a prefix, from what `make host` left."""
     root, staged = room / "installed", room / "stage"
     prefix = root / "opt/pageshare"
@@ -495,7 +502,7 @@ def host_alone(tally, room):
     tally.holds("install.sh --uninstall leaves nothing", said[0] == 0 and not root.exists(), said)
 
 
-def try_packages(tally, folder, room):
+def try_packages(tally: Tally, folder: pathlib.Path, room: pathlib.Path) -> None:
     """What `make dist` left in this folder."""
     debian = sorted(folder.glob("*_amd64.deb"))
     try_sums(tally, folder)
@@ -506,17 +513,21 @@ def try_packages(tally, folder, room):
     tally.part(try_debian, debian, room)
 
 
-def main(what=OUT / "dist"):
-    tally = Tally()
+def main() -> int:
+    options = argparse.ArgumentParser(description=__doc__.splitlines()[0])
+    options.add_argument("folder", metavar="FOLDER", nargs="?", type=pathlib.Path, default=OUT / "dist")
+    options.add_argument("--installed", action="store_true", help="try what `make install` puts into a new folder")
+    options.add_argument("--host", action="store_true", help="try the host alone, from what `make host` left")
+    given, tally = options.parse_args(), Tally()
     with new_folder() as room:
-        if what == "--host":
+        if given.host:
             host_alone(tally, room)
-        elif what == "--installed":
+        elif given.installed:
             try_make(tally, room)
         else:
-            try_packages(tally, pathlib.Path(what).resolve(), room)
+            try_packages(tally, given.folder.resolve(), room)
     return tally.close()
 
 
 if __name__ == "__main__":
-    sys.exit(main(*sys.argv[1:]))
+    sys.exit(main())

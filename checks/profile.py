@@ -9,6 +9,8 @@ sum. The checker writes a file as it ends with each module; the time between one
 `Lts` is which value lives how long in a function. It grows with the function's calls times what it holds meanwhile, so it gets
 cheaper when the function is split. The files are removed at the end, and no verdict rests on this.
 """
+from __future__ import annotations
+
 import argparse
 import collections
 import os
@@ -17,6 +19,8 @@ import re
 import subprocess
 import sys
 import tempfile
+from collections.abc import Iterator
+from typing import Any
 
 from common.kit import load_kit
 
@@ -24,18 +28,20 @@ from common.kit import load_kit
 MODULE = re.compile(r"Rattle-\w+-(?:proofs|specs)\.(?P<function>.+)\.(?P<kind>[^.]+)")
 # What is read and compared before and after all functions.
 OTHERS = "(what belongs to no function)"
+Seconds = dict[str, float]
 
 
-def times_of(folder):
+def times_of(folder: str) -> Iterator[tuple[str, float]]:
     """Each module that was written below a folder, with the seconds since the one before it. A module may have several files."""
     written = sorted((it.stat().st_mtime, it.name) for it in pathlib.Path(folder).rglob("*") if it.is_file())
     for (before, _name), (at, name) in zip(written, written[1:]):
         yield name.removesuffix(".oantt").removesuffix(".decls"), at - before
 
 
-def sums_of(folder):
+def sums_of(folder: str) -> tuple[Seconds, Seconds]:
     """The seconds of each function, and of each kind of module."""
-    functions, kinds = collections.Counter(), collections.Counter()
+    functions: Seconds = collections.defaultdict(float)
+    kinds: Seconds = collections.defaultdict(float)
     for name, seconds in times_of(folder):
         found = MODULE.fullmatch(name)
         functions[found["function"] if found else OTHERS] += seconds
@@ -43,8 +49,8 @@ def sums_of(folder):
     return functions, kinds
 
 
-def profiled(kit, crate, with_tests):
-    """The seconds by function and by kind, the lines that tell of no proof, and the check's status."""
+def profiled(kit: Any, crate: Any, with_tests: bool) -> tuple[Seconds, Seconds, list[str], int]:
+    """The seconds by function and by kind, the lines on what isn't proved, and the check's status."""
     with tempfile.TemporaryDirectory(prefix="profile-") as folder:
         words = crate.words(["--jobs", "1", "--incremental", folder], tests=with_tests, keeps=False)
         ran = subprocess.run(
@@ -55,7 +61,7 @@ def profiled(kit, crate, with_tests):
         return *sums_of(folder), others, ran.returncode
 
 
-def main():
+def main() -> int:
     options = argparse.ArgumentParser(description=__doc__.splitlines()[0])
     options.add_argument("crate")
     options.add_argument("--test", action="store_true")
@@ -70,7 +76,7 @@ def main():
     print("".join(f"{it}\n" for it in others), end="")
     for what, sums, most in (("function", functions, given.most), ("kind of module", kinds, 8)):
         print(f"seconds by {what}:")
-        for name, seconds in sums.most_common(most):
+        for name, seconds in sorted(sums.items(), key=lambda it: -it[1])[:most]:
             print(f"{seconds:7.1f} {name}")
     print(f"{sum(functions.values()):7.1f} in all")
     return status

@@ -7,10 +7,13 @@
 What is proved of the same files is taken as it is: from an earlier run on this machine where the kit keeps that, and else from this
 tree, where `make test` or this script left it. Status 0 where all is proved and passed, else 1.
 """
+from __future__ import annotations
+
 import argparse
 import os
 import subprocess
 import sys
+from typing import Any
 
 from common import proved
 from common.kit import load_kit
@@ -18,12 +21,12 @@ from common.lanes import lanes
 from harness import TOP
 
 
-def passes(kit, crate):
+def passes(kit: Any, crate: Any) -> bool:
     """Runs a crate's tests, which are proved, and returns whether they passed."""
-    return not crate.has_tests() or kit.run(crate, True)
+    return not crate.has_tests() or bool(kit.run(crate, True))
 
 
-def main():
+def main() -> int:
     options = argparse.ArgumentParser(description=__doc__.splitlines()[0])
     options.add_argument("crates", nargs="+", metavar="CRATE")
     options.add_argument("--test", action="store_true", help="prove and run the crates' tests as well")

@@ -8,14 +8,18 @@ commands.py, 1,000 texts of fuzz.py, 200 journals of tenants.py, ten seconds of 
 of live.py and the traces of traces.py, and prints what they print. The last line is `N passed, M failed`, of all of them (status 0
 where all passed, else 1).
 """
+from __future__ import annotations
+
+import argparse
 import pathlib
 import subprocess
 import sys
+from collections.abc import Sequence
 
 from harness import PROGRAM, TOP, close, counts_of
 
 SEED = "1"
-CHECKS = [
+CHECKS: list[tuple[str, list[str]]] = [
     ("commands.py", []),
     ("fuzz.py", ["1000", SEED]),
     ("tenants.py", ["200", SEED]),
@@ -25,7 +29,7 @@ CHECKS = [
 ]
 
 
-def tried(check, words):
+def tried(check: str, words: Sequence[str]) -> tuple[int, int, int]:
     """What a check counts as passed, failed and skipped; one that ends otherwise than it should has failed once more."""
     done = subprocess.run([sys.executable, TOP / "checks" / check, *words], stdout=subprocess.PIPE, text=True, check=False)
     lines = done.stdout.splitlines(keepends=True)
@@ -39,19 +43,23 @@ def tried(check, words):
     return passed, failed, skipped
 
 
-def beside(program):
+def beside(program: str) -> str:
     """The program window_trace that was built beside this one: in the same folder, or in its own crate's."""
     path = pathlib.Path(program)
     near = path.with_name("window_trace")
     return str(near if near.exists() else path.parents[2] / "window_trace/out/window_trace")
 
 
-def main(program=PROGRAM, tracer=None):
-    results = [tried(check, [*words, program]) for check, words in CHECKS]
-    results.append(tried("traces.py", [tracer or beside(str(pathlib.Path(program).resolve()))]))
+def main() -> int:
+    options = argparse.ArgumentParser(description=__doc__.splitlines()[0])
+    options.add_argument("program", metavar="PROGRAM", nargs="?", default=PROGRAM)
+    options.add_argument("tracer", metavar="TRACER", nargs="?")
+    given = options.parse_args()
+    results = [tried(check, [*words, given.program]) for check, words in CHECKS]
+    results.append(tried("traces.py", [given.tracer or beside(str(pathlib.Path(given.program).resolve()))]))
     passed, failed, skipped = map(sum, zip(*results))
     return close(passed, failed, skipped or None)
 
 
 if __name__ == "__main__":
-    sys.exit(main(*sys.argv[1:3]))
+    sys.exit(main())

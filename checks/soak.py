@@ -15,6 +15,9 @@ out/pageshare (`make build`). Of each script it looks that
 Prints the number of scripts and requests (status 0), or the first script that differs, which it leaves at out/soak.script
 (status 1). The last line is `N passed, M failed`, of scripts.
 """
+from __future__ import annotations
+
+import argparse
 import random
 import sys
 import time
@@ -24,7 +27,7 @@ from common.script_runs import Differs, look
 from harness import PROGRAM, Tally, leave
 
 
-def apart(rng):
+def apart(rng: random.Random) -> str:
     """A script whose guests can't see one another."""
     pages = [rng.randint(1, 6) for _ in range(rng.choice([1, 2, 3, 8, 64]))]
     salts = rng.sample(range(1, 2**32), len(pages))
@@ -34,7 +37,7 @@ def apart(rng):
     return text_of(head, lines)
 
 
-def difference(program, text, is_apart):
+def difference(program: str, text: str, is_apart: bool) -> tuple[Differs | None, int]:
     """In what a script differs, and how many requests it has."""
     try:
         return None, look(program, text, is_apart)
@@ -42,10 +45,15 @@ def difference(program, text, is_apart):
         return what, 0
 
 
-def main(seconds="600", seed=None, program=PROGRAM):
-    seed = int(time.time()) if seed is None else int(seed)
+def main() -> int:
+    options = argparse.ArgumentParser(description=__doc__.splitlines()[0])
+    options.add_argument("seconds", metavar="SECONDS", nargs="?", type=float, default=600)
+    options.add_argument("seed", metavar="SEED", nargs="?", type=int, default=int(time.time()))
+    options.add_argument("program", metavar="PROGRAM", nargs="?", default=PROGRAM)
+    given = options.parse_args()
+    seed, program = given.seed, given.program
     print(f"seed {seed}", flush=True)
-    rng, end = random.Random(seed), time.monotonic() + float(seconds)
+    rng, end = random.Random(seed), time.monotonic() + given.seconds
     tally, requests = Tally(), 0
     while time.monotonic() < end and not tally.failed:
         is_apart = rng.random() < 0.5
@@ -60,4 +68,4 @@ def main(seconds="600", seed=None, program=PROGRAM):
 
 
 if __name__ == "__main__":
-    sys.exit(main(*sys.argv[1:4]))
+    sys.exit(main())

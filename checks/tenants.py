@@ -13,16 +13,20 @@ guests must be the same, but for the numbers of `totals`. The premises are worke
   stores and releases before have left.
 
 At the end of each journal the first tenant's guests load, propose and release each page, so that its state is compared, too. Other
-journals aren't compared; how many of them have other lines is told. PROGRAM is by default out/pageshare (`make build`). Leaves the
+journals aren't compared; the output says how many of them have other lines. PROGRAM is by default out/pageshare (`make build`). Leaves the
 first journal with a wrong line at out/tenants.journal. The last line is `N passed, M failed`, of journals that met both premises
 (status 0 where there are some and all passed, else 1).
 """
+from __future__ import annotations
+
+import argparse
 import collections
 import concurrent.futures
 import hashlib
 import os
 import random
 import sys
+from collections.abc import Iterator, Sequence
 
 from common.plain_fleet import PAGE
 from common.random_texts import header, request, text_of
@@ -34,20 +38,20 @@ DONE = {"mapped", "stored", "copied", "taken"}
 NOT_PRIVATE = {"no-page", "unmapped", "already"}
 
 
-def hash_of(salt, page):
+def hash_of(salt: int, page: bytes) -> int:
     salted = (salt.to_bytes(4, "big") if salt else b"") + page
     return int.from_bytes(hashlib.sha256(salted).digest()[:8], "big")
 
 
-def key_of(salt, page):
+def key_of(salt: int, page: bytes) -> int:
     return hash_of(salt, page) % 2**32
 
 
-def guest_of(line):
+def guest_of(line: str) -> int:
     return int(line.split(" ", 1)[0])
 
 
-def case(seed, nth):
+def case(seed: int, nth: int) -> tuple[list[str], list[str], list[int], set[int]]:
     """Journal number nth: its first lines, its requests, its salts, and the first tenant's guests."""
     rng = random.Random(f"{seed} {nth}")
     tenants = rng.sample(sorted(CLASH), 2) if rng.random() < 0.5 else rng.sample(range(2**32), 2)
@@ -70,7 +74,7 @@ def case(seed, nth):
     return header("journal", True, frames, pages, salts), requests, salts, first
 
 
-def replayed(program, text):
+def replayed(program: str, text: str) -> list[str]:
     """A verdict for each request, without the guest's number; without the numbers of `totals`, which count both tenants' pages."""
     done = run([program, "replay"], text)
     if done.returncode != 0 or not done.stdout.endswith(b"\n"):
@@ -79,9 +83,10 @@ def replayed(program, text):
     return ["totals" if verdict.startswith("totals ") else verdict for verdict in verdicts]
 
 
-def keys_proposed(requests, verdicts, salts):
+def keys_proposed(requests: Sequence[str], verdicts: Sequence[str], salts: Sequence[int]) -> dict[int, set[int]]:
     """For each salt the keys under which its guests proposed private pages."""
-    pages, keys = collections.defaultdict(lambda: bytes(PAGE)), collections.defaultdict(set)
+    pages: dict[tuple[str, str | None], bytes] = collections.defaultdict(lambda: bytes(PAGE))
+    keys: dict[int, set[int]] = collections.defaultdict(set)
     for line, verdict in zip(requests, verdicts):
         guest, kind, *words = line.split()
         page, salt = (guest, words[0] if words else None), salts[int(guest)]
@@ -95,7 +100,9 @@ def keys_proposed(requests, verdicts, salts):
     return keys
 
 
-def failing_premises(lines, requests, verdicts, salts, first):
+def failing_premises(
+    lines: Sequence[str], requests: Sequence[str], verdicts: Sequence[str], salts: Sequence[int], first: set[int],
+) -> Iterator[str]:
     """The premises of the law that fail, in words."""
     own = {salts[guest] for guest in first}
     keys = keys_proposed(requests, verdicts, salts)
@@ -107,7 +114,7 @@ def failing_premises(lines, requests, verdicts, salts, first):
         yield "a key is both tenants'"
 
 
-def compared(program, seed, nth):
+def compared(program: str, seed: int, nth: int) -> tuple[int, str, bool]:
     """Which premises a journal doesn't meet, and whether the first tenant's lines are the same without the second one's entries."""
     lines, requests, salts, first = case(seed, nth)
     verdicts = replayed(program, text_of(lines, requests))
@@ -117,24 +124,32 @@ def compared(program, seed, nth):
     return nth, " and ".join(failing_premises(lines, requests, verdicts, salts, first)), is_same
 
 
-def wrong_lines(seed, nth, is_first):
+def wrong_lines(seed: int, nth: int, is_first: bool) -> str:
     """What to print of a journal with a wrong line, the first of which is left."""
     lines, requests, _salts, first = case(seed, nth)
     place = f"; it is at {leave('tenants.journal', text_of(lines, requests))}" if is_first else ""
     return f"guests {sorted(first)} get other lines without the others{place}"
 
 
-def assert_clash():
+def assert_clash() -> None:
     """The two pages of CLASH have one key and two hashes, so that journals come in which a premise fails."""
     zero, seven = ((salt, start + bytes(PAGE - len(start))) for salt, start in CLASH.items())
     assert key_of(*zero) == key_of(*seven) and hash_of(*zero) != hash_of(*seven)
 
 
-def main(count="1000", seed="1", program=PROGRAM):
+def main() -> int:
+    options = argparse.ArgumentParser(description=__doc__.splitlines()[0])
+    options.add_argument("count", metavar="COUNT", nargs="?", type=int, default=1000)
+    options.add_argument("seed", metavar="SEED", nargs="?", type=int, default=1)
+    options.add_argument("program", metavar="PROGRAM", nargs="?", default=PROGRAM)
+    given = options.parse_args()
+    count, seed, program = given.count, given.seed, given.program
     assert_clash()
-    tally, unmet, other = Tally(), collections.Counter(), collections.Counter()
+    tally = Tally()
+    unmet: collections.Counter[str] = collections.Counter()
+    other: collections.Counter[str] = collections.Counter()
     with concurrent.futures.ThreadPoolExecutor(os.cpu_count()) as pool:
-        for nth, fails, is_same in pool.map(lambda nth: compared(program, seed, nth), range(int(count))):
+        for nth, fails, is_same in pool.map(lambda nth: compared(program, seed, nth), range(count)):
             if fails:
                 unmet[fails] += 1
                 other[fails] += not is_same
@@ -150,4 +165,4 @@ def main(count="1000", seed="1", program=PROGRAM):
 
 
 if __name__ == "__main__":
-    sys.exit(main(*sys.argv[1:4]))
+    sys.exit(main())

@@ -7,8 +7,12 @@ PROGRAM is by default out/window_trace. Each trace must get its line and its sta
 line isn't possible or says something else of a page, and texts that aren't traces, each refused at its line. The last line is
 `N passed, M failed`, with status 0 where all passed, else 1.
 """
+from __future__ import annotations
+
+import argparse
 import pathlib
 import sys
+from collections.abc import Iterable, Iterator
 
 from harness import OUT, Tally, run
 
@@ -20,7 +24,7 @@ JOINED = [*LENT, "write 1 7", "guard 1", "copy 1", "lend 1 1", "map 1"]
 MOST = 2**64 - 1
 
 # What is played after the head, and how many events and looks it has.
-RIGHT = {
+RIGHT: dict[str, tuple[list[str], int, int]] = {
     "nothing": ([], 0, 0),
     "a look before any event": (["shows 2 0"], 0, 1),
     "a page that is lent": ([*LENT, "shows 0 7"], 5, 1),
@@ -31,6 +35,13 @@ RIGHT = {
     "a frame that was filled early": (["trim 3 5", "write 2 5", "guard 2", "copy 2", "lend 2 3", "map 2", "shows 2 5"], 6, 1),
     "a page that is discarded": ([*LENT, "discard 0", "shows 0 0", "release 0"], 7, 1),
     "the greatest content": ([f"write 0 {MOST}", f"shows 0 {MOST}"], 1, 1),
+    "a thousand writes": ([f"write {n % 3} {n}" for n in range(1200)], 1200, 0),
+}
+
+# The sizes of larger traces, what is played, and how many events and looks it has. There is memory for these, so it isn't refused.
+LARGE = {
+    "the most pages": (1048576, 4, ["write 1048575 9", "shows 1048575 9", "shows 0 0"], 1, 2),
+    "the most frames": (2, 67108864, ["trim 67108863 5", "write 1 5", "guard 1", "copy 1", "lend 1 67108863", "map 1", "shows 1 5"], 6, 1),
 }
 
 # What is played after the head; the last line is the one that isn't possible.
@@ -51,7 +62,7 @@ IMPOSSIBLE = {
 }
 
 # What is played after the head, and what is printed of its last line.
-OTHER = {
+OTHER: dict[str, tuple[list[str], str]] = {
     "another content": ([*LENT, "shows 0 8"], "page 0 shows 7, not 8"),
     "a content of before": ([*JOINED, "write 1 9", "shows 1 7"], "page 1 shows 9, not 7"),
     "a page that isn't there": (["shows 3 0"], "no page 3"),
@@ -76,19 +87,24 @@ FAULTS = {
     "a carriage return": ("\n".join([*HEAD, "guard 0\r", ""]), "line 3: form"),
     "an empty line": ("\n".join([*HEAD, "", ""]), "line 3: form"),
     "a line without its line feed": ("\n".join([*HEAD, "guard 0", "copy 0"]), "truncated line 4"),
+    "a fault behind 1,200 lines": ("\n".join([*HEAD, *["shows 0 0"] * 1200, "copy", ""]), "line 1203: form"),
+    "an end within the line behind 1,200": ("\n".join([*HEAD, *["shows 0 0"] * 1200, "copy 0"]), "truncated line 1203"),
     # Nothing is played of a text with a fault.
     "a fault behind an event that isn't possible": ("\n".join([*HEAD, "copy 0", "copies 0", ""]), "line 4: form"),
 }
 
 
-def text_of(lines):
+def text_of(lines: Iterable[str]) -> str:
     return "\n".join([*HEAD, *lines, ""])
 
 
-def cases():
+def cases() -> Iterator[tuple[str, str, str, int]]:
     """Each case's name, text, line and status."""
     for name, (lines, events, looks) in RIGHT.items():
         yield name, text_of(lines), f"{events} events, each possible; {looks} pages shown right", 0
+    for name, (pages, frames, lines, events, looks) in LARGE.items():
+        text = "\n".join([HEAD[0], f"pages {pages} frames {frames}", *lines, ""])
+        yield name, text, f"{events} events, each possible; {looks} pages shown right", 0
     for name, lines in IMPOSSIBLE.items():
         yield name, text_of([*lines, "shows 0 99"]), f"line {len(HEAD) + len(lines)}: not possible", 1
     for name, (lines, outcome) in OTHER.items():
@@ -97,8 +113,10 @@ def cases():
         yield name, text, f"fault {fault}", 2
 
 
-def main(program=str(OUT / "window_trace")):
-    tally = Tally()
+def main() -> int:
+    options = argparse.ArgumentParser(description=__doc__.splitlines()[0])
+    options.add_argument("program", metavar="PROGRAM", nargs="?", default=str(OUT / "window_trace"))
+    program, tally = options.parse_args().program, Tally()
     if not pathlib.Path(program).is_file():
         tally.case(program, ["it isn't there: `make traces` builds out/window_trace"])
         return tally.close()
@@ -109,4 +127,4 @@ def main(program=str(OUT / "window_trace")):
 
 
 if __name__ == "__main__":
-    sys.exit(main(*sys.argv[1:2]))
+    sys.exit(main())

@@ -4,8 +4,8 @@
     checks/windows.py [LIBRARY [SECONDS]]
 
 LIBRARY is libpageshare.a, by default out/libpageshare.a (`make embed`); a stress runs for SECONDS at most, by default 10. All that is
-built goes to out/window. In turn: what becomes of pages (pages.c), and of those that leave their window (leaves.c); what the system
-refuses (guards.c); a frames' file without memory
+built goes to out/window. In turn: what becomes of pages (pages.c), of those that leave their window (leaves.c), and of huge pages
+(parts.c); what the system refuses (guards.c); a frames' file without memory
 (full.c); how long a write waits (stalls.c); and a stress (stress.c), by each way of holding and finding pages, under the address and
 the thread sanitizer, and with a record of its events that `out/window_trace` must play. What this machine can't do is left out, and so
 said. CC names another compiler than cc, and CFLAGS more words for it.
@@ -15,79 +15,95 @@ With WRONG=1 in the environment the stress runs with wrong bodies in place of ri
 A test that fails prints what is wrong. The last line is `N passed, M failed`, of the programs that ran (status 0
 where all passed, else 1).
 """
+from __future__ import annotations
+
+import argparse
 import os
 import pathlib
 import shutil
 import subprocess
 import sys
+from collections.abc import Sequence
 
 from common.c_programs import CC, FLAGS, LENDER, WINDOW, compile_c, needs_windows, passes, play, run
 from harness import OUT as BUILT
-from harness import TOP, LeftOut, Tally
+from harness import TOP, LeftOut, StrPath, Tally
 
 TESTS, OUT = TOP / "window/tests", BUILT / "window"
 WRAPS = {
     "guards": ["ioctl", "madvise", "mremap", "fallocate"],
+    "parts": ["ioctl", "madvise", "mremap", "fallocate"],
     "full": ["memfd_create", "fcntl"],
 }
-MORE = {"guards": ["faults"], "pages": ["ring"], "leaves": ["ring"], "stress": ["ring"], "full": [], "stalls": []}
+MORE: dict[str, list[str]] = {
+    "guards": ["faults"], "pages": ["ring"], "leaves": ["ring"], "parts": ["faults", "ring"], "stress": ["ring"], "full": [], "stalls": [],
+}
 # The tests but the stress, in turn, and the seconds that each has; those that run under the address sanitizer, too; and the seconds of a
 # stress beside those that it runs by its own clock.
-CASES = {"pages": 120, "leaves": 120, "guards": 120, "full": 120, "stalls": 300}
-SANITIZED = ("pages", "leaves")
+CASES = {"pages": 120, "leaves": 120, "parts": 120, "guards": 120, "full": 120, "stalls": 300}
+SANITIZED = {"address,undefined": ("pages", "leaves", "parts"), "thread": ("parts",)}
 STRESS_MORE = 120
-SANITIZERS = ["address,undefined", "thread"]
-WAYS = [[], ["--move", "0"], ["--scan", "0"], ["--pins", "1", "--rest", "7"]]
+HUGE = ["--huge", "64", "--pages", "1500"]
+WAYS: list[list[str]] = [
+    [], ["--move", "0"], ["--scan", "0"], ["--pins", "1", "--rest", "7"], HUGE, [*HUGE, "--move", "0", "--rest", "7"], [*HUGE, "--pins", "1"],
+]
 
-# Wrong bodies: file, a line's part that stands there once, what stands there instead, and words for the stress.
+# Wrong bodies: file, a line's part that stands there once, what stands there instead, the test that finds it, and words for that.
 EQUAL = "are_equal(page, windows->frames_at + bytes_of(target))"
 ZEROED = "int cause = map_pages(window, first, count, ZEROS, protection);"
 DROPPED = "int cause = madvise(address_of(window, first), bytes_of(count), MADV_DONTNEED);"
 HELD = "hold->moves = false, memset(hold->held, 1, hold->count); return;"
 PINNED = ["--pins", "1", "--move", "0"]
-BODIES = {
+LONG = ["--seconds", "20", "--writes", "40000000", "--trace"]
+GUARDED = "return cause == 0 ? pagemap_are_guarded(&windows->pagemap, at, PART) : cause;"
+BODIES: dict[str, tuple[str, str, str, list[str] | None]] = {
     "lends without a comparison": ("lend.c", EQUAL, "true", []),
     "holds nothing": ("lend.c", "if (!hold->moves && !is_over && may_pin(windows)) return;", HELD, []),
     "takes what is shown for copies": ("kernel.c", "(ENTRY_FILE | ENTRY_GUARDED)", "ENTRY_GUARDED", ["--scan", "0"]),
     "discards over a frame": ("home.c", ZEROED, DROPPED, []),
     "guards what may be pinned": ("windows.c", "windows->pins = config->pins", "windows->pins = WINDOWS_PINS_NEVER", PINNED),
+    "copies a part unguarded": ("parts.c", GUARDED, "return faults_end_watch(&windows->faults, at, PART);", None),
+    "copies what may be pinned": ("parts.c", "if (cause == 0 && may_pin(windows)) cause = EBUSY;", "", None),
 }
 
 
-def build(name, library, more=(), suffix=""):
+def build(name: str, library: StrPath, more: Sequence[str] = (), suffix: str = "") -> pathlib.Path:
     """Builds a test, and returns its path."""
     wraps = [f"-Wl,--wrap={call}" for call in WRAPS.get(name, [])]
     sources = [TESTS / f"{part}.c" for part in [name, *MORE[name]]]
     return compile_c([*FLAGS, *more, *wraps, f"-I{TOP / 'include'}", *sources, *WINDOW, *LENDER, library], OUT / (name + suffix))
 
 
-def has_sanitizer(name):
+def has_sanitizer(name: str) -> bool:
     """Whether a program with this sanitizer can be built and runs."""
     path = OUT / "probe"
-    words = [CC, f"-fsanitize={name}", "-x", "c", "-o", path, "-"]
+    words = [CC, f"-fsanitize={name}", "-x", "c", "-o", str(path), "-"]
     built = subprocess.run(words, input=b"int main(void) { return 0; }", capture_output=True, check=False).returncode == 0
     return built and subprocess.run([path], capture_output=True, check=False).returncode == 0
 
 
-def sanitized(tally, name, library, seconds):
+def sanitized(tally: Tally, name: str, library: StrPath, seconds: str) -> None:
     """The stress under a sanitizer, and what becomes of pages under that of addresses."""
     if not has_sanitizer(name):
         raise LeftOut(f"the {name} sanitizer")
     suffix = "_" + name.split(",", maxsplit=1)[0]
-    passes(tally, [build("stress", library, [f"-fsanitize={name}"], suffix), "--seconds", seconds], int(seconds) + STRESS_MORE)
-    for program in SANITIZED if name != "thread" else []:
+    stress = build("stress", library, [f"-fsanitize={name}"], suffix)
+    passes(tally, [stress, "--seconds", seconds], int(seconds) + STRESS_MORE)
+    for program in SANITIZED[name]:
         passes(tally, [build(program, library, [f"-fsanitize={name}"], suffix)], CASES[program])
 
 
-def record(tally, library, seconds):
-    """A stress with a record of its events, which is played."""
+def record(tally: Tally, library: StrPath, seconds: str) -> None:
+    """A stress, and parts that are split and become whole, with a record of their events, which is played."""
     trace = OUT / "window.trace"
-    program = build("stress", library, ["-DWINDOW_TRACE"], "_trace")
-    if passes(tally, [program, "--seconds", seconds, "--writes", "1000000", "--trace", trace]):
-        tally.part(play, trace)
+    more: dict[str, list[str]] = {"stress": ["--seconds", seconds, "--writes", "1000000"], "parts": []}
+    for name, words in more.items():
+        program = build(name, library, ["-DWINDOW_TRACE"], "_trace")
+        if passes(tally, [program, *words, "--trace", trace], int(seconds) + STRESS_MORE):
+            tally.part(play, trace)
 
 
-def with_body(name, file, part, instead):
+def with_body(name: str, file: str, part: str, instead: str) -> pathlib.Path:
     """The folder of a copy of the sources with a wrong body."""
     folder = OUT / "wrong"
     shutil.rmtree(folder, ignore_errors=True)
@@ -100,25 +116,27 @@ def with_body(name, file, part, instead):
     return folder
 
 
-def is_found(folder, library, more):
-    """Whether the stress fails with these sources, or its record does."""
-    sources = [folder / source.relative_to(TOP) for source in [TESTS / "stress.c", TESTS / "ring.c", *WINDOW, *LENDER]]
+def is_found(folder: pathlib.Path, library: StrPath, more: Sequence[str] | None) -> bool:
+    """Whether the stress fails with these sources and words, or its record does; without words what becomes of parts."""
+    name = "parts" if more is None else "stress"
+    sources = [folder / source.relative_to(TOP) for source in [*(TESTS / f"{it}.c" for it in [name, *MORE[name]]), *WINDOW, *LENDER]]
     flags = [flag for flag in FLAGS if flag != "-Werror"] + ["-w", "-DWINDOW_TRACE", f"-I{folder / 'include'}"]
-    stress = compile_c([*flags, *sources, library], OUT / "stress_wrong")
+    wraps = [f"-Wl,--wrap={call}" for call in WRAPS.get(name, [])]
+    test = compile_c([*flags, *wraps, *sources, library], OUT / f"{name}_wrong")
     trace, program = OUT / "wrong.trace", BUILT / "window_trace"
-    words = [stress, "--seconds", "20", "--writes", "40000000", "--trace", trace, *more]
+    words: list[StrPath] = [test] if more is None else [test, *LONG, trace, *more]
     if run(words, capture_output=True).returncode != 0:
         return True
-    return program.exists() and run([program, trace]).returncode == 1
+    return more is not None and program.exists() and run([program, trace]).returncode == 1
 
 
-def wrong_bodies(tally, library):
+def wrong_bodies(tally: Tally, library: StrPath) -> None:
     """Each wrong body must be found."""
     for name, (file, part, instead, more) in BODIES.items():
         tally.holds(name, is_found(with_body(name, file, part, instead), library, more), "a wrong body that wasn't found")
 
 
-def all_tests(tally, library, seconds):
+def all_tests(tally: Tally, library: StrPath, seconds: str) -> None:
     """Each test in turn."""
     needs_windows()
     OUT.mkdir(parents=True, exist_ok=True)
@@ -127,20 +145,24 @@ def all_tests(tally, library, seconds):
     stress = build("stress", library)
     for way in WAYS:
         passes(tally, [stress, "--seconds", seconds, *way], int(seconds) + STRESS_MORE)
-    for name in SANITIZERS:
+    for name in SANITIZED:
         tally.part(sanitized, name, library, seconds)
     record(tally, library, seconds)
     if os.environ.get("WRONG") == "1":
         wrong_bodies(tally, library)
 
 
-def main(library=BUILT / "libpageshare.a", seconds="10"):
-    if not pathlib.Path(library).exists():
-        sys.exit(f"there is no library {library}")
+def main() -> int:
+    options = argparse.ArgumentParser(description=__doc__.splitlines()[0])
+    options.add_argument("library", metavar="LIBRARY", nargs="?", type=pathlib.Path, default=BUILT / "libpageshare.a")
+    options.add_argument("seconds", metavar="SECONDS", nargs="?", type=int, default=10)
+    given = options.parse_args()
+    if not given.library.exists():
+        sys.exit(f"there is no library {given.library}")
     tally = Tally()
-    tally.part(all_tests, library, seconds)
+    tally.part(all_tests, given.library, str(given.seconds))
     return tally.close()
 
 
 if __name__ == "__main__":
-    sys.exit(main(*sys.argv[1:3]))
+    sys.exit(main())

@@ -6,9 +6,11 @@
 NAME is what the program is called by. FOLDER gets bash-completion/completions/NAME, zsh/site-functions/_NAME and
 fish/vendor_completions.d/NAME.fish, which is where the shells look below PREFIX/share.
 """
+from __future__ import annotations
+
+import argparse
 import pathlib
 import re
-import sys
 
 import helptext
 
@@ -16,25 +18,25 @@ import helptext
 FILES = re.compile(r"FILE|PATH|IMAGE|DIGEST|SOCKET", re.I)
 
 
-def quoted(text):
+def quoted(text: str) -> str:
     """A text as one word of a shell."""
     return "'" + text.replace("'", "'\\''") + "'"
 
 
-def short(text):
+def short(text: str) -> str:
     """What is said of an option, in one line without its defaults."""
     return re.sub(r"\s*\[(default|possible values|env)[^\]]*\]", "", text).strip()
 
 
-def is_file(value):
-    return bool(value) and bool(FILES.search(value))
+def is_file(value: str | None) -> bool:
+    return value is not None and bool(FILES.search(value))
 
 
-def takes_files(help_):
+def takes_files(help_: helptext.Help) -> bool:
     return any(is_file(it.term) for it in help_.arguments()) or any(FILES.search(re.sub(r"\[OPTIONS\]", "", it)) for it in help_.usage)
 
 
-def bash_case(name, help_):
+def bash_case(name: str, help_: helptext.Help) -> list[str]:
     """The words of one command: its options, the words behind one, and whether files follow."""
     flags = " ".join(flag for it in help_.options() for flag in it.flags())
     values = []
@@ -55,7 +57,7 @@ def bash_case(name, help_):
     return [*lines, "            ;;"]
 
 
-def bash(name, top, commands):
+def bash(name: str, top: helptext.Help, commands: dict[str, helptext.Help]) -> str:
     words = " ".join([*commands, *(["help"] if commands else [])])
     function = "_" + name.replace("-", "_")
     lines = [
@@ -92,7 +94,7 @@ def bash(name, top, commands):
     return "\n".join(lines) + "\n"
 
 
-def zsh_specs(help_):
+def zsh_specs(help_: helptext.Help) -> list[str]:
     """The specifications of _arguments for options and arguments."""
     specs = []
     for option in help_.options():
@@ -110,7 +112,7 @@ def zsh_specs(help_):
     return specs
 
 
-def zsh(name, top, commands):
+def zsh(name: str, top: helptext.Help, commands: dict[str, helptext.Help]) -> str:
     lines = [f"#compdef {name}", f"# Completion of {name} for zsh.", ""]
     if not commands:
         return "\n".join([*lines, "_arguments \\", " \\\n".join(f"    {it}" for it in zsh_specs(top))]) + "\n"
@@ -127,7 +129,7 @@ def zsh(name, top, commands):
     return "\n".join(lines) + "\n"
 
 
-def fish_options(name, help_, condition):
+def fish_options(name: str, help_: helptext.Help, condition: list[str]) -> list[str]:
     lines = []
     for option in help_.options():
         words = [f"complete -c {name}", *condition]
@@ -141,7 +143,7 @@ def fish_options(name, help_, condition):
     return lines
 
 
-def fish(name, top, commands):
+def fish(name: str, top: helptext.Help, commands: dict[str, helptext.Help]) -> str:
     lines = [f"# Completion of {name} for fish.", f"complete -c {name} -f"]
     if not commands:
         return "\n".join([*lines, *fish_options(name, top, [])]) + "\n"
@@ -156,19 +158,24 @@ def fish(name, top, commands):
     return "\n".join(lines) + "\n"
 
 
-def main(name, program, folder):
-    top = helptext.of(program)
-    commands = {it.term.split()[0]: helptext.of(program, it.term.split()[0]) for it in top.commands()}
+def main() -> None:
+    options = argparse.ArgumentParser(description=__doc__.splitlines()[0])
+    options.add_argument("name", metavar="NAME", help="what the program is called by")
+    options.add_argument("program", metavar="PROGRAM")
+    options.add_argument("folder", metavar="FOLDER", type=pathlib.Path, help="the folder that gets the completions, such as PREFIX/share")
+    given = options.parse_args()
+    top = helptext.of(given.program)
+    commands = {it.term.split()[0]: helptext.of(given.program, it.term.split()[0]) for it in top.commands()}
     written = {
-        f"bash-completion/completions/{name}": bash,
-        f"zsh/site-functions/_{name}": zsh,
-        f"fish/vendor_completions.d/{name}.fish": fish,
+        f"bash-completion/completions/{given.name}": bash,
+        f"zsh/site-functions/_{given.name}": zsh,
+        f"fish/vendor_completions.d/{given.name}.fish": fish,
     }
     for path, shell in written.items():
-        file = pathlib.Path(folder) / path
+        file = given.folder / path
         file.parent.mkdir(parents=True, exist_ok=True)
-        file.write_text(shell(name, top, commands))
+        file.write_text(shell(given.name, top, commands))
 
 
 if __name__ == "__main__":
-    main(*sys.argv[1:])
+    main()

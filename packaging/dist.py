@@ -8,6 +8,9 @@ install.sh installs it; pageshare_VERSION_amd64.deb with the program and its lib
 host, where there is dpkg-deb; and SHA256SUMS. What `packaging/stage.py` needs has to be in out/. The same tree gives the same bytes:
 files are in order, belong to root, and have the last commit's time (or SOURCE_DATE_EPOCH).
 """
+from __future__ import annotations
+
+import argparse
 import email.utils
 import gzip
 import hashlib
@@ -16,9 +19,9 @@ import pathlib
 import re
 import shutil
 import subprocess
-import sys
 import tarfile
 import tempfile
+from collections.abc import Iterator
 
 import stage
 
@@ -85,7 +88,7 @@ License: Apache-2.0
 """
 
 
-def rooted(entry):
+def rooted(entry: tarfile.TarInfo) -> tarfile.TarInfo:
     """A tarball's entry, as of root and of the commit's time."""
     entry.uid = entry.gid = 0
     entry.uname = entry.gname = "root"
@@ -95,7 +98,7 @@ def rooted(entry):
     return entry
 
 
-def make_tarball(folder):
+def make_tarball(folder: pathlib.Path) -> pathlib.Path:
     """The tarball; returns its path."""
     file = folder / f"{NAME}.tar.gz"
     with tempfile.TemporaryDirectory(prefix="dist-") as room:
@@ -103,14 +106,14 @@ def make_tarball(folder):
         stage.stage(tree)
         for source in ("packaging/install.sh", "LICENSE-MIT", "LICENSE-APACHE", "docs/INSTALL.md"):
             shutil.copy(TOP / source, tree)
-        with open(file, "wb") as raw, gzip.GzipFile("", "wb", 9, raw, mtime=0) as packed, tarfile.open(fileobj=packed, mode="w") as tar:
+        with open(file, "wb") as raw, gzip.GzipFile("", "wb", 9, raw, mtime=0) as packed, tarfile.TarFile(fileobj=packed, mode="w") as tar:
             tar.add(tree, NAME, recursive=False, filter=rooted)
             for path in sorted(tree.rglob("*")):
                 tar.add(path, f"{NAME}/{path.relative_to(tree)}", recursive=False, filter=rooted)
     return file
 
 
-def elf_files(tree):
+def elf_files(tree: pathlib.Path) -> Iterator[pathlib.Path]:
     """The programs and libraries below a folder."""
     folders = [tree / "bin", tree / "lib", tree / "libexec"]
     for path in sorted(it for folder in folders for it in folder.rglob("*") if it.is_file() and not it.is_symlink()):
@@ -119,9 +122,10 @@ def elf_files(tree):
                 yield path
 
 
-def depends(tree):
+def depends(tree: pathlib.Path) -> str:
     """The packages that have what the programs and libraries need: the oldest version of the C library that does, and others."""
-    versions, packages = {(2, 17)}, set()
+    versions: set[tuple[int, ...]] = {(2, 17)}
+    packages = set()
     for path in elf_files(tree):
         shown = subprocess.run(["objdump", "-p", "-T", path], capture_output=True, text=True, check=True).stdout
         versions |= {tuple(map(int, it.split("."))) for it in re.findall(r"GLIBC_(\d+\.\d+)", shown)}
@@ -130,13 +134,13 @@ def depends(tree):
     return ", ".join([libc, *sorted(packages - {"libc6"})])
 
 
-def pack(file, text):
+def pack(file: pathlib.Path, text: bytes) -> None:
     """Writes what a Debian package has compressed."""
     file.parent.mkdir(parents=True, exist_ok=True)
     file.write_bytes(gzip.compress(text, 9, mtime=0))
 
 
-def pack_manuals(folder):
+def pack_manuals(folder: pathlib.Path) -> None:
     """Compresses the man pages, and lets their other names lead to the compressed ones."""
     for page in sorted(folder.rglob("*.[0-9]")):
         packed = page.with_name(page.name + ".gz")
@@ -147,19 +151,19 @@ def pack_manuals(folder):
         page.unlink()
 
 
-def write_notes(documents, name):
+def write_notes(documents: pathlib.Path, name: str) -> None:
     """The changelog and the licences, as Debian has them."""
     date = email.utils.formatdate(stage.commit_time())
     changes = "see CHANGELOG.md beside this file" if name == "pageshare" else "see CHANGELOG.md of the package pageshare"
     words = {"name": name, "version": stage.VERSION, "maintainer": MAINTAINER, "date": date, "changes": changes}
     pack(documents / "changelog.gz", CHANGELOG.format(**words).encode())
     licence = (TOP / "LICENSE-MIT").read_text().strip()
-    owner = re.search(r"^Copyright \(c\) (.*)$", licence, re.M)[1]
+    (owner,) = re.findall(r"^Copyright \(c\) (.*)$", licence, re.M)
     expat = "\n".join(f" {it.strip() or '.'}" for it in licence.split("\n"))
     (documents / "copyright").write_text(COPYRIGHT.format(owner=owner, expat=expat))
 
 
-def write_control(room, part):
+def write_control(room: pathlib.Path, part: str) -> None:
     """The package's own files: what it is called and needs, its sums, and the scripts that dpkg runs."""
     (name, more), control = DEBIAN[part], room / "DEBIAN"
     control.mkdir()
@@ -176,7 +180,7 @@ def write_control(room, part):
             (control / file.suffix[1:]).chmod(0o755 if file.suffix in SCRIPTS else 0o644)
 
 
-def fill_debian(room, part):
+def fill_debian(room: pathlib.Path, part: str) -> None:
     """The files of the Debian package of a part."""
     name, tree = DEBIAN[part][0], room / "usr"
     stage.stage(tree, f"lib/{MULTIARCH}", "/usr", "share/zsh/vendor-completions", (part,), name)
@@ -197,7 +201,7 @@ def fill_debian(room, part):
         (tree / "share/pageshare").rmdir()
 
 
-def make_debian(folder, part):
+def make_debian(folder: pathlib.Path, part: str) -> pathlib.Path:
     """The Debian package of a part; returns its path."""
     file = folder / f"{DEBIAN[part][0]}_{stage.VERSION}_amd64.deb"
     with tempfile.TemporaryDirectory(prefix="dist-") as name:
@@ -210,13 +214,15 @@ def make_debian(folder, part):
             if not path.is_symlink():
                 path.chmod(0o755 if path.is_dir() or path.stat().st_mode & 0o100 else 0o644)
             os.utime(path, (seconds, seconds), follow_symlinks=False)
-        words = ["dpkg-deb", "--root-owner-group", "-Zxz", "--build", room, file]
+        words = ["dpkg-deb", "--root-owner-group", "-Zxz", "--build", str(room), str(file)]
         subprocess.run(words, env={**os.environ, "SOURCE_DATE_EPOCH": str(seconds)}, stdout=subprocess.DEVNULL, check=True)
     return file
 
 
-def main(folder=TOP / "out/dist"):
-    folder = pathlib.Path(folder)
+def main() -> None:
+    options = argparse.ArgumentParser(description=__doc__.splitlines()[0])
+    options.add_argument("folder", metavar="FOLDER", nargs="?", type=pathlib.Path, default=TOP / "out/dist")
+    folder = options.parse_args().folder
     shutil.rmtree(folder, ignore_errors=True)
     folder.mkdir(parents=True)
     made = [make_tarball(folder)]
@@ -230,4 +236,4 @@ def main(folder=TOP / "out/dist"):
 
 
 if __name__ == "__main__":
-    main(*sys.argv[1:])
+    main()

@@ -1,4 +1,6 @@
 """Reads a header of C: its comments, and the declarations below each of them."""
+from __future__ import annotations
+
 import re
 from typing import NamedTuple
 
@@ -14,12 +16,13 @@ class Part(NamedTuple):
     code: list[str]
 
 
-def version(text):
+def version(text: str) -> str:
     """The version that the header names."""
-    return re.search(r'^#define PAGESHARE_VERSION "([^"]+)"$', text, re.M)[1]
+    (named,) = re.findall(r'^#define PAGESHARE_VERSION "([^"]+)"$', text, re.M)
+    return str(named)
 
 
-def said(comment):
+def said(comment: str) -> list[str]:
     """A comment's lines, without the stars in front."""
     lines = comment.strip("\n").split("\n")
     if len(lines) == 1:
@@ -27,7 +30,7 @@ def said(comment):
     return [re.sub(r"^ \*? ?", "", line).rstrip() for line in lines]
 
 
-def declared(lines):
+def declared(lines: list[str]) -> list[str]:
     """Code without the preprocessor's conditions and pragmas, macros with arguments and the bodies of functions."""
     kept, depth, is_body, is_macro, is_aside = [], 0, False, False, False
     for line in lines:
@@ -53,7 +56,7 @@ def declared(lines):
     return kept
 
 
-def title_of(code):
+def title_of(code: list[str]) -> str:
     """What a part is headed by: the names of its functions, or of its type."""
     joined = "\n".join(code)
     names = FUNCTION.findall(joined)
@@ -63,7 +66,7 @@ def title_of(code):
     return f"{kind[1]} {kind[2]}" if kind else ""
 
 
-def unattributed(lines):
+def unattributed(lines: list[str]) -> list[str]:
     """Declarations without what hides a name or warns of it. Their further lines move as far to the left as the first."""
     shown, moved = [], 0
     for line in lines:
@@ -77,7 +80,7 @@ def unattributed(lines):
     return shown
 
 
-def trimmed(lines):
+def trimmed(lines: list[str]) -> list[str]:
     while lines and not lines[0].strip():
         lines = lines[1:]
     while lines and not lines[-1].strip():
@@ -85,7 +88,7 @@ def trimmed(lines):
     return lines
 
 
-def parts(text):
+def parts(text: str) -> list[Part]:
     """The comments that begin a line, in order, with what stands below each of them."""
     found = []
     at = 0
@@ -102,7 +105,7 @@ def parts(text):
     return found
 
 
-def functions(every):
+def functions(every: list[Part]) -> list[str]:
     """The names of the functions that are declared, each once."""
     names = [name for part in every for name in FUNCTION.findall("\n".join(part.code))]
     return list(dict.fromkeys(names))

@@ -8,10 +8,13 @@ for each function, and man5/pageshare-journal.5 and pageshare-digest.5. With --h
 man8/pageshare-host.8 and the name pageshare-qemu.8.
 The date is that of the pages, by default the last commit's. Nothing is written twice: a page says what its source says.
 """
+from __future__ import annotations
+
 import argparse
 import pathlib
 import re
 import subprocess
+from collections.abc import Iterable
 
 import header
 import helptext
@@ -21,12 +24,12 @@ TOP = pathlib.Path(__file__).resolve().parent.parent
 DIGESTS = re.compile(r"digest|fleet|pairs", re.I)
 
 
-def last_commit():
+def last_commit() -> str:
     done = subprocess.run(["git", "log", "-1", "--format=%cs"], cwd=TOP, capture_output=True, text=True, check=False)
     return done.stdout.strip() or "1970-01-01"
 
 
-def synopsis(usage):
+def synopsis(usage: str) -> str:
     """A usage line as roff: the words in front bold, what stands for a value italic."""
     shown = []
     is_front = True
@@ -39,7 +42,7 @@ def synopsis(usage):
     return " ".join(shown)
 
 
-def write_help(page, name, help_, about):
+def write_help(page: roff.Page, name: str, help_: helptext.Help, about: str) -> None:
     """The sections that a help gives."""
     page.heading("Name")
     page.raw(f"{roff.plain(name)} \\- {roff.plain(about.rstrip('.'))}")
@@ -60,7 +63,7 @@ def write_help(page, name, help_, about):
         roff.write_blocks(page, help_.after)
 
 
-def see_also(page, names):
+def see_also(page: roff.Page, names: Iterable[tuple[str, int]]) -> None:
     page.heading("See also")
     page.raw(",\n".join(f"\\fB{roff.plain(name)}\\fR({section})" for name, section in names))
 
@@ -68,30 +71,30 @@ def see_also(page, names):
 class Writer:
     """Writes pages to a folder, each of one date and version."""
 
-    def __init__(self, folder, date, version):
+    def __init__(self, folder: pathlib.Path, date: str, version: str) -> None:
         self.folder, self.date, self.version = folder, date, version
 
-    def page(self, name, section):
+    def page(self, name: str, section: int) -> roff.Page:
         return roff.Page(name, section, self.date, self.version)
 
-    def keep(self, page, name, section):
+    def keep(self, page: roff.Page, name: str, section: int) -> None:
         file = self.folder / f"man{section}" / f"{name}.{section}"
         file.parent.mkdir(parents=True, exist_ok=True)
         file.write_text(page.text())
 
-    def name(self, name, of, section):
+    def name(self, name: str, of: str, section: int) -> None:
         """Another name of a page."""
         link = self.folder / f"man{section}" / f"{name}.{section}"
         link.unlink(missing_ok=True)
         link.symlink_to(f"{of}.{section}")
 
 
-def first_sentence(text):
+def first_sentence(text: str) -> str:
     """What a page is known by: one line, without its full stop."""
     return re.split(r"[.:;] ", text + " ", maxsplit=1)[0].strip().rstrip(".")
 
 
-def write_commands(writer, program):
+def write_commands(writer: Writer, program: str) -> None:
     """The program's page, and a page for each of its commands."""
     top = helptext.of(program)
     names = [it.term.split()[0] for it in top.commands()]
@@ -113,9 +116,10 @@ def write_commands(writer, program):
         writer.keep(page, f"pageshare-{name}", 1)
 
 
-def sections_of(text, level):
+def sections_of(text: str, level: int) -> list[tuple[str, list[str]]]:
     """The sections of a document, each with its title and its lines, its heading among them."""
-    found, lines, is_code = [("", [])], text.split("\n"), False
+    found: list[tuple[str, list[str]]] = [("", [])]
+    lines, is_code = text.split("\n"), False
     for line in lines:
         is_code = is_code != line.startswith("```")
         if not is_code and line.startswith("#" * level + " "):
@@ -124,7 +128,7 @@ def sections_of(text, level):
     return found
 
 
-def write_formats(writer):
+def write_formats(writer: Writer) -> None:
     """The texts that the program reads and writes."""
     sections = sections_of((TOP / "docs/FORMATS.md").read_text(), 2)[1:]
     for name, about, other, is_wanted in [
@@ -141,7 +145,7 @@ def write_formats(writer):
         writer.keep(page, name, 5)
 
 
-def write_library(writer):
+def write_library(writer: Writer) -> None:
     """The header's page, and its functions' names."""
     parts = header.parts((TOP / "include/pageshare.h").read_text())
     names = header.functions(parts)
@@ -165,7 +169,7 @@ def write_library(writer):
         writer.name(name, "pageshare", 3)
 
 
-def write_host(writer, program):
+def write_host(writer: Writer, program: str) -> None:
     """The host's page: what it prints for help, and the document on it."""
     help_ = helptext.of(program)
     page = writer.page("pageshare-host", 8)
@@ -177,7 +181,7 @@ def write_host(writer, program):
     writer.name("pageshare-qemu", "pageshare-host", 8)
 
 
-def main():
+def main() -> None:
     options = argparse.ArgumentParser(description=__doc__.splitlines()[0])
     options.add_argument("folder", type=pathlib.Path)
     options.add_argument("--program")

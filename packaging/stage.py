@@ -10,11 +10,14 @@ below the prefix, by default lib. --zsh is where zsh looks below the prefix, by 
 With --prefix the files name that prefix. Without it the pkg-config file finds the library from where it lies itself, and the host's
 files keep the word @PREFIX@, which packaging/install.sh replaces: programs and the library can be moved, a unit can't.
 """
+from __future__ import annotations
+
 import argparse
 import os
 import pathlib
 import shutil
 import subprocess
+from collections.abc import Sequence
 
 import header
 
@@ -51,7 +54,7 @@ Cflags: -I${{includedir}}
 """
 
 
-def said(*words):
+def said(*words: str) -> str:
     """What a command prints, or nothing where it fails."""
     try:
         done = subprocess.run(words, cwd=TOP, stdin=subprocess.DEVNULL, capture_output=True, text=True, check=True)
@@ -60,18 +63,18 @@ def said(*words):
     return done.stdout.strip()
 
 
-def commit():
+def commit() -> str:
     """The commit of the tree, and whether files differ from it."""
     number = said("git", "rev-parse", "HEAD")
     return f"{number}{' with changes' if said('git', 'status', '--porcelain') else ''}" if number else "unknown"
 
 
-def commit_time():
+def commit_time() -> int:
     """The seconds of the last commit, which all files of a package have."""
     return int(os.environ.get("SOURCE_DATE_EPOCH") or said("git", "log", "-1", "--format=%ct") or 0)
 
 
-def files_below(folder, skipped):
+def files_below(folder: pathlib.Path, skipped: str) -> list[pathlib.Path]:
     """The files below a folder, but for those of folders of this name."""
     return sorted(it for it in folder.rglob("*") if it.is_file() and skipped not in it.parts)
 
@@ -79,39 +82,39 @@ def files_below(folder, skipped):
 class Stage:
     """A folder that is being filled."""
 
-    def __init__(self, folder, libdir, prefix, zsh):
+    def __init__(self, folder: pathlib.Path, libdir: str, prefix: str | None, zsh: str) -> None:
         self.folder, self.libdir, self.prefix, self.zsh = folder, libdir, prefix, zsh
 
-    def put(self, source, path, mode=0o644):
+    def put(self, source: pathlib.Path, path: str, mode: int = 0o644) -> None:
         file = self.folder / path
         file.parent.mkdir(parents=True, exist_ok=True)
         shutil.copyfile(source, file)
         file.chmod(mode)
 
-    def put_code(self, source, path, mode=0o755):
+    def put_code(self, source: pathlib.Path, path: str, mode: int = 0o755) -> None:
         """A program or a library, without what only a debugger reads."""
         self.put(source, path, mode)
         kept = "--strip-debug" if source.suffix == ".a" else "--strip-unneeded"
-        words = [os.environ.get("STRIP", "strip"), kept, "--enable-deterministic-archives", self.folder / path]
-        subprocess.run(words, check=True)
+        strip = os.environ.get("STRIP", "strip")
+        subprocess.run([strip, kept, "--enable-deterministic-archives", self.folder / path], check=True)
 
-    def put_named(self, source, path, mode=0o644):
+    def put_named(self, source: pathlib.Path, path: str, mode: int = 0o644) -> None:
         """A text that names what is installed."""
         text = source.read_text().replace("@LIBDIR@", self.libdir)
         self.write(path, text.replace("@PREFIX@", self.prefix) if self.prefix else text)
         (self.folder / path).chmod(mode)
 
-    def link(self, path, target):
+    def link(self, path: str, target: str) -> None:
         file = self.folder / path
         file.parent.mkdir(parents=True, exist_ok=True)
         file.symlink_to(target)
 
-    def write(self, path, text):
+    def write(self, path: str, text: str) -> None:
         file = self.folder / path
         file.parent.mkdir(parents=True, exist_ok=True)
         file.write_text(text)
 
-    def program(self):
+    def program(self) -> None:
         self.put_code(OUT / "pageshare", "libexec/pageshare/pageshare-v2")
         self.put_code(OUT / "pageshare-v3", "libexec/pageshare/pageshare-v3")
         defines = [f'-DPAGESHARE_COMMIT="{commit()}"', f'-DPAGESHARE_KIT="{said("rt", "version") or "an unknown kit"}"']
@@ -119,7 +122,7 @@ class Stage:
         (self.folder / "bin").mkdir(parents=True)
         subprocess.run([*words, *defines, "packaging/launcher.c", "-o", self.folder.resolve() / "bin/pageshare"], cwd=TOP, check=True)
 
-    def library(self):
+    def library(self) -> None:
         for source, path in [(OUT, self.libdir), (OUT / "v3", f"{self.libdir}/glibc-hwcaps/x86-64-v3")]:
             self.put_code(source / f"libpageshare.so.{VERSION}", f"{path}/libpageshare.so.{VERSION}", 0o644)
             self.link(f"{path}/{SONAME}", f"libpageshare.so.{VERSION}")
@@ -133,25 +136,25 @@ class Stage:
         places = {"libdir": f"${{prefix}}/{self.libdir}", "includedir": "${prefix}/include", "version": VERSION}
         self.write(f"{self.libdir}/pkgconfig/pageshare.pc", PACKAGE.format(prefix=prefix, **places))
 
-    def host(self):
+    def host(self) -> None:
         """The host, the library that monitors preload, and what the system reads of them."""
         self.put_code(HOST, "bin/pageshare-host")
         self.put_code(OUT / "host/libpageshare-window.so", f"{self.libdir}/libpageshare-window.so", 0o644)
         for name, (path, mode) in HOST_FILES.items():
             self.put_named(TOP / "packaging/host" / name, path, mode)
 
-    def texts(self, parts):
+    def texts(self, parts: Sequence[str]) -> None:
         """Man pages and completions of these parts."""
         share, scripts = self.folder / "share", TOP / "packaging"
         programs = {"program": ("pageshare", OUT / "pageshare"), "host": ("pageshare-host", HOST)}
-        words = [word for part in parts for word in (f"--{part}", programs[part][1])]
+        words = [str(word) for part in parts for word in (f"--{part}", programs[part][1])]
         subprocess.run([scripts / "man.py", share / "man", *words], check=True)
         for name, program in (programs[part] for part in parts):
             subprocess.run([scripts / "completions.py", name, program, share], check=True)
         if self.zsh != "share/zsh/site-functions":
             shutil.move(share / "zsh/site-functions", self.folder / self.zsh)
 
-    def documents(self, at):
+    def documents(self, at: str) -> None:
         """What the program and its library are documented by, and the Rust crate."""
         for name in ("README.md", "CHANGELOG.md", "LICENSE-MIT", "LICENSE-APACHE"):
             self.put(TOP / name, f"{at}/{name}")
@@ -164,7 +167,7 @@ class Stage:
         for file in files_below(rust, "target"):
             self.put(file, f"share/pageshare/rust/{file.relative_to(rust)}")
 
-    def host_documents(self, at):
+    def host_documents(self, at: str) -> None:
         """What the host is documented by, and examples of its settings."""
         for name in ("HOST.md", "SECURITY.md"):
             self.put(TOP / "docs" / name, f"{at}/docs/{name}")
@@ -172,7 +175,10 @@ class Stage:
             self.put_named(file, f"{at}/examples/host/{file.name}")
 
 
-def stage(folder, libdir="lib", prefix=None, zsh="share/zsh/site-functions", parts=PARTS, document="pageshare"):
+def stage(
+    folder: pathlib.Path, libdir: str = "lib", prefix: str | None = None, zsh: str = "share/zsh/site-functions",
+    parts: Sequence[str] = PARTS, document: str = "pageshare",
+) -> None:
     """Fills a folder, which is emptied before, with these parts. Their documents lie below share/doc/DOCUMENT."""
     shutil.rmtree(folder, ignore_errors=True)
     folder.mkdir(parents=True)
@@ -187,7 +193,7 @@ def stage(folder, libdir="lib", prefix=None, zsh="share/zsh/site-functions", par
     made.texts(parts)
 
 
-def main():
+def main() -> None:
     options = argparse.ArgumentParser(description=__doc__.splitlines()[0])
     options.add_argument("folder", type=pathlib.Path)
     options.add_argument("--libdir", default="lib")

@@ -1,17 +1,21 @@
 """`digest` of small images beside a count in Python (common/plain_fleet.py), and each cause for which there is no digest."""
-from command_cases.images import IMAGE_FAULTS, PAGE, core, image, sparse
-from command_cases.subject import IS_A_FOLDER, LEAST, MISSING, NO_ROOM, ROWS, read
-from common.plain_fleet import HEADER, text_of_pages
+from __future__ import annotations
+
+import pathlib
+
+from command_cases.images import IMAGE_FAULTS, PAGE, core, distinct, image, sparse
+from command_cases.subject import IS_A_FOLDER, LEAST, MISSING, NO_ROOM, ROWS, Subject, read
+from common.plain_fleet import HEADER, ZEROS, digest, text_of_pages
 from common.plain_images import pages_of_bytes
 from harness import ANY
 
 
-def digest_of(name, data, salt=0, sample=1):
+def digest_of(name: str, data: bytes, salt: int = 0, sample: int = 1) -> str:
     """The digest's text that is due of an image's bytes."""
     return text_of_pages(name, salt, sample, pages_of_bytes(data))
 
 
-def digests(subject, folder):
+def digests(subject: Subject, folder: pathlib.Path) -> None:
     """Raw images and an empty one, with several salts, samples and numbers of workers."""
     first, large, empty = ROWS / "first.raw", folder / "large.raw", folder / "empty.raw"
     large.write_bytes(image(0, 700, 30, 40, 300) + b"a")
@@ -26,7 +30,16 @@ def digests(subject, folder):
         subject.writes(f"{words}", words, digest_of("web-1", large.read_bytes(), salt, sample))
 
 
-def cores(subject, folder):
+def large(subject: Subject, folder: pathlib.Path) -> None:
+    """20,000 contents, and 65,536 pages of zeros: there is memory for them, so none is refused."""
+    many, zeros = folder / "distinct.raw", sparse(folder / "zeros.raw", PAGE << 16)
+    distinct(many, 20_000)
+    subject.writes("digest of 20,000 contents", ["digest", str(many)], digest_of("distinct.raw", many.read_bytes()))
+    line = f"zeros.raw,0,65536,1,{digest(0, ZEROS)},65536\n"
+    subject.writes("digest of 65,536 pages", ["digest", zeros], HEADER + line)
+
+
+def cores(subject: Subject, folder: pathlib.Path) -> None:
     """A core whose segment begins and ends within a page, and the same read as raw."""
     elf = folder / "elf.core"
     elf.write_bytes(core(segment=(4000, 4192)))
@@ -34,7 +47,7 @@ def cores(subject, folder):
     subject.writes("digest of a core as raw", ["digest", "--raw", str(elf)], digest_of("elf.core", elf.read_bytes()))
 
 
-def bad_inputs(subject, folder):
+def bad_inputs(subject: Subject, folder: pathlib.Path) -> None:
     """Paths that lead to no image, images at fault, a full device, and too little memory."""
     none, broken = str(folder / "none"), folder / "broken.core"
     subject.fails("digest, no such file", ["digest", none], f"{none}: {MISSING}\n")
@@ -48,7 +61,7 @@ def bad_inputs(subject, folder):
     subject.fails("digest, little memory", ["digest", "--workers", "2", large], f"{large}: out of memory\n", limits=LEAST)
 
 
-def command_line(subject, folder):
+def command_line(subject: Subject, folder: pathlib.Path) -> None:
     """Words that aren't taken, help, and the line of progress."""
     raw = str(folder / "large.raw")
     subject.refuses("digest", [

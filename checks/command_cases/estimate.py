@@ -1,8 +1,12 @@
 """`estimate` of small images: what it writes, its pictures letter by letter, each cause for which there is no estimate, and progress."""
-import json
+from __future__ import annotations
 
-from command_cases.images import IMAGE_FAULTS, PAGE, core, image, sparse
-from command_cases.subject import IS_A_FOLDER, LEAST, LITTLE, MISSING, NO_ROOM, ROWS, read
+import json
+import pathlib
+from collections.abc import Iterator
+
+from command_cases.images import IMAGE_FAULTS, PAGE, core, distinct, image, sparse
+from command_cases.subject import IS_A_FOLDER, LEAST, LITTLE, MISSING, NO_ROOM, ROWS, Subject, read
 from harness import ANY
 
 SALTED = ["estimate", "--workers", "2", "--salts", "0,0,5", "first.raw", "second.core", "first.raw"]
@@ -10,14 +14,14 @@ SALTED = ["estimate", "--workers", "2", "--salts", "0,0,5", "first.raw", "second
 PICTURES = [("kib.svg", (100, 50, 150, 100), (7, 13, 40, 0)), ("mib.svg", (3000, 40, 1000, 60), (500, 1500, 250, 10))]
 # (characters that break a line, that steer a terminal, or that XML can't hold)
 PICTURE_NAMES = ["web\u2028.raw", "<db>\u2029\uffff\x1b.raw"]
-WRONG_WORDS = [
+WRONG_WORDS: list[list[str]] = [
     [], ["--salts", "1", "a.raw", "a.raw"], ["--salts", "1,x", "a.raw", "a.raw"], ["--salts", "4294967296", "a.raw"],
     ["--workers", "0", "a.raw"], ["--workers", "65", "a.raw"], ["--progress", "often", "a.raw"], ["--svg"], ["--table", "a.raw"],
     ["--unit", "kib", "a.raw"], ["--pid", "0"], ["--pid"],
 ]
 
 
-def three_images(folder):
+def three_images(folder: pathlib.Path) -> Iterator[str]:
     """A raw image of three pages and a byte, an empty one, and a core of two pages, of which one is cut."""
     raw, empty, elf = folder / "a.raw", folder / "empty", folder / "elf.core"
     raw.write_bytes(bytes(2 * PAGE) + b"a" * PAGE + b"b")
@@ -26,7 +30,7 @@ def three_images(folder):
     return map(str, (raw, empty, elf))
 
 
-def numbers(subject, folder):
+def numbers(subject: Subject, folder: pathlib.Path) -> None:
     """How many pages images have: two cases for each list of words, by the table and by the object."""
     raw, empty, elf = three_images(folder)
     for words, pages in [([raw], 4), ([empty], 0), ([elf], 2), (["--raw", elf], 2), ([raw, "--workers", "64", raw], 8)]:
@@ -38,14 +42,14 @@ def numbers(subject, folder):
         subject.tally.holds(f"estimate {words}", is_right, done.stdout, f"{pages} pages")
 
 
-def tables(subject):
+def tables(subject: Subject) -> None:
     """The worked table of examples/rows, in both units."""
     in_pages = [*SALTED, "--unit", "pages"]
     subject.writes("estimate of images.estimate-pages", in_pages, read("images.estimate-pages"), cwd=ROWS)
     subject.writes("estimate of images.estimate", SALTED, read("images.estimate"), cwd=ROWS)
 
 
-def broken_images(subject, folder):
+def broken_images(subject: Subject, folder: pathlib.Path) -> None:
     """Each fault of an image, which comes second."""
     for n, (data, cause) in enumerate(IMAGE_FAULTS):
         path = folder / f"{n}.core"
@@ -53,7 +57,7 @@ def broken_images(subject, folder):
         subject.fails(f"estimate, {cause}", ["estimate", str(folder / "a.raw"), str(path)], f"{path}: {cause}\n")
 
 
-def pictures(subject, folder):
+def pictures(subject: Subject, folder: pathlib.Path) -> None:
     """Pictures of two guests, letter by letter: one whose axis is in KiB and one in MiB."""
     for name, *parts in PICTURES:
         for guest, (file, pages) in enumerate(zip(PICTURE_NAMES, parts)):
@@ -62,13 +66,41 @@ def pictures(subject, folder):
         subject.tally.equal(f"the picture {name}", (folder / name).read_text(), read(name))
 
 
-def bad_paths(subject, folder):
+def amounts(subject: Subject, folder: pathlib.Path) -> None:
+    """The amounts of a picture on both sides of a MiB, and a salt as long as it may be."""
+    for pages, shown in [(255, "1020 KiB"), (256, "1.0 MiB"), (257, "1.0 MiB")]:
+        svg, raw = folder / "amount.svg", sparse(folder / "amount.raw", PAGE * pages)
+        subject.writes(f"the picture of {pages} pages", ["estimate", "--svg", str(svg), raw], ANY)
+        text = svg.read_text()
+        is_right = f"zeros ({shown})</text>" in text and f">{shown}</text></g>" in text
+        subject.tally.holds(f"the picture of {pages} pages", is_right, text, f"{shown} of zeros, and for the guest")
+    line = "    0               1               1               0               1               0  4294967295  a.raw\n"
+    done = subject.run(["estimate", "--unit", "pages", "--salts", str(2**32 - 1), sparse(folder / "a-page.raw", PAGE)])
+    line = line.replace("a.raw", str(folder / "a-page.raw"))
+    subject.tally.holds("estimate, the greatest salt", line in done.stdout.decode(), done.stdout, line)
+
+
+def large(subject: Subject, folder: pathlib.Path) -> None:
+    """Many contents and many guests: there is memory for them, so none is refused."""
+    many = distinct(folder / "distinct.raw", 20_000)
+    guests = [sparse(folder / f"guest-{n}.raw", PAGE) for n in range(300)]
+    for name, words, pages, frames in [
+        ("20,000 contents", [many], 20_000, 20_000), ("20,000 contents twice", [many, many], 40_000, 20_000), ("300 guests", guests, 300, 1),
+    ]:
+        done = subject.run(["estimate", "--json", *words])
+        total = json.loads(done.stdout or b"{}").get("total", {})
+        found = (total.get("pages"), total.get("frames"), done.stderr)
+        subject.tally.equal(f"estimate of {name}", found, (pages, frames, b""))
+
+
+def bad_paths(subject: Subject, folder: pathlib.Path) -> None:
     """Paths that lead to no image, to no place for a picture, or to a device that takes nothing."""
     raw, none, svg = str(folder / "a.raw"), str(folder / "none"), folder / "a.svg"
     subject.fails("estimate, no such file", ["estimate", raw, none], f"{none}: {MISSING}\n")
     subject.fails("estimate, a folder", ["estimate", str(folder)], f"{folder}: {IS_A_FOLDER}\n")
     subject.fails("estimate, a device", ["estimate", "/dev/zero"], "/dev/zero: not a regular file\n")
-    subject.fails("estimate, a control character", ["estimate", "a\nb"], f"a\ufffdb: {MISSING}\n")
+    controls = "".join(map(chr, [*range(1, 32), *range(127, 160)]))
+    subject.fails("estimate, control characters", ["estimate", f"a{controls}b"], f"a{len(controls) * chr(0xfffd)}b: {MISSING}\n")
     nowhere = str(folder / "none" / "a.svg")
     subject.fails("estimate, no place for the picture", ["estimate", "--svg", nowhere, raw], f"{nowhere}: {MISSING}\n")
     subject.full_device("estimate, a full device", ["estimate", raw], f"standard output: {NO_ROOM}\n")
@@ -77,7 +109,7 @@ def bad_paths(subject, folder):
     subject.tally.holds("estimate, a picture", svg.read_text().endswith("</svg>\n"), svg.read_text()[-100:], "a whole picture")
 
 
-def too_much(subject, folder):
+def too_much(subject: Subject, folder: pathlib.Path) -> None:
     """More pages than can be counted, and more than there is memory for."""
     raw, large = str(folder / "a.raw"), [sparse(folder / f"large-{n}", PAGE << 31) for n in (1, 2)]
     subject.fails("estimate, too many pages", ["estimate", *large], f"{large[1]}: more than 4,294,967,295 pages in all\n")
@@ -85,14 +117,14 @@ def too_much(subject, folder):
     subject.fails("estimate, little memory", ["estimate", large[0], raw], f"{large[0]} and 1 more: out of memory\n", limits=LITTLE)
 
 
-def command_line(subject, folder):
+def command_line(subject: Subject, folder: pathlib.Path) -> None:
     """Words that aren't taken, and help."""
     raw = str(folder / "a.raw")
     subject.refuses("estimate", [[raw if word == "a.raw" else word for word in many] for many in WRONG_WORDS])
     subject.writes("estimate --help", ["estimate", "--help"], ANY)
 
 
-def progress(subject, folder):
+def progress(subject: Subject, folder: pathlib.Path) -> None:
     """The line of progress: of an image of no MiB, of 9 MiB, and of as much as a little memory has room for."""
     raw = str(folder / "a.raw")
     shown = subject.run(["estimate", "--progress", "always", raw]).stderr.decode()

@@ -1,11 +1,18 @@
 """`fleet`: the numbers of digests merged, what each two of their guests have in common, each cause for which there are none, and
 progress."""
+from __future__ import annotations
+
+import itertools
 import json
 import os
+import pathlib
+import re
 import threading
 import time
+from collections.abc import Iterable
+from typing import Any
 
-from command_cases.subject import IS_A_FOLDER, MISSING, NO_ROOM, ROWS, read
+from command_cases.subject import IS_A_FOLDER, MISSING, NO_ROOM, ROWS, Subject, read
 from common import plain_fleet
 from common.plain_fleet import HEADER
 from harness import ANY
@@ -14,9 +21,16 @@ IMAGES = [str(ROWS / name) for name in ("first.raw", "second.core", "first.raw")
 SALTS = ["0", "0", "5"]
 FORM = "give six fields of their form, with commas between them and a line feed behind them"
 SLOW_LINES = 150
+# Names, salts and a sample as long as they may be.
+LONG_NAMES = ["w" * 63 + "1", "w" * 63 + "2"]
+LAST_SALT = 2**32 - 1
+MOST_SAMPLED = 65536
+# The numbers of a row of a sampled table, in the order of its columns: with a `*` those that have a standard error behind them.
+OF_GUESTS = ["pages", "zero", "shared*", "distinct*", "alone*", "salt"]
+OF_TOTAL = ["pages", "zero", "shared*", "frames*", "reclaimed*", "zero_reclaimed", "between*", "within*"]
 
 
-def rounded(folder):
+def rounded(folder: pathlib.Path) -> list[str]:
     """The digests of two guests whose numbers in total are rounded to different MiB: pages 1,067, to reclaim 863, between guests 152,
     zeros 128, and of these 127 to reclaim."""
     zeros, both = plain_fleet.digest(0, plain_fleet.ZEROS), "1" * 32
@@ -29,7 +43,7 @@ def rounded(folder):
     return list(map(str, paths))
 
 
-def digests_of_images(subject, folder):
+def digests_of_images(subject: Subject, folder: pathlib.Path) -> list[str]:
     """The digests of IMAGES, with their salts."""
     paths = [folder / f"guest-{n}.digest" for n in range(3)]
     for path, image, salt in zip(paths, IMAGES, SALTS):
@@ -37,7 +51,7 @@ def digests_of_images(subject, folder):
     return list(map(str, paths))
 
 
-def tables(subject, folder):
+def tables(subject: Subject, folder: pathlib.Path) -> None:
     """The worked tables and objects of examples/rows."""
     subject.writes("fleet of images.fleet", ["fleet", *digests_of_images(subject, folder)], read("images.fleet"))
     sampled = ["fleet", "sampled-web.digest", "sampled-database.digest"]
@@ -46,7 +60,7 @@ def tables(subject, folder):
     subject.writes("fleet of rounded.fleet", ["fleet", *rounded(folder)], read("rounded.fleet"))
 
 
-def numbers(subject, folder):
+def numbers(subject: Subject, folder: pathlib.Path) -> None:
     """The numbers of digests are those of `estimate` of their images; and those of a digest without lines are none."""
     counted = json.loads(subject.run(["estimate", "--json", "--salts", ",".join(SALTS), *IMAGES]).stdout)
     printed = json.loads(subject.run(["fleet", "--json", *digests_of_images(subject, folder)]).stdout)
@@ -56,11 +70,11 @@ def numbers(subject, folder):
     empty = folder / "empty.digest"
     empty.write_text(HEADER)
     given = json.loads(subject.run(["fleet", "--json", str(empty)]).stdout)
-    due = {"guest": None, "salt": None, **dict.fromkeys(["pages", "zero", "distinct", "shared", "alone"], 0)}
+    due: plain_fleet.Numbers = {"guest": None, "salt": None, **dict.fromkeys(["pages", "zero", "distinct", "shared", "alone"], 0)}
     subject.tally.equal("fleet of no pages", (given["guests"], given["copies"]), ([due], []))
 
 
-def pairs(subject, folder):
+def pairs(subject: Subject, folder: pathlib.Path) -> None:
     """What each two guests have in common, by hand: of the two images zeros, 2 and 2 pages, and two contents of 1 and 1."""
     images, empty = [str(folder / f"guest-{n}.digest") for n in range(3)], str(folder / "empty.digest")
     sampled = [str(ROWS / "sampled-web.digest"), str(ROWS / "sampled-database.digest")]
@@ -81,7 +95,7 @@ def pairs(subject, folder):
     subject.fails("fleet, pairs to a full device", ["fleet", "--pairs", "/dev/full", *images], f"/dev/full: {NO_ROOM}\n")
 
 
-def by_host(subject, folder):
+def by_host(subject: Subject, folder: pathlib.Path) -> None:
     """Numbers by host: of names, of a list, of one host, of names that are those of files, and of a pipe."""
     texts = [plain_fleet.text_of_copies(f"{name}", 0, 1, copies) for name, copies in [
         ("a.one", {"1" * 32: 2, "2" * 32: 1}), ("a.two", {"2" * 32: 1, "3" * 32: 4}), ("b.one", {"1" * 32: 1, "3" * 32: 2}),
@@ -114,7 +128,83 @@ def by_host(subject, folder):
     subject.fails("fleet --hosts, no such list", [*words, "--hosts", str(folder / "none")], f"{folder / 'none'}: {MISSING}\n")
 
 
-def bad_inputs(subject, folder):
+def extremes(subject: Subject, folder: pathlib.Path) -> None:
+    """Two guests with names of 64 bytes, the greatest salt, the greatest sample, and numbers with errors of up to 19 digits."""
+    words = [f"{n:028x}0000" for n in range(1, 4)]
+    lines = [{plain_fleet.digest(LAST_SALT, plain_fleet.ZEROS): 7, words[0]: 10**13, words[1]: 3}, {plain_fleet.digest(6, plain_fleet.ZEROS): 1, words[0]: 10**13, words[2]: 2}]
+    texts = [plain_fleet.text_of_copies(name, salt, MOST_SAMPLED, copies) for name, salt, copies in zip(LONG_NAMES, (LAST_SALT, 6), lines)]
+    paths = [folder / f"extreme-{n}.digest" for n in range(2)]
+    for path, text in zip(paths, texts):
+        path.write_text(text)
+    words, due = ["fleet", *map(str, paths)], plain_fleet.counted(texts, None)
+    subject.tally.equal("fleet of extremes", json.loads(subject.run([*words, "--json"]).stdout), due)
+    table = subject.run([*words, "--unit", "pages"]).stdout.decode()
+    first = "An estimate from 5 contents: zeros, and one in 65536 of the others."
+    subject.tally.holds("fleet of extremes, the first line", table.startswith(first), table[:200], first)
+    subject.tally.equal("fleet of extremes, the table", rows_of_table(table), rows_due(due))
+    subject.tally.equal("fleet of extremes, its columns", crooked(table), [])
+
+
+def rows_of_table(table: str) -> list[list[str]]:
+    """The words of a table's rows of guests and of its total, but for those that aren't numbers of pages."""
+    rows = [line.split() for line in table.splitlines()]
+    guests = itertools.takewhile(bool, rows[rows.index([]) + 2:])
+    return [*([*row[1:-1], row[-1]] for row in guests), next(row[1:-2] for row in rows if row[:1] == ["total"])]
+
+
+def rows_due(counted: dict[str, Any]) -> list[list[str]]:
+    """The same rows, from the members of an object."""
+    total = {**counted["total"], "between": counted["total"]["parts"]["between"], "within": counted["total"]["parts"]["within"]}
+    guests = [[*numbers_of(guest, OF_GUESTS), guest["guest"]] for guest in counted["guests"]]
+    return [*guests, numbers_of(total, OF_TOTAL)]
+
+
+def numbers_of(row: dict[str, Any], names: list[str]) -> list[str]:
+    """These numbers of a row as words, each estimate with its error."""
+    pairs = [(row[name.rstrip("*")], row["errors"][name.rstrip("*")] if name.endswith("*") else None) for name in names]
+    return [str(number) for pair in pairs for number in pair if number is not None]
+
+
+def crooked(table: str) -> list[tuple[str, str]]:
+    """The rows of a table with a number that doesn't end below its heading."""
+    lines = table.splitlines()
+    heads = [n for n, line in enumerate(lines) if re.match(r"guest |  +memory ", line)]
+    found = []
+    for head, columns in zip(heads, (10, 13)):
+        due = [word.end() for word in re.finditer(r"\S+", lines[head])][:columns]
+        for line in itertools.takewhile(str.strip, lines[head + 1:]):
+            ends = [word.end() for word in re.finditer(r"\S+", line)]
+            if (ends if head == heads[0] else ends[1:])[:columns] != due:
+                found.append((lines[head], line))
+    return found
+
+
+def many_pairs(subject: Subject, folder: pathlib.Path) -> None:
+    """The pairs of 130 guests, beside a count in Python."""
+    texts, paths = [], []
+    for n in range(130):
+        copies = {f"{n % 7 + 1:032x}": n % 3 + 1, f"{n + 100:032x}": 1, plain_fleet.digest(0, plain_fleet.ZEROS): n % 2 + 1}
+        texts.append(plain_fleet.text_of_copies(f"guest-{n}", 0, 1, copies))
+        paths.append(folder / f"many-{n}.digest")
+        paths[-1].write_text(texts[-1])
+    pairs = folder / "many.csv"
+    subject.expect("fleet --pairs, 130 guests", ["fleet", "--pairs", str(pairs), *map(str, paths)], 0, ANY, "")
+    subject.tally.holds("fleet --pairs, 130 guests", pairs.read_text() == plain_fleet.pairs_text(texts), pairs.read_text()[:200])
+
+
+def large(subject: Subject, folder: pathlib.Path) -> None:
+    """900 digests, and one of 100,000 lines: there is memory for them, so none is refused."""
+    paths, texts = [folder / f"large-{n}.digest" for n in range(900)], []
+    for n, path in enumerate(paths):
+        texts.append(plain_fleet.text_of_copies(f"large-{n}", 0, 1, {f"{word:032x}": 1 for word in range(1, 100_001 if n == 450 else 3)}))
+        path.write_text(texts[-1])
+    done = subject.run(["fleet", "--json", *map(str, paths)])
+    found = json.loads(done.stdout or b"{}")
+    is_right = found == plain_fleet.counted(texts, None)
+    subject.tally.holds("fleet of 900 digests", is_right, (done.returncode, done.stderr, done.stdout[-200:]))
+
+
+def bad_inputs(subject: Subject, folder: pathlib.Path) -> None:
     """Paths that lead to no digest, digests at fault, two samples, and a full device."""
     good, none, broken = str(ROWS / "first.digest"), str(folder / "none"), folder / "broken.digest"
     subject.fails("fleet, no such file", ["fleet", good, none], f"{none}: {MISSING}\n")
@@ -128,7 +218,7 @@ def bad_inputs(subject, folder):
     subject.full_device("fleet, a full device", ["fleet", good], f"standard output: {NO_ROOM}\n")
 
 
-def too_many(subject, folder):
+def too_many(subject: Subject, folder: pathlib.Path) -> None:
     """Two guests of 2^63 pages each."""
     paths = [folder / "one", folder / "other"]
     for path in paths:
@@ -137,7 +227,7 @@ def too_many(subject, folder):
     subject.fails("fleet, too many pages", words, f"{paths[0]} and 1 more: more than 18,446,744,073,709,551,615 pages\n")
 
 
-def command_line(subject):
+def command_line(subject: Subject) -> None:
     """Words that aren't taken, and help."""
     good = str(ROWS / "first.digest")
     subject.refuses("fleet", [
@@ -146,7 +236,7 @@ def command_line(subject):
     subject.writes("fleet --help", ["fleet", "--help"], ANY)
 
 
-def progress(subject):
+def progress(subject: Subject) -> None:
     """The line of progress, by itself, before a fault, and on a terminal."""
     good, other = str(ROWS / "first.digest"), str(ROWS / "sampled-web.digest")
     shown = subject.run(["fleet", "--progress", "always", good]).stderr.decode()
@@ -158,7 +248,7 @@ def progress(subject):
     subject.draws_on_terminals("fleet", ["fleet", good], part="100 %  0 of 0 MiB")
 
 
-def feed(path, lines):
+def feed(path: str, lines: Iterable[str]) -> None:
     """Writes lines into a pipe, a hundred a second."""
     with open(path, "w", encoding="ascii") as pipe:
         for line in lines:
@@ -167,7 +257,7 @@ def feed(path, lines):
             time.sleep(0.01)
 
 
-def progress_of_slow_reads(subject, folder):
+def progress_of_slow_reads(subject: Subject, folder: pathlib.Path) -> None:
     """A digest that comes slowly through a pipe: the line is drawn several times meanwhile, and at most eleven times a second."""
     path = str(folder / "slow.digest")
     os.mkfifo(path)

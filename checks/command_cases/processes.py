@@ -1,10 +1,15 @@
 """`digest --pid` and `estimate --pid` of processes whose pages are known, beside SHA-256 of these pages and beside `fleet`."""
+from __future__ import annotations
+
 import contextlib
 import json
+import pathlib
 import subprocess
 import sys
+from collections.abc import Iterator, Sequence
+from typing import Any
 
-from command_cases.subject import MISSING, SECONDS, is_clean
+from command_cases.subject import MISSING, SECONDS, Subject, is_clean
 from common.plain_fleet import PAGE, digest
 from harness import ANY
 
@@ -24,19 +29,20 @@ PAGES = [(n + 1).to_bytes(8, "little").ljust(PAGE, b"\0") for n in range(OWN_PAG
 
 
 @contextlib.contextmanager
-def filled():
+def filled() -> Iterator[str]:
     """The number of a process that has filled its pages and waits; it ends with the case."""
     with subprocess.Popen([sys.executable, "-c", FILLED], stdin=subprocess.PIPE, stdout=subprocess.PIPE) as child:
+        assert child.stdin and child.stdout
         child.stdout.readline()
         yield str(child.pid)
         child.stdin.close()
         child.wait(SECONDS)
 
 
-def digests(subject):
+def digests(subject: Subject) -> None:
     """The pages of a process that waits: each page that it has twice is listed with two copies at least."""
     with filled() as child:
-        done = subject.run(["digest", "--pid", child, "--name", "own"])
+        done = subject.run(["digest", "--all-memory", "--pid", child, "--name", "own"])
     lines = [line.split(",") for line in done.stdout.decode().split("\n")[1:-1]]
     counted = {line[4]: int(line[5]) for line in lines}
     lacking = [page for page in PAGES if counted.get(digest(0, page), 0) < 2]
@@ -46,18 +52,18 @@ def digests(subject):
     subject.fails("digest of a process that has ended", words, f"process {child}: {MISSING}\n")
 
 
-def by_fleet(subject, folder, sources):
+def by_fleet(subject: Subject, folder: pathlib.Path, sources: Sequence[Sequence[str]]) -> Any:
     """The numbers of images and processes by their digests, merged."""
     paths = [folder / f"own-{n}.digest" for n in range(len(sources))]
     for path, own in zip(paths, sources):
-        path.write_bytes(subject.run(["digest", "--name", "own", "--salt", "7", *own]).stdout)
+        path.write_bytes(subject.run(["digest", "--all-memory", "--name", "own", "--salt", "7", *own]).stdout)
     merged = json.loads(subject.run(["fleet", "--json", *map(str, paths)]).stdout)
     for guest in merged["guests"]:
         guest.pop("guest")
     return merged
 
 
-def estimates(subject, folder):
+def estimates(subject: Subject, folder: pathlib.Path) -> None:
     """Two processes that wait, and an image with their pages: by `estimate` as by `digest` and `fleet`."""
     raw, picture = folder / "own.raw", folder / "own.svg"
     raw.write_bytes(b"".join(PAGES))
@@ -65,9 +71,14 @@ def estimates(subject, folder):
         sources = [[str(raw)], ["--pid", one], ["--pid", other]]
         words = [word for source in sources for word in source]
         merged = by_fleet(subject, folder, sources)
-        done = subject.run(["estimate", "--json", "--salts", "7,7,7", *words])
-        table = subject.run(["estimate", "--svg", str(picture), *words])
+        done = subject.run(["estimate", "--all-memory", "--json", "--salts", "7,7,7", *words])
+        table = subject.run(["estimate", "--all-memory", "--svg", str(picture), *words])
+        own = json.loads(subject.run(["estimate", "--json", "--pid", one, "--pid", other]).stdout or b"{}")
     printed, names = json.loads(done.stdout or b"{}"), [f"process {one}", f"process {other}"]
+    shared_already = printed.pop("shared_already", None)
+    subject.tally.holds("estimate of processes, shared already", shared_already is not None and table.stdout.endswith(b" is shared already.\n"), table)
+    subject.tally.holds("estimate of processes, private memory", OWN_PAGES <= own.get("total", {}).get("between", 0) < own["total"]["pages"], own)
+    subject.tally.holds("estimate of processes, holes", own["total"]["pages"] < printed["total"]["pages"] < 1 << 17, (own, printed))
     images = [guest.pop("image") for guest in printed.get("guests", [])]
     subject.tally.holds("estimate of processes", is_clean(done) and printed == merged, (done.stderr, printed), f"{merged}")
     subject.tally.equal("estimate of processes, names", images, [str(raw), *names])
@@ -81,7 +92,7 @@ def estimates(subject, folder):
     ended_processes(subject, folder, str(raw), other)
 
 
-def ended_processes(subject, folder, raw, ended):
+def ended_processes(subject: Subject, folder: pathlib.Path, raw: str, ended: str) -> None:
     """Estimates of a process that has ended, of an image that is missing, and with too few salts."""
     words = ["estimate", raw, "--pid", ended]
     subject.fails("estimate of a process that has ended", words, f"process {ended}: {MISSING}\n")

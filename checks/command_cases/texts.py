@@ -4,12 +4,17 @@ A worked text is NAME.journal or NAME.script, and what a command is to write of 
 NAME.serial, NAME.run (where each run writes the same) and NAME.run-journal. Which order the guests' requests have in a run's journal
 depends on the threads: in NAME.run-journal they stand guest by guest, and each guest's own must be those.
 """
-import itertools
-import resource
+from __future__ import annotations
 
-from command_cases.subject import EXAMPLES, LITTLE, MISSING, is_clean, read
+import itertools
+import pathlib
+import resource
+from collections.abc import Sequence
+
+from command_cases.subject import EXAMPLES, LITTLE, MISSING, Subject, is_clean, read
 from common import faults
 from common.script_runs import Differs, by_guest, look, requests_of
+from harness import Due
 
 MOST_BYTES = 67_108_864
 # A script of several guests is run so many times, since threads meet differently each time.
@@ -20,25 +25,25 @@ OF_SCRIPTS = [["serial"], ["run"], ["run", "--journal"]]
 NOTHING = "mapped 0 shared 0 frames 0 reclaimed 0 hints 0\n"
 
 
-def worked(ending):
+def worked(ending: str) -> list[pathlib.Path]:
     """The worked texts of one kind."""
     return sorted(EXAMPLES.glob(f"**/*.{ending}"))
 
 
-def wanted(path, command):
+def wanted(path: pathlib.Path, command: str) -> str | None:
     """What a command is to write of a worked text; None where that isn't one text."""
     beside = path.with_suffix(f".{command}")
     return beside.read_text() if beside.exists() else None
 
 
-def from_both(subject, path, words, out):
+def from_both(subject: Subject, path: pathlib.Path, words: Sequence[str], out: Due) -> None:
     """Two cases of a command on a worked text: from standard input and from the file."""
     name = f"{' '.join(words)}, {path.name}"
     subject.writes(f"{name}, standard input", words, out, path.read_text())
     subject.writes(f"{name}, a file", [*words, str(path)], out)
 
 
-def journals(subject):
+def journals(subject: Subject) -> None:
     """Each worked journal replayed, and one whose output is long."""
     for path in worked("journal"):
         from_both(subject, path, ["replay"], wanted(path, "replay"))
@@ -48,7 +53,7 @@ def journals(subject):
     subject.writes("replay, a long output", ["replay"], f"{totals}report entries {count} {NOTHING}", text)
 
 
-def many_requests(subject):
+def many_requests(subject: Subject) -> None:
     """More requests than a list grows to by steps that tests of a few see: memory for them is taken, and it isn't wanting."""
     count = 1_000_000
     journal = faults.ONE_PAGE + "0 load 0 0 1\n" * count + f"end {count}\n"
@@ -65,20 +70,20 @@ def many_requests(subject):
             subject.writes(f"{command}, 200,000 {what}", [command], due, head + lines)
 
 
-def parts_of(journal):
+def parts_of(journal: str) -> tuple[list[str], dict[int, list[str]], list[str]]:
     """What a journal holds but for the order among guests: its head, each guest's requests, and its end."""
     lines = journal.split("\n")
     asked, head = requests_of(lines[:-1])
     return head, by_guest(asked), lines[-2:]
 
 
-def answers_of(output):
+def answers_of(output: str) -> tuple[dict[int, list[str]], str]:
     """Each guest's verdicts, and the report, of what a replay or a run writes."""
     lines = output.split("\n")[:-1]
     return by_guest(lines[:-1]), lines[-1]
 
 
-def journal_of_a_run(subject, path, due, output):
+def journal_of_a_run(subject: Subject, path: pathlib.Path, due: str, output: str | None) -> None:
     """A run's journal; where each run writes the same, so does the replay of its journal, but for the guests' order."""
     name = f"run --journal, {path.name}"
     done = subject.run(["run", "--journal", str(path)])
@@ -90,7 +95,7 @@ def journal_of_a_run(subject, path, due, output):
         subject.tally.holds(f"{name}, replayed", is_due, replayed, f"{output!r}, but for the guests' order,")
 
 
-def scripts(subject):
+def scripts(subject: Subject) -> None:
     """Each worked script, by each command, and several times where threads meet; and what must hold of any script."""
     for path in worked("script"):
         text = path.read_text()
@@ -110,12 +115,12 @@ def scripts(subject):
             subject.tally.case(path.name, [f"it differs in {what}"])
 
 
-def fronts(text):
+def fronts(text: str) -> list[tuple[str, str]]:
     """Each front of a text, and its fault."""
     return [(text[:size], f"truncated line {text.count(chr(10), 0, size) + 1}") for size in range(len(text))]
 
 
-def texts_at_fault(subject):
+def texts_at_fault(subject: Subject) -> None:
     """Each text at fault (common/faults.py), and each front of a journal and of a script: one line with the fault."""
     of_journals = [*faults.OF_JOURNALS, *fronts(read("zeros.journal"))]
     of_scripts = [*faults.OF_SCRIPTS, *fronts(read("scan.script"))]
@@ -124,7 +129,7 @@ def texts_at_fault(subject):
             subject.expect(f"{' '.join(words)}, {fault}, {text[-40:]!r}", words, 1, f"fault {fault}\n", "", text)
 
 
-def ends_and_limits(subject, folder):
+def ends_and_limits(subject: Subject, folder: pathlib.Path) -> None:
     """Texts that are too long, files that can't be read, a full device, and too little memory."""
     for words in [*OF_JOURNALS, *OF_SCRIPTS]:
         name = " ".join(words)
@@ -138,7 +143,7 @@ def ends_and_limits(subject, folder):
         subject.fails(f"{name}, little memory", words, "fault memory\n", b"a" * MOST_BYTES, limits=LITTLE)
 
 
-def no_thread(subject):
+def no_thread(subject: Subject) -> None:
     """A thread's stack is as large as the one limit says, and the other leaves no room for it."""
     limits = {resource.RLIMIT_STACK: 1_000_000 << 10, resource.RLIMIT_AS: 500_000 << 10}
     script = read("scan.script")
@@ -147,7 +152,7 @@ def no_thread(subject):
     subject.writes("serial, no thread", ["serial"], read("scan.serial"), script, limits=limits)
 
 
-def terminals(subject, folder):
+def terminals(subject: Subject, folder: pathlib.Path) -> None:
     """What a terminal shows of a fault: a sentence, beside the word for programs on standard output."""
     none = str(folder / "none")
     cut_off = 'line 1 is cut off: expected "pageshare script 1" or "pageshare script 2", and a line feed behind it\n'

@@ -1,14 +1,18 @@
 """What the benches share: journals to time, programs that are built for it, and how long a program takes."""
+from __future__ import annotations
+
+import pathlib
 import subprocess
 import time
+from collections.abc import Callable, Iterable, Iterator, Sequence
 
-from harness import OUT, TOP
+from harness import OUT, TOP, StrPath
 
 # Where journals and images for benches lie, and what is built of benches/ for the library.
 ROOM, BUILT = OUT / "bench", OUT / "embed"
 
 
-def journal(name, frames, pages, requests):
+def journal(name: str, frames: int, pages: int, requests: Iterable[str]) -> pathlib.Path:
     """Writes a journal of guest 0's requests, and returns where it is."""
     path = ROOM / f"{name}.journal"
     with open(path, "w", encoding="ascii") as out:
@@ -21,7 +25,7 @@ def journal(name, frames, pages, requests):
     return path
 
 
-def scanned(pages, content):
+def scanned(pages: int, content: Callable[[int], str]) -> Iterator[str]:
     """Each page is stored to, and then each is proposed, as a scan finds pages at rest."""
     for ppn in range(pages):
         yield f"store {ppn} 0 {content(ppn)}"
@@ -29,12 +33,12 @@ def scanned(pages, content):
         yield f"propose {ppn}"
 
 
-def different(ppn):
+def different(ppn: int) -> str:
     """A content of the page's own."""
     return f"{ppn:08x}"
 
 
-def seconds(program, words, path):
+def seconds(program: StrPath, words: Iterable[str], path: StrPath) -> float:
     """How long a program takes with a file as its input."""
     with open(path, "rb") as text:
         start = time.perf_counter()
@@ -42,18 +46,18 @@ def seconds(program, words, path):
         return time.perf_counter() - start
 
 
-def output(program, words, path):
+def output(program: StrPath, words: Iterable[str], path: StrPath) -> bytes:
     """What a program writes with a file as its input."""
     with open(path, "rb") as text:
         return subprocess.run([program, *words], stdin=text, capture_output=True, check=True).stdout
 
 
-def must(words):
+def must(words: Sequence[StrPath]) -> str:
     """What a program writes, which must end well."""
     return subprocess.run(words, check=True, capture_output=True, text=True).stdout.strip()
 
 
-def built_in_c(name, library, *flags):
+def built_in_c(name: str, library: StrPath, *flags: str) -> pathlib.Path:
     """Builds benches/NAME.c with the library, and returns the program."""
     BUILT.mkdir(parents=True, exist_ok=True)
     program = BUILT / f"{name}_c"
@@ -61,7 +65,7 @@ def built_in_c(name, library, *flags):
     return program
 
 
-def built_in_rust(name):
+def built_in_rust(name: str) -> pathlib.Path:
     """Builds benches/NAME.rs, and returns the program."""
     BUILT.mkdir(parents=True, exist_ok=True)
     program = BUILT / f"{name}_rust"

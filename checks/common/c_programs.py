@@ -1,8 +1,13 @@
 """C programs that a check builds and runs, and what a machine needs for that. CC names another compiler than cc, and CFLAGS more words."""
-import os
-import subprocess
+from __future__ import annotations
 
-from harness import LATE, TOP, LeftOut, needs
+import os
+import pathlib
+import subprocess
+from collections.abc import Sequence
+from typing import Any
+
+from harness import LATE, TOP, LeftOut, StrPath, Tally, needs
 
 CC = os.environ.get("CC", "cc")
 FLAGS = "-std=c11 -O2 -g -Wall -Wextra -Wconversion -Werror -pthread".split() + os.environ.get("CFLAGS", "").split()
@@ -12,14 +17,14 @@ LENDER = [TOP / f"monitor/{name}.c" for name in ["lender", "bus", "journal"]]
 SECONDS = 600
 
 
-def needs_windows():
+def needs_windows() -> None:
     """Leaves all out where there is no C compiler or no userfaultfd."""
     needs("all windows", CC)
     if not can_open("/dev/userfaultfd"):
         raise LeftOut("all windows, since there is no /dev/userfaultfd for this user")
 
 
-def can_open(path):
+def can_open(path: str) -> bool:
     """Whether a device can be opened."""
     try:
         os.close(os.open(path, os.O_RDWR | os.O_CLOEXEC))
@@ -28,7 +33,7 @@ def can_open(path):
         return False
 
 
-def run(words, seconds=SECONDS, **more):
+def run(words: Sequence[StrPath], seconds: float = SECONDS, **more: Any) -> subprocess.CompletedProcess[Any]:
     """Shows a command and runs it. Its status is LATE if it is ended after these seconds."""
     print("$ " + " ".join(str(word).replace(f"{TOP}/", "") for word in words), flush=True)
     try:
@@ -37,12 +42,12 @@ def run(words, seconds=SECONDS, **more):
         return subprocess.CompletedProcess(words, LATE)
 
 
-def passes(tally, words, seconds=SECONDS, **more):
+def passes(tally: Tally, words: Sequence[StrPath], seconds: float = SECONDS, **more: Any) -> bool:
     """A case: a program, which prints what is wrong, must end with status 0, and in time."""
     return tally.equal(f"{os.path.basename(words[0])}, its status", run(words, seconds, **more).returncode, 0)
 
 
-def compile_c(words, path):
+def compile_c(words: Sequence[StrPath], path: pathlib.Path) -> pathlib.Path:
     """Compiles and links C with these words to this path, and returns it."""
     path.parent.mkdir(parents=True, exist_ok=True)
     if subprocess.run([CC, *words, "-o", path], check=False).returncode != 0:
@@ -50,7 +55,7 @@ def compile_c(words, path):
     return path
 
 
-def play(tally, trace):
+def play(tally: Tally, trace: StrPath) -> None:
     """A case: a record of events, through the proved program that plays them."""
     program = TOP / "out/window_trace"
     if not program.exists():

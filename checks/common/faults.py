@@ -1,4 +1,5 @@
 """Texts at fault, each with the fault that its one line names, for the cases of the commands that read them."""
+from __future__ import annotations
 
 # Where a journal's requests begin: one frame, and a guest with one page.
 ONE_PAGE = "pageshare journal 1\nframes 1\npages 1\n"
@@ -11,7 +12,7 @@ LOADS = "0 store 0 0 6869\n0 load 0 0 2\n0 load 0 100 2\n0 load 1 0 1\n0 close\n
 MANY_GUESTS = "pageshare journal 1\nframes 1\npages" + " 0" * 64
 
 
-def two_guests(first, salts):
+def two_guests(first: int, salts: str) -> str:
     """A journal of two guests, whose equal pages are proposed, with this first line and these lines behind the pages."""
     requests = "0 store 0 0 41\n1 store 0 0 41\n0 propose 0\n1 propose 0\nend 4\n"
     return f"pageshare journal {first}\nframes 2\npages 1 1\n{salts}{requests}"
@@ -134,7 +135,7 @@ LINES_OF_SCRIPTS = [
 ]
 
 
-def behind(head, lines):
+def behind(head: str, lines: list[tuple[str, str]]) -> list[tuple[str, str]]:
     """Texts that differ behind a head alone."""
     return [(head + text, fault) for text, fault in lines]
 

@@ -1,4 +1,6 @@
 """How many pages the kernel's KSM merges a second, of the pages that the benches of lends have. KSM's settings are put back."""
+from __future__ import annotations
+
 import contextlib
 import mmap
 import os
@@ -6,21 +8,22 @@ import pathlib
 import signal
 import sys
 import time
+from collections.abc import Iterator
 
 KSM = pathlib.Path("/sys/kernel/mm/ksm")
 PAGE = 4096
 PAGES = 16384
-# How KSM is told to go as fast as it can.
+# Settings by which KSM goes as fast as it can.
 FAST = {"sleep_millisecs": "0", "pages_to_scan": "100000", "run": "1"}
 
 
-def number_in(name):
+def number_in(name: str) -> int:
     """A number of KSM's."""
     return int((KSM / name).read_text())
 
 
 @contextlib.contextmanager
-def ksm_settings():
+def ksm_settings() -> Iterator[None]:
     """KSM goes as fast as it can, and afterwards as it did. A kill by SIGTERM puts the settings back, too."""
     before = {name: (KSM / name).read_text() for name in reversed(FAST)}
     former = signal.signal(signal.SIGTERM, lambda *_: sys.exit(1))
@@ -34,15 +37,15 @@ def ksm_settings():
         signal.signal(signal.SIGTERM, former)
 
 
-def fill(memory):
+def fill(memory: mmap.mmap) -> None:
     """Pages of which every other one equals the one before."""
     for number in range(PAGES):
         memory[number * PAGE : number * PAGE + 4] = (number // 2).to_bytes(4, "little")
         memory[number * PAGE + PAGE - 1] = 1
 
 
-def merged_a_second(most_seconds=120):
-    """Pages that KSM merges a second, or why that can't be told."""
+def merged_a_second(most_seconds: float = 120) -> str:
+    """Pages that KSM merges a second, or why nobody can say."""
     if not os.access(KSM / "run", os.W_OK):
         return "left out: KSM's settings can't be written here"
     if number_in("run") != 0:

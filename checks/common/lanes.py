@@ -1,4 +1,6 @@
 """How much a machine proves side by side."""
+from __future__ import annotations
+
 import os
 import pathlib
 import re
@@ -7,7 +9,7 @@ import re
 CHECK = 5_000_000
 
 
-def lanes():
+def lanes() -> int:
     """How many crates `rt ci` is to check side by side, each with one job, since each further job of a check reads all libraries anew."""
-    free = int(re.search(r"MemAvailable:\s+(\d+)", pathlib.Path("/proc/meminfo").read_text())[1])
-    return max(1, min(len(os.sched_getaffinity(0)), free // CHECK))
+    (free,) = re.findall(r"MemAvailable:\s+(\d+)", pathlib.Path("/proc/meminfo").read_text())
+    return max(1, min(len(os.sched_getaffinity(0)), int(free) // CHECK))

@@ -1,11 +1,19 @@
 """Numbers of an estimate counted plainly, for the checks: by hashes of whole pages, sets and dictionaries. Standard library only."""
+from __future__ import annotations
+
 import collections
 import hashlib
+from collections.abc import Iterator, Mapping, Sequence
+from typing import Any
 
 from common.plain_fleet import PAGE, ZEROS
 
+# The pages of each image, and a content: its salt with the hash of its bytes.
+Images = Sequence[Sequence[bytes]]
+Key = tuple[int, bytes]
 
-def parts_of(images, salts, keys):
+
+def parts_of(images: Images, salts: Sequence[int], keys: Sequence[Sequence[Key]]) -> dict[str, int]:
     """What could be reclaimed, in parts: zeros, and of the other contents what sharing between and within guests reclaims."""
     others = [{key for key, page in zip(own, pages) if page != ZEROS} for own, pages in zip(keys, images)]
     zeros = [salt for salt, pages in zip(salts, images) for page in pages if page == ZEROS]
@@ -15,7 +23,7 @@ def parts_of(images, salts, keys):
     }
 
 
-def guest_of(name, salt, pages, own, copies):
+def guest_of(name: str, salt: int, pages: Sequence[bytes], own: Sequence[Key], copies: Mapping[Key, int]) -> dict[str, Any]:
     """The numbers of one guest, by its pages, their keys, and how many copies all images have of each key."""
     return {
         "image": name, "salt": salt, "pages": len(own), "zero": sum(page == ZEROS for page in pages),
@@ -23,7 +31,7 @@ def guest_of(name, salt, pages, own, copies):
     }
 
 
-def classes_of(copies):
+def classes_of(copies: Mapping[Key, int]) -> Iterator[dict[str, int]]:
     """The classes 1, 2, 3 to 4, 5 to 8 and so on that have contents."""
     for number in range(33):
         low, high = 2**number // 2 + 1, min(2**number, 2**32 - 1)
@@ -32,7 +40,7 @@ def classes_of(copies):
             yield {"from": low, "to": high, "contents": len(inside), "pages": sum(inside)}
 
 
-def counted(names, salts, images):
+def counted(names: Sequence[str], salts: Sequence[int], images: Images) -> dict[str, Any]:
     """What `--json` is to print of the pages of some images."""
     keys = [[(salt, hashlib.sha256(page).digest()) for page in pages] for salt, pages in zip(salts, images)]
     everything = [key for own in keys for key in own]

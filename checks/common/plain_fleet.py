@@ -1,31 +1,41 @@
 """Digests written and counted plainly, for the checks of fleets: by hashlib, dictionaries and the definitions. Standard library only."""
+from __future__ import annotations
+
 import collections
 import hashlib
 import math
+from collections.abc import Iterable, Iterator, Mapping, Sequence
+from typing import Any, Union
 
 PAGE = 4096
 ZEROS = bytes(PAGE)
 HEADER = "guest,salt,pages,sample,digest,copies\n"
+# The numbers of a guest or a fleet, by their names in `fleet --json`.
+Numbers = dict[str, Any]
+# A line of a digest: the guest, its salt and pages, the sample, the digest and how many copies the guest has.
+Row = tuple[str, int, int, int, str, int]
+# Which host a list gives a guest; nothing where there is no list.
+Listed = Union[Mapping[str, str], tuple[()], None]
 
 
-def digest(salt, page):
+def digest(salt: int, page: bytes) -> str:
     """The first 16 bytes of SHA-256 of the page, or of the salt's four big-endian bytes and the page, as digits."""
     return hashlib.sha256((salt.to_bytes(4, "big") if salt else b"") + page).hexdigest()[:32]
 
 
-def is_kept(salt, sample, word):
+def is_kept(salt: int, sample: int, word: str) -> bool:
     return int(word[-4:], 16) % sample == 0 or word == digest(salt, ZEROS)
 
 
-def text_of_copies(guest, salt, sample, copies):
+def text_of_copies(guest: str, salt: int, sample: int, copies: Mapping[str, int]) -> str:
     """The digest's text of a guest that has so many copies of each digest."""
     pages, zeros = sum(copies.values()), digest(salt, ZEROS)
     kept = sorted(word for word in copies if int(word[-4:], 16) % sample == 0 or word == zeros)
     return HEADER + "".join(f"{guest},{salt},{pages},{sample},{word},{copies[word]}\n" for word in kept)
 
 
-def text_of_pages(guest, salt, sample, pages):
-    copies = collections.Counter()
+def text_of_pages(guest: str, salt: int, sample: int, pages: Iterable[bytes]) -> str:
+    copies: collections.Counter[str] = collections.Counter()
     for page, count in collections.Counter(pages).items():
         copies[digest(salt, page)] += count
     return text_of_copies(guest, salt, sample, copies)
@@ -34,35 +44,36 @@ def text_of_pages(guest, salt, sample, pages):
 class Amounts:
     """A sum over contents of what each adds: those of zeros once, each other one K times, with its standard error."""
 
-    def __init__(self, sample):
-        self.sample, self.exact, self.added = sample, 0, []
+    def __init__(self, sample: int) -> None:
+        self.sample, self.exact = sample, 0
+        self.added: list[int] = []
 
-    def add(self, is_zero, value):
+    def add(self, is_zero: bool, value: int) -> None:
         if is_zero:
             self.exact += value
         else:
             self.added.append(value)
 
-    def value(self):
+    def value(self) -> int:
         return self.exact + self.sample * sum(self.added)
 
-    def error(self):
+    def error(self) -> int:
         return math.isqrt(self.sample * (self.sample - 1) * sum(value * value for value in self.added))
 
 
-def members(known, amounts, sample):
+def members(known: Numbers, amounts: Mapping[str, Amounts], sample: int) -> Numbers:
     numbers = {**known, **{name: amount.value() for name, amount in amounts.items()}}
     if sample > 1:
         numbers["errors"] = {name: amount.error() for name, amount in amounts.items()}
     return numbers
 
 
-def rows_of(text):
+def rows_of(text: str) -> list[Row]:
     rows = [line.split(",") for line in text.splitlines()[1:]]
     return [(guest, int(salt), int(pages), int(sample), word, int(own)) for guest, salt, pages, sample, word, own in rows]
 
 
-def guest_of(rows, copies, sample):
+def guest_of(rows: Sequence[Row], copies: Mapping[str, int], sample: int) -> Numbers:
     """The numbers of one guest, by its lines and by how many copies the fleet has of each digest."""
     amounts = {name: Amounts(sample) for name in ("distinct", "shared", "alone")}
     zero, zeros = 0, {salt: digest(salt, ZEROS) for salt in {row[1] for row in rows}}
@@ -72,11 +83,11 @@ def guest_of(rows, copies, sample):
         amounts["distinct"].add(is_zero, 1)
         amounts["shared"].add(is_zero, own if copies[word] > 1 else 0)
         amounts["alone"].add(is_zero, own - 1)
-    guest, salt, pages = rows[0][:3] if rows else (None, None, 0)
-    return members({"guest": guest, "salt": salt, "pages": pages, "zero": zero}, amounts, sample)
+    named = dict(zip(("guest", "salt", "pages"), rows[0][:3] if rows else (None, None, 0)))
+    return members({**named, "zero": zero}, amounts, sample)
 
 
-def total_of(guests, copies, owners, zeros, sample):
+def total_of(guests: Sequence[Numbers], copies: Mapping[str, int], owners: Mapping[str, int], zeros: set[str], sample: int) -> Numbers:
     names = ("shared", "frames", "reclaimed", "between")
     amounts = {name: Amounts(sample) for name in names}
     for word, count in copies.items():
@@ -100,7 +111,7 @@ def total_of(guests, copies, owners, zeros, sample):
     return {name: numbers[name] for name in order if name in numbers}
 
 
-def classes_of(copies, zeros, sample):
+def classes_of(copies: Mapping[str, int], zeros: set[str], sample: int) -> Iterator[Numbers]:
     """The classes 1, 2, 3 to 4, 5 to 8 and so on that have contents."""
     classes = collections.defaultdict(list)
     for word, count in copies.items():
@@ -113,7 +124,7 @@ def classes_of(copies, zeros, sample):
         yield members({"from": 2**number // 2 + 1, "to": 2**number}, amounts, sample)
 
 
-def in_common(own, other, zeros, sample):
+def in_common(own: Mapping[str, int], other: Mapping[str, int], zeros: set[str], sample: int) -> Iterator[int]:
     """What two guests have in common, by how many copies they have of each digest: its fields as they are written."""
     contents, pages = Amounts(sample), Amounts(sample)
     for word in own.keys() & other.keys():
@@ -125,7 +136,7 @@ def in_common(own, other, zeros, sample):
             yield amount.error()
 
 
-def pairs_text(texts):
+def pairs_text(texts: Iterable[str]) -> str:
     """What each two guests of a fleet of digests with one sample, given as texts, have in common, as CSV."""
     files = [rows_of(text) for text in texts]
     rows = [row for own in files for row in own]
@@ -133,21 +144,22 @@ def pairs_text(texts):
     zeros = {digest(salt, ZEROS) for salt in {row[1] for row in rows}}
     guests = [(own[0][0] if own else "", {row[4]: row[5] for row in own}) for own in files]
     fields = ("contents", "contents_error", "pages", "pages_error") if sample > 1 else ("contents", "pages")
-    lines = [("guest", "guest", *fields)]
+    lines: list[tuple[object, ...]] = [("guest", "guest", *fields)]
     for place, (name, own) in enumerate(guests):
         lines += [(name, other_name, *in_common(own, other, zeros, sample)) for other_name, other in guests[place + 1:]]
     return "".join(",".join(map(str, line)) + "\n" for line in lines)
 
 
-def host_of(guest, listed):
+def host_of(guest: str, listed: Listed) -> str:
     """A guest's host: as a list says, and else what comes before the first dot of its name."""
     return (listed or {}).get(guest, guest.split(".")[0])
 
 
-def by_host(texts, listed):
+def by_host(texts: Iterable[str], listed: Listed) -> dict[str, list[str]]:
     """The texts of each host's digests, by the hosts' names. None if there are fewer than two hosts, or if there is no list and no host has
     two guests of different names."""
-    found, guests = {}, set()
+    found: dict[str, list[str]] = {}
+    guests = set()
     for text in texts:
         rows = rows_of(text)
         if rows:
@@ -156,7 +168,7 @@ def by_host(texts, listed):
     return found if len(found) > 1 and (listed is not None or len(guests) > len(found)) else {}
 
 
-def on_hosts(texts, listed, pool):
+def on_hosts(texts: Iterable[str], listed: Listed, pool: Numbers) -> Numbers:
     """The members of a fleet's object that are by host: each host's fleet by itself, and their sum."""
     hosts = [{"host": name, "guests": len(own), "total": counted(own, None)["total"]} for name, own in by_host(texts, listed).items()]
     if not hosts:
@@ -171,13 +183,14 @@ def on_hosts(texts, listed, pool):
     return {"hosts": hosts, "on_hosts": total}
 
 
-def counted(texts, listed=()):
+def counted(texts: Sequence[str], listed: Listed = ()) -> Numbers:
     """The object of a fleet of digests with one sample, given as texts. `listed` are the hosts that a list gives to guests; by default they
     are those of the names, and with None nothing is by host."""
     files = [rows_of(text) for text in texts]
     rows = [row for own in files for row in own]
     sample = rows[0][3] if rows else 1
-    copies, owners = collections.Counter(), collections.Counter()
+    copies: collections.Counter[str] = collections.Counter()
+    owners: collections.Counter[str] = collections.Counter()
     for _guest, _salt, _pages, _sample, word, own in rows:
         copies[word] += own
         owners[word] += 1

@@ -1,16 +1,18 @@
 """Images of memory read plainly, for the checks of estimates and digests: by their bytes and the fields of ELF alone."""
+from __future__ import annotations
+
 import struct
 
 from common.plain_fleet import PAGE
 
 
-def pages_of_bytes(data):
+def pages_of_bytes(data: bytes) -> list[bytes]:
     """The pages of some bytes, the last one filled up with zeros."""
     cut = [data[at : at + PAGE] for at in range(0, len(data), PAGE)]
     return [part.ljust(PAGE, b"\0") for part in cut]
 
 
-def pages_of_image(data, is_raw):
+def pages_of_image(data: bytes, is_raw: bool) -> list[bytes]:
     """The pages of an image, read from its bytes alone."""
     if is_raw or data[:4] != b"\x7fELF":
         return pages_of_bytes(data)

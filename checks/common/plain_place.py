@@ -1,30 +1,37 @@
 """Placements of guests on hosts, tried one after the other, for the checks of fleet/place.py. Standard library only."""
+from __future__ import annotations
+
 import itertools
+from collections.abc import Callable, Iterable, Iterator, Mapping, Sequence
+
 
 from common import plain_fleet
+
+# On which host each guest is.
+Place = dict[str, str]
 
 
 class Fleet:
     """The contents and pages of guests, by their digests' texts; and the hosts' memory in pages."""
 
-    def __init__(self, texts, hosts, memory):
+    def __init__(self, texts: Iterable[str], hosts: Sequence[str], memory: Mapping[str, int]) -> None:
         self.rows = {rows[0][0]: rows for rows in map(plain_fleet.rows_of, texts) if rows}
         self.zeros = {plain_fleet.digest(rows[0][1], plain_fleet.ZEROS) for rows in self.rows.values()}
         self.sample = next(iter(self.rows.values()))[0][3]
         self.hosts, self.memory = hosts, memory
 
-    def frames_on(self, names):
+    def frames_on(self, names: Iterable[str]) -> int:
         """The frames that these guests need on one host."""
         words = {row[4] for name in names for row in self.rows[name]}
         return sum(1 if word in self.zeros else self.sample for word in words)
 
-    def on(self, place, host):
+    def on(self, place: Place, host: str) -> list[str]:
         return [name for name, own in place.items() if own == host]
 
-    def frames(self, place):
+    def frames(self, place: Place) -> int:
         return sum(self.frames_on(self.on(place, host)) for host in set(place.values()))
 
-    def has_room(self, place, spare=None):
+    def has_room(self, place: Place, spare: int | None = None) -> bool:
         """Whether each host has memory for its guests, or with `spare` for their frames and so many pages more."""
         for host in self.hosts:
             names = self.on(place, host)
@@ -33,7 +40,7 @@ class Fleet:
                 return False
         return True
 
-    def best(self, start, holds, spare, rivals):
+    def best(self, start: Place, holds: Callable[[Place], bool], spare: int, rivals: Iterable[tuple[str, str]]) -> int | None:
         """The fewest frames of all placements that hold, and that moves of one guest at a time lead to: no move takes a host over its memory,
         or a guest to one that it may not be with."""
         names = list(start)
@@ -51,7 +58,7 @@ class Fleet:
         return min((self.frames(place) for place in places if holds(place)), default=None)
 
 
-def order_faults(fleet, start, found, spare=0):
+def order_faults(fleet: Fleet, start: Place, found: plain_fleet.Numbers, spare: int = 0) -> Iterator[str]:
     """What is wrong with the order of a plan's moves, and with what each reclaims."""
     place = dict(start)
     for move in found["moves"]:

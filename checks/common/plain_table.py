@@ -2,23 +2,28 @@
 
 An object is that of `estimate --json` or `fleet --json`.
 """
+from __future__ import annotations
+
 import fractions
 import math
+from collections.abc import Iterable, Iterator, Sequence
+
+from common.plain_fleet import Numbers
 
 HOW_TO_SHARE = "docs/HOST.md says how to share it.\n"
 PAGES_OF_A_MIB = 256
 
 
-def exact(pages, scale):
+def exact(pages: int, scale: int) -> fractions.Fraction:
     return fractions.Fraction(scale * pages, PAGES_OF_A_MIB)
 
 
-def rounded(number):
+def rounded(number: fractions.Fraction) -> int:
     """To the nearest whole number, a half up."""
     return math.floor(number + fractions.Fraction(1, 2))
 
 
-def shares(parts, scale):
+def shares(parts: Sequence[int], scale: int) -> list[int]:
     """The parts in units of which a MiB has `scale`: rounded down, and then up in the order of their remainders, until they add up."""
     due = rounded(exact(sum(parts), scale))
     units = [math.floor(exact(pages, scale)) for pages in parts]
@@ -30,22 +35,26 @@ def shares(parts, scale):
     return [due, *units]
 
 
-def per_cent(part, whole):
+def per_cent(part: int, whole: int) -> str:
     return "0.0" if whole == 0 else tenths(rounded(fractions.Fraction(1000 * part, whole)))
 
 
-def tenths(number):
+def tenths(number: int) -> str:
     return f"{number // 10}.{number % 10}"
 
 
-def parts_of(total):
+def whole_number(number: int) -> str:
+    return str(number)
+
+
+def parts_of(total: Numbers) -> list[int]:
     return [total["parts"][name] for name in ("zeros", "between", "within")]
 
 
-def sentence(total, place=""):
+def sentence(total: Numbers, place: str = "") -> str:
     """The sentence, with where the memory could be reclaimed: in tenths of a MiB where less than 10 MiB could be reclaimed, and else in whole MiB."""
     scale = 10 if total["reclaimed"] < 10 * PAGES_OF_A_MIB else 1
-    show = tenths if scale == 10 else str
+    show = tenths if scale == 10 else whole_number
     errors = total.get("errors")
     plus = {name: f" (+- {show(rounded(exact(errors[name], scale)))})" if errors else "" for name in ("reclaimed", "between", "within")}
     whole, zeros, between, within = map(show, shares(parts_of(total), scale))
@@ -59,7 +68,7 @@ def sentence(total, place=""):
 class Table:
     """A table's cells. In MiB each has one decimal."""
 
-    def __init__(self, found, unit):
+    def __init__(self, found: Numbers, unit: str) -> None:
         self.found, self.unit, self.is_sampled = found, unit, "sample" in found
         total = found["total"]
         names = ("shared", "frames", "reclaimed", "between")
@@ -70,13 +79,13 @@ class Table:
         self.width = max(14, len(str(most)) if unit == "pages" else len(str(rounded(exact(most, 1)))) + 2)
         self.contents = max(12, len(str(most)) + 2) if "guest" in (found["guests"] or [{"guest": 0}])[0] else 12
 
-    def shown(self, pages):
+    def shown(self, pages: int) -> str:
         return str(pages) if self.unit == "pages" else tenths(rounded(exact(pages, 10)))
 
-    def cell(self, text):
+    def cell(self, text: str) -> str:
         return "  " + text.rjust(self.width)
 
-    def row(self, numbers, names, known=()):
+    def row(self, numbers: Numbers, names: Iterable[str], known: Sequence[str] = ()) -> str:
         """The cells of some numbers, each followed by its standard error, if it has one."""
         text = ""
         for name in names:
@@ -85,10 +94,10 @@ class Table:
                 text += self.cell(self.shown(numbers["errors"][name]))
         return text
 
-    def headings(self, names, known=()):
+    def headings(self, names: Iterable[str], known: Sequence[str] = ()) -> str:
         return "".join(self.cell(name) + (self.cell("+-") if self.is_sampled and name not in known else "") for name in names)
 
-    def reclaimed(self, total):
+    def reclaimed(self, total: Numbers) -> str:
         parts = parts_of(total)
         if self.unit == "pages":
             texts = [str(pages) for pages in [sum(parts), *parts]]
@@ -102,7 +111,7 @@ class Table:
         return text
 
 
-def copies_text(table, is_fleet):
+def copies_text(table: Table, is_fleet: bool) -> list[str]:
     copies = table.found["copies"]
     left = max(24, 2 * len(str(copies[-1]["to"])) + 5 if copies and is_fleet else 24)
     wide, plus = table.contents, "+-".rjust(table.contents) if table.is_sampled else ""
@@ -114,7 +123,7 @@ def copies_text(table, is_fleet):
     return lines
 
 
-def hosts_text(table, found, known):
+def hosts_text(table: Table, found: Numbers, known: Sequence[str]) -> Iterator[str]:
     """A line for each host, for the sum over all hosts, and for all guests in one pool."""
     if "hosts" not in found:
         return
@@ -129,14 +138,14 @@ def hosts_text(table, found, known):
         yield f"{label:>5}  {count:>6}" + table.row(total, numbers, known) + f"  {part:>17} %  {name}"
 
 
-def sentences(found):
+def sentences(found: Numbers) -> list[str]:
     """The sentence, or first the one about the hosts."""
     if "hosts" not in found:
         return [sentence(found["total"])]
     return [sentence(found["on_hosts"], " on the guests' hosts"), sentence(found["total"], " if one host had all guests")]
 
 
-def table_text(found, unit="mib", names=None):
+def table_text(found: Numbers, unit: str = "mib", names: Sequence[str] | None = None) -> str:
     """The whole table of an object; `names` are what the guests are called there, by default what the object calls them."""
     is_fleet = not found["guests"] or "guest" in found["guests"][0]
     table, known = Table(found, unit), ("pages", "memory", "zero", "zero_reclaimed")

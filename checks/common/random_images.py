@@ -1,10 +1,14 @@
 """Random images of memory, for the checks of estimates and digests. Each follows from the generator that is handed in."""
+from __future__ import annotations
+
+import random
 import struct
+from collections.abc import Sequence
 
 from common.plain_fleet import PAGE, ZEROS
 
 
-def random_pages(draw, pool, most):
+def random_pages(draw: random.Random, pool: Sequence[bytes], most: int) -> list[bytes]:
     """Some pages: zeros, pages that others may have, and pages of one byte each that differ in the middle alone."""
     pages = []
     for _ in range(draw.randrange(most)):
@@ -22,14 +26,14 @@ def random_pages(draw, pool, most):
     return pages
 
 
-def raw_file(draw, pool):
+def raw_file(draw: random.Random, pool: Sequence[bytes]) -> bytes:
     """A raw image, of which the last page may be cut."""
     data = b"".join(random_pages(draw, pool, 12))
     cut = draw.randrange(PAGE) if data and draw.randrange(3) == 0 else 0
     return data[: len(data) - cut]
 
 
-def core_file(draw, pool):
+def core_file(draw: random.Random, pool: Sequence[bytes]) -> bytes:
     """An ELF core of a few segments, in any order, with notes and holes among them."""
     count = draw.randrange(5)
     in_section = draw.randrange(4) == 0
@@ -52,7 +56,7 @@ def core_file(draw, pool):
     return head + b"".join(headers) + section + body
 
 
-def random_image(draw, pool):
+def random_image(draw: random.Random, pool: Sequence[bytes]) -> bytes:
     """An image of any kind, the empty one among them."""
     kind = draw.randrange(8)
     if kind == 0:

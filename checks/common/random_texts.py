@@ -1,7 +1,11 @@
 """Random journals and scripts, for the checks of texts. Each follows from the generator that is handed in."""
+from __future__ import annotations
+
+import random
+from collections.abc import Iterable, Sequence
 
 
-def content(rng):
+def content(rng: random.Random) -> tuple[int, bytes]:
     """The place and bytes of a store: mostly of few kinds, so that pages come to be equal."""
     if rng.random() < 0.85:
         return 0, bytes([rng.choice(b"\x00AB")])
@@ -9,7 +13,7 @@ def content(rng):
     return rng.choice([0, 1, 4096 - len(data), rng.randint(0, 4096 - len(data))]), data
 
 
-def request(rng, pages):
+def request(rng: random.Random, pages: Sequence[int]) -> str:
     """A request of any guest, now and then of a page that isn't there."""
     guest = rng.randrange(len(pages))
     ppn = rng.randrange(pages[guest] + (rng.random() < 0.05))
@@ -23,39 +27,39 @@ def request(rng, pages):
     return f"{guest} count" if kind == "count" else f"{guest} {kind} {ppn}"
 
 
-def shape(rng):
+def shape(rng: random.Random) -> tuple[int, list[int], list[int]]:
     """Frames, pages and salts: sometimes fewer frames than pages, often equal salts."""
     pages = [rng.randint(1, 6) for _ in range(rng.choice([1, 2, 2, 3, 5, 64 if rng.random() < 0.1 else 4]))]
     salts = [rng.choice([0, 0, 7, 4294967295]) for _ in pages]
     return rng.randint((sum(pages) + 1) // 2, sum(pages)), pages, salts
 
 
-def header(kind, salted, frames, pages, salts):
+def header(kind: str, salted: bool, frames: int, pages: Iterable[int], salts: Iterable[int]) -> list[str]:
     """The first lines of a text."""
     lines = [f"pageshare {kind} {2 if salted else 1}", f"frames {frames}", "pages " + " ".join(map(str, pages))]
     return [*lines, "salts " + " ".join(map(str, salts))] if salted else lines
 
 
-def text_of(lines, requests):
+def text_of(lines: Iterable[str], requests: Sequence[str]) -> str:
     """A whole text of its first lines and its requests."""
     return "\n".join([*lines, *requests, f"end {len(requests)}"]) + "\n"
 
 
-def journal(rng):
+def journal(rng: random.Random) -> str:
     """A journal, in either version."""
     frames, pages, salts = shape(rng)
     lines = header("journal", rng.random() < 0.3, frames, pages, salts)
     return text_of(lines, [request(rng, pages) for _ in range(rng.choice([0, 10, 100, 300]))])
 
 
-def scan(rng, pages):
+def scan(rng: random.Random, pages: Sequence[int]) -> tuple[str, int]:
     """A line that stands for several proposals, and how many."""
     guest, count = rng.randrange(len(pages)), rng.choice([1, 2, 5, 20])
     order = "sequential" if rng.random() < 0.5 else f"random {rng.choice([0, 7, 2**64 - 1, rng.getrandbits(64)])}"
     return f"{guest} scan {order} {count}", count
 
 
-def script(rng, most=300):
+def script(rng: random.Random, most: int = 300) -> tuple[str, int]:
     """A script that its machine has room for, with the number of its requests, closes among them."""
     frames, pages, salts = shape(rng)
     lines, total = [], len(pages)

@@ -13,7 +13,7 @@ enum { PAGE = 4096, FRAMES = 5, SESSIONS = 3, QUOTA = 4, FREED = PAGESHARE_HOST_
 
 static const uint8_t names[4][PAGESHARE_HOST_NAME_BYTES] = {{1}, {2}, {3}, {4}};
 static const struct pageshare_host_shape shape = {
-    .machines = 1, .slots = 8, .frames = FRAMES, .sessions = SESSIONS, .recent = 16, .quota = QUOTA, .salt = 9, .fingerprints = 7, .seed = 5};
+    .machines = 1, .slots = 8, .frames = FRAMES, .sessions = SESSIONS, .recent = 16, .quota = QUOTA, .salt = 9, .fingerprints = 7, .seed = 5, .client_cpu = 25};
 
 /* ---- packets */
 
@@ -29,12 +29,14 @@ static void receive(struct pageshare_host *host, uint32_t session, const void *b
     got = pageshare_host_receive(host, session, bytes, length, (const uint8_t(*)[PAGE])pages, count, reply, sizeof reply, freed, FREED);
 }
 
-/* A session's first message: it wants the session with a name, or a new one. */
-static void hello(struct pageshare_host *host, uint32_t session, const uint8_t *name) {
-    struct pageshare_host_hello message = {.kind = PAGESHARE_HOST_HELLO, .version = PAGESHARE_HOST_VERSION};
+/* A session's first message: it wants the session with a name, in which so many LOANS came, or a new one. */
+static void take_up(struct pageshare_host *host, uint32_t session, const uint8_t *name, uint64_t loans) {
+    struct pageshare_host_hello message = {.kind = PAGESHARE_HOST_HELLO, .version = PAGESHARE_HOST_VERSION, .loans = loans};
     if (name != NULL) memcpy(message.name, name, sizeof message.name);
     receive(host, session, &message, name != NULL ? sizeof message : 8, 0);
 }
+
+static void hello(struct pageshare_host *host, uint32_t session, const uint8_t *name) { take_up(host, session, name, 1); }
 
 static void lend(struct pageshare_host *host, uint32_t session, uint32_t count) {
     struct pageshare_host_lend message = {.kind = PAGESHARE_HOST_LEND, .count = count};
@@ -47,44 +49,44 @@ static void release(struct pageshare_host *host, uint32_t session, uint64_t firs
 }
 
 static struct pageshare_host_lent loan(size_t at) {
-    struct pageshare_host_lent told;
-    memcpy(&told, reply + 8 + at * sizeof told, sizeof told);
-    return told;
+    struct pageshare_host_lent known;
+    memcpy(&known, reply + 8 + at * sizeof known, sizeof known);
+    return known;
 }
 
 static bool is_welcome(const uint8_t *name) {
-    struct pageshare_host_welcome told;
-    memcpy(&told, reply, sizeof told);
-    return got.status == PAGESHARE_HOST_OK && got.reply_bytes == 36 && got.freed == 0 && told.kind == PAGESHARE_HOST_WELCOME &&
-           told.version == PAGESHARE_HOST_VERSION && memcmp(told.name, name, sizeof told.name) == 0 && told.frames == FRAMES && told.salt == 7 &&
-           told.most == PAGESHARE_HOST_MAX_PAGES;
+    struct pageshare_host_welcome known;
+    memcpy(&known, reply, sizeof known);
+    return got.status == PAGESHARE_HOST_OK && got.reply_bytes == 40 && got.freed == 0 && known.kind == PAGESHARE_HOST_WELCOME &&
+           known.version == PAGESHARE_HOST_VERSION && memcmp(known.name, name, sizeof known.name) == 0 && known.frames == FRAMES && known.salt == 7 &&
+           known.most == PAGESHARE_HOST_MAX_PAGES && known.client_cpu == 25;
 }
 
-/* Whether a session is told of so. */
+/* Whether a session is described so. */
 static bool is_told(struct pageshare_host *host, uint32_t session, uint32_t state, uint32_t slots, uint32_t fault, uint64_t messages) {
-    struct pageshare_host_session told = {9, 9, 9, 9, 9};
-    return pageshare_host_session(host, session, &told) == PAGESHARE_HOST_OK && told.state == state && told.slots == slots &&
-           told.fault == fault && told.reserved == 0 && told.messages == messages;
+    struct pageshare_host_session known = {9, 9, 9, 9, 9};
+    return pageshare_host_session(host, session, &known) == PAGESHARE_HOST_OK && known.state == state && known.slots == slots &&
+           known.fault == fault && known.reserved == 0 && known.messages == messages;
 }
 
 static bool counts(struct pageshare_host *host, uint32_t clients, uint32_t slots, uint32_t frames, uint32_t shared) {
-    struct pageshare_host_totals told = {9, 9, 9, 9, 9, 9};
-    return pageshare_host_report(host, &told) == PAGESHARE_HOST_OK && told.machines == 1 && told.clients == clients && told.slots == slots &&
-           told.frames == frames && told.shared == shared && told.reclaimed == slots - frames;
+    struct pageshare_host_totals known = {9, 9, 9, 9, 9, 9};
+    return pageshare_host_report(host, &known) == PAGESHARE_HOST_OK && known.machines == 1 && known.clients == clients && known.slots == slots &&
+           known.frames == frames && known.shared == shared && known.reclaimed == slots - frames;
 }
 
 /* ---- without a host */
 
 /* Each call says that the handle holds no host that is made, and what it writes to stays. */
 static void check_none(struct pageshare_host *host) {
-    struct pageshare_host_session told = {9, 9, 9, 9, 9};
+    struct pageshare_host_session known = {9, 9, 9, 9, 9};
     struct pageshare_host_totals totals = {9, 9, 9, 9, 9, 9};
     uint32_t number = 77, frames[1] = {78};
     size_t count = 79;
     CHECK(pageshare_host_connect(host, names[0], &number) == PAGESHARE_HOST_ERROR_NO_HOST && number == 77);
     CHECK(pageshare_host_disconnect(host, 0) == PAGESHARE_HOST_ERROR_NO_HOST);
     CHECK(pageshare_host_end(host, 0, frames, 1, &count) == PAGESHARE_HOST_ERROR_NO_HOST && frames[0] == 78 && count == 79);
-    CHECK(pageshare_host_session(host, 0, &told) == PAGESHARE_HOST_ERROR_NO_HOST && told.state == 9 && told.messages == 9);
+    CHECK(pageshare_host_session(host, 0, &known) == PAGESHARE_HOST_ERROR_NO_HOST && known.state == 9 && known.messages == 9);
     CHECK(pageshare_host_report(host, &totals) == PAGESHARE_HOST_ERROR_NO_HOST && totals.machines == 9);
     hello(host, 0, NULL);
     CHECK(got.status == PAGESHARE_HOST_ERROR_NO_HOST && got.reply_bytes == 0 && got.freed == 0 && got.resumed == PAGESHARE_HOST_NO_FRAME);
@@ -160,9 +162,17 @@ static void check_hello(struct pageshare_host *host) {
 static void check_ask(struct pageshare_host *host) {
     struct pageshare_host_ask ask = {.kind = PAGESHARE_HOST_ASK, .count = 3, .questions = {{1, 50}, {2, 50}, {1, 50}}};
     const uint32_t head[2] = {PAGESHARE_HOST_SEEN, 3};
+    for (size_t i = 0; i < 3; i++) ask.questions[i].page |= PAGESHARE_HOST_PASSING;
+    receive(host, 0, &ask, 8 + 3 * 16, 0);
+    CHECK(got.reply_bytes == 11 && reply[8] == 0 && reply[9] == 0 && reply[10] == 0);
+    for (size_t i = 0; i < 3; i++) ask.questions[i].page &= ~PAGESHARE_HOST_PASSING;
     receive(host, 0, &ask, 8 + 3 * 16, 0);
     CHECK(got.status == PAGESHARE_HOST_OK && got.reply_bytes == 11 && memcmp(reply, head, 8) == 0);
     CHECK(reply[8] == 0 && reply[9] == 1 && reply[10] == 1 && reply[11] == 0xaa);
+    ask.questions[2].page |= PAGESHARE_HOST_PASSING; /* the page that was asked about before, by its number */
+    ask.questions[2].fingerprint = 51;
+    receive(host, 0, &ask, 8 + 3 * 16, 0);
+    CHECK(reply[8] == 1 && reply[9] == 1 && reply[10] == 0);
 }
 
 /* Session 0 lends five pages, of which the first two are equal, and may have four slots. Session 1 lends the first page, too. */
@@ -190,7 +200,7 @@ static void check_releases(struct pageshare_host *host, const uint64_t slots[5])
     CHECK(freed[1] == PAGESHARE_HOST_NO_FRAME && freed[2] == 0xbbbbbbbb && counts(host, 2, 5, 3, 3));
     release(host, 0, slots[0], slots[2]);
     CHECK(got.freed == 2 && freed[0] == PAGESHARE_HOST_NO_FRAME && freed[1] < FRAMES && counts(host, 2, 3, 2, 2));
-    CHECK(is_told(host, 0, PAGESHARE_HOST_STATE_TALKING, 2, 0, 4) && is_told(host, 1, PAGESHARE_HOST_STATE_TALKING, 1, 0, 3));
+    CHECK(is_told(host, 0, PAGESHARE_HOST_STATE_TALKING, 2, 0, 6) && is_told(host, 1, PAGESHARE_HOST_STATE_TALKING, 1, 0, 3));
 }
 
 /* ---- connections that end */
@@ -198,12 +208,12 @@ static void check_releases(struct pageshare_host *host, const uint64_t slots[5])
 /* Session 2 takes up session 0, which is free then. */
 static void check_resumed(struct pageshare_host *host) {
     uint32_t number = 77;
-    CHECK(pageshare_host_disconnect(host, 0) == PAGESHARE_HOST_OK && is_told(host, 0, PAGESHARE_HOST_STATE_GONE, 2, 0, 4));
+    CHECK(pageshare_host_disconnect(host, 0) == PAGESHARE_HOST_OK && is_told(host, 0, PAGESHARE_HOST_STATE_GONE, 2, 0, 6));
     lend(host, 0, 1);
     CHECK(got.status == PAGESHARE_HOST_ERROR_NO_SESSION);
     hello(host, 2, names[0]);
     CHECK(is_welcome(names[0]) && got.resumed == 0);
-    CHECK(is_told(host, 2, PAGESHARE_HOST_STATE_TALKING, 2, 0, 5));
+    CHECK(is_told(host, 2, PAGESHARE_HOST_STATE_TALKING, 2, 0, 7));
     CHECK(pageshare_host_disconnect(host, 0) == PAGESHARE_HOST_ERROR_NO_SESSION);
     CHECK(pageshare_host_connect(host, names[3], &number) == PAGESHARE_HOST_OK && number == 0);
     CHECK(pageshare_host_disconnect(host, 0) == PAGESHARE_HOST_OK);
@@ -223,7 +233,7 @@ static void check_fault(struct pageshare_host *host, const void *bytes, size_t l
 }
 
 static void check_faults(struct pageshare_host *host) {
-    const uint32_t unknown[2] = {9, 1}, version[2] = {PAGESHARE_HOST_HELLO, 2}, many[2] = {PAGESHARE_HOST_LEND, 129};
+    const uint32_t unknown[2] = {9, 1}, version[2] = {PAGESHARE_HOST_HELLO, 1}, many[2] = {PAGESHARE_HOST_LEND, 129};
     const uint32_t longer[3] = {PAGESHARE_HOST_LEND, 1, 0}, early[2] = {PAGESHARE_HOST_LEND, 1};
     check_fault(host, unknown, 7, PAGESHARE_HOST_FAULT_HEAD);
     check_fault(host, unknown, 8, PAGESHARE_HOST_FAULT_KIND);
@@ -232,7 +242,7 @@ static void check_faults(struct pageshare_host *host) {
     check_fault(host, longer, 12, PAGESHARE_HOST_FAULT_LENGTH);
     check_fault(host, early, 8, PAGESHARE_HOST_FAULT_EARLY);
     lend(host, 2, QUOTA + 2);
-    CHECK(got.status == PAGESHARE_HOST_FAULT_PAGES && is_told(host, 2, PAGESHARE_HOST_STATE_BROKEN, 2, PAGESHARE_HOST_FAULT_PAGES, 5));
+    CHECK(got.status == PAGESHARE_HOST_FAULT_PAGES && is_told(host, 2, PAGESHARE_HOST_STATE_BROKEN, 2, PAGESHARE_HOST_FAULT_PAGES, 7));
     hello(host, 1, NULL);
     CHECK(got.status == PAGESHARE_HOST_FAULT_AGAIN && is_told(host, 1, PAGESHARE_HOST_STATE_BROKEN, 1, PAGESHARE_HOST_FAULT_AGAIN, 3));
     CHECK(counts(host, 2, 3, 2, 2));
@@ -250,7 +260,7 @@ static void check_ends(struct pageshare_host *host) {
     for (int i = 0; i < 2; i++) {
         CHECK(pageshare_host_end(host, 2, frames, 1, &count) == PAGESHARE_HOST_OK && count == 1);
         freed_frames += frames[0] != PAGESHARE_HOST_NO_FRAME;
-        CHECK(is_told(host, 2, PAGESHARE_HOST_STATE_ENDED, (uint32_t)(1 - i), 0, 5));
+        CHECK(is_told(host, 2, PAGESHARE_HOST_STATE_ENDED, (uint32_t)(1 - i), 0, 7));
     }
     CHECK(freed_frames == 1);
     frames[0] = 78;
@@ -287,8 +297,8 @@ static void end_all(struct pageshare_host *host, uint32_t session) {
 }
 
 static void join(struct pageshare_host *host, uint32_t number) {
-    uint32_t told = 77;
-    CHECK(pageshare_host_connect(host, names[number], &told) == PAGESHARE_HOST_OK && told == number);
+    uint32_t known = 77;
+    CHECK(pageshare_host_connect(host, names[number], &known) == PAGESHARE_HOST_OK && known == number);
     hello(host, number, NULL);
     CHECK(got.status == PAGESHARE_HOST_OK);
 }
@@ -319,6 +329,62 @@ static void check_later(void *region) {
     join(&host, 0);
     join(&host, 1);
     for (size_t i = 0; i < LATER_PAGES; i++) CHECK(!is_seen(&host, 1, 60 + i, contents[i]));
+    CHECK(pageshare_host_free(&host) == PAGESHARE_HOST_OK);
+}
+
+/* ---- a reply that gets lost */
+
+/* Client 0 has got one of two replies to its lends when its connection ends: the slot of the other is released. */
+static void check_lost(void *region) {
+    struct pageshare_host host = PAGESHARE_HOST_NONE;
+    CHECK(pageshare_host_make(&host, &shape, region, FRAMES * PAGE) == PAGESHARE_HOST_OK);
+    join(&host, 0);
+    memset(pages[0], 1, PAGE);
+    memset(pages[1], 2, PAGE);
+    lend(&host, 0, 2);
+    memset(pages[0], 3, PAGE);
+    lend(&host, 0, 1);
+    uint32_t frame = loan(0).frame;
+    CHECK(counts(&host, 1, 3, 3, 0) && pageshare_host_disconnect(&host, 0) == PAGESHARE_HOST_OK);
+    uint32_t number = 77;
+    CHECK(pageshare_host_connect(&host, names[1], &number) == PAGESHARE_HOST_OK && number == 1);
+    take_up(&host, 1, names[0], 1);
+    CHECK(got.status == PAGESHARE_HOST_OK && got.resumed == 0 && got.freed == 1 && freed[0] == frame && freed[1] == 0xbbbbbbbb);
+    CHECK(counts(&host, 1, 2, 2, 0) && is_told(&host, 1, PAGESHARE_HOST_STATE_TALKING, 2, 0, 4));
+    /* the client's number counts from then on: nothing more is released, and the next reply is the second one */
+    lend(&host, 1, 1);
+    CHECK(counts(&host, 1, 3, 3, 0) && pageshare_host_disconnect(&host, 1) == PAGESHARE_HOST_OK);
+    CHECK(pageshare_host_connect(&host, names[1], &number) == PAGESHARE_HOST_OK && number == 0);
+    take_up(&host, 0, names[0], 2);
+    CHECK(is_welcome(names[0]) && got.resumed == 1 && counts(&host, 1, 3, 3, 0));
+    CHECK(pageshare_host_free(&host) == PAGESHARE_HOST_OK);
+}
+
+/* ---- several machines */
+
+enum { MACHINES = 3, ROUNDS = 4 };
+
+/* Machine m has the frames from m times the frames of one machine on: each page that is lent has its bytes in the region there. */
+static void check_machines(void) {
+    static _Alignas(PAGE) uint8_t region[MACHINES * FRAMES][PAGE];
+    struct pageshare_host host = PAGESHARE_HOST_NONE;
+    struct pageshare_host_shape larger = shape;
+    uint32_t lent_by[MACHINES] = {0};
+    larger.machines = MACHINES;
+    larger.quota = 100;
+    CHECK(pageshare_host_make(&host, &larger, region, sizeof region) == PAGESHARE_HOST_OK);
+    join(&host, 0);
+    for (int round = 0; round < ROUNDS; round++) {
+        for (size_t i = 0; i <= QUOTA; i++) memset(pages[i], (int)(1 + i) + (QUOTA + 1) * round, PAGE);
+        lend(&host, 0, QUOTA + 1);
+        for (size_t i = 0; i <= QUOTA; i++) {
+            if (loan(i).frame == PAGESHARE_HOST_NO_FRAME) continue;
+            CHECK(loan(i).frame < MACHINES * FRAMES && memcmp(region[loan(i).frame], pages[i], PAGE) == 0);
+            CHECK(loan(i).slot >> 32 == loan(i).frame / FRAMES);
+            lent_by[loan(i).frame / FRAMES]++;
+        }
+    }
+    for (size_t m = 0; m < MACHINES; m++) CHECK(lent_by[m] > 0);
     CHECK(pageshare_host_free(&host) == PAGESHARE_HOST_OK);
 }
 
@@ -364,6 +430,8 @@ int main(void) {
     CHECK(pageshare_host_free(&host) == PAGESHARE_HOST_OK);
     check_none(&host);
     check_later(region);
+    check_lost(region);
+    check_machines();
     free(region);
     if (failures == 0) puts("ok");
     return failures == 0 ? 0 : 1;

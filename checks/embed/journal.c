@@ -84,18 +84,18 @@ static void print_answer(uint32_t guest, struct pageshare_answer answer, const u
 }
 
 /* The machine, and the region of its frames, if it has one. */
-struct told {
+struct replay {
     struct pageshare machine;
     uint32_t frames, pages[64], salts[64];
     size_t guests;
     uint8_t *region;
 };
 
-static size_t region_bytes(const struct told *t) {
+static size_t region_bytes(const struct replay *t) {
     return (size_t)t->frames * PAGESHARE_PAGE_BYTES;
 }
 
-static void make(struct told *t, bool in_region) {
+static void make(struct replay *t, bool in_region) {
     struct pageshare_config config = {t->frames, t->pages, t->salts, t->guests, PAGESHARE_SHA256, NULL, 0};
     if (in_region) {
         int file = memfd_create("frames", MFD_CLOEXEC);
@@ -109,7 +109,7 @@ static void make(struct told *t, bool in_region) {
 }
 
 /* Gives the memory of each frame that no page has back to the system. */
-static void punch(struct told *t) {
+static void punch(struct replay *t) {
     bool *taken = calloc(t->frames, sizeof *taken);
     if (taken == NULL) stop("out of memory");
     for (uint32_t guest = 0; guest < t->guests; guest++)
@@ -130,7 +130,7 @@ static struct pageshare_lending waiting[MOST_LENT];
 static uint8_t waiting_pages[MOST_LENT][PAGESHARE_PAGE_BYTES];
 static size_t waiting_count = 0;
 
-static void lend_waiting(struct told *t) {
+static void lend_waiting(struct replay *t) {
     struct pageshare_answer answers[MOST_LENT];
     if (waiting_count == 0) return;
     if (pageshare_lend_many(&t->machine, waiting, waiting_count, answers) != PAGESHARE_OK) stop("no machine");
@@ -139,7 +139,7 @@ static void lend_waiting(struct told *t) {
     punch(t);
 }
 
-static void wait_to_lend(struct told *t, uint32_t guest, char **line) {
+static void wait_to_lend(struct replay *t, uint32_t guest, char **line) {
     if (waiting_count == MOST_LENT) lend_waiting(t);
     uint8_t *page = waiting_pages[waiting_count];
     waiting[waiting_count] = (struct pageshare_lending){guest, number(line), page};
@@ -190,7 +190,7 @@ static void serve(struct pageshare *machine, uint32_t guest, const char *word, c
 }
 
 /* Serves the line of a request, or puts it off where it lends a page to a machine in a region. */
-static void serve_line(struct told *t, uint32_t guest, char **line) {
+static void serve_line(struct replay *t, uint32_t guest, char **line) {
     const char *word = strtok_r(NULL, " ", line);
     if (word == NULL) stop("a request is missing");
     if (t->region != NULL && strcmp(word, "lend") == 0) {
@@ -203,7 +203,7 @@ static void serve_line(struct told *t, uint32_t guest, char **line) {
 }
 
 int main(int count, char **words) {
-    static struct told told = {.machine = PAGESHARE_NONE};
+    static struct replay replay = {.machine = PAGESHARE_NONE};
     struct pageshare_totals totals;
     static char text[65536];
     bool made = false, in_region = count > 1 && strcmp(words[1], "region") == 0;
@@ -213,24 +213,24 @@ int main(int count, char **words) {
         const char *word = strtok_r(text, " ", &line);
         if (word == NULL || strcmp(word, "pageshare") == 0) continue;
         if (strcmp(word, "frames") == 0) {
-            told.frames = number(&line);
+            replay.frames = number(&line);
         } else if (strcmp(word, "pages") == 0) {
-            told.guests = numbers(&line, told.pages);
+            replay.guests = numbers(&line, replay.pages);
         } else if (strcmp(word, "salts") == 0) {
-            if (numbers(&line, told.salts) != told.guests) stop("not as many salts as guests");
+            if (numbers(&line, replay.salts) != replay.guests) stop("not as many salts as guests");
         } else {
-            if (!made) make(&told, in_region);
+            if (!made) make(&replay, in_region);
             made = true;
             if (strcmp(word, "end") == 0) break;
-            serve_line(&told, (uint32_t)strtoul(word, NULL, 10), &line);
+            serve_line(&replay, (uint32_t)strtoul(word, NULL, 10), &line);
         }
     }
-    if (made) lend_waiting(&told);
-    if (pageshare_report(&told.machine, &totals) != PAGESHARE_OK) stop("no machine");
+    if (made) lend_waiting(&replay);
+    if (pageshare_report(&replay.machine, &totals) != PAGESHARE_OK) stop("no machine");
     printf("report");
     print_totals(&totals);
     putchar('\n');
-    pageshare_free(&told.machine);
-    if (told.region != NULL && munmap(told.region, region_bytes(&told)) != 0) stop("no mapping");
+    pageshare_free(&replay.machine);
+    if (replay.region != NULL && munmap(replay.region, region_bytes(&replay)) != 0) stop("no mapping");
     return 0;
 }

@@ -1,18 +1,29 @@
 """Cases of programs that do all that a monitor may do of its memory, beside a shadow of each byte."""
+from __future__ import annotations
+
+import json
 import os
+import pathlib
 import re
 import signal
 import subprocess
 import time
+from collections.abc import Callable, Iterable, Mapping, Sequence
 
+from harness import StrPath
 from places import AS_NOBODY, CC, FLAGS, HERE, TOP, Host, LeftOut, all_released, must, preloaded, sources
 
 BESIDE = 4  # so many run at once, with contents that others have, too
-WAYS = ((), ("--direct",), ("--devices",), ("--direct", "--devices"))
+HUGE = ("--huge", "--pages", "1536")
+WAYS = (
+    (), HUGE, ("--direct",), (*HUGE, "--direct"), ("--devices",), (*HUGE, "--devices"), ("--direct", "--devices"), HUGE,
+)
+# Where the range may be huge pages, parts of it are split and become whole at once; and how many pages that could be shared split one.
+HUGE_FROM = ("64", "400", "200", "512")
 SANITIZE = ["-fsanitize=address,undefined", "-fno-sanitize-recover=all"]
 
 
-def compile_folder(name):
+def compile_folder(name: str) -> pathlib.Path:
     """Compiles the C program of a folder beside this file."""
     program = HERE.place.room / name
     found = sorted((TOP / "checks/host" / name).glob("*.c"))
@@ -20,11 +31,11 @@ def compile_folder(name):
     return program
 
 
-def sanitized():
+def sanitized() -> dict[str, str]:
     """What is preloaded for a library that is built with the sanitizers of addresses and undefined behaviour."""
     library = HERE.place.room / "sanitized" / HERE.library.name
     library.parent.mkdir(exist_ok=True)
-    words = [CC, *FLAGS, *SANITIZE, "-fPIC", "-shared", "-fvisibility=hidden", *(f"-I{TOP / it}" for it in ("include", "window", "host"))]
+    words: list[StrPath] = [CC, *FLAGS, *SANITIZE, "-fPIC", "-shared", "-fvisibility=hidden", *(f"-I{TOP / it}" for it in ("include", "window", "host"))]
     words += ["-o", library, *sources("WINDOW_SOURCES"), *sorted((TOP / "window").glob("*.c")), "-ldl"]
     if subprocess.run(words).returncode != 0:
         raise LeftOut(f"{CC} doesn't build with {SANITIZE[0]}")
@@ -32,29 +43,37 @@ def sanitized():
     return {"LD_PRELOAD": f"{first} {library}", "ASAN_OPTIONS": "detect_leaks=0"}
 
 
-def start_breaker(program, host, seed, seconds, words=(), more=()):
+def start_breaker(
+    program: StrPath, host: Host, seed: int, seconds: int, words: Sequence[str] = (), more: Mapping[str, str] | tuple[()] = (),
+) -> tuple[int, subprocess.Popen[str]]:
     counts = HERE.place.room / f"breaker-{seed}.json"
-    all_words = [*AS_NOBODY, program, "--seed", str(seed), "--seconds", str(seconds), *WAYS[seed % len(WAYS)], *words]
-    env = preloaded(host, {"PAGESHARE_PERIOD_MS": "50", "PAGESHARE_COUNTS": str(counts), **dict(more)})
+    way, huge = WAYS[seed % len(WAYS)], {}
+    if "--huge" in way:
+        huge = {"PAGESHARE_HASTY": "1", "PAGESHARE_HUGE": HUGE_FROM[seed // 2 % len(HUGE_FROM)]}
+    all_words = [*AS_NOBODY, program, "--seed", str(seed), "--seconds", str(seconds), *way, *words]
+    env = preloaded(host, {"PAGESHARE_PERIOD_MS": "50", "PAGESHARE_CPU": "100", "PAGESHARE_COUNTS": str(counts), **huge, **dict(more)})
     return seed, subprocess.Popen(all_words, env=env, text=True, stdout=subprocess.PIPE, stderr=subprocess.STDOUT)
 
 
-def end_breakers(ran, seconds):
+def end_breakers(ran: Iterable[tuple[int, subprocess.Popen[str]]], seconds: float) -> list[str]:
     """Waits for breakers. Answers all that each said."""
     said = [(seed, it, it.communicate(timeout=seconds + 120)[0]) for seed, it in ran]
     for seed, it, text in said:
         must(it.returncode == 0 and "Sanitizer" not in text, f"seed {seed}: status {it.returncode}: {text[-3000:]}")
-        print(f"  {re.search('seed .* wrong [0-9]+', text)[0]}", flush=True)
+        print(f"  {re.findall('seed .* wrong [0-9]+', text)[0]}", flush=True)
     return [text for _, _, text in said]
 
 
-def number_after(word, text):
+def number_after(word: str, text: str) -> int:
     """The last number behind a word."""
     found = re.findall(rf"\b{word} (-?\d+)", text)
     return int(found[-1]) if found else 0
 
 
-def in_fours(program, host, seeds, seconds, words=(), more=lambda seed: {}):
+def in_fours(
+    program: StrPath, host: Host, seeds: Sequence[int], seconds: int, words: Sequence[str] = (),
+    more: Callable[[int], dict[str, str]] = lambda seed: {},
+) -> list[str]:
     """Breakers for these seeds, some at once. Answers all that each said."""
     said = []
     for first in range(0, len(seeds), BESIDE):
@@ -62,18 +81,20 @@ def in_fours(program, host, seeds, seconds, words=(), more=lambda seed: {}):
     return said
 
 
-def case_breaker():
+def case_breaker() -> None:
     """Random calls of a monitor on parts of its memory, beside a shadow of each byte: SEEDS=N seeds, SANITIZE=1 with sanitizers."""
     program, host = compile_folder("breaker"), Host(memory="256M")
-    seeds, seconds = int(os.environ.get("SEEDS", "4")), int(os.environ.get("SECONDS", "12"))
+    seeds, seconds = int(os.environ.get("SEEDS", "8")), int(os.environ.get("SECONDS", "12"))
     env = sanitized() if os.environ.get("SANITIZE") == "1" else {}
     said = in_fours(program, host, range(seeds), seconds, more=lambda _: env)
     must(sum(number_after("lends", text) for text in said) > 0, "nothing was lent")
+    splits, wholes = (sum(number_after(word, text) for text in said) for word in ("splits", "made_whole"))
+    print(f"  {splits} parts split, {wholes} times whole again")
     all_released(host)
     host.stop()
 
 
-def case_breaker_restarts():
+def case_breaker_restarts() -> None:
     """The same while the host is killed, stopped and started anew."""
     program, host, seconds = compile_folder("breaker"), Host(memory="256M"), int(os.environ.get("SECONDS", "20"))
     ran = [start_breaker(program, host, seed, seconds) for seed in range(1, BESIDE + 1)]
@@ -97,14 +118,14 @@ def case_breaker_restarts():
 REFUSE_EACH = 61  # (a prime, so that calls that come again and again are refused in turn)
 
 
-def case_refusals():
+def case_refusals() -> None:
     """Each call of the system by the library is refused in turn, and each 61st one after it: SEEDS=N first ones."""
     program, host, shim = compile_folder("breaker"), Host(memory="256M"), HERE.place.room / "refuse.so"
-    words = [CC, *FLAGS, "-fPIC", "-shared", "-fvisibility=hidden", "-o", shim, TOP / "checks/host/refuse_in_monitor.c", "-ldl"]
+    words: list[StrPath] = [CC, *FLAGS, "-fPIC", "-shared", "-fvisibility=hidden", "-o", shim, TOP / "checks/host/refuse_in_monitor.c", "-ldl"]
     must(subprocess.run(words).returncode == 0, "refuse_in_monitor.c doesn't compile")
     firsts, seconds = int(os.environ.get("SEEDS", "16")), int(os.environ.get("SECONDS", "6"))
 
-    def refuse(seed):
+    def refuse(seed: int) -> dict[str, str]:
         return {"LD_PRELOAD": f"{shim} {HERE.library}", "REFUSE_FIRST": str(seed), "REFUSE_EACH": str(REFUSE_EACH)}
 
     said = in_fours(program, host, range(1, firsts + 1), seconds, ("--refusals",), refuse)
@@ -115,22 +136,28 @@ def case_refusals():
     host.stop()
 
 
-STORMS = (("4", "leave"), ("4", "direct", "leave"), ("3", "direct", "devices", "leave"))
+STORMS = (("4", "leave"), ("4", "direct", "leave", "huge"), ("3", "direct", "devices", "leave"), ("4", "huge"))
 
 
-def case_storm():
-    """Three busy monitors: writers, discards, forks, parts that leave, reads by O_DIRECT and io_uring, signals: SECONDS=N."""
+def case_storm() -> None:
+    """Four busy monitors: writers, discards, forks, parts that leave, reads by O_DIRECT and io_uring, signals: SECONDS=N."""
     program, host, seconds = HERE.place.room / "storm", Host(memory="256M"), os.environ.get("SECONDS", "12")
     found = [TOP / "checks/host/storm.c", TOP / "checks/host/breaker/ring.c"]
     must(subprocess.run([CC, *FLAGS, "-o", program, *found]).returncode == 0, "storm.c doesn't compile")
-    ran = [subprocess.Popen([*AS_NOBODY, program, seconds, "32", *words], env=preloaded(host, {"PAGESHARE_PERIOD_MS": "50"}), text=True,
-                            stdout=subprocess.PIPE, stderr=subprocess.STDOUT) for words in STORMS]
+    ran = []
+    for number, words in enumerate(STORMS):
+        more = {"PAGESHARE_PERIOD_MS": "50", "PAGESHARE_CPU": "100", "PAGESHARE_COUNTS": str(HERE.place.room / f"storm{number}.json")}
+        more |= {"PAGESHARE_HASTY": "1", "PAGESHARE_HUGE": "400"} if "huge" in words else {}
+        ran.append(subprocess.Popen([*AS_NOBODY, program, seconds, "32", *words], env=preloaded(host, more), text=True, stdout=subprocess.PIPE,
+                                    stderr=subprocess.STDOUT))
     time.sleep(int(seconds) * 0.7)
     lends = host.status()["lent_pages_total"]
     said = [it.communicate(timeout=int(seconds) + 120)[0] for it in ran]
-    for words, text in zip(STORMS, said):
-        print(f"  {' '.join(words[1:])}: {text.splitlines()[-1]}")
-    must(all(it.returncode == 0 for it in ran), "\n".join(said)[-3000:])
+    for number, (words, text) in enumerate(zip(STORMS, said)):
+        counts = json.loads((HERE.place.room / f"storm{number}.json").read_text())
+        parts = f"; {counts['splits']} parts split, {counts['made_whole']} whole again" if "huge" in words else ""
+        print(f"  {' '.join(words[1:])}: {text.splitlines()[-1]}{parts}")
+    must(all(it.returncode == 0 for it in ran), f"statuses {[it.returncode for it in ran]}: " + "\n".join(it[-1000:] for it in said))
     must(lends > 0, f"nothing was lent: {said}")
     all_released(host)
     host.stop()

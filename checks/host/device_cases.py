@@ -1,8 +1,13 @@
 """What the library makes of descriptors and requests of a monitor: checks/host/descriptors.c."""
+from __future__ import annotations
+
 import os
+import pathlib
 import subprocess
 import tempfile
+from collections.abc import Mapping, Sequence
 
+from harness import StrPath
 from places import CC, FLAGS, HERE, OUT, TOP, LeftOut, must
 
 # (stand-ins: files of these names, in a /dev of the case's own)
@@ -13,28 +18,28 @@ REQUESTS = {"vfio-map": "write-all", "sg-io": "write-all", "nvme-io": "write-all
             "vfio-unmap": "none", "terminal": "none", "no-vmx": "none"}
 
 
-def build():
+def build() -> pathlib.Path:
     program = OUT / "descriptors"
     found = [TOP / "checks/host/descriptors.c", TOP / "checks/host/breaker/ring.c", TOP / "host/devices.c"]
     must(subprocess.run([CC, *FLAGS, f"-I{TOP / 'host'}", "-o", program, *found]).returncode == 0, "descriptors.c doesn't compile")
     return program
 
 
-def verdicts(words, first=()):
+def verdicts(words: Sequence[StrPath], first: Sequence[str] = ()) -> dict[str, str]:
     """What the program says of each word."""
     ran = subprocess.run([*first, *words], capture_output=True, text=True)
     must(ran.returncode == 0, f"{words}: {ran}")
     return dict(line.split(" ", 1) for line in ran.stdout.splitlines())
 
 
-def compare(said, due):
+def compare(said: Mapping[str, str], due: Mapping[str, str]) -> None:
     wrong = {word: (said.get(word), verdict) for word, verdict in due.items() if said.get(word) not in (verdict, "left out")}
     left = [word for word in due if said.get(word) == "left out"]
     print(f"  {len(due) - len(wrong) - len(left)} as they should be, {len(left)} left out {left or ''}")
     must(not wrong, f"what was said and what was due: {wrong}")
 
 
-def case_devices():
+def case_devices() -> None:
     """Files by O_DIRECT on each file system that this machine has, io_uring, io_submit, devices by their names, and requests."""
     program = build()
     on_disk, in_memory = (tempfile.NamedTemporaryFile(dir=folder) for folder in ("/var/tmp", "/dev/shm"))
@@ -49,7 +54,7 @@ def case_devices():
     compare(*by_names(program))
 
 
-def on_overlay(program):
+def on_overlay(program: StrPath) -> tuple[dict[str, str], dict[str, str]]:
     """A file by O_DIRECT on a file system of which it isn't known that it pins pages."""
     room = HERE.place.room / "overlay"
     for name in ("lower", "upper", "work", "all"):
@@ -62,7 +67,7 @@ def on_overlay(program):
     return verdicts([program, *due], ["unshare", "-m", "sh", "-c", f'{mount} && exec "$@"', "sh"]), due
 
 
-def by_names(program):
+def by_names(program: StrPath) -> tuple[dict[str, str], dict[str, str]]:
     """Files that have devices' names."""
     due = {f"file:/dev/{name}": "write-all" for name in WRITE_ALL} | {f"file:/dev/{name}": "none" for name in HARMLESS}
     make = 'mount -t tmpfs none /dev && for name in $NAMES; do mkdir -p "$(dirname "/dev/$name")" && touch "/dev/$name"; done && exec "$@"'

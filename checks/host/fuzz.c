@@ -15,12 +15,15 @@ struct loan {
     uint64_t slot;
     uint32_t session, frame;
     uint8_t content;
+    bool is_last; /* of the last reply to a lend of its session */
 };
 
 static _Alignas(PAGE) uint8_t region[MACHINES * FRAMES][PAGE];
 static uint8_t pages[BUFFER][PAGE];
 static struct loan loans[LOANS_MOST];
 static size_t loan_count;
+static uint64_t replies[SESSIONS]; /* to lends, as both sides count them */
+static size_t ending[SESSIONS];    /* slots that are left of a session whose process has ended */
 static uint8_t names[SESSIONS][PAGESHARE_HOST_NAME_BYTES];
 static uint8_t next_name;
 
@@ -46,21 +49,32 @@ static void check_freed(const uint32_t *freed, size_t count) {
     }
 }
 
-static void forget(uint32_t session) {
+/* A session's process has ended, and so many of its slots were released. (Which of them are first isn't told.) */
+static void forget(uint32_t session, size_t released) {
     for (size_t i = loan_count; i-- > 0;)
-        if (loans[i].session == session) loans[i] = loans[--loan_count];
+        if (loans[i].session == session) loans[i] = loans[--loan_count], ending[session]++;
+    must(released <= ending[session], "more slots released than there were");
+    ending[session] -= released;
+}
+
+static size_t slots_ending(void) {
+    size_t sum = 0;
+    for (size_t i = 0; i < SESSIONS; i++) sum += ending[i];
+    return sum;
 }
 
 static void note_loans(uint32_t session, const uint8_t *reply) {
     struct pageshare_host_loans answer;
     memcpy(&answer, reply, 8);
     memcpy(answer.loans, reply + 8, answer.count * sizeof *answer.loans);
+    replies[session]++;
+    for (size_t at = 0; at < loan_count; at++) loans[at].is_last = loans[at].is_last && loans[at].session != session;
     for (uint32_t i = 0; i < answer.count; i++) {
         const struct pageshare_host_lent *lent = &answer.loans[i];
         if (lent->frame == PAGESHARE_HOST_NO_FRAME) continue;
         must(lent->frame < MACHINES * FRAMES && loan_count < LOANS_MOST, "a loan that can't be");
         for (size_t at = 0; at < loan_count; at++) must(loans[at].slot != lent->slot, "a slot that was lent already");
-        loans[loan_count++] = (struct loan){lent->slot, session, lent->frame, pages[i][0]};
+        loans[loan_count++] = (struct loan){lent->slot, session, lent->frame, pages[i][0], true};
     }
 }
 
@@ -71,6 +85,15 @@ static void note_releases(uint32_t session, const uint8_t *bytes, uint32_t count
         for (size_t at = loan_count; at-- > 0;)
             if (loans[at].slot == slot && loans[at].session == session) loans[at] = loans[--loan_count];
     }
+}
+
+/* A hello that may name a session, and how many replies came in it, or another number. */
+static size_t make_hello(uint8_t *packet, uint8_t how, uint8_t count) {
+    struct pageshare_host_hello hello = {.kind = PAGESHARE_HOST_HELLO, .version = PAGESHARE_HOST_VERSION};
+    hello.loans = replies[count % SESSIONS] - (how >> 5) % 2;
+    memcpy(hello.name, names[count % SESSIONS], sizeof hello.name);
+    memcpy(packet, &hello, sizeof hello);
+    return how & 16 ? sizeof hello : 8;
 }
 
 /* A packet of random bytes, at times with a good head, or with slots that are there. */
@@ -84,8 +107,7 @@ static size_t make_packet(uint8_t *packet, const uint8_t **data, size_t *left) {
         memcpy(packet, head, sizeof head);
         if (length > 8) memcpy(packet + 8, *data, length - 8);
         length = head[0] == 2 ? 8 + 16u * head[1] : head[0] == 4 ? 8 + 8u * head[1] : 8;
-        if (head[0] == 1) head[1] = PAGESHARE_HOST_VERSION, memcpy(packet, head, sizeof head), length = how & 16 ? 24 : 8;
-        if (head[0] == 1) memcpy(packet + 8, names[count % SESSIONS], PAGESHARE_HOST_NAME_BYTES);
+        if (head[0] == 1) length = make_hello(packet, how, count);
         for (uint32_t i = 0; head[0] == 4 && i < head[1] && loan_count; i++)
             memcpy(packet + 8 + 8 * i, &loans[(i + how) % loan_count].slot, 8);
     }
@@ -93,6 +115,19 @@ static size_t make_packet(uint8_t *packet, const uint8_t **data, size_t *left) {
     *data += used;
     *left -= used;
     return length;
+}
+
+/* A session was taken up under another number. The slots of a reply that its client didn't get are released. */
+static void note_resumed(uint32_t before, uint32_t session, const uint8_t *packet) {
+    struct pageshare_host_hello hello;
+    memcpy(&hello, packet, sizeof hello);
+    for (size_t i = loan_count; i-- > 0;) {
+        if (loans[i].session != before) continue;
+        if (loans[i].is_last && hello.loans != replies[before]) loans[i] = loans[--loan_count];
+        else loans[i].session = session, loans[i].is_last = false;
+    }
+    replies[session] = hello.loans;
+    memcpy(names[session], names[before], sizeof names[session]);
 }
 
 static void receive(struct pageshare_host *host, uint32_t session, const uint8_t *packet, size_t length, uint32_t buffer) {
@@ -104,12 +139,11 @@ static void receive(struct pageshare_host *host, uint32_t session, const uint8_t
     if (got.status != PAGESHARE_HOST_OK) return;
     must(length >= 8 && got.reply_bytes <= sizeof reply && got.freed <= PAGESHARE_HOST_MAX_PAGES, "an answer out of range");
     memcpy(head, packet, sizeof head);
+    if (head[0] == PAGESHARE_HOST_HELLO && got.resumed == PAGESHARE_HOST_NO_FRAME) replies[session] = 0;
+    if (got.resumed != PAGESHARE_HOST_NO_FRAME) note_resumed(got.resumed, session, packet);
     if (head[0] == PAGESHARE_HOST_RELEASE) note_releases(session, packet, head[1]);
     check_freed(freed, got.freed);
     if (head[0] == PAGESHARE_HOST_LEND) note_loans(session, reply);
-    if (got.resumed == PAGESHARE_HOST_NO_FRAME) return;
-    for (size_t i = 0; i < loan_count; i++)
-        if (loans[i].session == got.resumed) loans[i].session = session;
 }
 
 /* One call, made of a few bytes. */
@@ -132,7 +166,7 @@ static void step(struct pageshare_host *host, const uint8_t **data, size_t *left
     case 1: pageshare_host_disconnect(host, session); break;
     case 2:
         if (pageshare_host_end(host, session, freed, 1 + what / 8 % 8, &count) != PAGESHARE_HOST_OK) break;
-        forget(session); /* (which of them is released first isn't told) */
+        forget(session, count);
         check_freed(freed, count);
         break;
     case 3: memset(pages[more % BUFFER], what / 8 % 16, PAGE); break;
@@ -153,11 +187,13 @@ int LLVMFuzzerTestOneInput(const uint8_t *data, size_t length) {
     loan_count = 0;
     next_name = 0;
     memset(names, 0, sizeof names);
+    memset(replies, 0, sizeof replies);
+    memset(ending, 0, sizeof ending);
     for (uint32_t i = 0; i < BUFFER; i++) memset(pages[i], (int)(i % 16), PAGE);
     while (length >= 2) {
         step(&host, &data, &length);
         check_all();
-        must(pageshare_host_report(&host, &totals) == PAGESHARE_HOST_OK && totals.slots >= loan_count, "slots are lost");
+        must(pageshare_host_report(&host, &totals) == PAGESHARE_HOST_OK && totals.slots == loan_count + slots_ending(), "slots that nobody knows of, or that are lost");
     }
     pageshare_host_free(&host);
     return 0;

@@ -1,4 +1,6 @@
 """Cases with guests: what ends, and what monitors do with their guests' memory."""
+from __future__ import annotations
+
 import os
 import signal
 import subprocess
@@ -10,7 +12,7 @@ from qemu_guests import read
 from running_guests import go_on, guest, guests, lent, right, settle, show
 
 
-def case_ends():
+def case_ends() -> None:
     """The host killed and started anew, stopped and continued; a QEMU killed; all while guests work."""
     host = Host()
     made = guests(2, host)
@@ -37,7 +39,7 @@ def case_ends():
     host.stop()
 
 
-def case_balloon():
+def case_balloon() -> None:
     """A balloon takes memory from a guest, and gives it back."""
     host = Host()
     made = guests(2, host)
@@ -52,7 +54,7 @@ def case_balloon():
     must(made[0].counts().get("discarded", 0) > 1000, "the balloon discarded nothing in the window")
 
 
-def case_snapshot():
+def case_snapshot() -> None:
     """savevm and loadvm, and the guest goes on and shares again."""
     host, disk = Host(), HERE.place.room / "snapshot.qcow2"
     HERE.place.guests_possible()
@@ -71,7 +73,7 @@ def case_snapshot():
     print(f"  shares again after {settle(host, made):.0f} s")
 
 
-def case_migration():
+def case_migration() -> None:
     """A guest is written to a file, and goes on in another process."""
     host, file = Host(), HERE.place.room / "migration"
     made = guests(2, host)
@@ -88,7 +90,7 @@ def case_migration():
     show(host, [made[0], again], "in another process")
 
 
-def case_background():
+def case_background() -> None:
     """A background snapshot guards memory by a userfaultfd of QEMU's own: lending ends, and the snapshot completes."""
     host = Host("--trust-peers")
     made = guests(2, host, wrap=[])  # (as root: QEMU asks for a userfaultfd that holds up the kernel, too)
@@ -111,7 +113,7 @@ def case_background():
     show(host, made, said[0])
 
 
-def disk_case(aio, devices):
+def disk_case(aio: str, devices: int) -> None:
     host, made = Host(), []
     HERE.place.guests_possible()
     for number in range(2):
@@ -135,22 +137,22 @@ def disk_case(aio, devices):
 SEEN_CALLS, PINS_UNSEEN = 1, 2
 
 
-def case_threads():
+def case_threads() -> None:
     """A disk by O_DIRECT (aio=threads), written and read back by the guests."""
     disk_case("threads", SEEN_CALLS)
 
 
-def case_direct():
+def case_direct() -> None:
     """The same by io_submit (aio=native)."""
     disk_case("native", PINS_UNSEEN)
 
 
-def case_uring():
+def case_uring() -> None:
     """The same by io_uring."""
     disk_case("io_uring", PINS_UNSEEN)
 
 
-def case_sandbox():
+def case_sandbox() -> None:
     """QEMU with its sandbox, all of it. (In all cases it runs as nobody.)"""
     host = Host()
     made = guests(2, host, more=["-sandbox", "on,obsolete=deny,elevateprivileges=deny,spawn=deny,resourcecontrol=deny"])
@@ -159,7 +161,7 @@ def case_sandbox():
     show(host, made, "-sandbox on")
 
 
-def case_backends():
+def case_backends() -> None:
     """Kinds of memory: preallocated, memfd private and shared, and a QEMU that doesn't offer its memory."""
     kinds = {
         "prealloc": (["-object", "memory-backend-ram,id=m,size=256M,prealloc=on"], "q35,memory-backend=m", True),
@@ -180,7 +182,7 @@ def case_backends():
         HERE.place.clean()
 
 
-def case_kvm():
+def case_kvm() -> None:
     """Guests under KVM, as root, since only root may use /dev/kvm everywhere."""
     host = Host("--trust-peers")
     if not os.access("/dev/kvm", os.R_OK | os.W_OK):
@@ -197,7 +199,7 @@ def case_kvm():
     show(host, made, "under KVM")
 
 
-def case_locked():
+def case_locked() -> None:
     """QEMU locks its memory (mlockall): nothing is lent, and it runs."""
     host, wrap = Host("--trust-peers"), ["prlimit", "--memlock=unlimited", *AS_NOBODY]
     HERE.place.guests_possible()
@@ -216,7 +218,7 @@ def case_locked():
     print(f"  {made[0].said()}")
 
 
-def case_no_host():
+def case_no_host() -> None:
     """No host at the socket: the guest runs as ever, and shares as soon as there is one."""
     host = Host()
     host.kill()
@@ -228,7 +230,7 @@ def case_no_host():
     go_on(made, 1)
 
 
-def case_soak():
+def case_soak() -> None:
     """Guests that work for a long time, while hosts and QEMUs end and begin."""
     seconds, host, rounds, hosts, ended = int(os.environ.get("SECONDS", "600")), Host(), 0, 0, 0
     made, end, turn = guests(GUESTS, host), time.time() + seconds, 0

@@ -1,4 +1,6 @@
 """What a hostile client can try on pageshare-host, and what a good client beside it must not notice."""
+from __future__ import annotations
+
 import fcntl
 import mmap
 import os
@@ -8,18 +10,20 @@ import socket
 import struct
 import sys
 import time
+from collections.abc import Callable, Sequence
+from typing import Any
 
-from raw_client import ASK, HELLO, LEND, MESSAGE_MOST, NO_FRAME, PAGE, PAGES_MOST, RELEASE, VERSION, Ended, RawClient
+from raw_client import ASK, HELLO, LEND, MESSAGE_MOST, NO_FRAME, PAGE, PAGES_MOST, RELEASE, VERSION, WELCOME, Ended, RawClient
 
 NOBODY = 65534
 F_ADD_SEALS, F_SEAL_WRITE = 1033, 8
 
 
-def page(number):
+def page(number: int) -> bytes:
     return struct.pack("<Q", number) * (PAGE // 8)
 
 
-def refused(what, attempt):
+def refused(what: str, attempt: Callable[[], object]) -> bool:
     """Whether the system refuses an attempt."""
     try:
         attempt()
@@ -30,7 +34,7 @@ def refused(what, attempt):
     return False
 
 
-def descriptors(path):
+def descriptors(path: str) -> int:
     """Each attempt to write to frames, cut the file short, or cut the buffer short. Answers how many succeeded."""
     client = RawClient(path)
     file, buffer = client.file, client.buffer_file
@@ -53,7 +57,7 @@ def descriptors(path):
     return sum(not refused(what, attempt) for what, attempt in tries.items())
 
 
-def holes(path):
+def holes(path: str) -> bool:
     """Free frames that are read take memory, which the host gives back."""
     client = RawClient(path)
     size = os.fstat(client.file).st_size
@@ -72,7 +76,7 @@ def holes(path):
     return left >= 1100
 
 
-def garbage(seed):
+def garbage(seed: int) -> bytes:
     """Packets that are no messages, or strange ones."""
     draw = random.Random(seed)
     count = draw.choice([0, 1, 127, 128, 129, 4000, 0xFFFFFFFF])
@@ -81,7 +85,7 @@ def garbage(seed):
     return (head + body)[: draw.choice([1, 4, 7, 8, 9, 24, len(head + body)])]
 
 
-def words_after_a_fault(path):
+def words_after_a_fault(path: str) -> bool:
     """A client that has sent a wrong message is heard no more."""
     client = RawClient(path)
     client.lend([page(3), page(4)])
@@ -91,7 +95,30 @@ def words_after_a_fault(path):
     return not ended
 
 
-def others_slots(path, slots):
+def other_versions(path: str) -> bool:
+    """A client of another version is told which one the host has, and is heard no more. Answers whether it isn't."""
+    client = RawClient(path, hello=False)
+    client.say(struct.pack("<II16s", HELLO, 1, bytes(16)))
+    told = struct.unpack("<II", client.hear())
+    ended = client.is_ended()
+    print(f"  a client of version 1 is told {told}, and its connection ends: {'yes' if ended else 'NO'}")
+    return told != (WELCOME, VERSION) or not ended
+
+
+def loses_a_reply(path: str) -> bool:
+    """A client whose connection ends before the reply to a lend. Answers whether the slot of that is there still."""
+    client, content = RawClient(path), random.randbytes(PAGE)
+    client.lend([content])
+    client.say(struct.pack("<II", LEND, 1))
+    client.socket.recv(1, socket.MSG_PEEK)  # (so that the host has lent it)
+    client.close()
+    again = RawClient(path, name=client.name, loans=client.loans)
+    sharers = again.lend([content])[0][2]
+    print(f"  after a lost reply {sharers} slots have the page: {'2 are due' if again.name == client.name else 'ANOTHER SESSION'}")
+    return sharers != 2 or again.name != client.name
+
+
+def others_slots(path: str, slots: Sequence[int]) -> None:
     """Slots of another client, named in a release. What is lent stays: the caller looks."""
     client = RawClient(path)
     for at in range(0, len(slots), PAGES_MOST):
@@ -100,7 +127,7 @@ def others_slots(path, slots):
     client.ask([(1, 1)])  # (so that all of it was taken)
 
 
-def floods(path, seconds=3.0):
+def floods(path: str, seconds: float = 3.0) -> None:
     """Messages without end, whose replies are never read; clients that say nothing; connections that come and go."""
     end = time.time() + seconds
     client = RawClient(path, seconds=0.5)
@@ -123,7 +150,7 @@ def floods(path, seconds=3.0):
     print(f"  {sent} messages whose replies weren't read; 200 connections with garbage, {ended} of them turned away or ended")
 
 
-def in_child(user, run, *words):
+def in_child(user: int | None, run: Callable[..., Any], *words: object) -> int:
     """Runs a function in a process of its own, of another user. Answers its status."""
     child = os.fork()
     if child == 0:
@@ -142,7 +169,7 @@ def in_child(user, run, *words):
     return child
 
 
-def wait(child, seconds=60):
+def wait(child: int, seconds: float = 60) -> int:
     end = time.time() + seconds
     while time.time() < end:
         done, status = os.waitpid(child, os.WNOHANG)
@@ -157,19 +184,19 @@ def wait(child, seconds=60):
 class Good:
     """A good client: lends pages, and looks whether their frames hold what it lent. All in this process."""
 
-    def __init__(self, path, count=512):
+    def __init__(self, path: str, count: int = 512) -> None:
         self.client = RawClient(path)
         self.pages = [page(1000 + it // 2) for it in range(count)]
         self.loans = []
         for at in range(0, count, PAGES_MOST):
             self.loans += self.client.lend(self.pages[at : at + PAGES_MOST])
 
-    def wrong(self):
+    def wrong(self) -> int:
         """How many frames don't hold what was lent, or equal pages that have two frames."""
         wrong = sum(frame == NO_FRAME or self.client.frame(frame) != it for it, (_, frame, _) in zip(self.pages, self.loans))
         return wrong + sum(self.loans[at][1] != self.loans[at + 1][1] for at in range(0, len(self.loans), 2))
 
-    def time(self, seconds=1.0):
+    def time(self, seconds: float = 1.0) -> float:
         """The longest time of a question, in seconds."""
         longest, end = 0.0, time.time() + seconds
         while time.time() < end:
@@ -179,7 +206,7 @@ class Good:
         return longest
 
 
-def dies_midway(path, seed):
+def dies_midway(path: str, seed: int) -> None:
     """A client that ends at any point of what it does, by a signal."""
     draw = random.Random(seed)
     client = RawClient(path)
@@ -197,7 +224,7 @@ def dies_midway(path, seed):
     os.kill(os.getpid(), signal.SIGKILL)
 
 
-def scribbles(path, seconds=2.0):
+def scribbles(path: str, seconds: float = 2.0) -> int:
     """A client that writes to its buffer all the time while the host reads it: what it is answered must be some content."""
     client = RawClient(path)
     child = os.fork()
@@ -216,9 +243,9 @@ def scribbles(path, seconds=2.0):
     return wrong
 
 
-def takes_up_another(path, name):
+def takes_up_another(path: str, name: bytes) -> bool:
     """A session's name in the wrong process begins a session of its own."""
     client = RawClient(path, name=name)
-    stolen = client.name == name
+    stolen = bool(client.name == name)
     print(f"  another process's session taken up by its name: {'POSSIBLE' if stolen else 'refused (it got one of its own)'}")
     return stolen

@@ -1,4 +1,6 @@
 """Cases that measure: what is saved and what it costs, beside the kernel's KSM; the price of a write; the picture."""
+from __future__ import annotations
+
 import atexit
 import json
 import os
@@ -6,24 +8,28 @@ import pathlib
 import subprocess
 import time
 import types
+from collections.abc import Sequence
+from typing import Any
 
 import figure as figures
 from places import AS_NOBODY, HERE, OUT, Host, LeftOut, compile_c, must, preloaded
-from qemu_guests import PAGE, distinct, read
+from qemu_guests import PAGE, Guest, distinct, read
 from running_guests import guest, guests, right, show
 
 KSM = pathlib.Path("/sys/kernel/mm/ksm")
+# How much the guests hold, in pages, after so many seconds.
+Series = list[tuple[float, int]]
 GUESTS = int(os.environ.get("GUESTS", "3"))
 
 
-def held(made, host):
+def held(made: Sequence[Guest], host: Host | None) -> int:
     """The guests' RAM as the system holds it, in pages: private ones, and the frames."""
     ram = [it.ram() for it in made]
-    frames = host.status()["frame_bytes"] // PAGE if host else 0
+    frames = int(host.status()["frame_bytes"]) // PAGE if host else 0
     return sum(it["pss"] if not host else it["anonymous"] for it in ram) + frames
 
 
-def dump(made):
+def dump(made: Sequence[Guest]) -> dict[str, int]:
     """How many different contents the guests' RAM has now. The guests stop."""
     paths = []
     for it in made:
@@ -38,7 +44,7 @@ def dump(made):
     return found
 
 
-def settled_after(series):
+def settled_after(series: Series) -> float:
     """The seconds until 95 % of what is saved in the end."""
     begin, end = series[0][1], series[-1][1]
     for seconds, pages in series:
@@ -47,12 +53,12 @@ def settled_after(series):
     return series[-1][0]
 
 
-def held_about(made, host):
+def held_about(made: Sequence[Guest], host: Host | None) -> int:
     """The same by counts of the system that cost nothing, where the guests share by the host."""
-    return sum(it.anonymous() - it.beside for it in made) + host.status()["frame_bytes"] // PAGE if host else held(made, host)
+    return sum(it.anonymous() - it.beside for it in made) + int(host.status()["frame_bytes"]) // PAGE if host else held(made, host)
 
 
-def watch(made, host, seconds):
+def watch(made: Sequence[Guest], host: Host | None, seconds: float) -> Series:
     begin, series = time.time(), [(0.0, held_about(made, host))]
     while time.time() - begin < seconds:
         time.sleep(0.5 if host else 1)
@@ -60,7 +66,7 @@ def watch(made, host, seconds):
     return series
 
 
-def share(count, seconds):
+def share(count: int, seconds: float) -> dict[str, Any]:
     """The table's rows of guests that share by the host, whose frames may take a third of the guests' memory."""
     host = Host(memory=f"{count * 256 // 3}M")
     host.kill()  # (guests boot without it: what they hold before is then known)
@@ -92,18 +98,18 @@ def share(count, seconds):
     return result
 
 
-def set_ksm(**numbers):
+def set_ksm(**numbers: object) -> None:
     for name, number in numbers.items():
         (KSM / name).write_text(str(number))
 
 
-def ksm_rows(count, seconds):
+def ksm_rows(count: int, seconds: float) -> dict[str, dict[str, Any]]:
     """The same guests under the kernel's KSM, at its defaults and at 1,000 pages each 20 ms."""
     if os.environ.get("KSM") == "0" or not (KSM / "run").exists():
         raise LeftOut("the kernel's KSM")
     kept = {name: read(KSM / name).strip() for name in ("pages_to_scan", "sleep_millisecs", "use_zero_pages", "run") if (KSM / name).exists()}
 
-    def put_back():
+    def put_back() -> None:
         set_ksm(run=2)
         set_ksm(**kept)
 
@@ -130,7 +136,7 @@ def ksm_rows(count, seconds):
     return rows
 
 
-def case_memory():
+def case_memory() -> None:
     """The table of goals: guests that share by the host, beside the same under KSM."""
     seconds = int(os.environ.get("SECONDS", "45"))
     row = share(GUESTS, seconds)
@@ -149,7 +155,7 @@ def case_memory():
     must(row["saved_percent"] >= 90, f"saved {row['saved_percent']:.1f} % of the bound")
 
 
-def longest_below(held, part):
+def longest_below(held: Sequence[int], part: float) -> int:
     """The bound below which that part of the pages was held, in microseconds."""
     left = sum(held) * (1 - part)
     for step in range(len(held) - 1, 0, -1):
@@ -159,7 +165,7 @@ def longest_below(held, part):
     return 1
 
 
-def case_holds():
+def case_holds() -> None:
     """How long pages are held: on this machine as it is, and beside a busy loop, two and four of them for each processor."""
     program, seconds = compile_c("stress"), "5" if HERE.is_short else "20"
     for loops in (0, 1, 2, 4):
@@ -180,7 +186,7 @@ def case_holds():
         HERE.place.clean()
 
 
-def case_price():
+def case_price() -> None:
     """The price of the first write to a shared page: lent, merged by KSM, and its own."""
     program, host = compile_c("price"), Host(memory="256M")
     counts = HERE.place.room / "price.json"
@@ -204,10 +210,11 @@ def case_price():
     must(any(line.startswith("lent shared 8") for line in lines), "pages weren't lent")
 
 
-def case_figure():
+def case_figure() -> None:
     """1 to 8 equal guests of 128 MiB, idle and at work: how much of their memory is shared and reclaimed, pages of
     zeros that were given back among both. A table and a picture."""
-    most, rows = int(os.environ.get("GUESTS", "8")), []
+    most = int(os.environ.get("GUESTS", "8"))
+    rows: list[figures.Row] = []
     HERE.place.guests_possible()
     for work in ("idle", "busy"):
         host = Host()
@@ -222,7 +229,7 @@ def case_figure():
             state, whole = host.status(), count * (128 << 20)
             zeros = sum(it.counts().get("zeros_now", 0) for it in made[:count]) * PAGE
             parts = [100 * it / whole for it in (state["shared_bytes"] + zeros, state["reclaimed_bytes"] + zeros, zeros)]
-            rows.append((work, count, *parts))
+            rows.append((work, count, parts[0], parts[1], parts[2]))
             print(f"  {work} {count} guests: shared {parts[0]:.1f} %, reclaimed {parts[1]:.1f} %, of both {parts[2]:.1f} % zeros", flush=True)
         right(made)
         HERE.place.clean()
@@ -234,7 +241,7 @@ def case_figure():
     print(f"  {OUT / 'figure.tsv'}, {OUT / 'host.svg'}")
 
 
-def wait_until_still(host, clients, seconds=60):
+def wait_until_still(host: Host, clients: int, seconds: float = 60) -> None:
     """Until so many clients share, and what is reclaimed grows no more."""
     before, begin = -1, time.time()
     while time.time() - begin < seconds:

@@ -1,29 +1,36 @@
 """Cases of single things that are hard for a library that maps frames in a monitor's memory: checks/host/parts.c."""
+from __future__ import annotations
+
+import pathlib
 import signal
 import subprocess
 import threading
+from collections.abc import Callable, Mapping, Sequence
 
+from harness import StrPath
 import hostile
-import raw_client
 from places import AS_NOBODY, CC, FLAGS, HERE, NOBODY, TOP, Host, LeftOut, all_released, must, preloaded
+import raw_client
 
 LEFT_OUT, PATIENCE_SECONDS = 77, 150
+# What to do on lines that a program prints.
+During = Mapping[str, Callable[[Host], None]]
 PINS = ("mprotect", "mlock", "mlockall", "unmergeable", "dofork", "dofork-part", "dma", "look")
 
 
-def compile_parts():
+def compile_parts() -> pathlib.Path:
     program, found = HERE.place.room / "parts", [TOP / "checks/host/parts.c", TOP / "checks/host/breaker/ring.c"]
     must(subprocess.run([CC, *FLAGS, "-o", program, *found]).returncode == 0, "parts.c doesn't compile")
     return program
 
 
-def start(program, way, host):
-    counts = {"PAGESHARE_PERIOD_MS": "50", "PAGESHARE_COUNTS": str(HERE.place.room / f"{way}.json"), "MALLOC_PERTURB_": "165"}
+def start(program: StrPath, way: str, host: Host) -> subprocess.Popen[str]:
+    counts = {"PAGESHARE_PERIOD_MS": "50", "PAGESHARE_CPU": "100", "PAGESHARE_COUNTS": str(HERE.place.room / f"{way}.json"), "MALLOC_PERTURB_": "165"}
     return subprocess.Popen([*AS_NOBODY, program, way], env=preloaded(host, counts), text=True, stdin=subprocess.PIPE, stdout=subprocess.PIPE,
                             stderr=subprocess.STDOUT)
 
 
-def run_parts(ways, during=None):
+def run_parts(ways: Sequence[str], during: During | None = None) -> None:
     """Runs parts.c for each way, one after the other, beside a host."""
     program, host = compile_parts(), Host(memory="512M")
     failed, left = [], []
@@ -43,8 +50,9 @@ def run_parts(ways, during=None):
         raise LeftOut(f"all of it: {said}")
 
 
-def follow(ran, host, during):
+def follow(ran: subprocess.Popen[str], host: Host, during: During) -> tuple[int, list[str]]:
     """Does what a program asks for by a line of its own, and takes all that it says. One that takes too long is killed."""
+    assert ran.stdin and ran.stdout
     said = []
     timer = threading.Timer(PATIENCE_SECONDS, ran.kill)
     timer.start()
@@ -58,48 +66,48 @@ def follow(ran, host, during):
     return ran.wait(), said
 
 
-def case_parts():
+def case_parts() -> None:
     """Parts of a window leave it, in each order; advice on a part; calls that the kernel refuses."""
     run_parts(("kept", "foreign", "hole", "used-later", "moved", "advised", "refused"))
 
 
-def case_forks():
+def case_forks() -> None:
     """Children of forks: those that begin amid other calls, and a range that they are to have while the host stands still."""
     run_parts(("children", "forked", "inherited"), {"stop": lambda host: host.signal(signal.SIGSTOP), "go": lambda host: host.signal(signal.SIGCONT)})
 
 
-def case_pins():
+def case_pins() -> None:
     """A page is pinned, and all kinds of things are done to it before the device writes: what it writes is there."""
     run_parts([f"{first}-{way}" for first in ("pinned", "at-once") for way in PINS] + ["late"])
 
 
-def case_lent_again():
+def case_lent_again() -> None:
     """With files by O_DIRECT pages go on being lent."""
     run_parts(("direct",))
 
 
-def case_locks():
+def case_locks() -> None:
     """Memory that is locked beside windows, and many mappings: what is lent, and what a look costs."""
     run_parts(("locked", "mappings"))
 
 
-def case_endings():
+def case_endings() -> None:
     """Lending ends where the system has no memory for it, and doesn't where a device isn't opened."""
     run_parts(("ended", "not-opened"))
 
 
-def ask_much(path, questions):
+def ask_much(path: str, questions: int) -> None:
     """A process that asks about so many pages that nobody has, so that the host forgets all questions before."""
     client = raw_client.RawClient(path)
     for first in range(0, questions, raw_client.PAGES_MOST):
         client.ask([(page, 1 << 63 | page) for page in range(first, first + raw_client.PAGES_MOST)])
 
 
-def case_newcomer():
+def case_newcomer() -> None:
     """A guest that starts when the questions about lent pages are long forgotten shares what it could."""
     program, host = compile_parts(), Host("--lent", "16M", memory="16M")
     first = start(program, "pairs", host)
-    must(first.stdout.readline().strip() == "lent", "the first process lends nothing")
+    must(first.stdout is not None and first.stdout.readline().strip() == "lent", "the first process lends nothing")
     must(hostile.wait(hostile.in_child(NOBODY, ask_much, str(host.socket), 16 << 8)) == 0, "a process that asks")
     status, said = follow(start(program, "newcomer", host), host, {})
     print("".join(said), end="")

@@ -1,4 +1,6 @@
 """Unmodified QEMU guests with Debian's kernel and busybox, whose first process (init.sh) checks all that it reads."""
+from __future__ import annotations
+
 import json
 import os
 import pathlib
@@ -8,6 +10,10 @@ import signal
 import socket
 import subprocess
 import time
+from collections.abc import Iterable, Mapping, Sequence
+from typing import Any
+
+from harness import StrPath
 
 HERE = pathlib.Path(__file__).resolve().parent
 QEMU = "qemu-system-x86_64"
@@ -15,14 +21,14 @@ NOBODY = 65534
 PAGE = 4096
 
 
-def read(path):
+def read(path: StrPath) -> str:
     try:
         return pathlib.Path(path).read_text(errors="replace")
     except OSError:
         return ""
 
 
-def archive(files):
+def archive(files: Iterable[tuple[str, int, bytes]]) -> bytes:
     """An initramfs (cpio, newc) of folders, files and devices: a list of (name, mode, bytes)."""
     out = bytearray()
     for number, (name, mode, data) in enumerate([*files, ("TRAILER!!!", 0, b"")], 1):
@@ -38,7 +44,7 @@ def archive(files):
 FOLDER, FILE, PROGRAM, CONSOLE = 0o040755, 0o100644, 0o100755, 0o020600
 
 
-def initramfs(busybox, modules, most_bytes=23 << 20):
+def initramfs(busybox: StrPath, modules: StrPath, most_bytes: int = 23 << 20) -> bytes:
     """busybox, init.sh and some MiB of the kernel's modules."""
     files = [(name, FOLDER, b"") for name in ("bin", "dev", "modules")]
     files += [("dev/console", CONSOLE, b""), ("bin/busybox", PROGRAM, pathlib.Path(busybox).read_bytes())]
@@ -57,7 +63,7 @@ def initramfs(busybox, modules, most_bytes=23 << 20):
 class Qmp:
     """QEMU's monitor."""
 
-    def __init__(self, path):
+    def __init__(self, path: StrPath) -> None:
         self.socket = socket.socket(socket.AF_UNIX)
         self.socket.settimeout(120)
         self.socket.connect(str(path))
@@ -65,22 +71,25 @@ class Qmp:
         self.lines.readline()
         self.do("qmp_capabilities")
 
-    def do(self, command, **arguments):
+    def do(self, command: str, **arguments: Any) -> Any:
         self.socket.sendall(json.dumps({"execute": command, "arguments": arguments}).encode() + b"\n")
         while True:
             answer = json.loads(self.lines.readline())
             if "return" in answer or "error" in answer:
                 return answer
 
-    def monitor(self, line):
+    def monitor(self, line: str) -> Any:
         return self.do("human-monitor-command", **{"command-line": line})
 
 
 class Guest:
     """One QEMU process with a Linux guest."""
 
-    def __init__(self, place, number, library=None, domain=None, mib=256, more=(), environment=None, wrap=(), machine="q35", work="busy",
-                 accelerator="tcg,tb-size=32", own=8, initrd=None):
+    def __init__(
+        self, place: Any, number: int, library: StrPath | None = None, domain: StrPath | None = None, mib: int = 256,
+        more: Sequence[str] = (), environment: Mapping[str, str] | None = None, wrap: Sequence[str] = (), machine: str = "q35",
+        work: str = "busy", accelerator: str = "tcg,tb-size=32", own: int = 8, initrd: StrPath | None = None,
+    ) -> None:
         self.number, self.mib, self.place = number, mib, place
         self.out, self.log = place.room / f"out{number}", place.room / f"log{number}"
         self.monitor, self.count_file = place.room / f"qmp{number}", place.room / f"counts{number}"
@@ -95,17 +104,18 @@ class Guest:
         command += ["-append", f"console=ttyS0 quiet no_timer_check rdinit=/init seed={number} work={work} own={own}", "-no-reboot", *more]
         with open(self.log, "w", encoding="utf-8") as log:
             self.process = subprocess.Popen(command, env=words, stdin=subprocess.DEVNULL, stdout=log, stderr=subprocess.STDOUT)
-        self.pid, self.qmp_made = self.process.pid, None
+        self.pid = self.process.pid
+        self.qmp_made: Qmp | None = None
 
-    def qmp(self):
+    def qmp(self) -> Qmp:
         if not self.qmp_made:
             self.qmp_made = Qmp(self.monitor)
         return self.qmp_made
 
-    def is_alive(self):
+    def is_alive(self) -> bool:
         return self.process.poll() is None
 
-    def wait(self, seconds=300, word="ready"):
+    def wait(self, seconds: float = 300, word: str = "ready") -> Guest:
         end = time.time() + seconds
         while time.time() < end:
             if word in read(self.out):
@@ -115,33 +125,33 @@ class Guest:
             time.sleep(0.25)
         raise RuntimeError(f"guest {self.number} said no {word!r} in {seconds} s: {read(self.out)[-300:]}")
 
-    def ticks(self):
+    def ticks(self) -> int:
         return read(self.out).count("tick ")
 
-    def wrong(self):
+    def wrong(self) -> int:
         text = read(self.out)
         return text.count("WRONG") + len(re.findall(r"segfault|Oops|BUG:|Kernel panic|traps:", text))
 
-    def counts(self):
+    def counts(self) -> Any:
         try:
             return json.loads(read(self.count_file) or "{}")
         except ValueError:
             return {}
 
-    def said(self):
+    def said(self) -> list[str]:
         """The library's lines on standard error."""
         return [it for it in read(self.log).splitlines() if it.startswith("pageshare:")]
 
-    def processor_seconds(self):
+    def processor_seconds(self) -> float:
         fields = read(f"/proc/{self.pid}/stat").rsplit(")", 1)[-1].split()
         return (int(fields[11]) + int(fields[12])) / os.sysconf("SC_CLK_TCK") if len(fields) > 12 else 0.0
 
-    def memory(self):
+    def memory(self) -> dict[str, int]:
         """Of the process, in KiB: Pss, and anonymous."""
         whole = dict(re.findall(r"^(\w+):\s+(\d+) kB", read(f"/proc/{self.pid}/smaps_rollup"), re.M))
         return {"pss": int(whole.get("Pss", 0)), "anonymous": int(whole.get("Anonymous", 0)), "rss": int(whole.get("Rss", 0))}
 
-    def ram(self):
+    def ram(self) -> dict[str, int]:
         """Of the guest's RAM alone, in pages: anonymous, and by Pss; and how many mappings it has."""
         parts = re.split(r"^(?=[0-9a-f]+-[0-9a-f]+ )", read(f"/proc/{self.pid}/smaps"), flags=re.M)[1:]
         spans = [tuple(int(it, 16) for it in part.split(" ", 1)[0].split("-")) for part in parts]
@@ -156,7 +166,7 @@ class Guest:
                 found["mappings"] += 1
         return found
 
-    def ram_begin(self, spans):
+    def ram_begin(self, spans: Iterable[Sequence[int]]) -> int | None:
         """Where the RAM begins: a run of mappings without a gap that is at least as large, aligned to 2 MiB."""
         if not hasattr(self, "begin"):
             self.begin = None
@@ -165,18 +175,18 @@ class Guest:
                     self.begin = low
         return self.begin
 
-    def anonymous(self):
+    def anonymous(self) -> int:
         """The process's anonymous memory, in pages. Unlike `ram` it holds up nobody who maps memory in the process."""
         found = re.search(r"^RssAnon:\s+(\d+) kB", read(f"/proc/{self.pid}/status"), re.M)
         return int(found[1]) // 4 if found else 0
 
-    def remember_ram(self):
+    def remember_ram(self) -> Guest:
         """Before anything is lent of it, the RAM is one mapping. And what the process has beside the RAM."""
         ram = self.ram()["anonymous"]
         self.beside = self.anonymous() - ram
         return self
 
-    def kill(self):
+    def kill(self) -> None:
         if self.is_alive():
             self.process.send_signal(signal.SIGKILL)
         self.process.wait()
@@ -184,7 +194,7 @@ class Guest:
             self.qmp_made.socket.close()
 
 
-def distinct(paths):
+def distinct(paths: Iterable[StrPath]) -> dict[str, int]:
     """Of images of memory: pages, pages of zeros, and how many different contents the others have."""
     import hashlib
 
@@ -200,5 +210,5 @@ def distinct(paths):
     return {"pages": pages, "zeros": zeros, "distinct": len(contents), "others": pages - zeros}
 
 
-def is_there(program):
+def is_there(program: str) -> bool:
     return shutil.which(program) is not None

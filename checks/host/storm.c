@@ -1,7 +1,8 @@
 /*
  * A stand-in for a busy monitor, to be run under libpageshare-window.so beside others of its kind: threads write, check, discard and read
  * pages of one range as fast as they can, by O_DIRECT and by io_uring with registered buffers, too; other ranges come, leave in part and
- * go; children are forked; and a signal arrives each 5 ms. Words: SECONDS MIB THREADS [direct] [devices] [leave]
+ * go; children are forked; and a signal arrives each 5 ms. Words: SECONDS MIB THREADS [direct] [devices] [leave] [huge]. With huge the memory
+ * is huge pages to begin with, and becomes so again: now and then all of it is written so that nothing of it can be shared.
  *
  * The last line says how many pages were checked, and how often they were wrong (status 1 if any was; 2 where the program can't run).
  */
@@ -20,6 +21,7 @@
 #include <sys/time.h>
 #include <sys/uio.h>
 #include <sys/wait.h>
+#include <time.h>
 #include <unistd.h>
 
 enum {
@@ -29,6 +31,9 @@ enum {
     BLOCKS = 8,
     LEAVING = 256,
     BASE = 50,
+    APART = 1000,
+    APART_SECONDS = 4,
+    HUGE_BYTES = 2 << 20,
     EVERY_US = 5000,
     PRINTED_MOST = 10
 };
@@ -44,7 +49,7 @@ static struct want *wants;
 static size_t pages;
 static uint64_t threads;
 static int direct = -1;
-static bool has_devices;
+static bool has_devices, has_huge;
 static atomic_bool over;
 static atomic_ulong wrong, rounds, discards, reads, device_reads, leaves, forks;
 
@@ -67,6 +72,9 @@ static void check_words(const char *what, size_t page, const uint64_t *words, co
 }
 
 /* ---- what is done to a page ---- */
+
+/* With huge pages, in each other period what is written is like nothing else. */
+static bool is_apart(void) { return has_huge && time(NULL) / APART_SECONDS % 2 == 1; }
 
 static uint64_t *words_of(size_t page) { return memory + page * WORDS; }
 
@@ -140,7 +148,7 @@ static void change(size_t page, uint64_t *seed, struct ring *ring) {
     case 7:
         if (ring && draw(seed, 64) == 0) read_by_device(ring, page, seed);
         break;
-    default: write_all(page, draw(seed, 8)); break;
+    default: write_all(page, is_apart() ? APART + page : draw(seed, 8)); break;
     }
 }
 
@@ -309,13 +317,16 @@ int main(int count, char **words) {
         is_direct |= strcmp(words[i], "direct") == 0;
         has_devices |= strcmp(words[i], "devices") == 0;
         leaves_too |= strcmp(words[i], "leave") == 0;
+        has_huge |= strcmp(words[i], "huge") == 0;
     }
     threads = strtoul(words[3], NULL, 10) % (THREADS_MOST + 1);
     if (threads == 0) return 2;
     pages = strtoul(words[2], NULL, 10) * 256 / threads * threads;
-    memory = mmap(NULL, pages * PAGE, PROT_READ | PROT_WRITE, MAP_PRIVATE | MAP_ANONYMOUS, -1, 0);
+    uint8_t *at = mmap(NULL, pages * PAGE + HUGE_BYTES, PROT_READ | PROT_WRITE, MAP_PRIVATE | MAP_ANONYMOUS, -1, 0);
+    memory = (uint64_t *)(void *)(at + (HUGE_BYTES - (uintptr_t)at % HUGE_BYTES) % HUGE_BYTES);
     wants = calloc(pages, sizeof *wants);
-    if (memory == MAP_FAILED || !wants) return 2;
+    if (at == MAP_FAILED || !wants) return 2;
+    if (has_huge) madvise(memory, pages * PAGE, MADV_HUGEPAGE);
     if (is_direct || has_devices) make_file();
     has_devices &= direct >= 0;
     madvise(memory, pages * PAGE, MADV_MERGEABLE);

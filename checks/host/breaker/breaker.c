@@ -2,17 +2,18 @@
  * A stand-in for a monitor that does all that a monitor may, to be run under libpageshare-window.so beside others of its kind: threads make
  * random calls of random parts of a range that is offered, and compare it with a shadow of each byte. Words:
  *
- *     breaker [--seed N] [--seconds N] [--pages N] [--threads N] [--folder PATH] [--direct] [--devices] [--refusals]
+ *     breaker [--seed N] [--seconds N] [--pages N] [--threads N] [--folder PATH] [--direct] [--devices] [--refusals] [--huge]
  *
  * --direct: a file in the folder is also read and written by O_DIRECT; --devices: io_uring reads to registered buffers; --refusals: the system
- * may refuse any call. The last line says
- * how often each call was made, how many pages were lent, and what was wrong. The status is 0 if nothing was, 3 where a call doesn't return,
+ * may refuse any call; --huge: the range may be huge pages, and now and then all of it is written so that nothing of it can be shared. The
+ * last line says how often each call was made, how many pages were lent, and what was wrong. The status is 0 if nothing was, 3 where a call doesn't return,
  * 2 where it can't run.
  */
 #define _GNU_SOURCE
 #include "../offered.h"
 #include "calls.h"
 #include <getopt.h>
+#include <limits.h>
 #include <pthread.h>
 #include <signal.h>
 #include <stdio.h>
@@ -22,7 +23,7 @@
 #include <time.h>
 #include <unistd.h>
 
-enum { CALLS_MOST = 120, PATIENCE_SECONDS = 15, CYCLE_MS = 3200, QUIET_MS = 1500 };
+enum { CALLS_MOST = 120, PATIENCE_SECONDS = 15, CYCLE_MS = 3200, QUIET_MS = 1500, HUGE_MS = 1200, SHORTLY_MS = 400 };
 
 static struct {
     uint64_t seed;
@@ -93,17 +94,31 @@ static void call_alone(struct caller *caller) {
 static void begin_again(struct caller *caller) {
     pthread_rwlock_wrlock(&alone);
     call_restore(caller);
-    atomic_store(&quiet_until_ms, now_ms() + QUIET_MS);
+    atomic_store(&quiet_until_ms, now_ms() + QUIET_MS + (calls_are_of_huge_pages ? HUGE_MS : 0));
+    pthread_rwlock_unlock(&alone);
+}
+
+/* Near the end of the time in which everything is left alone, and so is lent: nothing of what can be written can be shared any more. */
+static void write_apart(struct caller *caller) {
+    pthread_rwlock_wrlock(&alone);
+    call_write_apart(caller);
     pthread_rwlock_unlock(&alone);
 }
 
 static void *work(void *of) {
     struct caller *caller = of;
-    long next_ms = now_ms() + CYCLE_MS;
+    /* (with huge pages it takes longer until all is lent) */
+    const long more_ms = calls_are_of_huge_pages ? HUGE_MS : 0;
+    long next_ms = now_ms() + CYCLE_MS + more_ms, apart_ms = LONG_MAX;
     while (!atomic_load(&over)) {
         if (caller->number == 0 && now_ms() >= next_ms) {
             begin_again(caller);
-            next_ms = now_ms() + CYCLE_MS;
+            next_ms = now_ms() + CYCLE_MS + more_ms;
+            if (calls_are_of_huge_pages) apart_ms = atomic_load(&quiet_until_ms) - (long)draw(&caller->seed, SHORTLY_MS);
+        }
+        if (caller->number == 0 && now_ms() >= apart_ms) {
+            write_apart(caller);
+            apart_ms = LONG_MAX;
         }
         if (now_ms() >= atomic_load(&quiet_until_ms)) {
             call_some(caller);
@@ -169,7 +184,8 @@ static void watch_end(int number) {
 static bool read_words(int count, char **words) {
     static const struct option options[] = {{"seed", 1, NULL, 's'},    {"seconds", 1, NULL, 't'},  {"pages", 1, NULL, 'p'},
                                             {"threads", 1, NULL, 'n'}, {"folder", 1, NULL, 'f'},   {"direct", 0, NULL, 'd'},
-                                            {"devices", 0, NULL, 'v'}, {"refusals", 0, NULL, 'r'}, {NULL, 0, NULL, 0}};
+                                            {"devices", 0, NULL, 'v'}, {"refusals", 0, NULL, 'r'}, {"huge", 0, NULL, 'h'},
+                                            {NULL, 0, NULL, 0}};
     for (int option; (option = getopt_long(count, words, "", options, NULL)) != -1;) {
         switch (option) {
         case 's': settings.seed = strtoul(optarg, NULL, 10); break;
@@ -180,6 +196,7 @@ static bool read_words(int count, char **words) {
         case 'd': settings.is_direct = true; break;
         case 'v': settings.has_devices = true; break;
         case 'r': calls_may_be_refused = true; break;
+        case 'h': calls_are_of_huge_pages = true; break;
         default: return false;
         }
     }
@@ -229,7 +246,8 @@ int main(int count, char **words) {
     children_reap(true);
     for (unsigned i = 0; i < settings.threads; i++) made += atomic_load(&callers[i].calls);
     calls_print(calls, sizeof calls);
-    printf("seed %lu rounds %lu lends %ld lent %ld taken_home %ld wrong %lu: %s\n", (unsigned long)settings.seed, made,
-           library_count("lends"), library_count("lent"), library_count("taken_home"), wrong_count(), calls);
+    printf("seed %lu rounds %lu lends %ld lent %ld taken_home %ld splits %ld made_whole %ld wrong %lu: %s\n",
+           (unsigned long)settings.seed, made, library_count("lends"), library_count("lent"), library_count("taken_home"),
+           library_count("splits"), library_count("made_whole"), wrong_count(), calls);
     return wrong_count() == 0 ? 0 : 1;
 }

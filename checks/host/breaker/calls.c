@@ -24,7 +24,7 @@
 enum { RIGHTS = PROT_READ | PROT_WRITE, KIND = MAP_PRIVATE | MAP_ANONYMOUS };
 
 struct files files;
-bool calls_may_be_refused;
+bool calls_may_be_refused, calls_are_of_huge_pages;
 
 bool files_make(const char *folder, bool is_direct) {
     char name[256];
@@ -193,6 +193,7 @@ static int let_inherit(struct caller *caller, struct run run) {
 
 static void offer(struct run run) {
     uint8_t *at = page_at(run.first);
+    if (calls_are_of_huge_pages) madvise(at, bytes_of(run), MADV_HUGEPAGE);
     madvise(at, bytes_of(run), MADV_MERGEABLE);
     if (madvise(at, bytes_of(run), MADV_DONTFORK) == 0) note_child(run, false);
 }
@@ -488,7 +489,8 @@ static void put_back(struct caller *caller, struct run run) {
 
 /* The range is withdrawn, and all of it is made of one kind, so that it can be one window. */
 static void withdraw(struct run all) {
-    static const int kinds[] = {MADV_UNMERGEABLE, MADV_NOHUGEPAGE, MADV_DODUMP, MADV_KEEPONFORK};
+    const int kinds[] = {MADV_UNMERGEABLE, calls_are_of_huge_pages ? MADV_HUGEPAGE : MADV_NOHUGEPAGE, MADV_DODUMP,
+                         MADV_KEEPONFORK};
     for (size_t i = 0; i < sizeof kinds / sizeof kinds[0]; i++)
         if (madvise(shadow.range, bytes_of(all), kinds[i]) == 0 && kinds[i] == MADV_KEEPONFORK)
             for (size_t page = 0; page < shadow.count; page++) shadow.pages[page].is_wiped = false;
@@ -503,12 +505,25 @@ static void begin_anew(struct caller *caller, struct run all) {
     put_back(caller, all);
 }
 
+void call_write_apart(struct caller *caller) {
+    const struct run all = {0, shadow.count};
+    note_now(caller, "write-apart", all);
+    for (size_t page = 0; page < shadow.count; page++) {
+        if (!page_is_writable(page) || shadow.pages[page].is_pinned) continue;
+        content_fill(page_wanted(page), (caller->seed & 0xffffff) + CONTENTS + page);
+        shadow.pages[page].may_be_zero = false;
+        memcpy(page_at(page), page_wanted(page), PAGE);
+    }
+    run_check(all, "after all is written");
+    note_now(caller, NULL, all);
+}
+
 void call_restore(struct caller *caller) {
     const struct run all = {0, shadow.count};
     struct run run;
     note_now(caller, "restore", all);
     run_check(all, "before all is restored");
-    uint64_t way = draw(&caller->seed, 3);
+    uint64_t way = draw(&caller->seed, calls_are_of_huge_pages ? 2 : 3);
     if (way == 0) begin_anew(caller, all);
     for (size_t page = 0; page < shadow.count; page += run.count) {
         run = run_alike(page, shadow.count);

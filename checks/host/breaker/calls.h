@@ -38,6 +38,8 @@ struct files {
 extern struct files files;
 /* The system may refuse any call: then pages that are discarded may be zeros. */
 extern bool calls_may_be_refused;
+/* The range may be huge pages. */
+extern bool calls_are_of_huge_pages;
 /* Makes the files in a folder. `is_direct`: O_DIRECT, too. Returns false, with errno. */
 bool files_make(const char *folder, bool is_direct);
 
@@ -45,6 +47,8 @@ bool files_make(const char *folder, bool is_direct);
 void call_random(struct caller *caller, size_t first, size_t most);
 /* Puts all pages back in their places, readable, writable and unlocked, and offers the whole range. */
 void call_restore(struct caller *caller);
+/* Writes all pages that can be written, each with a content of its own. */
+void call_write_apart(struct caller *caller);
 /* Ends what the caller's device does. */
 void call_end_device(struct caller *caller);
 

@@ -1,0 +1,153 @@
+"""Guests of a real size, by a stand-in for a monitor (size.c): huge pages, processor time, mappings, tables, and each byte at the end."""
+from __future__ import annotations
+
+import dataclasses
+import json
+import os
+import subprocess
+import threading
+import time
+from typing import Any, Sequence
+
+from places import AS_NOBODY, HERE, OUT, Host, compile_c, must, preloaded
+from qemu_guests import read
+
+PAGE, SPARES = 4096, 2000
+LIMIT = int(read("/proc/sys/vm/max_map_count") or 65530)
+
+
+@dataclasses.dataclass(frozen=True)
+class Kind:
+    """What a process has: how many of 100 runs of pages all have, and how many are zeros; pages of a run; MiB written in a second."""
+
+    equal: int
+    zero: int
+    run: int
+    written: int
+
+
+USUAL, SHORT, ALONE = Kind(40, 10, 16, 20), Kind(40, 10, 16, 5), Kind(50, 0, 1, 1)
+Counts = dict[str, Any]  # as JSON has them
+
+
+class Guest:
+    """A process of size.c, whose counts are read all the time from when its memory is filled."""
+
+    def __init__(self, number: int, mib: int, kind: Kind, seconds: int, host: Host | None = None, is_huge: bool = True) -> None:
+        self.number, self.mib, self.said = number, mib, ""
+        self.series: list[tuple[float, Counts]] = []
+        self.counts_path = HERE.place.room / f"size{number}.json"
+        words = [str(it) for it in (number, mib, mib // 4, seconds, kind.equal, kind.zero, kind.run, kind.written, int(is_huge))]
+        more = {"PAGESHARE_COUNTS": str(self.counts_path), "PAGESHARE_PERIOD_MS": "1000"}
+        env = preloaded(host, more) if host else dict(os.environ)
+        self.process = subprocess.Popen([*AS_NOBODY, HERE.place.room / "size", *words], env=env, text=True, stdout=subprocess.PIPE,
+                                        stderr=subprocess.STDOUT)
+        HERE.place.started.append(self.process)
+        self.reader = threading.Thread(target=self.listen, daemon=True)
+        self.reader.start()
+
+    def listen(self) -> None:
+        for line in self.process.stdout or ():
+            self.said += line
+            if line == "filled\n":
+                threading.Thread(target=self.sample, args=(time.time(),), daemon=True).start()
+
+    def sample(self, begin: float) -> None:
+        while self.process.poll() is None:
+            try:
+                self.series.append((time.time() - begin, json.loads(self.counts_path.read_text())))
+            except (OSError, ValueError):
+                pass
+            time.sleep(0.25)
+
+    def end(self, seconds: float) -> Counts:
+        status = self.process.wait(seconds)
+        self.reader.join(10)
+        must(status == 0, f"guest {self.number}: status {status}: {self.said[-1500:]}")
+        said: Counts = json.loads(self.said.splitlines()[-1])
+        return said
+
+
+def seconds_to_95(series: list[tuple[float, Counts]]) -> float:
+    """The seconds until 95 % of the most pages that were shared or given back at a time."""
+    shared = [(seconds, it["lent"] + it["zeros_now"]) for seconds, it in series]
+    return next(seconds for seconds, pages in shared if pages >= 0.95 * max(it for _, it in shared))
+
+
+def settled(series: list[tuple[float, Counts]]) -> float:
+    """The percentage of a processor that the thread takes in the last third of the time."""
+    (first, before), (last, after) = series[len(series) * 2 // 3], series[-1]
+    return float(after["processor_ns"] - before["processor_ns"]) / (last - first) / 1e7
+
+
+def run_size(sizes: Sequence[int], kind: Kind, seconds: int, is_huge: bool = True, memory: str = "4G") -> tuple[list[Counts], Counts]:
+    """Processes of these sizes beside one host. Answers for each what it said, and its row; and the host's state before the end."""
+    host = Host("--lent", "64G", memory=memory)
+    made = [Guest(number, mib, kind, seconds, host, is_huge) for number, mib in enumerate(sizes)]
+    fill = max(sizes) / 50  # (a busy machine fills some 50 MiB in a second)
+    time.sleep(2 + seconds / 2)
+    state = host.status()
+    must(state is not None, "the host doesn't answer")
+    said = [it.end(seconds + fill + 240) for it in made]
+    rows = []
+    for it, end in zip(made, said):
+        last = it.series[-1][1]
+        rows.append({
+            "mib": it.mib, **end, "seconds_to_95": seconds_to_95(it.series), "thread_percent": settled(it.series),
+            "lent_most": max(sample["lent"] for _, sample in it.series), "pages_of_mapping": last["lent"] / max(1, last["mappings"]), **{
+                name: last[name] for name in (
+                    "lends", "lent", "zeros", "mappings_most", "no_mapping", "table_bytes", "parts_whole", "parts_split", "made_whole", "hold_most_ns",
+                    "round_ms", "turns", "reads", "asked", "seen",
+                )
+            },
+        })
+    host.stop()
+    HERE.place.clean()
+    return rows, state or {}
+
+
+def show(name: str, rows: list[Counts], state: Counts) -> None:
+    for row in rows:
+        huge = f"{100 * row['huge_last_kib'] / row['huge_first_kib']:.1f} %" if row["huge_first_kib"] else "none"
+        print(f"  {name}, {row['mib']} MiB: huge pages left of private memory {huge}; a random read there {row['read_last_ns']:.0f} ns; thread "
+              f"{row['thread_percent']:.2f} %; 95 % after {row['seconds_to_95']:.1f} s; lent {row['lent_most']}, {row['pages_of_mapping']:.1f} pages a "
+              f"mapping; parts whole {row['parts_whole']}, split {row['parts_split']}, whole again {row['made_whole']}; a look {row['round_ms']} ms; "
+              f"99.99 % of accesses {row['bound_10000_ns'] / 1e6:.3f} ms, worst {row['worst_ns'] / 1e6:.1f} ms; tables "
+              f"{100 * row['table_bytes'] / (row['mib'] << 20):.2f} %; wrong {row['wrong']}", flush=True)
+    print(f"  host: {state['host_bytes'] >> 20} MiB of its own; load {os.getloadavg()[0]:.1f}", flush=True)
+
+
+def huge_pages_stay(rows: list[Counts]) -> None:
+    """At least 98 % of the huge pages of memory of which nothing can be shared are left."""
+    for row in rows:
+        must(row["huge_last_kib"] >= 0.98 * row["huge_first_kib"], f"huge pages were lost: {row}")
+
+
+def case_size() -> None:
+    """Stand-ins for guests of a real size (SIZES=MIB,..), with and without huge pages, and at the limit of mappings."""
+    compile_c("size")
+    sizes = [512] if HERE.is_short else [int(it) for it in os.environ.get("SIZES", "1024,2048,4096,8192").split(",")]
+    seconds = int(os.environ.get("SECONDS", "20" if HERE.is_short else "60"))
+    kind = SHORT if HERE.is_short else USUAL
+    table: dict[str, Any] = {}
+    for mib in sizes:
+        alone = Guest(9, mib, kind, 1).end(600) if not HERE.is_short else None
+        for is_huge in (True, False):
+            name = f"{mib} {'huge' if is_huge else 'small'}"
+            rows, state = run_size([mib, max(256, mib // 4)], kind, seconds, is_huge)
+            show(name, rows, state)
+            must(all(it["lends"] > 0 for it in rows), f"nothing was lent: {rows}")
+            if is_huge:
+                huge_pages_stay(rows)
+            table[name] = {"rows": rows, "host": state, "alone": alone}
+    # (runs of one page: each page that is lent is a mapping by itself)
+    rows, state = run_size([512, 512], ALONE, max(seconds, 45))
+    show("runs of 1", rows, state)
+    is_met = [it["no_mapping"] > 0 for it in rows]
+    print(f"  the limit of {LIMIT} mappings was {'met' if any(is_met) else 'not met'}")
+    for row in rows:
+        must(row["mappings"] <= row["mappings_most"] + SPARES and row["spare_mappings"] == SPARES, f"too many mappings: {row}")
+    must(any(is_met) or LIMIT > 65530, f"the limit of mappings wasn't met: {rows}")
+    table["runs of 1"] = {"rows": rows, "host": state}
+    OUT.mkdir(parents=True, exist_ok=True)
+    (OUT / "size.json").write_text(json.dumps(table, indent=1))

@@ -1,0 +1,57 @@
+#!/usr/bin/env python3
+"""Compares the members of structs that C, the proved libraries and the wrapper in Rust share: their order, names and types.
+
+    checks/structs.py
+
+No proof says in what order a struct of the libraries has its members, and a header with two members of one type exchanged compiles. So
+each struct with #[repr(C)] in FOLDERS must have the members of the header's struct that STRUCTS names, one by one. Prints what fails,
+and last 'N passed, M failed'.
+"""
+from __future__ import annotations
+
+import re
+import sys
+
+from harness import TOP, Tally
+
+HEADERS = ["include/pageshare.h", "include/pageshare_host.h"]
+FOLDERS = {"crates/pageshare_c/src": "rt", "crates/pageshare_host_c/src": "rt", "bindings/rust/src": "rs"}
+# The struct of C for each of the others.
+STRUCTS = {
+    "Answer": "pageshare_answer", "Totals": "pageshare_totals", "PageName": "pageshare_page_name", "Lending": "pageshare_lending",
+    "Region": "pageshare_region", "DomainShape": "pageshare_domain_shape", "DomainLoan": "pageshare_loan",
+    "DomainTotals": "pageshare_domain_totals", "HostShape": "pageshare_host_shape", "SessionTold": "pageshare_host_session",
+    "HostTotals": "pageshare_host_totals", "ReceivedPacket": "pageshare_host_received",
+}
+# A handle has a pointer and a flag; what is in it is private, and so are its names.
+HANDLES = {"Machine", "Slot", "DomainHandle", "DomainSlot", "HostHandle", "HostSlot", "Handle"}
+# What stands for a type of C. Each other one is a pointer, but for PhantomData, which takes no place.
+TYPES = {"u8": "uint8_t", "u32": "uint32_t", "u64": "uint64_t", "usize": "size_t"}
+STRUCT = re.compile(r"#\[repr\(C\)\]\n(?:[ #/][^\n]*\n)*(?:pub(?:\(crate\))? )?struct (\w+)[^{\n]*\{\n((?:[^}\n][^\n]*\n)*)\}")
+MEMBER = re.compile(r"^\s*(?:pub(?:\(crate\))? )?(\w+): ([^\n]+?),$", re.M)
+
+
+def structs_of_c() -> dict[str, list[tuple[str, str]]]:
+    """The members of each struct of the headers, each a name and a type."""
+    found = {}
+    for header in HEADERS:
+        text = re.sub(r"/\*(?:[^*]|\*(?!/))*\*/", "", (TOP / header).read_text())
+        for name, inside in re.findall(r"^struct (\w+) \{\n((?:[^}\n]*\n)*)\};", text, re.M):
+            members = re.findall(r"^\s*((?:const )?\w+ )(\**)(\w+);", inside, re.M)
+            found[name] = [(member, "pointer" if stars else kind.strip()) for kind, stars, member in members]
+    return found
+
+
+def main() -> int:
+    tally, due = Tally(), structs_of_c()
+    for folder, suffix in FOLDERS.items():
+        for file in sorted((TOP / folder).rglob(f"*.{suffix}")):
+            for name, inside in STRUCT.findall(file.read_text()):
+                if name not in HANDLES:
+                    found = [(member, TYPES.get(kind, "pointer")) for member, kind in MEMBER.findall(inside) if "PhantomData" not in kind]
+                    tally.equal(f"{name} in {file.relative_to(TOP)}", found, due.get(STRUCTS.get(name, "")))
+    return tally.close()
+
+
+if __name__ == "__main__":
+    sys.exit(main())
