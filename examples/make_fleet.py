@@ -9,6 +9,8 @@ the memory of the guests of one host, 1 to 50, as raw images, FOLDER/host07.gues
 1. Each host booted one of 3 kernels, each guest has one of 6 sets of libraries, and beside these its own pages, some of them two to
 five times, and zeros. The same bytes are written each time. Standard library only.
 """
+from __future__ import annotations
+
 import argparse
 import collections
 import functools
@@ -24,20 +26,22 @@ KERNELS = [range(1 << 40 | kernel << 32, (1 << 40 | kernel << 32) + 2000) for ke
 LIBRARIES = [range(2 << 40 | library << 32, (2 << 40 | library << 32) + 1200) for library in range(6)]
 
 
-def page_of(content):
+def page_of(content: int) -> bytes:
     return content.to_bytes(8, "big") * (PAGE // 8)
 
 
-def digest(content):
+def digest(content: int) -> str:
     """The first 128 bits of SHA-256 of a page, under salt 0."""
     return hashlib.sha256(page_of(content)).hexdigest()[:32]
 
 
-# (of what several guests have)
-shared_digest = functools.lru_cache(None)(digest)
+@functools.lru_cache(None)
+def shared_digest(content: int) -> str:
+    """The same of a content that several guests have, computed once."""
+    return digest(content)
 
 
-def contents_of(host, guest):
+def contents_of(host: int, guest: int) -> list[int]:
     """The contents of a guest's pages, in no order."""
     of_host, draw = random.Random(f"host {host}"), random.Random(f"host {host} guest {guest}")
     contents = draw.sample(of_host.choice(KERNELS), 1600) + draw.sample(draw.choice(LIBRARIES), 700)
@@ -47,24 +51,24 @@ def contents_of(host, guest):
     return contents + [0] * (PAGES - len(contents))
 
 
-def name_of(host, guest):
+def name_of(host: int, guest: int) -> str:
     return f"host{host:02}.guest{guest}"
 
 
-def is_kept(word, sample):
+def is_kept(word: str, sample: int) -> bool:
     return int(word[-4:], 16) % sample == 0 or word == shared_digest(0)
 
 
-def write_digest(folder, host, guest, sample):
+def write_digest(folder: pathlib.Path, host: int, guest: int, sample: int) -> None:
     copies = collections.Counter(contents_of(host, guest))
-    lines = sorted(((digest if content >> 43 else shared_digest)(content), count) for content, count in copies.items())
+    lines = sorted((digest(content) if content >> 43 else shared_digest(content), count) for content, count in copies.items())
     head = f"{name_of(host, guest)},0,{PAGES},{sample}"
     with open(folder / f"{name_of(host, guest)}.csv", "w", encoding="ascii") as out:
         out.write("guest,salt,pages,sample,digest,copies\n")
         out.writelines(f"{head},{word},{count}\n" for word, count in lines if is_kept(word, sample))
 
 
-def write_image(folder, host, guest):
+def write_image(folder: pathlib.Path, host: int, guest: int) -> None:
     """The pages in an order of the guest's own; those of zeros are holes in the file."""
     contents = contents_of(host, guest)
     random.Random(f"order {host} {guest}").shuffle(contents)
@@ -76,7 +80,7 @@ def write_image(folder, host, guest):
                 out.write(page_of(content))
 
 
-def main():
+def main() -> None:
     words = argparse.ArgumentParser(usage=__doc__.split("\n\n")[1].strip())
     words.add_argument("--sample", type=int, default=1)
     words.add_argument("--images", type=int)

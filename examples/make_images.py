@@ -6,16 +6,18 @@
 Each is 2 MiB, as of two guests that booted one kernel: zeros, pages of the kernel that both have, pages that a guest has several
 times, and pages of its own. The same bytes are written each time.
 """
+from __future__ import annotations
+
+import argparse
 import pathlib
 import random
 import struct
-import sys
 
 PAGE = 4096
 PAGES = 512
 
 
-def pages(draw, kernel, zeros):
+def pages(draw: random.Random, kernel: list[bytes], zeros: int) -> bytes:
     """The pages of a guest: of the 512, so many zeros, those of the kernel, 32 that it has 2 or 3 times, and its own."""
     cached = [draw.randbytes(PAGE) for _ in range(12)]
     some = [bytes(PAGE)] * zeros + kernel + (cached * 3)[:32]
@@ -24,7 +26,7 @@ def pages(draw, kernel, zeros):
     return b"".join(some)
 
 
-def core(memory):
+def core(memory: bytes) -> bytes:
     """An ELF core of 64 bits with two segments, as of a machine with a hole in its memory."""
     low = 160 * PAGE
     begin = 64 + 2 * 56
@@ -35,8 +37,10 @@ def core(memory):
     return head + memory
 
 
-def main():
-    folder = pathlib.Path(sys.argv[1])
+def main() -> None:
+    options = argparse.ArgumentParser(description=__doc__.splitlines()[0])
+    options.add_argument("folder", metavar="FOLDER", type=pathlib.Path)
+    folder = options.parse_args().folder
     folder.mkdir(parents=True, exist_ok=True)
     draw = random.Random(1)
     kernel = [draw.randbytes(PAGE) for _ in range(160)]
