@@ -63,7 +63,7 @@ page_model/src/limits.rt MAX_TEXT_BYTES text_words/src/fault.rt text_words/src/e
     trace_text/specs/Texts.antt worked_texts/src/sentences.rt checks/command_cases/texts.py docs/MODEL.md docs/FORMATS.md
     share_text/src/fault.rt
 guest_digests/src/sample.rt MAX_SAMPLE guest_digests/README.md guest_digests/specs/Samples.antt digest_text/specs/Fields.antt
-    digest_text/src/fields.rt command_words/src/digest_words.rt limit_laws/README.md docs/USING.md docs/FORMATS.md
+    digest_text/src/fields.rt command_words/src/digest_words.rt guest_digests/src/laws.rt docs/USING.md docs/FORMATS.md
     worked_digests/src/lists/samples.rt checks/fleet.py
 digest_text/src/name.rt MAX_NAME_BYTES digest_text/README.md command_words/src/digest_words.rt docs/USING.md docs/FORMATS.md
 fleet_census/src/merging.rt MAX_DIGESTS fleet_census/README.md fleet_census/src/fault.rt fleet_census/edits/limit_of_65535.edit

@@ -6,11 +6,13 @@
 mod count;
 mod digests;
 mod hashed;
+mod laws;
 mod line;
 mod sample;
 mod sampling;
 
 pub use digests::{GuestDigests, digest_pages};
+pub use laws::limits_law;
 pub use line::DigestLine;
 pub use sample::Sample;
 pub use sampling::Sampling;

@@ -1,4 +1,6 @@
 //! Laws of whole pages, for every state, page and hash. The functions' bodies are empty: the contract is all there is.
+ghost use Rattle.std.specs.Prelude.{◌≡◌};
+ghost use Rattle.page_lending.specs.declared.pieces.TheConstants.{STORES_A_PAGE};
 ghost use Rattle.page_lending.specs.Laws.{StoresAtOnce, VerdictsFollow, LentIsTakenBack};
 
 /// The stores of a whole page do at once what one store of all its bytes would do: what the first store's verdict says
@@ -15,4 +17,9 @@ pub fn verdicts_follow_law()
 /// A page that was lent reads as what was lent, whatever other requests come, until one stores to it or releases it.
 pub fn lent_is_taken_back_law()
     ensures { LentIsTakenBack }
+{}
+
+/// The limit of this crate is this number.
+pub fn limits_law()
+    ensures { STORES_A_PAGE ≡ 64 }
 {}

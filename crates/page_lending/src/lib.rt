@@ -7,5 +7,5 @@
 mod laws;
 mod pieces;
 
-pub use laws::{lent_is_taken_back_law, stored_at_once_law, verdicts_follow_law};
+pub use laws::{lent_is_taken_back_law, limits_law, stored_at_once_law, verdicts_follow_law};
 pub use pieces::STORES_A_PAGE;
