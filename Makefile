@@ -136,12 +136,12 @@ windows: out/libpageshare.a out/window_trace
 guests: out/libpageshare.a out/pageshare out/window_trace
 	checks/guests.py out/libpageshare.a $(or $(SECONDS),30)
 
-# The library, static and shared: what is proved, and library/library.c.
-LIBRARY = include/pageshare.h $(wildcard library/*)
+# The library, static and shared: what is proved, and lib/src/library.c.
+LIBRARY = lib/include/pageshare.h $(wildcard lib/src/*)
 out/libpageshare.a: LEVEL = 2
 out/v3/libpageshare.a: LEVEL = 3
 out/libpageshare.a out/v3/libpageshare.a: %/libpageshare.a: %/proved.a $(LIBRARY)
-	library/make.sh $< $(LEVEL) $(@D)
+	lib/src/make.sh $< $(LEVEL) $(@D)
 
 out/proved.a: $(SOURCES)
 	checks/build.py pageshare_c $@
@@ -156,11 +156,11 @@ host: $(HOST_PRODUCTS)
 
 # (HOST_LIBRARY names another library than the proved one)
 HOST_LIBRARY = out/libpageshare_host.a
-HOST_FLAGS = -std=c11 -O2 -g -Wall -Wextra -Wconversion -Werror -pthread -Iinclude -Iwindow -Ihost $(CFLAGS)
+HOST_FLAGS = -std=c11 -O2 -g -Wall -Wextra -Wconversion -Werror -pthread -Ilib/include -Iwindow -Ihost $(CFLAGS)
 HOST_LINK = -Wl,--wrap=memset
 HOST_SOURCES = $(addprefix host/,hostd.c settings.c domain.c clients.c closing.c frames.c punching.c tables.c refusals.c report.c status.c naming.c devices.c)
 WINDOW_SOURCES = $(addprefix host/,preload.c transfers.c sharing.c ranges.c connection.c remote.c devices.c kvm_offer.c budget.c memory.c) $(wildcard window/*.c)
-HOST_HEADERS = $(wildcard host/*.h window/*.h include/*.h)
+HOST_HEADERS = $(wildcard host/*.h window/*.h lib/include/*.h)
 
 out/host/pageshare-host: $(HOST_SOURCES) $(HOST_HEADERS) $(HOST_LIBRARY)
 	@mkdir -p $(@D)

@@ -2,7 +2,7 @@
  * Times the lends and releases of a domain beside those of a bare machine, with one thread and with four, and counts a domain's memory.
  * Prints a line each. A time is the least of several runs, by turns, since other programs only ever add to it.
  *
- *     cc -O2 -pthread -Iinclude benches/domain.c out/libpageshare.a -o out/embed/domain_bench && out/embed/domain_bench
+ *     cc -O2 -pthread -Ilib/include benches/domain.c out/libpageshare.a -o out/embed/domain_bench && out/embed/domain_bench
  */
 #define _GNU_SOURCE
 #include "pageshare.h"

@@ -3,7 +3,7 @@
  * which none is mapped; and lends of 16,384 pages, of which every other one equals the one before. Prints the nanoseconds of one
  * call, and of these lends the pages lent a second, in the best of several runs, since other programs only ever add to it.
  *
- *     cc -O2 -Iinclude benches/embed.c out/libpageshare.a -o out/embed/bench && out/embed/bench
+ *     cc -O2 -Ilib/include benches/embed.c out/libpageshare.a -o out/embed/bench && out/embed/bench
  *
  * or with out/libpageshare-v3.a, for whose processors the wide hash is.
  */

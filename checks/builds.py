@@ -26,14 +26,14 @@ from harness import OUT, TOP, LeftOut, Tally, needs, run
 
 BUILT = OUT / "builds"
 MADE = ["libpageshare.a", "v3/libpageshare.a", "libpageshare_host.a", "host/pageshare-host", "host/libpageshare-window.so"]
-STRICT = "-std=c11 -O2 -g -Wall -Wextra -Wconversion -Werror -pthread -Iinclude".split()
+STRICT = "-std=c11 -O2 -g -Wall -Wextra -Wconversion -Werror -pthread -Ilib/include".split()
 POSIX = ["-D_POSIX_C_SOURCE=200809L"]
 FREESTANDING = "-ffreestanding -fno-pic -fno-stack-protector -fcf-protection=none -mgeneral-regs-only -mno-red-zone".split()
 # How the C files of each folder, or a file, are compiled: the longest path that a file's begins with counts.
 FLAGS: dict[str, list[str]] = {
     "benches/": [], "checks/embed/": POSIX, "checks/host/": [], "checks/host/descriptors.c": ["-Ihost"], "checks/host/remote.c": ["-Iwindow", "-Ihost"],
     "examples/": POSIX, "host/": ["-Iwindow", "-Ihost"],
-    "library/": ["-DPAGESHARE_BUILT_LEVEL=2", "-fPIC"], "monitor/": [], "monitor/guest.c": FREESTANDING, "monitor/standin.c": FREESTANDING,
+    "lib/src/": ["-DPAGESHARE_BUILT_LEVEL=2", "-fPIC"], "monitor/": [], "monitor/guest.c": FREESTANDING, "monitor/standin.c": FREESTANDING,
     "packaging/": ['-DPAGESHARE_COMMIT="a commit"', '-DPAGESHARE_KIT="a kit"'], "window/": [],
 }
 # The folders whose files can record events, as well as not.
@@ -120,11 +120,11 @@ def headers(tally: Tally) -> None:
 
 def headers_by(tally: Tally, compiler: str, other: str) -> None:
     needs(f"the headers by {compiler} and {other}", compiler, other)
-    names = files_of("include/*.h")
+    names = files_of("lib/include/*.h")
     # (twice, as programs may)
     twice = {it: ["-include", it, "-include", it] for it in names}
     compile_all(tally, compiler, [(f"{it}, as C", [*STRICT, "-Wpedantic", *twice[it], "-x", "c", os.devnull]) for it in names])
-    words = "-std=c++11 -O2 -Wall -Wextra -Wconversion -Wpedantic -Werror -Iinclude".split()
+    words = "-std=c++11 -O2 -Wall -Wextra -Wconversion -Wpedantic -Werror -Ilib/include".split()
     compile_all(tally, other, [(f"{it}, as C++", [*words, *twice[it], "-x", "c++", os.devnull]) for it in names])
 
 

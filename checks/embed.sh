@@ -57,7 +57,7 @@ has() {
 # Compiles C source $1 (without its suffix) to a program of that name, with the library, or with $2.
 compile() {
     # shellcheck disable=SC2086
-    ${CC:-cc} -std=c11 -D_POSIX_C_SOURCE=200809L $flags -I"$top/include" -o "$built/$(basename "$1")" "$top/$1.c" "${2:-$library}" ||
+    ${CC:-cc} -std=c11 -D_POSIX_C_SOURCE=200809L $flags -I"$top/lib/include" -o "$built/$(basename "$1")" "$top/$1.c" "${2:-$library}" ||
         fail "$1.c does not compile"
 }
 
@@ -131,18 +131,18 @@ else
     fi
     if [ -n "${FULL:-}" ]; then
         # shellcheck disable=SC2086
-        ${CC:-cc} -std=c11 -O2 -I"$top/include" -o "$built/full_count" "$top/checks/embed/full_count.c" "$library" || fail 'full_count.c does not compile'
+        ${CC:-cc} -std=c11 -O2 -I"$top/lib/include" -o "$built/full_count" "$top/checks/embed/full_count.c" "$library" || fail 'full_count.c does not compile'
         run_natively full_count
         # shellcheck disable=SC2086
         text=$($checker "$built/domain_calls" 1000 1000) || fail 'domain_calls 1000 1000 failed:' "$text"
         good 'domain_calls 1000 1000: as it should be'
         # shellcheck disable=SC2086
-        ${CC:-cc} -std=c11 -O2 -I"$top/include" -o "$built/domain_full" "$top/checks/embed/domain_calls.c" "$library" || fail 'domain_calls.c does not compile'
+        ${CC:-cc} -std=c11 -O2 -I"$top/lib/include" -o "$built/domain_full" "$top/checks/embed/domain_calls.c" "$library" || fail 'domain_calls.c does not compile'
         run_natively domain_full full
     fi
     if has "${CXX:-c++}"; then
         # shellcheck disable=SC2086
-        ${CXX:-c++} -std=c++11 $flags -I"$top/include" -o "$built/cpp" "$top/checks/embed/cpp.cpp" "$library" ||
+        ${CXX:-c++} -std=c++11 $flags -I"$top/lib/include" -o "$built/cpp" "$top/checks/embed/cpp.cpp" "$library" ||
             fail 'the header does not compile as C++'
         run cpp ok
     else
@@ -153,14 +153,14 @@ fi
 if has "${CARGO:-cargo}"; then
     checker=
     export CARGO_TARGET_DIR="$built/cargo" PAGESHARE_LIB_DIR="$folder" CARGO_NET_OFFLINE=true
-    cd "$top/bindings/rust" || exit 1
-    run_cargo test --quiet > "$built/cargo.log" 2>&1 || fail "$(cat "$built/cargo.log")" 'the tests of bindings/rust failed'
-    good 'bindings/rust: its tests and the examples in its documents pass'
+    cd "$top/lib/rust" || exit 1
+    run_cargo test --quiet > "$built/cargo.log" 2>&1 || fail "$(cat "$built/cargo.log")" 'the tests of lib/rust failed'
+    good 'lib/rust: its tests and the examples in its documents pass'
     if "${CARGO:-cargo}" clippy --version > /dev/null 2>&1; then
         run_cargo clippy --quiet --all-targets -- -D warnings > "$built/cargo.log" 2>&1 || fail "$(cat "$built/cargo.log")"
         export RUSTDOCFLAGS='-D warnings'
         run_cargo doc --quiet --no-deps > "$built/cargo.log" 2>&1 || fail "$(cat "$built/cargo.log")"
-        good 'bindings/rust: clippy and rustdoc have no warning'
+        good 'lib/rust: clippy and rustdoc have no warning'
     else
         leave_out 'clippy'
     fi
@@ -169,17 +169,17 @@ if has "${CARGO:-cargo}"; then
         text=$(run_cargo run --quiet --manifest-path examples/vm-memory/Cargo.toml --config 'source.crates-io.replace-with="debian"' \
             --config "source.debian.directory=\"$debian\"" 2>&1) || fail "$text" 'its example vm-memory failed'
         [ "$text" = "$(cat "$top/checks/embed/vm-memory.out")" ] || fail "its example vm-memory printed:" "$text"
-        good 'bindings/rust: its example vm-memory prints what it should'
+        good 'lib/rust: its example vm-memory prints what it should'
     else
         leave_out 'the example vm-memory' librust-vm-memory-dev
     fi
     text=$(run_cargo build --quiet --release --examples 2>&1) || fail "$text" 'its examples do not compile'
     text=$("$built/cargo/release/examples/three_share" 2>&1) || fail "$text" 'its example failed'
     [ "$text" = "$(cat "$top/checks/embed/three_share.out")" ] || fail "its example printed:" "$text"
-    good 'bindings/rust: its example prints what the C example does'
+    good 'lib/rust: its example prints what the C example does'
     text=$("$built/cargo/release/examples/domain" 2>&1) || fail "$text" 'its example of a domain failed'
     [ "$text" = "$(cat "$top/checks/embed/domain.out")" ] || fail "its example of a domain printed:" "$text"
-    good 'bindings/rust: its example of a domain prints what the C example does'
+    good 'lib/rust: its example of a domain prints what the C example does'
 else
     leave_out 'all of Rust, since there is no cargo' cargo
 fi

@@ -50,7 +50,7 @@ Figures = dict[str, Any]
 def build(name: str, library: StrPath, more: Sequence[str] = (), suffix: str = "") -> pathlib.Path:
     """Builds a program, and returns its path."""
     sources = [SOURCES / f"{part}.c" for part in [name, *PROGRAMS[name]]]
-    return compile_c([*FLAGS, *more, f"-I{TOP / 'include'}", *sources, *LENDER, *WINDOW, library], OUT / (name + suffix))
+    return compile_c([*FLAGS, *more, f"-I{TOP / 'lib/include'}", *sources, *LENDER, *WINDOW, library], OUT / (name + suffix))
 
 
 def build_guest() -> pathlib.Path:

@@ -27,24 +27,24 @@ LIMITS = """
 page_model/src/limits.rt MAX_ACCESS_BYTES page_model/README.md page_model/src/request.rt page_model/src/store.rt
     page_model/src/load.rt share_rings/src/fault.rt text_words/src/fault.rt text_words/src/expect.rt text_words/specs/Expected.antt
     command_terms/src/script_faults.rt command_terms/specs/Scripts.antt pageshare_c/src/lib.rt pageshare_c/src/answer.rt
-    include/pageshare.h bindings/rust/src/machine.rs bindings/rust/src/error.rs docs/MODEL.md docs/FORMATS.md
+    lib/include/pageshare.h lib/rust/src/machine.rs lib/rust/src/error.rs docs/MODEL.md docs/FORMATS.md
 page_model/src/limits.rt MAX_GUESTS page_model/README.md page_model/src/machine_shape.rt
     merge_core/src/fault.rt merge_machine/src/config.rt merge_run/src/run_fault.rt text_words/src/fault.rt text_words/src/expect.rt
-    text_words/specs/Expected.antt journal_text/specs/Headers.antt pageshare_c/src/lib.rt include/pageshare.h
-    bindings/rust/src/error.rs docs/MODEL.md docs/FORMATS.md
+    text_words/specs/Expected.antt journal_text/specs/Headers.antt pageshare_c/src/lib.rt lib/include/pageshare.h
+    lib/rust/src/error.rs docs/MODEL.md docs/FORMATS.md
     share_text/src/fault.rt share_text/specs/Faults.antt
 page_model/src/limits.rt MAX_PAGES page_model/README.md page_model/src/machine_shape.rt
     merge_core/src/fault.rt merge_machine/src/config.rt merge_run/src/run_fault.rt text_words/src/fault.rt text_words/src/expect.rt
     text_words/specs/Expected.antt journal_text/specs/Headers.antt share_table/README.md share_table/src/lib.rt page_bench/README.md
-    pageshare_c/src/lib.rt include/pageshare.h bindings/rust/src/error.rs docs/MODEL.md docs/FORMATS.md
+    pageshare_c/src/lib.rt lib/include/pageshare.h lib/rust/src/error.rs docs/MODEL.md docs/FORMATS.md
     checks/common/faults.py checks/fuzz.py
     share_text/src/fault.rt share_text/specs/Faults.antt
 page_model/src/limits.rt MAX_FRAMES page_model/README.md page_model/src/machine_shape.rt machine_frames/README.md
     machine_frames/src/lib.rt merge_core/src/fault.rt merge_machine/src/config.rt merge_run/src/run_fault.rt text_words/src/fault.rt
     text_words/src/expect.rt text_words/specs/Expected.antt journal_text/specs/Headers.antt lent_slots/src/machine.rt
     share_domain/src/config.rt share_domain/src/fault.rt page_bench/README.md worked_cores/README.md worked_stores/src/frames.rt
-    pageshare_c/src/lib.rt include/pageshare.h include/pageshare_host.h host/domain.c bindings/rust/src/domain.rs
-    bindings/rust/src/error.rs docs/MODEL.md docs/FORMATS.md docs/HOST.md checks/fuzz.py
+    pageshare_c/src/lib.rt lib/include/pageshare.h lib/include/pageshare_host.h host/domain.c lib/rust/src/domain.rs
+    lib/rust/src/error.rs docs/MODEL.md docs/FORMATS.md docs/HOST.md checks/fuzz.py
     share_text/src/fault.rt share_text/specs/Faults.antt
 page_model/src/limits.rt MAX_RING_CAPACITY share_rings/README.md share_rings/src/pair.rt merge_machine/README.md
     merge_machine/src/config.rt merge_run/src/run_fault.rt text_words/src/fault.rt text_words/src/expect.rt
@@ -69,13 +69,13 @@ digest_text/src/name.rt MAX_NAME_BYTES digest_text/README.md command_words/src/d
 fleet_census/src/merging.rt MAX_DIGESTS fleet_census/README.md fleet_census/src/fault.rt fleet_census/edits/limit_of_65535.edit
     command_words/src/help.rt pageshare_commands/README.md docs/USING.md docs/FORMATS.md
 command_terms/src/estimates.rt MOST_WORKERS command_terms/README.md command_words/src/help.rt docs/USING.md
-share_domain/src/config.rt MAX_MACHINES share_domain/src/fault.rt include/pageshare.h include/pageshare_host.h
-    bindings/rust/src/domain.rs bindings/rust/src/error.rs docs/HOST.md
-share_domain/src/config.rt MAX_CLIENTS share_domain/src/fault.rt include/pageshare.h include/pageshare_host.h
-    bindings/rust/src/domain.rs bindings/rust/src/error.rs
-recent_fingerprints/src/limits.rt MAX_PLACES recent_fingerprints/README.md host_sessions/src/config.rt include/pageshare.h
-    include/pageshare_host.h host/domain.c
-    bindings/rust/src/domain.rs bindings/rust/src/error.rs
+share_domain/src/config.rt MAX_MACHINES share_domain/src/fault.rt lib/include/pageshare.h lib/include/pageshare_host.h
+    lib/rust/src/domain.rs lib/rust/src/error.rs docs/HOST.md
+share_domain/src/config.rt MAX_CLIENTS share_domain/src/fault.rt lib/include/pageshare.h lib/include/pageshare_host.h
+    lib/rust/src/domain.rs lib/rust/src/error.rs
+recent_fingerprints/src/limits.rt MAX_PLACES recent_fingerprints/README.md host_sessions/src/config.rt lib/include/pageshare.h
+    lib/include/pageshare_host.h host/domain.c
+    lib/rust/src/domain.rs lib/rust/src/error.rs
 trace_text/src/trace.rt MAX_TRACE_FRAMES trace_text/src/laws.rt docs/FORMATS.md
 """
 # The bytes of a page, and the greatest numbers of 32 and of 64 bits.

@@ -24,10 +24,9 @@ WORD = re.compile(r"[A-Za-z_][A-Za-z0-9_]*")
 # The form of a name in code: an underscore within, two words by :: or a capital letter behind a small one.
 NAME = re.compile(r"[A-Za-z_][A-Za-z0-9_]*(?:::[A-Za-z_][A-Za-z0-9_]*)*(?:\(\))?")
 PATH = re.compile(r"(?:\.\./)*[\w.+-]+(?:/[\w.+-]+)+/?")
-FOLDERS = (
-    "crates", "docs", "checks", "examples", "monitor", "fleet", "include", "bindings", "benches", "host", "window", "library", "packaging",
-    ".ci",
-)
+FOLDERS = ("crates", "docs", "checks", "examples", "monitor", "fleet", "benches", "host", "window", "lib", "packaging", ".ci")
+# A document whose lib/ is the folder of that name in an installation.
+INSTALLED = ("docs/INSTALL.md", "lib")
 TARGET = re.compile(r"(?m)^([a-z][\w-]*):")
 # What is named and isn't of this tree: names of ELF, of Linux, of SELinux, of other monitors and of the kit.
 OTHERS = set(
@@ -67,7 +66,8 @@ def wrong_link(file: str, target: str) -> bool:
 
 
 def wrong_path(file: str, path: str) -> bool:
-    if path.split("/")[0] not in FOLDERS or re.search(r"\b[A-Z]{2,}\b|NAME", path):
+    folder = path.split("/")[0]
+    if folder not in FOLDERS or (file, folder) == INSTALLED or re.search(r"\b[A-Z]{2,}\b|NAME", path):
         return False
     return not any((at / path).exists() for at in (TOP, (TOP / file).parent))
 

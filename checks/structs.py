@@ -14,8 +14,8 @@ import sys
 
 from harness import TOP, Tally
 
-HEADERS = ["include/pageshare.h", "include/pageshare_host.h"]
-FOLDERS = {"crates/pageshare_c/src": "rt", "crates/pageshare_host_c/src": "rt", "bindings/rust/src": "rs"}
+HEADERS = ["lib/include/pageshare.h", "lib/include/pageshare_host.h"]
+FOLDERS = {"crates/pageshare_c/src": "rt", "crates/pageshare_host_c/src": "rt", "lib/rust/src": "rs"}
 # The struct of C for each of the others.
 STRUCTS = {
     "Answer": "pageshare_answer", "Totals": "pageshare_totals", "PageName": "pageshare_page_name", "Lending": "pageshare_lending",

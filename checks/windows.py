@@ -71,7 +71,7 @@ def build(name: str, library: StrPath, more: Sequence[str] = (), suffix: str = "
     """Builds a test, and returns its path."""
     wraps = [f"-Wl,--wrap={call}" for call in WRAPS.get(name, [])]
     sources = [TESTS / f"{part}.c" for part in [name, *MORE[name]]]
-    return compile_c([*FLAGS, *more, *wraps, f"-I{TOP / 'include'}", *sources, *WINDOW, *LENDER, library], OUT / (name + suffix))
+    return compile_c([*FLAGS, *more, *wraps, f"-I{TOP / 'lib/include'}", *sources, *WINDOW, *LENDER, library], OUT / (name + suffix))
 
 
 def has_sanitizer(name: str) -> bool:
@@ -107,7 +107,7 @@ def with_body(name: str, file: str, part: str, instead: str) -> pathlib.Path:
     """The folder of a copy of the sources with a wrong body."""
     folder = OUT / "wrong"
     shutil.rmtree(folder, ignore_errors=True)
-    for part_of in ["window", "monitor", "include"]:
+    for part_of in ["window", "monitor", "lib/include"]:
         shutil.copytree(TOP / part_of, folder / part_of)
     text = (folder / "window" / file).read_text()
     if text.count(part) != 1:
@@ -120,7 +120,7 @@ def is_found(folder: pathlib.Path, library: StrPath, more: Sequence[str] | None)
     """Whether the stress fails with these sources and words, or its record does; without words what becomes of parts."""
     name = "parts" if more is None else "stress"
     sources = [folder / source.relative_to(TOP) for source in [*(TESTS / f"{it}.c" for it in [name, *MORE[name]]), *WINDOW, *LENDER]]
-    flags = [flag for flag in FLAGS if flag != "-Werror"] + ["-w", "-DWINDOW_TRACE", f"-I{folder / 'include'}"]
+    flags = [flag for flag in FLAGS if flag != "-Werror"] + ["-w", "-DWINDOW_TRACE", f"-I{folder / 'lib/include'}"]
     wraps = [f"-Wl,--wrap={call}" for call in WRAPS.get(name, [])]
     test = compile_c([*flags, *wraps, *sources, library], OUT / f"{name}_wrong")
     trace, program = OUT / "wrong.trace", BUILT / "window_trace"

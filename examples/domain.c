@@ -3,7 +3,7 @@
  * and every page that is lent is read through a second mapping of it, which can't be written. What is free is given back to the
  * system. Prints what the file holds at each step.
  *
- * `make embed` builds and runs it. By hand, on Linux: cc -Iinclude examples/domain.c out/libpageshare.a
+ * `make embed` builds and runs it. By hand, on Linux: cc -Ilib/include examples/domain.c out/libpageshare.a
  */
 #define _GNU_SOURCE
 #include "pageshare.h"

@@ -5,7 +5,7 @@
  * own line. The launcher finds the builds from where it lies itself, so the installed folders may be moved together.
  */
 #define _XOPEN_SOURCE 700
-#include "../library/processor.h"
+#include "../lib/src/processor.h"
 #include <errno.h>
 #include <limits.h>
 #include <spawn.h>

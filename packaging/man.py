@@ -147,7 +147,7 @@ def write_formats(writer: Writer) -> None:
 
 def write_library(writer: Writer) -> None:
     """The header's page, and its functions' names."""
-    parts = header.parts((TOP / "include/pageshare.h").read_text())
+    parts = header.parts((TOP / "lib/include/pageshare.h").read_text())
     names = header.functions(parts)
     page = writer.page("pageshare", 3)
     page.heading("Name")
@@ -188,7 +188,7 @@ def main() -> None:
     options.add_argument("--host")
     options.add_argument("--date", default=None)
     given = options.parse_args()
-    writer = Writer(given.folder, given.date or last_commit(), header.version((TOP / "include/pageshare.h").read_text()))
+    writer = Writer(given.folder, given.date or last_commit(), header.version((TOP / "lib/include/pageshare.h").read_text()))
     if given.program:
         write_commands(writer, given.program)
         write_formats(writer)

@@ -24,7 +24,7 @@ import header
 TOP = pathlib.Path(__file__).resolve().parent.parent
 OUT = TOP / "out"
 HOST = OUT / "host/pageshare-host"
-VERSION = header.version((TOP / "include/pageshare.h").read_text())
+VERSION = header.version((TOP / "lib/include/pageshare.h").read_text())
 SONAME = f"libpageshare.so.{VERSION.split('.', maxsplit=1)[0]}"
 # What may be installed: `program` is pageshare with its library, `host` is pageshare-host with the library that monitors preload.
 PARTS = ("program", "host")
@@ -129,7 +129,7 @@ class Stage:
         self.link(f"{self.libdir}/libpageshare.so", SONAME)
         self.put_code(OUT / "libpageshare.a", f"{self.libdir}/libpageshare.a", 0o644)
         self.put_code(OUT / "v3/libpageshare.a", f"{self.libdir}/pageshare/x86-64-v3/libpageshare.a", 0o644)
-        for file in sorted((TOP / "include").glob("*.h")):
+        for file in sorted((TOP / "lib/include").glob("*.h")):
             self.put(file, f"include/{file.name}")
         up = "/".join([".."] * (len(pathlib.PurePath(self.libdir).parts) + 1))
         prefix = f"prefix={self.prefix or '${pcfiledir}/' + up}"
@@ -163,7 +163,7 @@ class Stage:
         for file in files_below(TOP / "examples", "__pycache__"):
             if file.parent.name != "host":
                 self.put(file, f"{at}/examples/{file.relative_to(TOP / 'examples')}", file.stat().st_mode & 0o755)
-        rust = TOP / "bindings/rust"
+        rust = TOP / "lib/rust"
         for file in files_below(rust, "target"):
             self.put(file, f"share/pageshare/rust/{file.relative_to(rust)}")
 

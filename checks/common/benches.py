@@ -61,7 +61,7 @@ def built_in_c(name: str, library: StrPath, *flags: str) -> pathlib.Path:
     """Builds benches/NAME.c with the library, and returns the program."""
     BUILT.mkdir(parents=True, exist_ok=True)
     program = BUILT / f"{name}_c"
-    must(["cc", "-std=c11", "-O2", *flags, "-I", TOP / "include", TOP / f"benches/{name}.c", library, "-o", program])
+    must(["cc", "-std=c11", "-O2", *flags, "-I", TOP / "lib/include", TOP / f"benches/{name}.c", library, "-o", program])
     return program
 
 

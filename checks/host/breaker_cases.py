@@ -35,7 +35,7 @@ def sanitized() -> dict[str, str]:
     """What is preloaded for a library that is built with the sanitizers of addresses and undefined behaviour."""
     library = HERE.place.room / "sanitized" / HERE.library.name
     library.parent.mkdir(exist_ok=True)
-    words: list[StrPath] = [CC, *FLAGS, *SANITIZE, "-fPIC", "-shared", "-fvisibility=hidden", *(f"-I{TOP / it}" for it in ("include", "window", "host"))]
+    words: list[StrPath] = [CC, *FLAGS, *SANITIZE, "-fPIC", "-shared", "-fvisibility=hidden", *(f"-I{TOP / it}" for it in ("lib/include", "window", "host"))]
     words += ["-o", library, *sources("WINDOW_SOURCES"), *sorted((TOP / "window").glob("*.c")), "-ldl"]
     if subprocess.run(words).returncode != 0:
         raise LeftOut(f"{CC} doesn't build with {SANITIZE[0]}")

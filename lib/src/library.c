@@ -3,7 +3,7 @@
  * names of statuses and verdicts, and the doors of the calls that make a machine. It is compiled with -march=x86-64 and
  * -DPAGESHARE_BUILT_LEVEL=2 or 3, the level of the rest.
  *
- * Each proved maker is renamed as it is put into the library, from pageshare_X to proved_pageshare_X (library/doors.syms). The door of
+ * Each proved maker is renamed as it is put into the library, from pageshare_X to proved_pageshare_X (lib/src/doors.syms). The door of
  * that name looks at the processor first, so that no instruction that it lacks is ever run.
  */
 #include "pageshare.h"

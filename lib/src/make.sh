@@ -1,7 +1,7 @@
 #!/bin/sh
 # Makes the static and the shared library of what is proved and of library.c.
 #
-#     library/make.sh PROVED LEVEL FOLDER
+#     lib/src/make.sh PROVED LEVEL FOLDER
 #
 # PROVED is the static library of the crate pageshare_c, built for x86-64-vLEVEL. FOLDER gets libpageshare.a and libpageshare.so.VERSION.
 # The kit's calls of malloc, realloc and free are in both. CC, AR and OBJCOPY name other programs than cc, ar and objcopy.

@@ -1,4 +1,4 @@
-//! The functions of `libpageshare`, as `include/pageshare.h` declares them. Nothing compares the two.
+//! The functions of `libpageshare`, as `lib/include/pageshare.h` declares them. Nothing compares the two.
 use crate::machine::Lending;
 use std::ffi::{c_char, c_void};
 
