@@ -158,9 +158,9 @@ host: $(HOST_PRODUCTS)
 HOST_LIBRARY = out/libpageshare_host.a
 HOST_FLAGS = -std=c11 -O2 -g -Wall -Wextra -Wconversion -Werror -pthread -Ilib/include -Iwindow -Ihost $(CFLAGS)
 HOST_LINK = -Wl,--wrap=memset
-HOST_SOURCES = $(addprefix host/,hostd.c settings.c domain.c clients.c closing.c frames.c punching.c tables.c refusals.c report.c status.c naming.c devices.c)
-WINDOW_SOURCES = $(addprefix host/,preload.c transfers.c sharing.c ranges.c connection.c remote.c devices.c kvm_offer.c budget.c memory.c) $(wildcard window/*.c)
-HOST_HEADERS = $(wildcard host/*.h window/*.h lib/include/*.h)
+HOST_SOURCES = $(wildcard host/*.c host/daemon/*.c)
+WINDOW_SOURCES = $(wildcard host/*.c host/preload/*.c window/*.c)
+HOST_HEADERS = $(wildcard host/*.h host/*/*.h window/*.h lib/include/*.h)
 
 out/host/pageshare-host: $(HOST_SOURCES) $(HOST_HEADERS) $(HOST_LIBRARY)
 	@mkdir -p $(@D)

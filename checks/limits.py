@@ -43,7 +43,7 @@ page_model/src/limits.rt MAX_FRAMES page_model/README.md page_model/src/machine_
     machine_frames/src/lib.rt merge_core/src/fault.rt merge_machine/src/config.rt merge_run/src/run_fault.rt text_words/src/fault.rt
     text_words/src/expect.rt text_words/specs/Expected.antt journal_text/specs/Headers.antt lent_slots/src/machine.rt
     share_domain/src/config.rt share_domain/src/fault.rt page_bench/README.md worked_cores/README.md worked_stores/src/frames.rt
-    pageshare_c/src/lib.rt lib/include/pageshare.h lib/include/pageshare_host.h host/domain.c lib/rust/src/domain.rs
+    pageshare_c/src/lib.rt lib/include/pageshare.h lib/include/pageshare_host.h host/daemon/domain.c lib/rust/src/domain.rs
     lib/rust/src/error.rs docs/MODEL.md docs/FORMATS.md docs/HOST.md checks/fuzz.py
     share_text/src/fault.rt share_text/specs/Faults.antt
 page_model/src/limits.rt MAX_RING_CAPACITY share_rings/README.md share_rings/src/pair.rt merge_machine/README.md
@@ -74,7 +74,7 @@ share_domain/src/config.rt MAX_MACHINES share_domain/src/fault.rt lib/include/pa
 share_domain/src/config.rt MAX_CLIENTS share_domain/src/fault.rt lib/include/pageshare.h lib/include/pageshare_host.h
     lib/rust/src/domain.rs lib/rust/src/error.rs
 recent_fingerprints/src/limits.rt MAX_PLACES recent_fingerprints/README.md host_sessions/src/config.rt lib/include/pageshare.h
-    lib/include/pageshare_host.h host/domain.c
+    lib/include/pageshare_host.h host/daemon/domain.c
     lib/rust/src/domain.rs lib/rust/src/error.rs
 trace_text/src/trace.rt MAX_TRACE_FRAMES trace_text/src/laws.rt docs/FORMATS.md
 """

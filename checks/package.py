@@ -244,7 +244,7 @@ def try_dashboard(tally: Tally, folder: pathlib.Path) -> None:
     panels = json.loads(text)["panels"]
     tally.holds("the dashboard has panels with a title and a query", panels and all(it["title"] and it["targets"] for it in panels), panels)
     names = set(re.findall(r"pageshare_\w+", "".join(target["expr"] for it in panels for target in it["targets"])))
-    source = (TOP / "host/status.c").read_text()
+    source = (TOP / "host/daemon/status.c").read_text()
     missing = sorted(it for it in names if f'"{it.removeprefix("pageshare_")}"' not in source)
     tally.equal("numbers of the dashboard that no status has", missing, [])
 

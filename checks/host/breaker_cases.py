@@ -36,7 +36,7 @@ def sanitized() -> dict[str, str]:
     library = HERE.place.room / "sanitized" / HERE.library.name
     library.parent.mkdir(exist_ok=True)
     words: list[StrPath] = [CC, *FLAGS, *SANITIZE, "-fPIC", "-shared", "-fvisibility=hidden", *(f"-I{TOP / it}" for it in ("lib/include", "window", "host"))]
-    words += ["-o", library, *sources("WINDOW_SOURCES"), *sorted((TOP / "window").glob("*.c")), "-ldl"]
+    words += ["-o", library, *sources("preload"), *sorted((TOP / "window").glob("*.c")), "-ldl"]
     if subprocess.run(words).returncode != 0:
         raise LeftOut(f"{CC} doesn't build with {SANITIZE[0]}")
     first = subprocess.run([CC, "-print-file-name=libasan.so"], capture_output=True, text=True, check=True).stdout.strip()

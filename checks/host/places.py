@@ -177,7 +177,6 @@ def preloaded(host: Host, more: Mapping[str, str] | Iterable[tuple[str, str]] = 
     return {**words, **dict(more)}
 
 
-def sources(variable: str) -> list[pathlib.Path]:
-    """What the Makefile builds the host or the library of."""
-    (names,) = re.findall(rf"{variable} = \$\(addprefix host/,([^)]*)\)", (TOP / "Makefile").read_text())
-    return [TOP / "host" / name for name in names.split()]
+def sources(role: str) -> list[pathlib.Path]:
+    """The sources in host/ of one of the two programs, `daemon` or `preload`."""
+    return sorted([*(TOP / "host").glob("*.c"), *(TOP / "host" / role).glob("*.c")])

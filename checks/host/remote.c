@@ -1,5 +1,5 @@
 /*
- * What host/remote.c says to a host whose connections break. The host is a stand-in in a thread of its own, which loses replies and
+ * What host/preload/remote.c says to a host whose connections break. The host is a stand-in in a thread of its own, which loses replies and
  * releases on purpose and looks at what it is told afterwards. Prints "ok", or what isn't so (status 1).
  */
 #define _GNU_SOURCE
