@@ -107,7 +107,7 @@ def with_body(name: str, file: str, part: str, instead: str) -> pathlib.Path:
     """The folder of a copy of the sources with a wrong body."""
     folder = OUT / "wrong"
     shutil.rmtree(folder, ignore_errors=True)
-    for part_of in ["window", "monitor", "lib/include"]:
+    for part_of in ["window", "lib/include"]:
         shutil.copytree(TOP / part_of, folder / part_of)
     text = (folder / "window" / file).read_text()
     if text.count(part) != 1:

@@ -21,16 +21,16 @@
  * command line.
  */
 #define _GNU_SOURCE
+#include "../window/lender/clock.h"
+#include "../window/lender/domain_lender.h"
+#include "../window/lender/journal.h"
 #include "../window/window.h"
-#include "clock.h"
 #include "count.h"
+#include "failure.h"
 #include "figures.h"
 #include "guest.h"
-#include "journal.h"
-#include "lender.h"
 #include "linux.h"
 #include "looker.h"
-#include "trouble.h"
 #include "vm.h"
 #include "voices.h"
 #include <errno.h>

@@ -1,6 +1,6 @@
 #define _GNU_SOURCE
 #include "linux.h"
-#include "trouble.h"
+#include "failure.h"
 #include <asm/bootparam.h>
 #include <linux/kvm.h>
 #include <stddef.h>

@@ -1,6 +1,6 @@
 #define _GNU_SOURCE
 #include "looker.h"
-#include "clock.h"
+#include "../window/lender/clock.h"
 #include <errno.h>
 #include <signal.h>
 

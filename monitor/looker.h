@@ -2,8 +2,8 @@
 #ifndef MONITOR_LOOKER_H
 #define MONITOR_LOOKER_H
 
+#include "../window/lender/domain_lender.h"
 #include "../window/window.h"
-#include "lender.h"
 #include <pthread.h>
 #include <stdatomic.h>
 #include <stdbool.h>

@@ -3,9 +3,9 @@
  * Prints "tiny: ok" (status 0), or a line for each thing that isn't so and "tiny: WRONG" (status 1).
  */
 #define _GNU_SOURCE
+#include "../window/lender/domain_lender.h"
 #include "../window/window.h"
-#include "lender.h"
-#include "trouble.h"
+#include "failure.h"
 #include "vm.h"
 #include <stdlib.h>
 #include <string.h>

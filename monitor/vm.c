@@ -1,7 +1,7 @@
 #define _GNU_SOURCE
 #include "vm.h"
+#include "failure.h"
 #include "guest.h"
-#include "trouble.h"
 #include <elf.h>
 #include <errno.h>
 #include <fcntl.h>

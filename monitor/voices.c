@@ -1,6 +1,6 @@
 #define _GNU_SOURCE
 #include "voices.h"
-#include "clock.h"
+#include "../window/lender/clock.h"
 #include <inttypes.h>
 #include <stdio.h>
 #include <string.h>

@@ -11,9 +11,9 @@ from harness import LATE, TOP, LeftOut, StrPath, Tally, needs
 
 CC = os.environ.get("CC", "cc")
 FLAGS = "-std=c11 -O2 -g -Wall -Wextra -Wconversion -Werror -pthread".split() + os.environ.get("CFLAGS", "").split()
-# Of windows, through which idle pages are lent: their own sources, and of the monitor what lends.
+# Of windows, through which idle pages are lent: their own sources, and a lender of a domain in the same process.
 WINDOW = sorted((TOP / "window").glob("*.c"))
-LENDER = [TOP / f"monitor/{name}.c" for name in ["lender", "bus", "journal"]]
+LENDER = sorted((TOP / "window/lender").glob("*.c"))
 SECONDS = 600
 
 

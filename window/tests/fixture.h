@@ -2,7 +2,7 @@
 #ifndef PAGESHARE_WINDOW_FIXTURE_H
 #define PAGESHARE_WINDOW_FIXTURE_H
 
-#include "../../monitor/lender.h"
+#include "../lender/domain_lender.h"
 #include "check.h"
 #include <sys/mman.h>
 #include <unistd.h>

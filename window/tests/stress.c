@@ -9,7 +9,7 @@
  * Ends after so many checked writes, or so many seconds. Prints figures, and "stress: ok" (status 0) or "stress: WRONG" (1).
  */
 #define _GNU_SOURCE
-#include "../../monitor/lender.h"
+#include "../lender/domain_lender.h"
 #include "../window.h"
 #include "check.h"
 #include "ring.h"

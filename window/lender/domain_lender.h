@@ -2,10 +2,10 @@
  * Lends frames of a domain in this process to windows (window/lender.h), and gives the memory of free frames back to the system.
  * A lender is used by one thread at a time, which is the one that looks at windows.
  */
-#ifndef MONITOR_LENDER_H
-#define MONITOR_LENDER_H
+#ifndef WINDOW_DOMAIN_LENDER_H
+#define WINDOW_DOMAIN_LENDER_H
 
-#include "../window/lender.h"
+#include "../lender.h"
 #include "journal.h"
 #include "pageshare.h"
 #include <stdbool.h>

@@ -1,6 +1,6 @@
 /* How the programs here report a failure. */
-#ifndef MONITOR_TROUBLE_H
-#define MONITOR_TROUBLE_H
+#ifndef MONITOR_FAILURE_H
+#define MONITOR_FAILURE_H
 
 #include <stdbool.h>
 #include <stdio.h>

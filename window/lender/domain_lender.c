@@ -1,5 +1,5 @@
 #define _GNU_SOURCE
-#include "lender.h"
+#include "domain_lender.h"
 #include "bus.h"
 #include "clock.h"
 #include <errno.h>

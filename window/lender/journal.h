@@ -1,6 +1,6 @@
 /* A journal text of what a domain was asked, and beside it the lines that `pageshare replay` of it prints. */
-#ifndef MONITOR_JOURNAL_H
-#define MONITOR_JOURNAL_H
+#ifndef WINDOW_JOURNAL_H
+#define WINDOW_JOURNAL_H
 
 #include "pageshare.h"
 #include <stdbool.h>

@@ -1,6 +1,6 @@
 /* Clocks. */
-#ifndef MONITOR_CLOCK_H
-#define MONITOR_CLOCK_H
+#ifndef WINDOW_CLOCK_H
+#define WINDOW_CLOCK_H
 
 #include <stdint.h>
 #include <time.h>

@@ -2,8 +2,8 @@
  * Writes to a file's mapping for which the system has no memory. They raise SIGBUS, which would end the process: here the page gets
  * memory that isn't the file's, and who wrote is reported.
  */
-#ifndef MONITOR_BUS_H
-#define MONITOR_BUS_H
+#ifndef WINDOW_BUS_H
+#define WINDOW_BUS_H
 
 #include <stdbool.h>
 #include <stddef.h>
