@@ -5,15 +5,15 @@
 
 # Every proof, every test, each program, and the runs of the proved program.
 test:
-	checks/gate.py test
+	tools/gate.py test
 
 # The wrong bodies that the prover must refuse, tried over what `make test` proved.
 edits:
-	checks/gate.py edits
+	tools/gate.py edits
 
 # What isn't proved of the product, built and run over the libraries that `make test` proved: all of C, C++, Rust and packaging.
 check:
-	checks/gate.py check
+	tools/gate.py check
 
 # The processor level that `make build` and `make embed` build for: x86-64-v2, which runs everywhere, or x86-64-v3 (AVX2).
 CPU = x86-64-v2
@@ -28,10 +28,10 @@ build: out/pageshare$(SUFFIX)
 SOURCES = $(shell find crates -path '*/out' -prune -o -type f -print) crates.txt
 
 out/pageshare: $(SOURCES)
-	checks/build.py pageshare $@
+	tools/build.py pageshare $@
 
 out/pageshare-v3: $(SOURCES)
-	checks/build.py pageshare_v3 $@ --cpu x86-64-v3
+	tools/build.py pageshare_v3 $@ --cpu x86-64-v3
 
 # The program and the library for both levels, and the host with the library that monitors preload and its units, with man pages,
 # completions, headers and documents, below DESTDIR and PREFIX; `make uninstall` with the same words removes them. LIBDIR is the
@@ -54,7 +54,7 @@ package: dist
 
 # The program that plays traces of windows (docs/FORMATS.md).
 out/window_trace: $(SOURCES)
-	checks/build.py window_trace $@
+	tools/build.py window_trace $@
 
 # A first look: two guests' scans meet, a thread for each; and what sharing would reclaim of two images. The program is built once,
 # and run on each case of a folder: a file is its standard input, and NAME.args has its words.
@@ -91,10 +91,10 @@ no-thread: out/page_bench out/pageshare
 	checks/no_thread.sh out
 
 out/page_bench: $(SOURCES)
-	checks/build.py page_bench $@
+	tools/build.py page_bench $@
 
 out/page_bench-v3: $(SOURCES)
-	checks/build.py page_bench $@ --cpu x86-64-v3
+	tools/build.py page_bench $@ --cpu x86-64-v3
 
 # Outside the gate: 100,000 broken texts, each of which must get its output or one fault line (COUNT and SEED may be given).
 fuzz: out/pageshare
@@ -144,9 +144,9 @@ out/libpageshare.a out/v3/libpageshare.a: %/libpageshare.a: %/proved.a $(LIBRARY
 	lib/src/make.sh $< $(LEVEL) $(@D)
 
 out/proved.a: $(SOURCES)
-	checks/build.py pageshare_c $@
+	tools/build.py pageshare_c $@
 out/v3/proved.a: $(SOURCES)
-	checks/build.py pageshare_c $@ --cpu x86-64-v3
+	tools/build.py pageshare_c $@ --cpu x86-64-v3
 
 # Outside the gate: a host for processes of virtual machine monitors (docs/HOST.md), and the library that is preloaded into them.
 # `make host CHECK=1` (root) runs checks/host.py over them, and `make host FIGURE=1` draws what 1 to 8 guests share.
@@ -171,7 +171,7 @@ out/host/libpageshare-window.so: $(WINDOW_SOURCES) $(HOST_HEADERS)
 	$(CC) $(HOST_FLAGS) -fPIC -shared -fvisibility=hidden -Wl,-soname,$(@F) -Wl,-z,relro,-z,now -o $@ $(WINDOW_SOURCES) -ldl
 
 out/proved_host.a: $(SOURCES)
-	checks/build.py pageshare_host_c $@
+	tools/build.py pageshare_host_c $@
 
 out/libpageshare_host.a: out/proved_host.a
 	rm -f $@

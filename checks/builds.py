@@ -1,5 +1,5 @@
 #!/usr/bin/env python3
-"""Builds all of the product that isn't proved, by gcc and by clang, over the libraries that `checks/build.py --products` left.
+"""Builds all of the product that isn't proved, by gcc and by clang, over the libraries that `tools/build.py --products` left.
 
     checks/builds.py [PART ..]
 

@@ -24,7 +24,7 @@ WORD = re.compile(r"[A-Za-z_][A-Za-z0-9_]*")
 # The form of a name in code: an underscore within, two words by :: or a capital letter behind a small one.
 NAME = re.compile(r"[A-Za-z_][A-Za-z0-9_]*(?:::[A-Za-z_][A-Za-z0-9_]*)*(?:\(\))?")
 PATH = re.compile(r"(?:\.\./)*[\w.+-]+(?:/[\w.+-]+)+/?")
-FOLDERS = ("crates", "docs", "checks", "examples", "monitor", "fleet", "benches", "host", "window", "lib", "packaging", ".ci")
+FOLDERS = ("crates", "docs", "checks", "tools", "examples", "monitor", "fleet", "benches", "host", "window", "lib", "packaging", ".ci")
 # A document whose lib/ is the folder of that name in an installation.
 INSTALLED = ("docs/INSTALL.md", "lib")
 TARGET = re.compile(r"(?m)^([a-z][\w-]*):")

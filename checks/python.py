@@ -15,7 +15,10 @@ import sys
 from harness import TOP, LeftOut, Tally, needs, run
 
 # Each folder, and where its modules find each other, as the scripts there do.
-FOLDERS = {"checks": ["checks", "checks/host", "examples", "packaging"], "packaging": ["packaging"], "fleet": ["fleet"], "examples": ["examples"]}
+FOLDERS = {
+    "checks": ["checks", "checks/host", "examples", "packaging"], "tools": ["tools", "checks"], "packaging": ["packaging"], "fleet": ["fleet"],
+    "examples": ["examples"],
+}
 
 
 def by_ruff(tally: Tally, folder: str) -> None:

@@ -1,7 +1,7 @@
 """The kit's own command as a module, for the checks that prove and build.
 
 `load_kit` stands in edits.py, which is a check: its text is part of the key of each refused edit, so nothing is moved out of it.
-This module and edited.py import from it.
+This module and tools/edited.py import from it.
 """
 from __future__ import annotations
 

@@ -1,7 +1,7 @@
 #!/usr/bin/env python3
 """Counts the words of each document, and its sentences of more than 30 words.
 
-    checks/prose.py [--show] [FILE ..]
+    tools/prose.py [--show] [FILE ..]
 
 By default of each Markdown file of the tree. Code, tables' rules and the targets of links aren't counted; a cell of a table and an
 item of a list are sentences of their own. Prints a table: words, sentences, how many of them are long, which part that is, and the
@@ -15,6 +15,7 @@ import subprocess
 import sys
 from collections.abc import Iterator
 
+import checks_path  # noqa: F401
 from harness import TOP
 
 MOST = 30

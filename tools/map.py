@@ -1,8 +1,8 @@
 #!/usr/bin/env python3
 """The map of crates, crates/README.md, and the index of docs/DECISIONS.md, made of crates.txt and the crates' READMEs.
 
-    checks/map.py           writes both
-    checks/map.py --check   says whether they are current
+    tools/map.py           writes both
+    tools/map.py --check   says whether they are current
 
 A layer is a comment line of crates.txt, up to a bracket. The first line of each crate's README is '# NAME: WHAT IT DOES'. A line
 'Proved in a line: WHAT.' says what is proved of the crate; a layer in which one crate has that line needs it of each. The index
@@ -16,13 +16,14 @@ import re
 import sys
 from collections.abc import Sequence
 
+import checks_path  # noqa: F401
 from harness import TOP, close
 
 MAP = TOP / "crates/README.md"
 INTRODUCTION = """\
 # Crates
 
-`checks/map.py` writes this file from `crates.txt` and the crates' READMEs: change those, and run it again.
+`tools/map.py` writes this file from `crates.txt` and the crates' READMEs: change those, and run it again.
 
 A crate uses only the public contracts of the crates that its line in `crates.txt` names. These come before it in the tables below, \
 which are the layers from the bottom up. [ARCHITECTURE.md](../docs/ARCHITECTURE.md) shows how data flows through them.
@@ -35,7 +36,7 @@ DECISIONS = TOP / "docs/DECISIONS.md"
 INDEX = """\
 ## Index
 
-`checks/map.py` makes this table of the crates' READMEs: what the paragraphs of their section *Why it is so* begin with.
+`tools/map.py` makes this table of the crates' READMEs: what the paragraphs of their section *Why it is so* begin with.
 
 | crate | decided there |
 |---|---|
@@ -116,7 +117,7 @@ def main() -> int:
         if not is_check:
             file.write_text(due)
         elif not file.is_file() or file.read_text() != due:
-            wrong.append(f"{file.relative_to(TOP)} isn't current: run checks/map.py")
+            wrong.append(f"{file.relative_to(TOP)} isn't current: run tools/map.py")
     print("".join(f"{it}\n" for it in wrong), end="")
     if is_check:
         close(crates + 2 - len(wrong), len(wrong))

@@ -1,8 +1,8 @@
 #!/usr/bin/env python3
 """Builds programs and the libraries for C from what a gate on this machine has proved.
 
-    checks/build.py CRATE FILE [--cpu LEVEL]
-    checks/build.py --products
+    tools/build.py CRATE FILE [--cpu LEVEL]
+    tools/build.py --products
 
 First the crates below are proved, many side by side, but for what was proved of the same files: by an earlier run on this machine
 where the kit keeps that, and else in this tree, for example by `make test`. A program for x86-64-v2 is then put to FILE as it was
@@ -29,6 +29,7 @@ import typing
 from collections.abc import Iterable, Mapping, Sequence
 from typing import Any
 
+import checks_path  # noqa: F401
 from common import proved
 from common.kit import load_kit
 from common.lanes import lanes

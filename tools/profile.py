@@ -1,7 +1,7 @@
 #!/usr/bin/env python3
 """Where a crate's proof takes its time: the seconds of each function, and of each kind of module that its proof has.
 
-    checks/profile.py CRATE [--test] [--most N]
+    tools/profile.py CRATE [--test] [--most N]
 
 To be run at the repository's top after `make test`, over the libraries that it left in out/, with nothing beside it. Proves CRATE
 from nothing with one job (with --test its tests as well), and prints the N dearest functions (20 unless given), the kinds and the
@@ -22,6 +22,7 @@ import tempfile
 from collections.abc import Iterator
 from typing import Any
 
+import checks_path  # noqa: F401
 from common.kit import load_kit
 
 # A module's name: the function's path, and the kind of module.

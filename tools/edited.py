@@ -1,7 +1,7 @@
 #!/usr/bin/env python3
 """Lists the public functions that no edit makes wrong, crate by crate.
 
-    checks/edited.py [CRATE ..]
+    tools/edited.py [CRATE ..]
 
 To be run at the repository's top. Nothing is proved here. A public function with a contract has an edit if a file of crates/NAME/edits
 changes the function, or one of its crate that it calls, or one that this one calls. A law has no body: its edit changes its statement,
@@ -18,6 +18,7 @@ import re
 import sys
 from typing import Any
 
+import checks_path  # noqa: F401
 import edits
 from common.kit import load_kit
 

@@ -1,7 +1,7 @@
 #!/usr/bin/env python3
 """Proves crates and those below them, as `rt ci` does, and with --test their tests as well, which it then runs.
 
-    checks/prove.py [--test] CRATE ..
+    tools/prove.py [--test] CRATE ..
 
 --test may stand anywhere among the crates, and is meant for all of them.
 What is proved of the same files is taken as it is: from an earlier run on this machine where the kit keeps that, and else from this
@@ -15,6 +15,7 @@ import subprocess
 import sys
 from typing import Any
 
+import checks_path  # noqa: F401
 from common import proved
 from common.kit import load_kit
 from common.lanes import lanes

@@ -1,13 +1,13 @@
 #!/usr/bin/env python3
 """The gate, in three commands; and where its time goes.
 
-    checks/gate.py test [--anew]    every proof, every test and the runs of the proved program (`make test`)
-    checks/gate.py edits [--anew]   the wrong bodies that the prover must refuse, and the test of the script that tries them
-                                    (`make edits`, after `make test`)
-    checks/gate.py check            all of the product that isn't proved, built and run over the libraries that are (`make check`,
-                                    after `make test`)
-    checks/gate.py sum              the ten dearest steps of all three, and how much passed and failed in them
-    checks/gate.py                  the ten dearest steps of all three, and the sums by kind
+    tools/gate.py test [--anew]    every proof, every test and the runs of the proved program (`make test`)
+    tools/gate.py edits [--anew]   the wrong bodies that the prover must refuse, and the test of the script that tries them
+                                   (`make edits`, after `make test`)
+    tools/gate.py check            all of the product that isn't proved, built and run over the libraries that are (`make check`,
+                                   after `make test`)
+    tools/gate.py sum              the ten dearest steps of all three, and how much passed and failed in them
+    tools/gate.py                  the ten dearest steps of all three, and the sums by kind
 
 A command runs all its steps even where one fails, and exits with status 1 where any does. On a terminal it redraws one line that
 shows how far it is; elsewhere it prints a line for each crate. What failed is printed at the end, each with the command that
@@ -43,6 +43,7 @@ import typing
 from collections.abc import Mapping, Sequence
 from typing import TextIO
 
+import checks_path  # noqa: F401
 from common import proved
 from common.kit import load_kit
 from common.lanes import lanes
@@ -71,12 +72,12 @@ COMMANDS = {
         Work("documents", ["checks/names.py"]),
         Work("limits", ["checks/limits.py"]),
         Work("structs of C", ["checks/structs.py"]),
-        Work("map of crates", ["checks/map.py", "--check"]),
+        Work("map of crates", ["tools/map.py", "--check"]),
     ],
     "edits": [Work("edits' test", ["checks/edits_test.py"]), Work("edits", ["checks/edits.py"], takes_anew=True)],
     # (the proofs below come from `make test`; alone this step may take as long as that)
     "check": [
-        Work("libraries", ["checks/build.py", "--products"]),
+        Work("libraries", ["tools/build.py", "--products"]),
         Work("builds", ["checks/builds.py"], seconds=1200),
         Work("library", ["checks/embed.sh", LIBRARY], seconds=1200),
         Work("journals", ["checks/embed.py", "100"], seconds=600),
@@ -216,7 +217,7 @@ class Progress:
         lines: list[str] = []
         for name in dict.fromkeys(found[0] for found in (re.match(r"\w+", it) for it in self.wrong) if found):
             lines += [f"-- {it}" for it in self.sections.get(name, [])[-30:]] if self.name == "rt ci" else []
-            lines.append(f"FAILED: {name}: repeat it by `checks/{'prove.py' if self.name == 'rt ci' else 'edits.py'} {name}`")
+            lines.append(f"FAILED: {name}: repeat it by `{'tools/prove.py' if self.name == 'rt ci' else 'checks/edits.py'} {name}`")
         return lines or [f"-- {it}" for it in self.last] + [f"FAILED: {self.name}: repeat it by `{' '.join(words)}`"]
 
 
