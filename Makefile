@@ -110,14 +110,14 @@ soak: out/pageshare
 
 # Outside the gate: a replay's time grows with the number of its hints and no faster. Nothing else may run meanwhile.
 hints: out/pageshare
-	checks/hints.py
+	benches/hints.py
 
 # Outside the gate: the proved programs beside plain Rust, in one table; status 1 where a ratio is above its goal. CRATES may name
 # a folder with the sources of the opponents' crates. Builds for x86-64-v3 that are in out/ (`make bench-v3` makes them) are timed
 # as well, beside opponents built for it. Nothing else may run meanwhile.
 bench: out/pageshare out/page_bench
-	checks/bench.py --table out/bench.tsv $(if $(CRATES),--crates $(CRATES))
-	checks/plots.py out/bench.tsv out
+	benches/bench.py --table out/bench.tsv $(if $(CRATES),--crates $(CRATES))
+	benches/plots.py out/bench.tsv out
 
 bench-v3: out/pageshare-v3 out/page_bench-v3 bench
 
@@ -149,10 +149,10 @@ out/v3/proved.a: $(SOURCES)
 	tools/build.py pageshare_c $@ --cpu x86-64-v3
 
 # Outside the gate: a host for processes of virtual machine monitors (docs/HOST.md), and the library that is preloaded into them.
-# `make host CHECK=1` (root) runs checks/host.py over them, and `make host FIGURE=1` draws what 1 to 8 guests share.
+# `make host CHECK=1` (root) runs checks/host.py and benches/host.py over them, and FIGURE=1 draws what 1 to 8 guests share.
 host: $(HOST_PRODUCTS)
-	$(if $(CHECK),checks/host.py)
-	$(if $(FIGURE),checks/host.py figure)
+	$(if $(CHECK),checks/host.py && benches/host.py)
+	$(if $(FIGURE),benches/host.py figure)
 
 # (HOST_LIBRARY names another library than the proved one)
 HOST_LIBRARY = out/libpageshare_host.a

@@ -147,7 +147,7 @@ def benches(tally: Tally) -> None:
 def benches_in_c(tally: Tally) -> None:
     needs("the benchmarks in C", "cc")
     library = OUT / "libpageshare.a"
-    for file in files_of("benches/*.c"):
+    for file in files_of(":(glob)benches/*.c"):
         name = pathlib.Path(file).stem
         flags = ["-pthread", "-Wall", "-Wextra", "-Wconversion", "-Werror"]
         built(tally, f"{file}, linked", functools.partial(built_in_c, name, library, *flags))
@@ -156,7 +156,7 @@ def benches_in_c(tally: Tally) -> None:
 def benches_in_rust(tally: Tally) -> None:
     needs("the benchmarks in Rust", "rustc")
     in_package = (TOP / "benches/Cargo.toml").read_text()
-    for file in files_of("benches/*.rs"):
+    for file in files_of(":(glob)benches/*.rs"):
         name = pathlib.Path(file).stem
         if f'"{name}.rs"' not in in_package and (TOP / f"benches/{name}.c").exists() or name == "lend":
             built(tally, f"{file}, built", functools.partial(built_in_rust, name))

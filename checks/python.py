@@ -16,7 +16,8 @@ from harness import TOP, LeftOut, Tally, needs, run
 
 # Each folder, and where its modules find each other, as the scripts there do.
 FOLDERS = {
-    "checks": ["checks", "checks/host", "examples", "packaging"], "tools": ["tools", "checks"], "packaging": ["packaging"], "fleet": ["fleet"],
+    "checks": ["checks", "checks/host", "examples", "packaging"], "tools": ["tools", "checks"],
+    "benches": ["benches", "benches/host", "checks", "checks/host"], "packaging": ["packaging"], "fleet": ["fleet"],
     "examples": ["examples"],
 }
 

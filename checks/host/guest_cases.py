@@ -6,10 +6,9 @@ import signal
 import subprocess
 import time
 
-from measures import GUESTS
 from places import AS_NOBODY, HERE, Host, LeftOut, all_released, must, until
 from qemu_guests import read
-from running_guests import go_on, guest, guests, lent, right, settle, show
+from running_guests import GUESTS, go_on, guest, guests, lent, right, settle, show
 
 
 def case_ends() -> None:

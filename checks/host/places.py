@@ -163,11 +163,11 @@ class Here:
 HERE = Here()
 
 
-def compile_c(name: str) -> pathlib.Path:
+def compile_c(name: str, folder: str = "checks/host") -> pathlib.Path:
     """Compiles a program to a place from which any user can run it."""
     HERE.place.started.append(types.SimpleNamespace(kill=lambda: None))
     program = HERE.place.room / name
-    if subprocess.run([CC, *FLAGS, "-o", program, TOP / f"checks/host/{name}.c"]).returncode != 0:
+    if subprocess.run([CC, *FLAGS, "-o", program, TOP / folder / f"{name}.c"]).returncode != 0:
         raise Wrong(f"{name}.c doesn't compile")
     return program
 

@@ -1,11 +1,14 @@
 """Guests that run beside a host: they start, share, work on, and have read no wrong byte."""
 from __future__ import annotations
 
+import os
 from collections.abc import Iterable, Sequence
 from typing import Any
 
 from places import AS_NOBODY, HERE, Host, must, until
 from qemu_guests import PAGE, Guest, read
+
+GUESTS = int(os.environ.get("GUESTS", "3"))
 
 
 def guest(number: int, host: Any = None, **more: Any) -> Guest:

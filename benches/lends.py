@@ -3,7 +3,7 @@
 plain Rust with a map from a 64-bit hash to frames (benches/lend.rs), and how many the kernel's KSM merges a second, of the same
 pages, where this machine has it and may write to its settings. These are put back, whatever happens.
 
-    checks/lends.py [LIBRARY]
+    benches/lends.py [LIBRARY]
 
 LIBRARY is libpageshare.a, by default out/libpageshare.a. Needs cc and rustc.
 """
@@ -13,9 +13,10 @@ import argparse
 import pathlib
 import sys
 
+import checks_path  # noqa: F401
 from common.benches import built_in_c, built_in_rust, must
-from common.ksm import merged_a_second
 from harness import OUT
+from ksm import merged_a_second
 
 
 def main() -> int:

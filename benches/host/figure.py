@@ -4,7 +4,7 @@ from __future__ import annotations
 import pathlib
 from collections.abc import Sequence
 
-from common.charts import DASHED, HEIGHT, Chart
+from charts import DASHED, HEIGHT, Chart
 
 # Of some guests: their work, how many they are, and which parts are shared, reclaimed and zeros, in percent.
 Row = tuple[str, int, float, float, float]

@@ -14,12 +14,11 @@ from typing import Any
 import figure as figures
 from places import AS_NOBODY, HERE, OUT, Host, LeftOut, compile_c, must, preloaded
 from qemu_guests import PAGE, Guest, distinct, read
-from running_guests import guest, guests, right, show
+from running_guests import GUESTS, guest, guests, right, show
 
 KSM = pathlib.Path("/sys/kernel/mm/ksm")
 # How much the guests hold, in pages, after so many seconds.
 Series = list[tuple[float, int]]
-GUESTS = int(os.environ.get("GUESTS", "3"))
 
 
 def held(made: Sequence[Guest], host: Host | None) -> int:
@@ -188,7 +187,7 @@ def case_holds() -> None:
 
 def case_price() -> None:
     """The price of the first write to a shared page: lent, merged by KSM, and its own."""
-    program, host = compile_c("price"), Host(memory="256M")
+    program, host = compile_c("price", "benches/host"), Host(memory="256M")
     counts = HERE.place.room / "price.json"
     lines = []
     more = {"PAGESHARE_PERIOD_MS": "200", "PAGESHARE_COUNTS": str(counts)}

@@ -1,7 +1,7 @@
 #!/usr/bin/env python3
 """Times the proved programs beside plain Rust, in turns, and prints one table.
 
-    checks/bench.py [--crates FOLDER] [--turns N] [--quick] [--only WORD] [--table FILE] [--instructions]
+    benches/bench.py [--crates FOLDER] [--turns N] [--quick] [--only WORD] [--table FILE] [--instructions]
 
 The proved programs are those in out/: pageshare (`make build`) and page_bench (`make out/page_bench`).
 Where their builds for x86-64-v3 are there too (`make bench-v3`) and the processor is of that level, replays, hashes and runs are
@@ -14,7 +14,7 @@ hand the table says so, and shows our side alone. Standard library only; nothing
 
 Each measure is made in turns, ours and theirs, --turns times; the table has the least and the middle of each, and the
 ratio of the least ones. The last lines name each ratio above its goal, and the status is then 1. --table writes the
-table as lines of words parted by tabs, from which checks/plots.py draws docs/*.svg.
+table as lines of words parted by tabs, from which benches/plots.py draws docs/*.svg.
 """
 from __future__ import annotations
 
@@ -32,6 +32,7 @@ import time
 from collections.abc import Callable, Iterable, Iterator, Mapping, Sequence
 from typing import Any, TypeVar, Union
 
+import checks_path  # noqa: F401
 from common.benches import ROOM, different, journal, output, scanned, seconds
 from harness import OUT, TOP, StrPath
 

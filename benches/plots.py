@@ -1,7 +1,7 @@
 #!/usr/bin/env python3
-"""Draws growth.svg, rates.svg and plain-rates.svg from the table that `checks/bench.py --table FILE` wrote.
+"""Draws growth.svg, rates.svg and plain-rates.svg from the table that `benches/bench.py --table FILE` wrote.
 
-    checks/plots.py FILE [FOLDER]
+    benches/plots.py FILE [FOLDER]
 
 The first shows a replay's time against its number of requests, the others how many requests a second whole runs serve against
 their number of guests: with a proposal in 16, and of stores and loads alone. All axes are by logarithms. FOLDER is docs/ where
@@ -15,7 +15,7 @@ import os
 import re
 from collections.abc import Sequence
 
-from common.charts import DASHED, HEIGHT, Chart, Point
+from charts import DASHED, HEIGHT, Chart, Point
 
 DOCS = os.path.join(os.path.dirname(os.path.dirname(os.path.abspath(__file__))), "docs")
 MIXES = {

@@ -1,7 +1,7 @@
 #!/usr/bin/env python3
 """Looks that the time of a replay grows with the number of its hints and no faster.
 
-    checks/hints.py [--program FILE] [--few N] [--times N] [--turns N]
+    benches/hints.py [--program FILE] [--few N] [--times N] [--turns N]
 
 A journal of --few hints (by default 10,000) stores to as many pages, each with a content of its own, and proposes each once;
 another has --times as many (4). Both are replayed --turns times (9), in turns, by out/pageshare (`make build`) or another
@@ -16,6 +16,7 @@ import argparse
 import pathlib
 import sys
 
+import checks_path  # noqa: F401
 from common.benches import ROOM, different, journal, output, scanned, seconds
 from harness import PROGRAM
 

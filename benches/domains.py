@@ -3,7 +3,7 @@
 (benches/domain.c); beside them plain Rust with std's map from pages to frames (benches/domain.rs), and how many pages the kernel's
 KSM merges a second where it may be asked.
 
-    checks/domains.py [LIBRARY]
+    benches/domains.py [LIBRARY]
 
 LIBRARY is libpageshare.a, by default out/libpageshare.a. Needs cc and rustc. Nothing else may run meanwhile.
 """
@@ -13,9 +13,10 @@ import argparse
 import pathlib
 import sys
 
+import checks_path  # noqa: F401
 from common.benches import built_in_c, built_in_rust, must
-from common.ksm import merged_a_second
 from harness import OUT
+from ksm import merged_a_second
 
 
 def main() -> int:
