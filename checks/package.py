@@ -39,9 +39,9 @@ from collections.abc import Callable, Iterable, Mapping, Sequence
 import harness
 from harness import OUT, TOP, LeftOut, StrPath, Tally, needs, new_folder
 
-ROWS = TOP / "examples/rows"
+ROWS = TOP / "checks/rows"
 ESTIMATE = ["estimate", "--json", "--salts", "0,0,5", "first.raw", "second.core", "first.raw"]
-# What examples/rows/images.estimate has of these images.
+# What checks/rows/images.estimate has of these images.
 TOTAL = {"pages": 17, "zero": 6, "shared": 14, "frames": 9, "reclaimed": 8}
 PLAIN = {"PATH": "/usr/bin:/bin", "HOME": "/nonexistent", "LC_ALL": "C.UTF-8"}
 HAS_V3 = "avx2" in pathlib.Path("/proc/cpuinfo").read_text().split()

@@ -53,8 +53,8 @@ Description: QEMU processes share equal pages of their guests' memory
  need to know of both. The monitors are not modified and need no privilege.
 """),
 }
-# Of the files in packaging/debian: what dpkg runs, and what lintian finds and is meant to be so.
-SCRIPTS, OVERRIDES = (".preinst", ".postinst", ".prerm", ".postrm"), ".lintian-overrides"
+# Of the files in packaging/debian: what dpkg runs.
+SCRIPTS = (".preinst", ".postinst", ".prerm", ".postrm")
 CONTROL = """\
 Package: {name}
 Version: {version}
@@ -175,9 +175,8 @@ def write_control(room: pathlib.Path, part: str) -> None:
     (control / "md5sums").write_text(sums)
     (control / "triggers").write_text("activate-noawait ldconfig\n")
     for file in sorted((TOP / "packaging/debian").glob(f"{name}.*")):
-        if file.suffix != OVERRIDES:
-            shutil.copyfile(file, control / file.suffix[1:])
-            (control / file.suffix[1:]).chmod(0o755 if file.suffix in SCRIPTS else 0o644)
+        shutil.copyfile(file, control / file.suffix[1:])
+        (control / file.suffix[1:]).chmod(0o755 if file.suffix in SCRIPTS else 0o644)
 
 
 def fill_debian(room: pathlib.Path, part: str) -> None:
@@ -187,10 +186,6 @@ def fill_debian(room: pathlib.Path, part: str) -> None:
     documents = tree / "share/doc" / name
     for licence in documents.glob("LICENSE-*"):
         licence.unlink()
-    overrides = TOP / f"packaging/debian/{name}{OVERRIDES}"
-    if overrides.is_file():
-        (tree / "share/lintian/overrides").mkdir(parents=True)
-        shutil.copyfile(overrides, tree / "share/lintian/overrides" / name)
     pack_manuals(tree / "share/man")
     write_notes(documents, name)
     if part == "host":

@@ -43,7 +43,7 @@ def numbers(subject: Subject, folder: pathlib.Path) -> None:
 
 
 def tables(subject: Subject) -> None:
-    """The worked table of examples/rows, in both units."""
+    """The worked table of checks/rows, in both units."""
     in_pages = [*SALTED, "--unit", "pages"]
     subject.writes("estimate of images.estimate-pages", in_pages, read("images.estimate-pages"), cwd=ROWS)
     subject.writes("estimate of images.estimate", SALTED, read("images.estimate"), cwd=ROWS)

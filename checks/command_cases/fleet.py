@@ -52,7 +52,7 @@ def digests_of_images(subject: Subject, folder: pathlib.Path) -> list[str]:
 
 
 def tables(subject: Subject, folder: pathlib.Path) -> None:
-    """The worked tables and objects of examples/rows."""
+    """The worked tables and objects of checks/rows."""
     subject.writes("fleet of images.fleet", ["fleet", *digests_of_images(subject, folder)], read("images.fleet"))
     sampled = ["fleet", "sampled-web.digest", "sampled-database.digest"]
     subject.writes("fleet of sampled.fleet", sampled, read("sampled.fleet"), cwd=ROWS)

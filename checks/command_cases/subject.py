@@ -11,7 +11,7 @@ from typing import Any
 from harness import ANY, TOP, Done, Due, Status, Tally, run
 
 EXAMPLES = TOP / "examples"
-ROWS = EXAMPLES / "rows"
+ROWS = TOP / "checks/rows"
 SECONDS = 60
 # What the system says of a path.
 MISSING = "No such file or directory (os error 2)"
@@ -32,7 +32,7 @@ def set_limits(limits: Limits) -> None:
 
 
 def read(name: str) -> str:
-    """A file of examples/rows: a worked text, or what is due of one."""
+    """A file of checks/rows: a worked text, or what is due of one."""
     return (ROWS / name).read_text()
 
 

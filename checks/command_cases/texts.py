@@ -11,7 +11,7 @@ import pathlib
 import resource
 from collections.abc import Sequence
 
-from command_cases.subject import EXAMPLES, LITTLE, MISSING, Subject, is_clean, read
+from command_cases.subject import EXAMPLES, LITTLE, MISSING, ROWS, Subject, is_clean, read
 from common import faults
 from common.script_runs import Differs, by_guest, look, requests_of
 from harness import Due
@@ -27,7 +27,7 @@ NOTHING = "mapped 0 shared 0 frames 0 reclaimed 0 hints 0\n"
 
 def worked(ending: str) -> list[pathlib.Path]:
     """The worked texts of one kind."""
-    return sorted(EXAMPLES.glob(f"**/*.{ending}"))
+    return sorted([*EXAMPLES.glob(f"*.{ending}"), *ROWS.glob(f"*.{ending}")])
 
 
 def wanted(path: pathlib.Path, command: str) -> str | None:
