@@ -6,6 +6,7 @@
 A script that looks for wrong bodies can be wrong itself: it might tell of a refusal where there is none. So the crate has edits
 that must be told as refused, as not refused, and as bad ones. Prints what went wrong, and 'N passed, M failed'.
 """
+import argparse
 import os
 import re
 import secrets
@@ -148,6 +149,7 @@ def looked_at(text, edits, old, *words, checks=None):
 
 
 def main():
+    argparse.ArgumentParser(description=__doc__.splitlines()[0]).parse_args()
     # (the second run may take what the first one kept, if this machine keeps anything; the third is of a crate that is new to it)
     wrong = looked_at(CRATE, EDITS, 0, "--anew")
     keeps = os.path.isdir(getattr(load_kit(), "STORE", ""))

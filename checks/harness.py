@@ -45,7 +45,7 @@ PACKAGES = {
     "cc": "gcc", "c++": "g++", "gcc": "gcc", "g++": "g++", "clang": "clang", "clang++": "clang", "ar": "binutils", "nm": "binutils",
     "cargo": "cargo", "rustc": "rustc", "valgrind": "valgrind", "pkg-config": "pkg-config", "mandoc": "mandoc", "man": "man-db",
     "zsh": "zsh", "fish": "fish", "qemu-x86_64": "qemu-user", "qemu-system-x86_64": "qemu-system-x86", "qemu-img": "qemu-utils",
-    "busybox": "busybox-static", "setpriv": "util-linux", "promtool": "prometheus", "systemd-analyze": "systemd", "mypy": "mypy",
+    "busybox": "busybox-static", "setpriv": "util-linux", "promtool": "prometheus", "systemd-analyze": "systemd", "mypy": "mypy", "flake8": "flake8",
     "mmdebstrap": "mmdebstrap", "systemd-nspawn": "systemd-container", "dpkg-deb": "dpkg",
 }
 # How much of a long text is shown, and how much of that comes before the first difference.

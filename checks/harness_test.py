@@ -9,6 +9,7 @@ checks/common/proved.py gets crates that changed since they were proved. Prints 
 """
 from __future__ import annotations
 
+import argparse
 import contextlib
 import io
 import os
@@ -216,6 +217,7 @@ def notes(plain: Plain) -> None:
 
 
 def main() -> int:
+    argparse.ArgumentParser(description=__doc__.splitlines()[0]).parse_args()
     plain = Plain()
     for part in (right_ones, wrong_ones, closing_lines, left_out, readable, folders, notes):
         part(plain)

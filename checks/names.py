@@ -11,6 +11,7 @@ last 'N passed, M failed' (status 0 where M is 0, else 1).
 """
 from __future__ import annotations
 
+import argparse
 import re
 import subprocess
 import sys
@@ -94,6 +95,7 @@ def looked_at(file: str, text: str, words: Container[str], targets: Container[st
 
 
 def main() -> int:
+    argparse.ArgumentParser(description=__doc__.splitlines()[0]).parse_args()
     files = documents()
     words = {*FOLDERS}
     for file in files:

@@ -9,6 +9,7 @@ and last 'N passed, M failed'.
 """
 from __future__ import annotations
 
+import argparse
 import re
 import sys
 
@@ -43,6 +44,7 @@ def structs_of_c() -> dict[str, list[tuple[str, str]]]:
 
 
 def main() -> int:
+    argparse.ArgumentParser(description=__doc__.splitlines()[0]).parse_args()
     tally, due = Tally(), structs_of_c()
     for folder, suffix in FOLDERS.items():
         for file in sorted((TOP / folder).rglob(f"*.{suffix}")):
