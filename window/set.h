@@ -32,7 +32,7 @@ static const uint32_t ZEROS = WINDOW_NO_FRAME - 1;
  */
 struct __attribute__((packed)) page {
     uint64_t kept;       /* the slot, if it holds one; otherwise its fingerprint when it was read last, where `looks` isn't 0 */
-    uint32_t frame : 26; /* that is mapped at its place */
+    uint32_t frame : 26; /* that is mapped at its place; where none is, what a glance at it found when it was read last */
     uint32_t over : 1;   /* a frame is mapped at its place; the page is that frame or a private copy */
     uint32_t shows : 1;  /* as far as is known it is the frame */
     uint32_t holds : 1;  /* the lender counts the slot */
@@ -41,7 +41,6 @@ struct __attribute__((packed)) page {
     uint32_t zero : 1;   /* it was given back as zeros, and has no memory since */
     uint8_t looks : 2;   /* looks with that fingerprint, at most STILL */
     uint8_t asks : 2;   /* how often it was asked about in vain; or, where `looks` is 1, changed again. At most ASKS_APART_MOST */
-    uint8_t unread : 1; /* it was asked about by what is kept, so the next time it is read */
     uint8_t seen : 1;   /* it counts among its part's `shareable` */
     uint8_t moved : 1;  /* its memory was moved to its place, and so is in no mapping with what is beside it */
     uint8_t begins : 1; /* it is the first page of what was moved */
