@@ -206,6 +206,7 @@ static void find_in_part(struct window *window, size_t first, size_t count, stru
         return;
     }
     for (size_t i = 0; i < count; i++) own += found[i] != PAGE_NONE ? 1 : 0;
+    note_huge(window, first, is_huge && windows->pagemap.scans && part_of(window, first)->whole);
     settle_part(window, first, own, is_huge);
     for (size_t i = 0; i < count && windows->stuck_count == 0; i++) {
         if (i + AHEAD < count && found[i + AHEAD] == PAGE_PRESENT) fetch(window, first + i + AHEAD);

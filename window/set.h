@@ -60,6 +60,7 @@ struct part {
     uint8_t alone; /* looks in a row that found nearly all pages of a split part with memory of their own */
     uint8_t pause; /* looks at it until it may be split, or become whole, again */
     bool whole;
+    bool is_huge;  /* it is whole, and was a huge page when it was looked at last */
     bool is_still; /* nothing at all had changed there when it was looked at last */
 };
 
@@ -245,6 +246,8 @@ struct window_result for_parts(struct window *window, size_t first, size_t count
 int begin_parts(struct window *window);
 /* Counts a window's parts, or counts them no more. With the lock. */
 void count_parts(struct window *window, bool is_more);
+/* Notes whether a part is a huge page. With the lock. */
+void note_huge(struct window *window, size_t first, bool is_huge);
 /* Splits a whole part, or makes a split one whole, where that is worth it by what a look has found of it. With the lock. */
 void settle_part(struct window *window, size_t first, size_t own, bool is_huge);
 

@@ -12,7 +12,7 @@ from typing import Any, Sequence
 from places import AS_NOBODY, CC, FLAGS, HERE, OUT, TOP, Host, compile_c, must, preloaded
 from qemu_guests import read
 
-PAGE, SPARES, PRELOAD = 4096, 2000, TOP / "host"
+PAGE, SPARES, PRELOAD = 4096, 2000, TOP / "host/preload"
 LIMIT = int(read("/proc/sys/vm/max_map_count") or 65530)
 
 
@@ -148,6 +148,8 @@ def case_size() -> None:
             rows, state = run_size([mib, max(256, mib // 4)], [kind] * 2, seconds, is_huge)
             show(name, rows, state)
             must(all(it["lends"] > 0 for it in rows), f"nothing was lent: {rows}")
+            for it in state["processes"]:
+                must(it["client_mappings"] > 0 and it["client_parts_whole"] + it["client_parts_split"] >= is_huge, f"a status: {it}")
             if is_huge:
                 huge_pages_stay(rows)
             table[name] = {"rows": rows, "host": state, "alone": alone}
@@ -179,6 +181,6 @@ def case_late() -> None:
 def case_paced() -> None:
     """The library's thread works for nearly all of its processor time where naps themselves take time, by clocks that a program sets."""
     program = HERE.place.room / "paced"
-    words = [CC, *FLAGS, f"-I{PRELOAD}", f"-I{TOP / 'window'}", "-Wl,--wrap=clock_gettime", "-o", program, TOP / "checks/host/paced.c", PRELOAD / "budget.c"]
+    words = [CC, *FLAGS, f"-I{PRELOAD}", f"-I{TOP / 'host'}", f"-I{TOP / 'window'}", f"-I{TOP / 'lib/include'}", "-Wl,--wrap=clock_gettime", "-o", program, TOP / "checks/host/paced.c", PRELOAD / "budget.c"]
     must(subprocess.run(words).returncode == 0, "paced.c doesn't compile")
     must(subprocess.run([program]).returncode == 0, "the thread works for too little of its time, or too long")
