@@ -7,11 +7,11 @@
 
 enum {
     READY_PARTS = 64,   /* parts of which a look says MADV_UNMERGEABLE at most, while KSM has merged something */
-    WHOLE_TURNS = 4,    /* how much more seldom a page of a whole part is read and asked about again */
+    WHOLE_TURNS = 2,    /* how much more seldom a page of a whole part is read and asked about again */
     CALM_PART = 64,     /* a part is calm where at most a so many-th of its pages with memory of their own has changed */
     LIMIT_EACH = 16,    /* looks until the system's limit of mappings is read again */
     LEFT_OUT_EACH = 64, /* parts that are left out, until the pace is kept */
-    READ_EACH = 8,      /* of so many times that a page is asked about again, it is read once, where glances find most changes; */
+    READ_EACH = 16,     /* of so many times that a page is asked about again, it is read once, where glances find most changes; */
     READ_EACH_OVER = 2, /* and where they can't, since its memory lies over a frame */
     AHEAD = 12          /* pages that are fetched while another one is glanced at */
 };
@@ -45,7 +45,7 @@ static uint64_t looks_apart(const struct window *window, const struct page *page
     uint64_t apart = 1u << page->asks, turns = window->windows->tuning.turns, taken = part->rest + 1u;
     if (page->asks == 0 || page->looks == 0) return 1;
     if (page->looks == STILL && page->asks == ASKS_APART_MOST) {
-        if (turns > apart) apart = turns;
+        if (turns > 0) apart = turns;
         if (part->whole) apart *= WHOLE_TURNS;
     }
     return apart > taken ? apart / taken : 1;

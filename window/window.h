@@ -80,7 +80,7 @@ struct windows_tuning {
     uint16_t huge_from;
     /* A part where next to nothing changes is left out of up to so many looks, 1, 3, 7 and so on; 0: of none. */
     uint8_t rest_most;
-    /* A page that nobody else has is read and asked about again at each so many-th look; less than 8: at each 8th. */
+    /* A page that nobody else has is read and asked about again at each so many-th look; 0: at each 8th. */
     uint16_t turns;
 };
 

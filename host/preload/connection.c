@@ -30,9 +30,9 @@ enum {
     CPU_PERCENT = 2,  /* of one processor, which the thread may use where nobody says; and for what is new */
     BURST_PERCENT = 25,
     HUGE_FROM = 64,  /* pages of a huge page that could be shared, until which it stays whole */
-    TURNS_LEAST = 8, /* looks until a page that nobody else has is asked about again, where looks are short; and at most */
+    TURNS_LEAST = 4, /* looks until a page that nobody else has is asked about again, where looks are short; and at most */
     TURNS_MOST = 512,
-    AGAIN_NS = 600, /* processor time that asking about a page again takes, about */
+    AGAIN_NS = 250, /* processor time that asking about a page again takes, about */
     REST_MOST = 7,  /* looks that leave out a part of a window where nothing changes */
     /* processor time that may be used at the burst's rate: for each page of a new window or beside a new host, for one that is new in its
      * window, and for one that was lent or given back */
