@@ -32,7 +32,8 @@ static atomic_bool over;
 static uint64_t times[TIMES], worst_ns, accesses; /* how many accesses took less than 2^i ns, and not less than half of it */
 static bool *is_late;                             /* of each page */
 static uint64_t late[LATE];                       /* the pages that become the same late */
-static double late_half_s = -1, late_95_s = -1;   /* how long it took until so many of them were lent; -1: that didn't come */
+static double late_s = -1, late_half_s = -1,
+              late_95_s = -1; /* when they did, and when so many of them were lent; -1: that didn't come */
 
 static uint64_t clock_ns(clockid_t clock) {
     struct timespec now;
@@ -145,12 +146,12 @@ static void *be_late(void *unused) {
         contents[late[i]] = UINT64_C(7000000000000) + i;
         fill(at_page(late[i]), contents[late[i]]);
     }
-    begun = clock_ns(CLOCK_MONOTONIC);
+    late_s = (double)clock_ns(CLOCK_MONOTONIC) / 1e9;
     while (late_95_s < 0 && !atomic_load(&over)) {
-        double seconds = (double)(clock_ns(CLOCK_MONOTONIC) - begun) / 1e9;
+        double now_s = (double)clock_ns(CLOCK_MONOTONIC) / 1e9;
         unsigned count = count_late(pagemap);
-        if (late_half_s < 0 && count >= LATE / 2) late_half_s = seconds;
-        if (count >= LATE * 95 / 100) late_95_s = seconds;
+        if (late_half_s < 0 && count >= LATE / 2) late_half_s = now_s;
+        if (count >= LATE * 95 / 100) late_95_s = now_s;
         usleep(100000);
     }
     return unused;
@@ -299,7 +300,7 @@ int main(int count, char **given) {
     double last_ns = read_at_random();
     uint64_t wrong = count_wrong();
     printf("{");
-    show("late_half_s", late_half_s), show("late_95_s", late_95_s);
+    show("late_s", late_s), show("late_half_s", late_half_s), show("late_95_s", late_95_s);
     printf(
         "\"read_first_ns\":%.1f,\"read_last_ns\":%.1f,\"huge_first_kib\":%ld,\"huge_last_kib\":%ld,\"other_huge_first_kib\":%ld,"
         "\"other_huge_last_kib\":%ld,\"mappings\":%ld,\"spare_mappings\":%u,\"accesses\":%lu,\"bound_10000_ns\":%lu,\"worst_ns\":"

@@ -172,7 +172,8 @@ def case_late() -> None:
     mib = int(os.environ.get("SIZES", "1024"))
     rows, state = run_size([mib, max(256, mib // 2 if mib < 4096 else mib // 4)], [LATER, FIRST], LATE_AT + 75, memory="1G", lent="4G")
     show("late", rows, state)
-    for row, since in zip(rows, (0, LATE_AT - 1)):
+    since = max(row["late_s"] for row in rows)
+    for row in rows:
         times = [row[name] - since if row[name] >= 0 else float("inf") for name in ("late_half_s", "late_95_s")]
         print(f"  {row['mib']} MiB: half of the pages that became equal late were shared {times[0]:.1f} s later, 95 % {times[1]:.1f} s")
         must(times[0] < float("inf"), f"they weren't shared: {row}")
