@@ -48,4 +48,17 @@ static inline uint64_t fingerprint_of(uint32_t salt, const uint8_t *page) {
     return state;
 }
 
+/* A glance at a page: some bits of 64 bytes in a row, whose place follows from the page's fingerprint. Much cheaper than reading it. */
+enum { GLANCE_WORDS = 8, GLANCE_BITS = 26 };
+
+static inline size_t glance_place(uint64_t fingerprint) { return fingerprint % (WORDS / GLANCE_WORDS) * GLANCE_WORDS; }
+
+static inline uint32_t glance_at(uint64_t fingerprint, const uint8_t *page) {
+    size_t place = glance_place(fingerprint);
+    uint64_t state = fingerprint;
+    for (size_t i = 0; i < GLANCE_WORDS; i += 2)
+        state = folded_product(word_of(page, place + i) ^ state, word_of(page, place + i + 1) ^ 0x9e3779b97f4a7c15u);
+    return (uint32_t)(state >> (64 - GLANCE_BITS));
+}
+
 #endif

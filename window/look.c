@@ -6,11 +6,14 @@
 #include <sys/mman.h>
 
 enum {
-    READY_PARTS = 64,  /* parts of which a look says MADV_UNMERGEABLE at most, while KSM has merged something */
-    WHOLE_TURNS = 4,   /* how much more seldom a page of a whole part is read and asked about again */
-    CALM_PART = 64,    /* a part is calm where at most a so many-th of its pages with memory of their own has changed */
-    LIMIT_EACH = 16,   /* looks until the system's limit of mappings is read again */
-    LEFT_OUT_EACH = 64 /* parts that are left out, until the pace is kept */
+    READY_PARTS = 64,   /* parts of which a look says MADV_UNMERGEABLE at most, while KSM has merged something */
+    WHOLE_TURNS = 2,    /* how much more seldom a page of a whole part is read and asked about again */
+    CALM_PART = 64,     /* a part is calm where at most a so many-th of its pages with memory of their own has changed */
+    LIMIT_EACH = 16,    /* looks until the system's limit of mappings is read again */
+    LEFT_OUT_EACH = 64, /* parts that are left out, until the pace is kept */
+    READ_EACH = 16,     /* of so many times that a page is asked about again, it is read once, where glances find most changes; */
+    READ_EACH_OVER = 2, /* and where they can't, since its memory lies over a frame */
+    AHEAD = 12          /* pages that are fetched while another one is glanced at */
 };
 /* Between two times that the pace is kept, of processor time; and that a look attends to what may not wait for its end, by the clock. */
 static const uint64_t pace_ns = 400000, attend_ns = 1000000000;
@@ -37,20 +40,27 @@ static void find_copy(struct window *window, size_t number) {
     stop_showing(window, number);
 }
 
-/*
- * Whether it isn't this look's turn to ask about a page that nobody else had before, or to read one that changes always. Looks that left its
- * part out count. Pages of whole parts come more seldom: next to none of them can be lent.
- */
-static bool waits(const struct window *window, const struct page *page, size_t number) {
-    const struct part *part = part_of(window, number);
-    uint64_t taken = part->rest + 1u, apart = 1u << page->asks, turns = window->windows->tuning.turns;
-    if (page->asks == 0 || page->looks == 0) return false;
+/* Of so many looks, that didn't leave its part out, one asks about a page again, or reads it again. */
+static uint64_t looks_apart(const struct window *window, const struct page *page, const struct part *part) {
+    uint64_t apart = 1u << page->asks, turns = window->windows->tuning.turns, taken = part->rest + 1u;
+    if (page->asks == 0 || page->looks == 0) return 1;
     if (page->looks == STILL && page->asks == ASKS_APART_MOST) {
-        if (turns > apart) apart = turns;
+        if (turns > 0) apart = turns;
         if (part->whole) apart *= WHOLE_TURNS;
     }
-    apart /= taken;
-    return apart > 1 && (window->windows->counts.looks / taken + number / TOGETHER) % apart != 0;
+    return apart > taken ? apart / taken : 1;
+}
+
+/*
+ * Whether it is this look's turn to ask about a page that nobody else had before, or to read one that changes always; and `*turn`, which one
+ * it is. Looks that left its part out count. Pages of whole parts come more seldom: next to none of them can be lent.
+ */
+static bool has_turn(const struct window *window, const struct page *page, size_t number, uint64_t *turn) {
+    const struct part *part = part_of(window, number);
+    uint64_t apart = looks_apart(window, page, part);
+    uint64_t at = window->windows->counts.looks / (part->rest + 1u) + number / TOGETHER;
+    *turn = at / apart;
+    return at % apart == 0;
 }
 
 /* Reads a page, and notes what that says of it. Returns its fingerprint. */
@@ -66,21 +76,25 @@ static uint64_t read_page(struct window *window, size_t number) {
         page->asks = !is_hot ? 0 : page->asks < ASKS_APART_MOST ? (page->asks + 1u) & 3u : ASKS_APART_MOST;
     page->looks = !is_same ? 1u : page->looks < STILL ? (page->looks + 1u) & 3u : STILL;
     page->kept = fingerprint;
-    page->unread = 0;
+    if (page->over == 0) page->frame = glance_at(fingerprint, address_of(window, number)) & (WINDOW_FRAMES_MOST - 1);
     return fingerprint;
 }
 
+/* Whether a glance says if an idle page has changed. */
+static bool can_glance(const struct page *page) { return page->looks == STILL && page->over == 0; }
+
 /*
- * Takes a page's fingerprint, and compares it with the last look's. A page that nobody else has is read only each second time where nothing
- * changes: between them it is asked about by what is kept. What it has become meanwhile is found when it is to be lent.
+ * Takes a page's fingerprint, and compares it with the last look's. At an idle page each look glances. If that finds no change the page is
+ * asked about again by what is kept, and read seldom. What it has become meanwhile is found when it is to be lent.
  */
 static enum finding take_fingerprint(struct window *window, size_t number, uint64_t *fingerprint) {
     struct page *page = &window->pages[number];
-    if (waits(window, page, number)) return FOUND_NOTHING;
-    bool is_again = page->looks == STILL && page->asks == ASKS_APART_MOST;
-    bool is_kept = is_again && page->unread == 0 && part_of(window, number)->is_still;
-    if (is_kept) page->unread = 1;
-    window->windows->counts.again += is_again ? 1 : 0;
+    bool glances = can_glance(page), is_again = page->looks == STILL && page->asks == ASKS_APART_MOST;
+    bool is_other = glances && glance_at(page->kept, address_of(window, number)) != page->frame;
+    uint64_t turn = 0, each = glances ? READ_EACH : part_of(window, number)->is_still ? READ_EACH_OVER : 1;
+    if (!has_turn(window, page, number, &turn) && !is_other) return FOUND_NOTHING;
+    bool is_kept = is_again && !is_other && turn % each != 0;
+    window->windows->counts.again += is_again && !is_other ? 1 : 0;
     *fingerprint = is_kept ? page->kept : read_page(window, number);
     if (page->looks < STILL) return FOUND_NOTHING;
     return *fingerprint == window->windows->fingerprint_of_zeros ? FOUND_ZERO : FOUND_IDLE;
@@ -174,6 +188,12 @@ static void add_finding(struct window *window, size_t number, uint8_t found, str
     findings->zero[findings->count++] = finding == FOUND_ZERO;
 }
 
+/* Fetches what a glance at a page will need, so that it needn't wait. */
+static void fetch(const struct window *window, size_t number) {
+    const struct page *page = &window->pages[number];
+    if (can_glance(page)) __builtin_prefetch(address_of(window, number) + glance_place(page->kept) * sizeof(uint64_t));
+}
+
 /* Looks at pages of a part that doesn't rest. With the lock. */
 static void find_in_part(struct window *window, size_t first, size_t count, struct findings *findings) {
     struct windows *windows = window->windows;
@@ -186,9 +206,12 @@ static void find_in_part(struct window *window, size_t first, size_t count, stru
         return;
     }
     for (size_t i = 0; i < count; i++) own += found[i] != PAGE_NONE ? 1 : 0;
+    note_huge(window, first, is_huge && windows->pagemap.scans && part_of(window, first)->whole);
     settle_part(window, first, own, is_huge);
-    for (size_t i = 0; i < count && windows->stuck_count == 0; i++)
+    for (size_t i = 0; i < count && windows->stuck_count == 0; i++) {
+        if (i + AHEAD < count && found[i + AHEAD] == PAGE_PRESENT) fetch(window, first + i + AHEAD);
         if (found[i] != PAGE_NONE || windows->past > 0) add_finding(window, first + i, found[i], findings);
+    }
     set_rest(windows, part_of(window, first), findings, own);
 #ifdef WINDOW_TRACE
     if (windows->trace != NULL) trace_part(window, first, count);

@@ -33,11 +33,21 @@ int begin_parts(struct window *window) {
 
 void count_parts(struct window *window, bool is_more) {
     struct windows_counts *counts = &window->windows->counts;
-    size_t count = 0, whole = 0, first = full_parts(window, &count);
-    for (size_t page = first; page < first + count * PART; page += PART) whole += part_of(window, page)->whole ? 1 : 0;
+    size_t count = 0, whole = 0, huge = 0, first = full_parts(window, &count);
+    for (size_t page = first; page < first + count * PART; page += PART) {
+        whole += part_of(window, page)->whole ? 1 : 0;
+        huge += part_of(window, page)->is_huge ? 1 : 0;
+    }
     size_t split = window->keeps_huge ? count - whole : 0;
     counts->parts_whole += is_more ? whole : (size_t)0 - whole;
     counts->parts_split += is_more ? split : (size_t)0 - split;
+    counts->parts_huge += is_more ? huge : (size_t)0 - huge;
+}
+
+void note_huge(struct window *window, size_t first, bool is_huge) {
+    struct part *part = part_of(window, first);
+    window->windows->counts.parts_huge += (is_huge ? 1u : 0u) - (size_t)part->is_huge;
+    part->is_huge = is_huge;
 }
 
 int window_say_huge(struct window *window, size_t first, size_t count, bool may) {
@@ -65,6 +75,7 @@ static void set_whole(struct window *window, size_t first, bool is_whole) {
     struct windows_counts *counts = &window->windows->counts;
     counts->mappings -= mappings_of(window, first, PART);
     part_of(window, first)->whole = is_whole;
+    note_huge(window, first, is_whole);
     counts->mappings += mappings_of(window, first, PART);
     counts->parts_whole += is_whole ? 1 : (size_t)-1;
     if (window->keeps_huge) counts->parts_split -= is_whole ? 1 : (size_t)-1;

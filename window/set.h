@@ -32,7 +32,7 @@ static const uint32_t ZEROS = WINDOW_NO_FRAME - 1;
  */
 struct __attribute__((packed)) page {
     uint64_t kept;       /* the slot, if it holds one; otherwise its fingerprint when it was read last, where `looks` isn't 0 */
-    uint32_t frame : 26; /* that is mapped at its place */
+    uint32_t frame : 26; /* that is mapped at its place; where none is, what a glance at it found when it was read last */
     uint32_t over : 1;   /* a frame is mapped at its place; the page is that frame or a private copy */
     uint32_t shows : 1;  /* as far as is known it is the frame */
     uint32_t holds : 1;  /* the lender counts the slot */
@@ -41,7 +41,6 @@ struct __attribute__((packed)) page {
     uint32_t zero : 1;   /* it was given back as zeros, and has no memory since */
     uint8_t looks : 2;   /* looks with that fingerprint, at most STILL */
     uint8_t asks : 2;   /* how often it was asked about in vain; or, where `looks` is 1, changed again. At most ASKS_APART_MOST */
-    uint8_t unread : 1; /* it was asked about by what is kept, so the next time it is read */
     uint8_t seen : 1;   /* it counts among its part's `shareable` */
     uint8_t moved : 1;  /* its memory was moved to its place, and so is in no mapping with what is beside it */
     uint8_t begins : 1; /* it is the first page of what was moved */
@@ -61,6 +60,7 @@ struct part {
     uint8_t alone; /* looks in a row that found nearly all pages of a split part with memory of their own */
     uint8_t pause; /* looks at it until it may be split, or become whole, again */
     bool whole;
+    bool is_huge;  /* it is whole, and was a huge page when it was looked at last */
     bool is_still; /* nothing at all had changed there when it was looked at last */
 };
 
@@ -246,6 +246,8 @@ struct window_result for_parts(struct window *window, size_t first, size_t count
 int begin_parts(struct window *window);
 /* Counts a window's parts, or counts them no more. With the lock. */
 void count_parts(struct window *window, bool is_more);
+/* Notes whether a part is a huge page. With the lock. */
+void note_huge(struct window *window, size_t first, bool is_huge);
 /* Splits a whole part, or makes a split one whole, where that is worth it by what a look has found of it. With the lock. */
 void settle_part(struct window *window, size_t first, size_t own, bool is_huge);
 

@@ -80,7 +80,7 @@ struct windows_tuning {
     uint16_t huge_from;
     /* A part where next to nothing changes is left out of up to so many looks, 1, 3, 7 and so on; 0: of none. */
     uint8_t rest_most;
-    /* A page that nobody else has is read and asked about again at each so many-th look; less than 8: at each 8th. */
+    /* A page that nobody else has is read and asked about again at each so many-th look; 0: at each 8th. */
     uint16_t turns;
 };
 
@@ -249,11 +249,12 @@ struct windows_counts {
     uint64_t no_frame, no_mapping; /* pages that weren't lent since the lender, or the system, had none */
     uint64_t lender_failures;
     size_t parts_whole, parts_split; /* parts as they are now; of those that can never be whole none is counted */
-    uint64_t splits, made_whole;     /* parts that were split, or became whole again */
-    uint64_t not_made_whole; /* parts that stay split, since the system had no huge page or a device may have pinned pages */
-    uint64_t again;          /* pages that were read or asked about again, since nobody else has them */
-    uint64_t reads, fresh;   /* fingerprints that were taken; those of pages that weren't read before, and are no copies */
-    uint64_t round_ns;       /* how long the last look took by the clock, with all pauses */
+    size_t parts_huge; /* of the whole ones, those that were a huge page when they were looked at last, for all that is known */
+    uint64_t splits, made_whole; /* parts that were split, or became whole again */
+    uint64_t not_made_whole;     /* parts that stay split, since the system had no huge page or a device may have pinned pages */
+    uint64_t again;              /* pages that were read or asked about again, since nobody else has them */
+    uint64_t reads, fresh;       /* fingerprints that were taken; those of pages that weren't read before, and are no copies */
+    uint64_t round_ns;           /* how long the last look took by the clock, with all pauses */
     uint64_t look_ns, ask_ns, lend_ns, map_ns; /* processor time of looks: all; in the lender's calls; from hold to wake */
     uint64_t hold_most_ns;                     /* the longest time that a page was held, by the clock */
     uint64_t held[WINDOWS_TIMES]; /* pages that were held for less than 2^i microseconds, and not for less than half of it */

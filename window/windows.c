@@ -186,7 +186,8 @@ static void detach_window(struct window *window) {
         page->holds = 0;
         forget_content(window, i);
     }
-    for (size_t i = 0; i < parts_in(window); i++) window->parts[i] = (struct part){.whole = window->parts[i].whole};
+    for (size_t i = 0; i < parts_in(window); i++)
+        window->parts[i] = (struct part){.whole = window->parts[i].whole, .is_huge = window->parts[i].is_huge};
 }
 
 void windows_detach(struct windows *windows) {

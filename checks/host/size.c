@@ -1,31 +1,39 @@
 /*
  * A stand-in for a monitor with a guest of a real size, to be run under libpageshare-window.so beside others of its kind. Words:
  *
- *     size NUMBER MIB PRIVATE_MIB SECONDS EQUAL ZERO RUN WRITTEN HUGE
+ *     size NUMBER MIB PRIVATE_MIB SECONDS EQUAL ZERO RUN WRITTEN HUGE LATE LOCAL
  *
  * Of the guest's MIB the last PRIVATE_MIB are like nothing else, and never written: they are read at random. Of the others EQUAL of 100 runs
  * of RUN pages are the same in all processes, ZERO of 100 are zeros, and all else is this process's own, by its NUMBER. WRITTEN MiB of pages
  * are written in each second, anywhere there, four times as many are read, and some are discarded. With HUGE 1 the memory may be huge pages.
+ * With LOCAL 1 nineteen of 20 accesses are to one page in 20. After LATE seconds 1,024 pages in runs of 16, which are accessed at no other
+ * time, become the same in all processes; with LATE 0 none do.
  *
  * At the end each byte is compared, and one line of JSON is printed. The status is 1 if a page was wrong, 2 where the program can't run.
  */
 #define _GNU_SOURCE
 #include "offered.h"
+#include <fcntl.h>
 #include <pthread.h>
 #include <stdatomic.h>
 #include <sys/mman.h>
 #include <time.h>
 
 enum { PAGE = 4096, HUGE_BYTES = 2 << 20, PAGES_OF_MIB = 256, TIMES = 40, READS = 2000000, SPARES = 2000, DISCARD_EACH = 64 };
+enum { LATE_RUNS = 64, LATE_RUN = 16, LATE = LATE_RUNS * LATE_RUN, NEAR_EACH = 20 };
 
 static struct {
-    uint64_t number, pages, private_pages, seconds, equal, zero, run, written;
-    bool is_huge;
+    uint64_t number, pages, private_pages, seconds, equal, zero, run, written, late;
+    bool is_huge, is_local;
 } words;
 static uint8_t *memory, *private_memory;
 static uint64_t *contents; /* of each page; 0: zeros */
 static atomic_bool over;
 static uint64_t times[TIMES], worst_ns, accesses; /* how many accesses took less than 2^i ns, and not less than half of it */
+static bool *is_late;                             /* of each page */
+static uint64_t late[LATE];                       /* the pages that become the same late */
+static double late_s = -1, late_half_s = -1,
+              late_95_s = -1; /* when they did, and when so many of them were lent; -1: that didn't come */
 
 static uint64_t clock_ns(clockid_t clock) {
     struct timespec now;
@@ -86,12 +94,65 @@ static void access_page(uint64_t page, uint64_t turn, uint64_t *seed) {
     contents[page] = 0;
 }
 
+/* The page that is accessed next. */
+static uint64_t draw_page(uint64_t *seed) {
+    uint64_t most = shared_pages(), near = most / NEAR_EACH, page = draw(seed, most);
+    if (words.is_local && draw(seed, NEAR_EACH) != 0) page = most / 3 + page % near;
+    return page;
+}
+
 static void *work(void *unused) {
-    uint64_t seed = words.number * 77 + 5, begun = clock_ns(CLOCK_MONOTONIC), most = shared_pages();
+    uint64_t seed = words.number * 77 + 5, begun = clock_ns(CLOCK_MONOTONIC);
     for (uint64_t turn = 0; !atomic_load(&over); turn++) {
-        access_page(draw(&seed, most), turn, &seed);
+        uint64_t page = draw_page(&seed);
+        if (!is_late[page]) access_page(page, turn, &seed);
         uint64_t due = begun + turn * (UINT64_C(1000000000) / 4 / PAGES_OF_MIB) / words.written;
         if (due > clock_ns(CLOCK_MONOTONIC)) usleep(1000);
+    }
+    return unused;
+}
+
+/* Runs of pages that are to become the same late. */
+static void choose_late(void) {
+    uint64_t runs = shared_pages() / LATE_RUN;
+    for (uint64_t i = 0, run = words.number * 977; words.late > 0 && i < LATE; i++) {
+        if (i % LATE_RUN == 0) {
+            run = (run + UINT64_C(2654435761)) % runs;
+            while (is_late[run * LATE_RUN]) run = (run + 1) % runs;
+        }
+        late[i] = run * LATE_RUN + i % LATE_RUN;
+        is_late[late[i]] = true;
+    }
+}
+
+/* How many of the late pages show a frame: their memory is a file's, or wasn't touched since it was mapped. */
+static unsigned count_late(int pagemap) {
+    const uint64_t present = UINT64_C(1) << 63, of_file = UINT64_C(1) << 61;
+    unsigned count = 0;
+    for (size_t i = 0; i < LATE; i++) {
+        uint64_t entry = present;
+        off_t at = (off_t)((uintptr_t)at_page(late[i]) / PAGE * sizeof entry);
+        if (pread(pagemap, &entry, sizeof entry, at) == sizeof entry && ((entry & of_file) != 0 || (entry & present) == 0))
+            count++;
+    }
+    return count;
+}
+
+static void *be_late(void *unused) {
+    uint64_t begun = clock_ns(CLOCK_MONOTONIC);
+    int pagemap = open("/proc/self/pagemap", O_RDONLY);
+    while (clock_ns(CLOCK_MONOTONIC) - begun < words.late * UINT64_C(1000000000) && !atomic_load(&over)) usleep(10000);
+    for (size_t i = 0; i < LATE; i++) {
+        contents[late[i]] = UINT64_C(7000000000000) + i;
+        fill(at_page(late[i]), contents[late[i]]);
+    }
+    late_s = (double)clock_ns(CLOCK_MONOTONIC) / 1e9;
+    while (late_95_s < 0 && !atomic_load(&over)) {
+        double now_s = (double)clock_ns(CLOCK_MONOTONIC) / 1e9;
+        unsigned count = count_late(pagemap);
+        if (late_half_s < 0 && count >= LATE / 2) late_half_s = now_s;
+        if (count >= LATE * 95 / 100) late_95_s = now_s;
+        usleep(100000);
     }
     return unused;
 }
@@ -162,9 +223,11 @@ static void offer(uint8_t *at, uint64_t pages) {
 
 static bool make(void) {
     contents = calloc(words.pages, sizeof *contents);
+    is_late = calloc(words.pages, sizeof *is_late);
     memory = offered(shared_pages());
     private_memory = offered(words.private_pages);
-    if (!contents || !memory || !private_memory) return false;
+    if (!contents || !is_late || !memory || !private_memory) return false;
+    choose_late();
     for (uint64_t page = 0; page < words.pages; page++) {
         contents[page] = content_of(page);
         fill(at_page(page), contents[page]);
@@ -198,33 +261,48 @@ static bool read_words(int count, char **given) {
     uint64_t *const to[] = {&words.number, &words.pages, &words.private_pages, &words.seconds,
                             &words.equal,  &words.zero,  &words.run,           &words.written};
     enum { NUMBERS = sizeof to / sizeof to[0] };
-    if (count != NUMBERS + 2) return false;
+    if (count != NUMBERS + 4) return false;
     for (size_t i = 0; i < NUMBERS; i++) *to[i] = strtoull(given[i + 1], NULL, 10);
     words.pages *= PAGES_OF_MIB;
     words.private_pages *= PAGES_OF_MIB;
     words.is_huge = given[NUMBERS + 1][0] == '1';
+    words.late = strtoull(given[NUMBERS + 2], NULL, 10);
+    words.is_local = given[NUMBERS + 3][0] == '1';
     return words.private_pages > 0 && words.pages > words.private_pages && words.run > 0;
 }
 
+static void show(const char *name, double value) { printf("\"%s\":%.2f,", name, value); }
+
+/* What the guest does for its time. Returns false where it can't. */
+static bool live(void) {
+    pthread_t worker, latecomer;
+    bool is_late_too = words.late > 0;
+    if (words.written > 0 && pthread_create(&worker, NULL, work, NULL) != 0) return false;
+    if (is_late_too && pthread_create(&latecomer, NULL, be_late, NULL) != 0) return false;
+    sleep((unsigned)words.seconds);
+    atomic_store(&over, true);
+    if (words.written > 0) pthread_join(worker, NULL);
+    if (is_late_too) pthread_join(latecomer, NULL);
+    return true;
+}
+
 int main(int count, char **given) {
-    pthread_t thread;
     long mappings = 0;
     if (!read_words(count, given) || !make()) return 2;
     double first_ns = read_at_random();
     long huge_first = huge_kib(private_memory, words.private_pages, &mappings),
          other_first = huge_kib(memory, shared_pages(), &mappings);
     puts("filled"), fflush(stdout);
-    if (words.written > 0 && pthread_create(&thread, NULL, work, NULL) != 0) return 2;
-    sleep((unsigned)words.seconds);
-    atomic_store(&over, true);
-    if (words.written > 0) pthread_join(thread, NULL);
+    if (!live()) return 2;
     long huge_last = huge_kib(private_memory, words.private_pages, &mappings),
          other_last = huge_kib(memory, shared_pages(), &mappings);
     unsigned spare = spare_mappings();
     double last_ns = read_at_random();
     uint64_t wrong = count_wrong();
+    printf("{");
+    show("late_s", late_s), show("late_half_s", late_half_s), show("late_95_s", late_95_s);
     printf(
-        "{\"read_first_ns\":%.1f,\"read_last_ns\":%.1f,\"huge_first_kib\":%ld,\"huge_last_kib\":%ld,\"other_huge_first_kib\":%ld,"
+        "\"read_first_ns\":%.1f,\"read_last_ns\":%.1f,\"huge_first_kib\":%ld,\"huge_last_kib\":%ld,\"other_huge_first_kib\":%ld,"
         "\"other_huge_last_kib\":%ld,\"mappings\":%ld,\"spare_mappings\":%u,\"accesses\":%lu,\"bound_10000_ns\":%lu,\"worst_ns\":"
         "%"
         "lu,"

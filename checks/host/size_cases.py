@@ -9,24 +9,32 @@ import threading
 import time
 from typing import Any, Sequence
 
-from places import AS_NOBODY, HERE, OUT, Host, compile_c, must, preloaded
+from places import AS_NOBODY, CC, FLAGS, HERE, OUT, TOP, Host, compile_c, must, preloaded
 from qemu_guests import read
 
-PAGE, SPARES = 4096, 2000
+PAGE, SPARES, PRELOAD = 4096, 2000, TOP / "host/preload"
 LIMIT = int(read("/proc/sys/vm/max_map_count") or 65530)
 
 
 @dataclasses.dataclass(frozen=True)
 class Kind:
-    """What a process has: how many of 100 runs of pages all have, and how many are zeros; pages of a run; MiB written in a second."""
+    """
+    What a process has: how many of 100 runs of pages all have, and how many are zeros; pages of a run; MiB written in a second; after how
+    many seconds pages become the same in all processes (0: never), and whether most accesses are to few pages.
+    """
 
     equal: int
     zero: int
     run: int
     written: int
+    late: int = 0
+    is_local: bool = False
 
 
 USUAL, SHORT, ALONE = Kind(40, 10, 16, 20), Kind(40, 10, 16, 5), Kind(50, 0, 1, 1)
+# (so many zeros that each part of the memory is split)
+LATE_AT = 25
+FIRST, LATER = (Kind(40, 20, 16, 20, late, True) for late in (1, LATE_AT))
 Counts = dict[str, Any]  # as JSON has them
 
 
@@ -37,7 +45,8 @@ class Guest:
         self.number, self.mib, self.said = number, mib, ""
         self.series: list[tuple[float, Counts]] = []
         self.counts_path = HERE.place.room / f"size{number}.json"
-        words = [str(it) for it in (number, mib, mib // 4, seconds, kind.equal, kind.zero, kind.run, kind.written, int(is_huge))]
+        words = [str(it) for it in (number, mib, mib // 4, seconds, kind.equal, kind.zero, kind.run, kind.written, int(is_huge), kind.late,
+                                    int(kind.is_local))]
         more = {"PAGESHARE_COUNTS": str(self.counts_path), "PAGESHARE_PERIOD_MS": "1000"}
         env = preloaded(host, more) if host else dict(os.environ)
         self.process = subprocess.Popen([*AS_NOBODY, HERE.place.room / "size", *words], env=env, text=True, stdout=subprocess.PIPE,
@@ -80,10 +89,12 @@ def settled(series: list[tuple[float, Counts]]) -> float:
     return float(after["processor_ns"] - before["processor_ns"]) / (last - first) / 1e7
 
 
-def run_size(sizes: Sequence[int], kind: Kind, seconds: int, is_huge: bool = True, memory: str = "4G") -> tuple[list[Counts], Counts]:
-    """Processes of these sizes beside one host. Answers for each what it said, and its row; and the host's state before the end."""
-    host = Host("--lent", "64G", memory=memory)
-    made = [Guest(number, mib, kind, seconds, host, is_huge) for number, mib in enumerate(sizes)]
+def run_size(
+    sizes: Sequence[int], kinds: Sequence[Kind], seconds: int, is_huge: bool = True, memory: str = "4G", lent: str = "64G",
+) -> tuple[list[Counts], Counts]:
+    """Processes of these sizes and kinds beside one host. Answers for each what it said, and its row; and the host's state before the end."""
+    host = Host("--lent", lent, memory=memory)
+    made = [Guest(number, mib, kind, seconds, host, is_huge) for number, (mib, kind) in enumerate(zip(sizes, kinds))]
     fill = max(sizes) / 50  # (a busy machine fills some 50 MiB in a second)
     time.sleep(2 + seconds / 2)
     state = host.status()
@@ -134,14 +145,16 @@ def case_size() -> None:
         alone = Guest(9, mib, kind, 1).end(600) if not HERE.is_short else None
         for is_huge in (True, False):
             name = f"{mib} {'huge' if is_huge else 'small'}"
-            rows, state = run_size([mib, max(256, mib // 4)], kind, seconds, is_huge)
+            rows, state = run_size([mib, max(256, mib // 4)], [kind] * 2, seconds, is_huge)
             show(name, rows, state)
             must(all(it["lends"] > 0 for it in rows), f"nothing was lent: {rows}")
+            for it in state["processes"]:
+                must(it["client_mappings"] > 0 and it["client_parts_whole"] + it["client_parts_split"] >= is_huge, f"a status: {it}")
             if is_huge:
                 huge_pages_stay(rows)
             table[name] = {"rows": rows, "host": state, "alone": alone}
     # (runs of one page: each page that is lent is a mapping by itself)
-    rows, state = run_size([512, 512], ALONE, max(seconds, 45))
+    rows, state = run_size([512, 512], [ALONE] * 2, max(seconds, 45))
     show("runs of 1", rows, state)
     is_met = [it["no_mapping"] > 0 for it in rows]
     print(f"  the limit of {LIMIT} mappings was {'met' if any(is_met) else 'not met'}")
@@ -151,3 +164,24 @@ def case_size() -> None:
     table["runs of 1"] = {"rows": rows, "host": state}
     OUT.mkdir(parents=True, exist_ok=True)
     (OUT / "size.json").write_text(json.dumps(table, indent=1))
+
+
+def case_late() -> None:
+    """Pages that become equal late (SIZES=MIB, by default 1024): how long it takes until they are shared."""
+    compile_c("size")
+    mib = int(os.environ.get("SIZES", "1024"))
+    rows, state = run_size([mib, max(256, mib // 2 if mib < 4096 else mib // 4)], [LATER, FIRST], LATE_AT + 75, memory="1G", lent="4G")
+    show("late", rows, state)
+    since = max(row["late_s"] for row in rows)
+    for row in rows:
+        times = [row[name] - since if row[name] >= 0 else float("inf") for name in ("late_half_s", "late_95_s")]
+        print(f"  {row['mib']} MiB: half of the pages that became equal late were shared {times[0]:.1f} s later, 95 % {times[1]:.1f} s")
+        must(times[0] < float("inf"), f"they weren't shared: {row}")
+
+
+def case_paced() -> None:
+    """The library's thread works for nearly all of its processor time where naps themselves take time, by clocks that a program sets."""
+    program = HERE.place.room / "paced"
+    words = [CC, *FLAGS, f"-I{PRELOAD}", f"-I{TOP / 'host'}", f"-I{TOP / 'window'}", f"-I{TOP / 'lib/include'}", "-Wl,--wrap=clock_gettime", "-o", program, TOP / "checks/host/paced.c", PRELOAD / "budget.c"]
+    must(subprocess.run(words).returncode == 0, "paced.c doesn't compile")
+    must(subprocess.run([program]).returncode == 0, "the thread works for too little of its time, or too long")

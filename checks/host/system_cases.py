@@ -4,6 +4,7 @@ from __future__ import annotations
 import json
 import os
 import pathlib
+import struct
 import subprocess
 import sys
 import time
@@ -109,6 +110,36 @@ def case_names() -> None:
     must(state["net_bytes"] == net < 0, f"the net gain of clients that share nothing is {state['net_bytes']}")
     for form, text in (("--prometheus", 'guest="a.b-c_1"'), ("--prometheus", 'pageshare_net_bytes{domain="web"} -'), ("", "net gain -")):
         ran = subprocess.run([HERE.host, "--status", path, *form.split()], capture_output=True, text=True)
+        must(ran.returncode == 0 and text in ran.stdout, f"{form}: {ran.stdout}")
+    host.kill()
+
+
+def counting(path: str, written: bytes) -> int:
+    """A client that has a file of the library's name with these bytes."""
+    code = "import os, sys, time; sys.path.insert(0, sys.argv[1]); from raw_client import RawClient; it = RawClient(sys.argv[2]); "
+    code += "file = os.memfd_create('pageshare-counts'); os.write(file, bytes.fromhex(sys.argv[3])); print('in', flush=True); time.sleep(60)"
+    folder = str(pathlib.Path(__file__).resolve().parent)
+    client = subprocess.Popen([*AS_NOBODY, sys.executable, "-c", code, folder, path, written.hex()], stdout=subprocess.PIPE, text=True)
+    HERE.place.started.append(client)
+    must(client.stdout is not None and client.stdout.readline() == "in\n", "a client that counts isn't taken")
+    return client.pid
+
+
+def case_counts() -> None:
+    """A status shows what clients say of their windows, and whatever a client writes there does no harm."""
+    names = ("mappings", "mappings_limit", "parts_whole", "parts_split", "parts_huge", "look_milliseconds")
+    numbers, most = (1, 1000, 20, 300, 4, 3, 2, 50), 2**64 - 1
+    host = Host("--connection-rate", "1000", memory="64M")
+    due = {
+        counting(str(host.socket), struct.pack("<8Q", *numbers)): numbers[2:], counting(str(host.socket), struct.pack("<7Q", *numbers[:7])): (0,) * 6,
+        counting(str(host.socket), struct.pack("<8Q", 2, *numbers[1:])): (0,) * 6, counting(str(host.socket), b""): (0,) * 6,
+        counting(str(host.socket), struct.pack("<8Q", 1, *[most] * 7)): (most,) * 6,
+    }
+    until(5, lambda: host.status()["clients"] == len(due), 0.1)
+    found = {it["pid"]: tuple(it[f"client_{name}"] for name in names) for it in host.status()["processes"]}
+    must(found == due, f"counts {found}, due {due}")
+    for form, text in (("--prometheus", "pageshare_client_parts_split{"), ("", "of them huge")):
+        ran = subprocess.run([HERE.host, "--status", host.socket, *form.split()], capture_output=True, text=True)
         must(ran.returncode == 0 and text in ran.stdout, f"{form}: {ran.stdout}")
     host.kill()
 

@@ -3,9 +3,9 @@
 #include <ctype.h>
 #include <dirent.h>
 #include <fcntl.h>
-#include <stdbool.h>
 #include <stdio.h>
 #include <string.h>
+#include <sys/stat.h>
 #include <unistd.h>
 
 enum { WORDS_MOST = 65536 }; /* of a command line that is longer the rest isn't looked at */
@@ -120,4 +120,44 @@ uint64_t naming_processor_of(uint64_t process) {
             taken += time_of(process, it->d_name);
     if (threads) closedir(threads);
     return taken;
+}
+
+/* Whether a descriptor of a process, by the name of its entry, has the library's name for its file of counts. */
+static bool is_counts(int folder, const char *descriptor) {
+    static const char wanted[] = "/memfd:" COUNTS_NAME;
+    char target[sizeof wanted];
+    ssize_t length = readlinkat(folder, descriptor, target, sizeof target);
+    return length >= (ssize_t)sizeof wanted - 1 && memcmp(target, wanted, sizeof wanted - 1) == 0;
+}
+
+/* Opens a file by another process's descriptor, if it is a regular file: to open anything else might do something. Returns it, or -1. */
+static int open_regular(int folder, const char *descriptor) {
+    struct stat facts;
+    char path[64];
+    int found = openat(folder, descriptor, O_PATH | O_CLOEXEC), file = -1;
+    if (found < 0) return -1;
+    snprintf(path, sizeof path, "/proc/self/fd/%d", found);
+    if (fstat(found, &facts) == 0 && S_ISREG(facts.st_mode)) file = open(path, O_RDONLY | O_CLOEXEC | O_NONBLOCK);
+    close(found);
+    return file;
+}
+
+static bool read_counts(int folder, const char *descriptor, struct counts *counts) {
+    int file = is_counts(folder, descriptor) ? open_regular(folder, descriptor) : -1;
+    if (file < 0) return false;
+    bool is_read = pread(file, counts, sizeof *counts, 0) == (ssize_t)sizeof *counts && counts->version == COUNTS_VERSION;
+    close(file);
+    return is_read;
+}
+
+bool naming_counts_of(uint64_t process, struct counts *counts) {
+    char path[64];
+    bool is_read = false;
+    snprintf(path, sizeof path, "/proc/%llu/fd", (unsigned long long)process);
+    DIR *descriptors = opendir(path);
+    for (const struct dirent *it; descriptors && !is_read && (it = readdir(descriptors)) != NULL;)
+        if (*it->d_name != '.') is_read = read_counts(dirfd(descriptors), it->d_name, counts);
+    if (descriptors) closedir(descriptors);
+    if (!is_read) *counts = (struct counts){0};
+    return is_read;
 }

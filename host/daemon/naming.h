@@ -1,7 +1,9 @@
-/* What can be seen of a client's process from outside: the name of its guest, its page tables, and the time that the library takes. */
+/* What can be seen of a client's process from outside: the name of its guest, its page tables, and what the library takes and counts. */
 #ifndef HOST_NAMING_H
 #define HOST_NAMING_H
 
+#include "counts.h"
+#include <stdbool.h>
 #include <stddef.h>
 #include <stdint.h>
 
@@ -19,5 +21,7 @@ void naming_of_words(const char *words, size_t bytes, char name[GUEST_NAME_MOST]
 uint64_t naming_tables_of(uint64_t process);
 /* The processor time of the thread by which the library looks in a process, in nanoseconds; 0 where there is none. */
 uint64_t naming_processor_of(uint64_t process);
+/* Reads what the library counts in a process, as the process says. Returns false where nothing can be read; then all is zeros. */
+bool naming_counts_of(uint64_t process, struct counts *counts);
 
 #endif

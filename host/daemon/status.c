@@ -73,6 +73,12 @@ static const struct number of_client[] = {
     OF_CLIENT("client_table_bytes", table_bytes, false, 1, "Page tables of the client"),
     TIME_OF_CLIENT("client_processor_nanoseconds_total", "client_processor_seconds_total", looks_ns, true,
                    "Processor time of the library's thread in the client"),
+    OF_CLIENT("client_mappings", counts.mappings, false, 1, "Mappings that the client's windows take, as it says"),
+    OF_CLIENT("client_mappings_limit", counts.mappings_most, false, 1, "Mappings that they may take, as it says"),
+    OF_CLIENT("client_parts_whole", counts.parts_whole, false, 1, "Parts of 2 MiB of which nothing is lent, as it says"),
+    OF_CLIENT("client_parts_huge", counts.parts_huge, false, 1, "Of these, the ones that are a huge page, as it says"),
+    OF_CLIENT("client_parts_split", counts.parts_split, false, 1, "Parts of 2 MiB whose pages may be lent, as it says"),
+    OF_CLIENT("client_look_milliseconds", counts.round_ms, false, 1, "How long the client's last look took, as it says"),
     OF_CLIENT("client_devices", devices, false, 1, "0: none that pins pages, 1: seen calls, 2: unseen ones, 3: all, 4: unknown"),
 };
 enum { TOTALS_COUNT = sizeof of_totals / sizeof *of_totals, CLIENT_COUNT = sizeof of_client / sizeof *of_client, LABELS = 3 };
@@ -119,6 +125,7 @@ static void find(struct report *report) {
         client->devices = devices_of_process(client->pid, &devices) ? (uint64_t)devices : STATUS_DEVICES_UNKNOWN;
         client->table_bytes = naming_tables_of(client->pid);
         client->looks_ns = naming_processor_of(client->pid);
+        naming_counts_of(client->pid, &client->counts);
         naming_of_guest(client->pid, found.names[i]);
         found.table_bytes += client->table_bytes;
     }
@@ -148,6 +155,25 @@ static void show_clients(const struct report *report) {
         puts("unseen: pages that were shared and written stay private, since a device may have pinned them; use aio=threads");
 }
 
+/* What the clients of a table say of their windows. */
+static void show_windows(const struct report *report) {
+    bool is_first = true;
+    for (size_t i = 0; i < report->totals.listed; i++) {
+        const struct status_client *client = &report->clients[i];
+        const struct counts *counts = &client->counts;
+        if (counts->version == 0) continue;
+        if (is_first)
+            printf("%12s %12s %12s %12s %12s %12s %12s %12s\n", "process", "parts whole", "of them huge", "parts split",
+                   "mappings", "at most", "pages of one", "a look, ms");
+        is_first = false;
+        printf("%12llu %12llu %12llu %12llu %12llu %12llu %12.1f %12llu\n", (unsigned long long)client->pid,
+               (unsigned long long)counts->parts_whole, (unsigned long long)counts->parts_huge,
+               (unsigned long long)counts->parts_split, (unsigned long long)counts->mappings,
+               (unsigned long long)counts->mappings_most, (double)client->lent_pages / (double)(counts->mappings + 1),
+               (unsigned long long)counts->round_ms);
+    }
+}
+
 static void show_table(const struct report *report) {
     const struct status_totals *totals = &report->totals;
     printf("domain %s: %llu clients, up %llu s, %.1f %% of one processor since\n", totals->domain,
@@ -164,6 +190,7 @@ static void show_table(const struct report *report) {
     printf("net gain %.1f MiB: reclaimed less the host and %.1f MiB of clients' page tables\n",
            (double)found.net_bytes / (1 << 20), (double)found.table_bytes / (1 << 20));
     show_clients(report);
+    show_windows(report);
     if (totals->listed < totals->clients)
         printf("%12s and %llu more\n", "", (unsigned long long)(totals->clients - totals->listed));
 }

@@ -8,10 +8,11 @@
 #ifndef HOST_STATUS_H
 #define HOST_STATUS_H
 
+#include "counts.h"
 #include "settings.h"
 
 #define STATUS_SUFFIX ".status"
-enum { STATUS_VERSION = 4, STATUS_CLIENTS_MOST = 1024, STATUS_DEVICES_UNKNOWN = 4 };
+enum { STATUS_VERSION = 5, STATUS_CLIENTS_MOST = 1024, STATUS_DEVICES_UNKNOWN = 4 };
 
 struct status_totals {
     uint64_t version;
@@ -47,6 +48,7 @@ struct status_client {
     uint64_t devices;     /* an enum devices, or STATUS_DEVICES_UNKNOWN */
     uint64_t table_bytes; /* page tables of the process, or 0 */
     uint64_t looks_ns;    /* processor time of the library's thread, or 0 */
+    struct counts counts; /* what the process says of its windows, or zeros */
 };
 
 /* Prints what the domain at `socket` reports, in the form asked for; with `watch` each second until the reader ends it. Returns the

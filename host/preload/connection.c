@@ -1,6 +1,7 @@
 #define _GNU_SOURCE
 #include "connection.h"
 #include "budget.h"
+#include "counts_file.h"
 #include "memory.h"
 #include "remote.h"
 #include "sharing.h"
@@ -29,9 +30,9 @@ enum {
     CPU_PERCENT = 2,  /* of one processor, which the thread may use where nobody says; and for what is new */
     BURST_PERCENT = 25,
     HUGE_FROM = 64,  /* pages of a huge page that could be shared, until which it stays whole */
-    TURNS_LEAST = 8, /* looks until a page that nobody else has is asked about again, where looks are short; and at most */
+    TURNS_LEAST = 4, /* looks until a page that nobody else has is asked about again, where looks are short; and at most */
     TURNS_MOST = 512,
-    AGAIN_NS = 600, /* processor time that asking about a page again takes, about */
+    AGAIN_NS = 250, /* processor time that asking about a page again takes, about */
     REST_MOST = 7,  /* looks that leave out a part of a window where nothing changes */
     /* processor time that may be used at the burst's rate: for each page of a new window or beside a new host, for one that is new in its
      * window, and for one that was lent or given back */
@@ -124,6 +125,7 @@ void connection_prepare(void) {
     if (*counts)
         settings.counts = sharing_own((int)syscall(SYS_openat, AT_FDCWD, counts, O_WRONLY | O_CREAT | O_TRUNC | O_CLOEXEC, 0644));
     my.period_ms = settings.period_ms;
+    counts_file_make();
     end_preload();
 }
 
@@ -347,32 +349,34 @@ static void write_times(const uint64_t *held, char *text, size_t room) {
 /* The counts as JSON, for tests and for who wants to know. */
 static void write_counts(const struct windows_counts *now) {
     char text[3584], held[WINDOWS_TIMES * 21];
+    counts_file_write(now);
     if (settings.counts < 0) return;
     write_times(now->held, held, sizeof held);
-    int length =
-        snprintf(text, sizeof text,
-                 "{\"connected\":%d,\"pause\":%d,\"windows\":%zu,\"pages\":%zu,\"lent\":%zu,\"zeros_now\":%zu,\"mappings\":%zu,"
-                 "\"mappings_most\":%zu,\"table_bytes\":%zu,\"looks\":%llu,"
-                 "\"lends\":%llu,\"copied\":%llu,\"zeros\":%llu,\"discarded\":%llu,\"taken_home\":%llu,\"asked\":%llu,\"seen\":%"
-                 "llu,\"changed\":%llu,"
-                 "\"pinned\":%llu,\"no_frame\":%llu,\"no_mapping\":%llu,\"lender_failures\":%llu,\"look_ns\":%llu,\"ask_ns\":%"
-                 "llu,\"lend_ns\":%llu,"
-                 "\"map_ns\":%llu,\"hold_most_ns\":%llu,\"processor_ns\":%llu,\"period_ms\":%u,\"devices\":%d,"
-                 "\"parts_whole\":%zu,\"parts_split\":%zu,\"splits\":%llu,\"made_whole\":%llu,\"not_made_whole\":%llu,"
-                 "\"huge_from\":%u,\"reads\":%llu,\"fresh\":%llu,\"round_ms\":%llu,\"cpu_percent\":%u,\"credit_ms\":%lld,"
-                 "\"memory_is_short\":%d,\"turns\":%u,\"held\":[%s]}\n",
-                 my.remote.socket >= 0, (int)now->pause, now->windows, now->pages, now->lent, now->zeros_now, now->mappings,
-                 now->mappings_most, now->table_bytes, (unsigned long long)now->looks, (unsigned long long)now->lends,
-                 (unsigned long long)now->copied, (unsigned long long)now->zeros, (unsigned long long)now->discarded,
-                 (unsigned long long)now->taken_home, (unsigned long long)now->asked, (unsigned long long)now->seen,
-                 (unsigned long long)now->changed, (unsigned long long)now->pinned, (unsigned long long)now->no_frame,
-                 (unsigned long long)now->no_mapping, (unsigned long long)now->lender_failures, (unsigned long long)now->look_ns,
-                 (unsigned long long)now->ask_ns, (unsigned long long)now->lend_ns, (unsigned long long)now->map_ns,
-                 (unsigned long long)now->hold_most_ns, (unsigned long long)clock_ns(CLOCK_THREAD_CPUTIME_ID), my.period_ms,
-                 (int)ranges_devices(), now->parts_whole, now->parts_split, (unsigned long long)now->splits,
-                 (unsigned long long)now->made_whole, (unsigned long long)now->not_made_whole, (unsigned)tuning().huge_from,
-                 (unsigned long long)now->reads, (unsigned long long)now->fresh, (unsigned long long)(now->round_ns / 1000000),
-                 my.budget.percent, (long long)(my.budget.credit_ns / 1000000), my.is_memory_short, my.turns, held);
+    int length = snprintf(
+        text, sizeof text,
+        "{\"connected\":%d,\"pause\":%d,\"windows\":%zu,\"pages\":%zu,\"lent\":%zu,\"zeros_now\":%zu,\"mappings\":%zu,"
+        "\"mappings_most\":%zu,\"table_bytes\":%zu,\"looks\":%llu,"
+        "\"lends\":%llu,\"copied\":%llu,\"zeros\":%llu,\"discarded\":%llu,\"taken_home\":%llu,\"asked\":%llu,\"seen\":%"
+        "llu,\"changed\":%llu,"
+        "\"pinned\":%llu,\"no_frame\":%llu,\"no_mapping\":%llu,\"lender_failures\":%llu,\"look_ns\":%llu,\"ask_ns\":%"
+        "llu,\"lend_ns\":%llu,"
+        "\"map_ns\":%llu,\"hold_most_ns\":%llu,\"processor_ns\":%llu,\"period_ms\":%u,\"devices\":%d,"
+        "\"parts_whole\":%zu,\"parts_split\":%zu,\"parts_huge\":%zu,\"splits\":%llu,\"made_whole\":%llu,\"not_made_whole\":%llu,"
+        "\"huge_from\":%u,\"reads\":%llu,\"fresh\":%llu,\"round_ms\":%llu,\"cpu_percent\":%u,\"credit_ms\":%lld,"
+        "\"memory_is_short\":%d,\"turns\":%u,\"pages_of_mapping\":%.1f,\"held\":[%s]}\n",
+        my.remote.socket >= 0, (int)now->pause, now->windows, now->pages, now->lent, now->zeros_now, now->mappings,
+        now->mappings_most, now->table_bytes, (unsigned long long)now->looks, (unsigned long long)now->lends,
+        (unsigned long long)now->copied, (unsigned long long)now->zeros, (unsigned long long)now->discarded,
+        (unsigned long long)now->taken_home, (unsigned long long)now->asked, (unsigned long long)now->seen,
+        (unsigned long long)now->changed, (unsigned long long)now->pinned, (unsigned long long)now->no_frame,
+        (unsigned long long)now->no_mapping, (unsigned long long)now->lender_failures, (unsigned long long)now->look_ns,
+        (unsigned long long)now->ask_ns, (unsigned long long)now->lend_ns, (unsigned long long)now->map_ns,
+        (unsigned long long)now->hold_most_ns, (unsigned long long)clock_ns(CLOCK_THREAD_CPUTIME_ID), my.period_ms,
+        (int)ranges_devices(), now->parts_whole, now->parts_split, now->parts_huge, (unsigned long long)now->splits,
+        (unsigned long long)now->made_whole, (unsigned long long)now->not_made_whole, (unsigned)tuning().huge_from,
+        (unsigned long long)now->reads, (unsigned long long)now->fresh, (unsigned long long)(now->round_ns / 1000000),
+        my.budget.percent, (long long)(my.budget.credit_ns / 1000000), my.is_memory_short, my.turns,
+        (double)now->lent / (double)(now->mappings + 1), held);
     bool fits = length > 0 && (size_t)length < sizeof text;
     if (!fits || pwrite(settings.counts, text, (size_t)length, 0) != length || ftruncate(settings.counts, length) != 0) {
         close(settings.counts);

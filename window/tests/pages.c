@@ -2,6 +2,7 @@
  * What becomes of pages, one matter after the other: see main. Prints "pages: ok" (status 0) or what isn't so (status 1).
  */
 #define _GNU_SOURCE
+#include "../bytes.h"
 #include "../kernel.h"
 #include "fixture.h"
 #include "ring.h"
@@ -507,6 +508,56 @@ static void changes(void) {
     fixture_free(&fixture);
 }
 
+/* A set whose pages are idle, and nobody else has them, so that each is asked about at one look in `turns`. */
+static struct fixture idle_set(uint8_t *at, uint16_t turns, struct window **window) {
+    const struct windows_config config = {.pins = WINDOWS_PINS_NEVER, .tuning = {.turns = turns}};
+    struct fixture fixture = fixture_make(&config, PAGES);
+    *window = window_over(&fixture, at, PAGES);
+    fill(at, PAGES, PAGES);
+    look_often(&fixture, 24);
+    check(counts_of(&fixture).lends == 0, "no page is equal to another one");
+    return fixture;
+}
+
+/* What a page becomes that nobody had is found by the next look's glance at it, whatever its turn is; and pages that stay aren't read. */
+static void glances(void) {
+    enum { TURNS = 512, SOON = 6 };
+    uint8_t *at = memory(PAGES);
+    struct window *window;
+    struct fixture fixture = idle_set(at, TURNS, &window);
+    uint64_t reads = counts_of(&fixture).reads;
+    look_often(&fixture, SOON);
+    check(counts_of(&fixture).reads - reads <= PAGES, "idle pages are read at some looks only");
+    memset(at, 'e', PAGE), memset(at + PAGES / 2 * PAGE, 'e', PAGE);
+    look_often(&fixture, SOON);
+    check(counts_of(&fixture).lent == 2, "pages that became equal are lent some looks later");
+    must(window_free(window, WINDOW_DROP), "window_free");
+    fixture_free(&fixture);
+    munmap(at, PAGES * PAGE);
+}
+
+/* A change that no glance at a page can see is found when the page is read in its turn. */
+static void reads_seldom(void) {
+    enum { TURNS = 8, LOOKS = 200 };
+    uint8_t *at = memory(PAGES);
+    struct window *window;
+    struct fixture fixture = idle_set(at, TURNS, &window);
+    size_t place = glance_place(fingerprint_of(lender_interface(fixture.lender)->salt, at)), lent = 0;
+    uint64_t *first = (uint64_t *)(void *)at, *second = first + WORDS;
+    for (size_t word = 0; word < WORDS; word++) {
+        if (word < place || word >= place + GLANCE_WORDS) first[word] = 77;
+        second[word] = first[word];
+    }
+    for (int i = 0; i < LOOKS && lent < 2; i++) {
+        look_often(&fixture, 1);
+        lent = counts_of(&fixture).lent;
+    }
+    check(lent == 2, "pages that became equal are lent when both were read");
+    must(window_free(window, WINDOW_DROP), "window_free");
+    fixture_free(&fixture);
+    munmap(at, PAGES * PAGE);
+}
+
 int main(void) {
     lives();
     zeros_and_singles();
@@ -525,6 +576,8 @@ int main(void) {
     marks(true);
     lenders();
     changes();
+    glances();
+    reads_seldom();
     puts(check_count() == 0 ? "pages: ok" : "pages: WRONG");
     return check_count() == 0 ? 0 : 1;
 }

@@ -13,6 +13,10 @@
 #include <pthread.h>
 #include <time.h>
 
+#ifndef MADV_COLLAPSE
+#define MADV_COLLAPSE 25 /* Linux 6.1 */
+#endif
+
 enum { PART = WINDOWS_HUGE_PAGES, PARTS = 6, PAGES = PARTS * PART, FROM = 64, BEFORE = 40, HUGE_KIB = 2048, FLIP_SECONDS = 6 };
 static const size_t part_bytes = (size_t)PART * PAGE;
 
@@ -135,6 +139,12 @@ static void zeros(void) {
     look_often(&fixture, 30);
     struct windows_counts counts = counts_of(&fixture);
     check(counts.zeros_now == 80 && counts.parts_whole == 1 && is_huge(at), "zeros are given back where there are many");
+    check(counts.parts_huge == 1, "and the other part is counted as a huge page");
+    /* (what khugepaged may do at any time this call does at once) */
+    unsigned char resident[80];
+    madvise(at + part_bytes, part_bytes, MADV_COLLAPSE);
+    check(mincore(at + part_bytes, sizeof resident * PAGE, resident) == 0 && memchr(resident, 1, sizeof resident) == NULL,
+          "no huge page brings the memory of zeros back");
     check(are_bytes(at, 0) && are_bytes(at + part_bytes, 0) && marked(at, 50) == 1050, "all read as before");
     must(window_free(window, WINDOW_DROP), "window_free");
     fixture_free(&fixture);
@@ -272,6 +282,8 @@ static void stays_split(void) {
     asked = 998; /* (the look before it is guarded is the last one that finds none) */
     look_often(&fixture, 1);
     check(asked >= 1000 && counts_of(&fixture).made_whole == 0, "and a device that is found when the part is guarded");
+    look_often(&fixture, 3);
+    check(counts_of(&fixture).made_whole == 0, "and devices that may have pinned a copy over a frame");
     windows_set_pins(fixture.windows, WINDOWS_PINS_NEVER);
     asked = 0;
     must(window_cut(window, 400, 2, NULL), "window_cut");

@@ -1,0 +1,21 @@
+/*
+ * What the library counts in a client, for operators: a file without a name (memfd) that the process keeps open. Who may look at its
+ * descriptors finds the file there, so no message is needed. Whoever reads it takes nothing for granted: the process can write anything.
+ */
+#ifndef HOST_COUNTS_H
+#define HOST_COUNTS_H
+
+#include <stdint.h>
+
+#define COUNTS_NAME "pageshare-counts"
+enum { COUNTS_VERSION = 1 };
+
+struct counts {
+    uint64_t version;
+    uint64_t pages;                                /* of windows */
+    uint64_t mappings, mappings_most;              /* of the system, that windows take and may take */
+    uint64_t parts_whole, parts_split, parts_huge; /* see HOST, Huge pages; huge: those of the whole ones that are a huge page */
+    uint64_t round_ms;                             /* how long the last look took */
+};
+
+#endif
