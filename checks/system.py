@@ -324,8 +324,11 @@ class Day:
         self.shop.do("systemctl start pageshare-host-metrics.service")
         written = {it.name: it.read_text() for it in folder.glob("pageshare-*")}
         must(sorted(written) == ["pageshare-build.prom", "pageshare-web.prom"], sorted(written))
-        for number in ('pageshare_net_bytes{domain="web"} ', 'guest="web1"} ', "pageshare_uptime_seconds"):
-            must(number in written["pageshare-web.prom"], written["pageshare-web.prom"])
+        of_guest = r'\{domain="web",[^}]*guest="web1"\} '
+        due = [r'net_bytes\{domain="web"\} [1-9]', *(f"client_{it}_bytes{of_guest}[1-9]" for it in ("lent", "table"))]
+        due += [f"client_mappings{of_guest}[1-9]", f"client_devices{of_guest}0\n"]
+        for it in due:
+            must(re.search(f"(?m)^pageshare_{it}", written["pageshare-web.prom"]), (it, written["pageshare-web.prom"]))
         self.shop.do("systemctl kill -s STOP pageshare-host@web")
         ran = self.shop.try_it("systemctl start pageshare-host-metrics.service")
         self.shop.do("systemctl kill -s CONT pageshare-host@web")

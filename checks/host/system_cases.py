@@ -105,6 +105,9 @@ def case_names() -> None:
     must(found == due, f"names {sorted(found.items())}, due {sorted(due.items())}")
     state = host.status()
     must(all(it["client_table_bytes"] > 0 for it in state["processes"]), "a process has no page tables")
+    mappings = {it["pid"]: it["client_mappings"] for it in state["processes"]}
+    due_mappings = {it: len(read(f"/proc/{it}/maps").splitlines()) for it in due}
+    must(mappings == due_mappings, f"mappings {mappings}, due {due_mappings}")
     net = state["reclaimed_bytes"] - state["host_bytes"] - state["table_bytes"]
     must(state["net_bytes"] == net < 0, f"the net gain of clients that share nothing is {state['net_bytes']}")
     for form, text in (("--prometheus", 'guest="a.b-c_1"'), ("--prometheus", 'pageshare_net_bytes{domain="web"} -'), ("", "net gain -")):

@@ -88,6 +88,17 @@ uint64_t naming_tables_of(uint64_t process) {
     return line && sscanf(line, "\nVmPTE: %llu kB", &kibibytes) == 1 ? kibibytes * 1024 : 0;
 }
 
+uint64_t naming_mappings_of(uint64_t process) {
+    static char text[65536];
+    uint64_t lines = 0;
+    int file = open_of(process, "maps");
+    if (file < 0) return 0;
+    for (size_t got; (got = read_all(file, text, sizeof text)) > 0;)
+        for (const char *at = text; (at = memchr(at, '\n', (size_t)(text + got - at))) != NULL; at++) lines++;
+    close(file);
+    return lines;
+}
+
 /* Reads a text of a thread. Returns false where there is none. */
 static bool read_thread(uint64_t process, const char *thread, const char *what, char *text, size_t room) {
     char path[64];

@@ -1,4 +1,4 @@
-/* What can be seen of a client's process from outside: the name of its guest, its page tables, and the time that the library takes. */
+/* What can be seen of a client's process from outside: its guest's name, its page tables and mappings, and the library's time. */
 #ifndef HOST_NAMING_H
 #define HOST_NAMING_H
 
@@ -17,6 +17,8 @@ void naming_of_guest(uint64_t process, char name[GUEST_NAME_MOST]);
 void naming_of_words(const char *words, size_t bytes, char name[GUEST_NAME_MOST]);
 /* What a process's page tables take, in bytes; 0 where that can't be seen. */
 uint64_t naming_tables_of(uint64_t process);
+/* How many mappings a process has; 0 where that can't be seen. Its own calls on mappings wait for the reading, a part at a time. */
+uint64_t naming_mappings_of(uint64_t process);
 /* The processor time of the thread by which the library looks in a process, in nanoseconds; 0 where there is none. */
 uint64_t naming_processor_of(uint64_t process);
 

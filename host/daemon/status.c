@@ -71,6 +71,7 @@ static const struct number of_client[] = {
     OF_CLIENT("client_messages_total", messages, true, 1, "Messages taken of the client"),
     OF_CLIENT("client_lent_pages_total", lends, true, 1, "Pages that the client has lent"),
     OF_CLIENT("client_table_bytes", table_bytes, false, 1, "Page tables of the client"),
+    OF_CLIENT("client_mappings", mappings, false, 1, "Mappings of the client, which vm.max_map_count limits"),
     TIME_OF_CLIENT("client_processor_nanoseconds_total", "client_processor_seconds_total", looks_ns, true,
                    "Processor time of the library's thread in the client"),
     OF_CLIENT("client_devices", devices, false, 1, "0: none that pins pages, 1: seen calls, 2: unseen ones, 3: all, 4: unknown"),
@@ -109,8 +110,8 @@ static bool receive(const char *socket_path, struct report *report) {
 
 static double mib(uint64_t pages) { return (double)pages * PAGE / (1 << 20); }
 
-/* Finds what can be seen of clients' processes: what devices may do to their memory, their guests' names and their page tables. */
-static void find(struct report *report) {
+/* Finds what can be seen of clients' processes: what devices may do to their memory, their guests' names, and what they take. */
+static void find(struct report *report, bool with_mappings) {
     const struct status_totals *totals = &report->totals;
     found.table_bytes = 0;
     for (size_t i = 0; i < totals->listed; i++) {
@@ -118,6 +119,7 @@ static void find(struct report *report) {
         enum devices devices;
         client->devices = devices_of_process(client->pid, &devices) ? (uint64_t)devices : STATUS_DEVICES_UNKNOWN;
         client->table_bytes = naming_tables_of(client->pid);
+        client->mappings = with_mappings ? naming_mappings_of(client->pid) : 0;
         client->looks_ns = naming_processor_of(client->pid);
         naming_of_guest(client->pid, found.names[i]);
         found.table_bytes += client->table_bytes;
@@ -242,7 +244,7 @@ int status_show(const char *socket_path, enum status_form form, bool watch) {
     bool is_terminal = isatty(STDOUT_FILENO) == 1;
     for (bool is_first = true;; is_first = false) {
         if (!receive(socket_path, &report)) return 1;
-        find(&report);
+        find(&report, form != STATUS_TABLE);
         if (form == STATUS_JSON) show_json(&report);
         else if (form == STATUS_PROMETHEUS) show_prometheus(&report);
         else if (watch && !is_terminal) show_line(&report, is_first);

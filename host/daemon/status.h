@@ -11,7 +11,7 @@
 #include "settings.h"
 
 #define STATUS_SUFFIX ".status"
-enum { STATUS_VERSION = 4, STATUS_CLIENTS_MOST = 1024, STATUS_DEVICES_UNKNOWN = 4 };
+enum { STATUS_VERSION = 5, STATUS_CLIENTS_MOST = 1024, STATUS_DEVICES_UNKNOWN = 4 };
 
 struct status_totals {
     uint64_t version;
@@ -46,6 +46,7 @@ struct status_client {
     /* What the reader finds, and not the host, which may not look there: */
     uint64_t devices;     /* an enum devices, or STATUS_DEVICES_UNKNOWN */
     uint64_t table_bytes; /* page tables of the process, or 0 */
+    uint64_t mappings;    /* of the process, or 0; not read for the table */
     uint64_t looks_ns;    /* processor time of the library's thread, or 0 */
 };
 
