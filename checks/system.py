@@ -216,7 +216,9 @@ class Day:
         """The package is installed, and the host serves a domain."""
         shutil.copy(self.package, self.shop.root / "root/host.deb")
         self.shop.try_it("dpkg -P pageshare-host")  # (of an earlier run)
-        self.shop.do("dpkg -i /root/host.deb")
+        said = self.shop.do("dpkg -i /root/host.deb 2>&1")
+        reads_folder = "libvirt-qemu.d" in read(self.shop.root / "etc/apparmor.d/abstractions/libvirt-qemu")
+        must(reads_folder != ("include if exists <abstractions/libvirt-qemu.d/pageshare>" in said), f"libvirt's profiles: {said}")
         # (udev doesn't run in a container)
         self.shop.do(f"test -e /dev/userfaultfd || mknod /dev/userfaultfd c {device_numbers()}")
         self.shop.do("chgrp pageshare-host /dev/userfaultfd && chmod 660 /dev/userfaultfd")
