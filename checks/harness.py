@@ -46,7 +46,8 @@ PACKAGES = {
     "cargo": "cargo", "rustc": "rustc", "valgrind": "valgrind", "pkg-config": "pkg-config", "mandoc": "mandoc", "man": "man-db",
     "zsh": "zsh", "fish": "fish", "qemu-x86_64": "qemu-user", "qemu-system-x86_64": "qemu-system-x86", "qemu-img": "qemu-utils",
     "busybox": "busybox-static", "setpriv": "util-linux", "promtool": "prometheus", "systemd-analyze": "systemd", "mypy": "mypy", "flake8": "flake8",
-    "mmdebstrap": "mmdebstrap", "systemd-nspawn": "systemd-container", "dpkg-deb": "dpkg",
+    "systemd-sysusers": "systemd", "systemd-tmpfiles": "systemd", "mmdebstrap": "mmdebstrap", "systemd-nspawn": "systemd-container",
+    "dpkg-deb": "dpkg", "lintian": "lintian", "apparmor_parser": "apparmor", "shellcheck": "shellcheck",
 }
 # How much of a long text is shown, and how much of that comes before the first difference.
 MOST, BEFORE = 300, 60

@@ -9,14 +9,15 @@ FOLDER is by default out/dist; nothing is built here but programs that use the l
 its program run with nothing of this repository or the kit on PATH: at both levels, on images whose estimate is known. It is installed
 below a prefix, where C and Rust programs are linked by pkg-config, shared and static; man pages and completions are read by the
 programs that show them; the library of x86-64-v3 is run on an emulated processor without AVX2, where it has to refuse; and what is
-uninstalled leaves no file. The host's files are read by those who use them: systemd verifies and rates the units, udev and Prometheus
-read their rules, a host is started and its numbers are checked, and the emulator for libvirt starts a QEMU whatever is missing. A
-second `packaging/dist.py` of the same tree has to make the same bytes. lintian finds no error in the Debian packages. Then they are
-installed, upgraded, run, removed and purged in an empty Debian that debootstrap makes, which needs root and the network.
+uninstalled leaves no file. The host's files are read by those who use them: systemd verifies and rates the units and makes the host's
+user and folder, udev, AppArmor and Prometheus read their rules, a host is started and its numbers are checked, shellcheck reads the
+scripts, and the emulator for libvirt starts a QEMU whatever is missing. A second `packaging/dist.py` of the same tree has to make the
+same bytes. lintian finds no error in the Debian packages. Then they are installed, upgraded, run, removed and purged in an empty Debian
+that debootstrap makes, which needs root and the network.
 
 With --installed, `make install` puts everything below a prefix in a new folder, where the same is tried, and `make uninstall` has to
-leave nothing. With --host the host alone, from what `make host` left in out/host, is installed below a prefix and tried. Neither needs
-the network or a package.
+leave nothing. With --host the host alone, from what `make host` left in out/host, is installed below a prefix and tried. Both make the
+Debian packages for lintian, and neither needs the network.
 
 What this machine has no program for is left out, and named. Prints each case that went wrong, and last `N passed, M failed` (status 0
 where all passed, else 1).
@@ -38,6 +39,11 @@ from collections.abc import Callable, Iterable, Mapping, Sequence
 
 import harness
 from harness import OUT, TOP, LeftOut, StrPath, Tally, needs, new_folder
+
+sys.path.append(str(TOP / "packaging"))
+
+import dist  # noqa: E402
+import stage  # noqa: E402
 
 ROWS = TOP / "checks/rows"
 ESTIMATE = ["estimate", "--json", "--salts", "0,0,5", "first.raw", "second.core", "first.raw"]
@@ -85,6 +91,15 @@ edition = "2021"
 
 [dependencies]
 pageshare = { path = "RUST" }
+"""
+# A profile of AppArmor with what the package adds to those of libvirt's guests.
+PROFILE = """\
+abi <abi/3.0>,
+include <tunables/global>
+profile pageshare-guest flags=(attach_disconnected) {{
+  include <abstractions/base>
+  include "{}"
+}}
 """
 MAIN = """\
 fn main() {
@@ -238,15 +253,16 @@ def try_rules(tally: Tally, folder: pathlib.Path) -> None:
     tally.holds("the rules for Prometheus", said[0] == 0, said)
 
 
-def try_dashboard(tally: Tally, folder: pathlib.Path) -> None:
-    """Each number that Grafana's dashboard shows is one that a status has."""
-    text = (folder / "grafana.json").read_text()
-    panels = json.loads(text)["panels"]
+def try_dashboard(tally: Tally, folder: pathlib.Path, names: set[str]) -> None:
+    """Each number that Grafana's dashboard and the rules ask for is one of those that a host prints."""
+    dashboard, rules = json.loads((folder / "grafana.json").read_text()), (folder / "pageshare.rules.yml").read_text()
+    panels, variables = dashboard["panels"], dashboard["templating"]["list"]
     tally.holds("the dashboard has panels with a title and a query", panels and all(it["title"] and it["targets"] for it in panels), panels)
-    names = set(re.findall(r"pageshare_\w+", "".join(target["expr"] for it in panels for target in it["targets"])))
-    source = (TOP / "host/daemon/status.c").read_text()
-    missing = sorted(it for it in names if f'"{it.removeprefix("pageshare_")}"' not in source)
-    tally.equal("numbers of the dashboard that no status has", missing, [])
+    asked = [target["expr"] for it in panels for target in it["targets"]] + [str(it["query"]) for it in variables]
+    asked += re.findall(r"(?m)^ +expr: (.*)$", rules)
+    used = set(re.findall(r"\bpageshare_\w+", " ".join(asked)))
+    tally.holds("the dashboard and the rules ask for numbers", used, asked)
+    tally.equal("numbers of the dashboard and the rules that no host prints", sorted(used - names), [])
 
 
 def try_unit(tally: Tally, folder: pathlib.Path, name: str) -> None:
@@ -273,15 +289,39 @@ def try_udev(tally: Tally, prefix: pathlib.Path) -> None:
 
 
 def try_users(tally: Tally, prefix: pathlib.Path, room: pathlib.Path) -> None:
-    """The users and groups that the host needs, made below an empty folder."""
-    needs("the host's user", "systemd-sysusers")
+    """The users and groups that the host needs, and its folder, made below an empty folder."""
+    needs("the host's user", "systemd-sysusers", "systemd-tmpfiles")
     root = room / "users"
     (root / "etc").mkdir(parents=True)
     said = run("systemd-sysusers", f"--root={root}", prefix / "lib/sysusers.d/pageshare-host.conf")
     if said[0] != 0 and os.geteuid() != 0:
         raise LeftOut("the host's user, since making one takes root")
     made = (root / "etc/passwd").read_text() + (root / "etc/group").read_text() if said[0] == 0 else ""
-    tally.holds("systemd-sysusers makes the user and the group", re.findall(r"(?m)^pageshare-host:|^kvm:", made), (said, made))
+    tally.equal("systemd-sysusers makes the user and the groups", re.findall(r"(?m)^(pageshare-host|kvm):", made).count("pageshare-host"), 2)
+    said = run("systemd-tmpfiles", f"--root={root}", "--create", prefix / "lib/tmpfiles.d/pageshare-host.conf")
+    (user,) = re.findall(r"(?m)^pageshare-host:[^:]*:(\d+):(\d+):.*:", made) or [("", "")]
+    folder = root / "run/pageshare"
+    found = folder.stat() if folder.is_dir() else None
+    is_right = found and (str(found.st_uid), str(found.st_gid), found.st_mode & 0o7777) == (*user, 0o755)
+    tally.holds("systemd-tmpfiles makes the folder of the sockets", said == (0, "", "") and is_right, (said, user, found))
+
+
+def try_profile(tally: Tally, prefix: pathlib.Path, room: pathlib.Path) -> None:
+    """What AppArmor's parser says of what guests of libvirt may do besides. (No kernel has to enforce it.)"""
+    needs("the abstraction for AppArmor", "apparmor_parser")
+    profile = room / "profile"
+    profile.write_text(PROFILE.format(prefix / "share/pageshare/libvirt-qemu.apparmor"))
+    said = run(shutil.which("apparmor_parser") or "", "--skip-kernel-load", "--skip-cache", profile)
+    tally.holds("apparmor_parser reads the abstraction", said[0] == 0, said)
+
+
+def try_scripts(tally: Tally, prefix: pathlib.Path) -> None:
+    """What shellcheck says of the scripts that are installed, or that dpkg runs."""
+    scripts = [prefix / "bin/pageshare-qemu", prefix / "libexec/pageshare/write-metrics", TOP / "packaging/install.sh"]
+    scripts += [it for end in ("preinst", "postinst", "prerm", "postrm") for it in (TOP / "packaging/debian").glob(f"*.{end}")]
+    tally.equal("sh reads each script", [it for it in scripts if run("sh", "-n", it)[0] != 0], [])
+    needs("scripts by shellcheck", "shellcheck")
+    tally.equal("shellcheck of each script", run("shellcheck", *scripts), (0, "", ""))
 
 
 def try_names(tally: Tally, prefix: pathlib.Path) -> None:
@@ -303,8 +343,8 @@ def try_soname(tally: Tally, library: pathlib.Path) -> None:
     tally.holds("libpageshare-window.so has its soname", "SONAME               libpageshare-window.so\n" in said[1], said)
 
 
-def try_metrics(tally: Tally, prefix: pathlib.Path, room: pathlib.Path) -> None:
-    """A host is started, and Prometheus reads its numbers."""
+def numbers_of(prefix: pathlib.Path, room: pathlib.Path) -> str:
+    """What a started host prints for Prometheus."""
     host, socket = prefix / "bin/pageshare-host", room / "web.sock"
     with subprocess.Popen([host, "--domain", f"web={socket}", "--memory", "16M"], stderr=subprocess.DEVNULL) as ran:
         said, late = (1, "", ""), time.monotonic() + 20
@@ -312,16 +352,20 @@ def try_metrics(tally: Tally, prefix: pathlib.Path, room: pathlib.Path) -> None:
             time.sleep(0.1)
             said = run(host, "--status", socket, "--prometheus")
         ran.terminate()
-    tally.holds("a started host prints its numbers", 'pageshare_uptime_seconds{domain="web"}' in said[1], said)
+    return said[1]
+
+
+def try_metrics(tally: Tally, numbers: str) -> None:
+    """A host's numbers as Prometheus reads them."""
+    tally.holds("a started host prints its numbers", 'pageshare_uptime_seconds{domain="web"}' in numbers, numbers)
     needs("the numbers for Prometheus", "promtool")
-    checked = harness.run(["promtool", "check", "metrics"], said[1])
+    checked = harness.run(["promtool", "check", "metrics"], numbers)
     tally.equal("promtool check metrics", (checked.returncode, checked.stdout, checked.stderr), (0, b"", b""))
 
 
 def try_emulator(tally: Tally, prefix: pathlib.Path) -> None:
     """The emulator for libvirt starts a QEMU whatever is missing, and says what that is."""
     emulator, settings = prefix / "bin/pageshare-qemu", pathlib.Path("/etc/pageshare/guests.conf")
-    tally.equal("sh reads pageshare-qemu and write-metrics", [run("sh", "-n", it)[0] for it in (emulator, prefix / "libexec/pageshare/write-metrics")], [0, 0])
     needs("the emulator for libvirt", "qemu-system-x86_64")
     said = run(emulator, "--version")
     tally.holds("without a guest it is QEMU", said[0] == 0 and "QEMU" in said[1] and not said[2], said)
@@ -340,10 +384,13 @@ def try_host(tally: Tally, prefix: pathlib.Path, room: pathlib.Path) -> None:
     for name in UNITS:
         tally.part(try_unit, prefix / "lib/systemd/system", name)
     tally.part(try_udev, prefix)
-    tally.part(try_users, prefix, room)
-    for part in (try_rules, try_dashboard):
-        tally.part(part, prefix / "share/doc/pageshare/examples/host")
-    tally.part(try_metrics, prefix, room)
+    for part in (try_users, try_profile):
+        tally.part(part, prefix, room)
+    tally.part(try_scripts, prefix)
+    numbers, examples = numbers_of(prefix, room), prefix / "share/doc/pageshare/examples/host"
+    tally.part(try_metrics, numbers)
+    tally.part(try_rules, examples)
+    try_dashboard(tally, examples, set(re.findall(r"(?m)^# TYPE (\w+) ", numbers)))
     tally.part(try_emulator, prefix)
     try_completions(tally, prefix, "pageshare-host", "pageshare-host --prom", "--prometheus\n")
 
@@ -390,6 +437,7 @@ def try_make(tally: Tally, room: pathlib.Path) -> None:
         tally.holds("the unit names the prefix alone", f"ExecStart={prefix}/bin/pageshare-host " in unit, unit)
         said = run("make", "--no-print-directory", "uninstall", *words, env=dict(os.environ), folder=TOP)
         tally.holds("make uninstall leaves nothing", said[0] == 0 and not root.parent.exists(), said)
+    tally.part(try_policy, room, stage.PARTS)
 
 
 def try_sums(tally: Tally, folder: pathlib.Path) -> None:
@@ -466,6 +514,13 @@ def try_lintian(tally: Tally, file: pathlib.Path) -> None:
     tally.holds(f"lintian finds no error in {file.name}", said[0] == 0, said)
 
 
+def try_policy(tally: Tally, room: pathlib.Path, parts: Sequence[str]) -> None:
+    """What Debian's own check says of the packages of these parts, which are made for that."""
+    needs("the Debian packages", "dpkg-deb", "lintian")
+    for part in parts:
+        try_lintian(tally, dist.make_debian(room, part))
+
+
 def try_debian(tally: Tally, files: Sequence[pathlib.Path], room: pathlib.Path) -> None:
     """The Debian packages: installed, tried, upgraded and removed in a Debian that has nothing else."""
     if not files or not has("debootstrap") or os.geteuid() != 0:
@@ -498,6 +553,7 @@ def host_alone(tally: Tally, room: pathlib.Path) -> None:
     tally.equal("install.sh", install()[0], 0)
     try_pages(tally, prefix, ("pageshare-host.8",))
     try_host(tally, prefix, room)
+    tally.part(try_policy, room, ("host",))
     said = install("--uninstall")
     tally.holds("install.sh --uninstall leaves nothing", said[0] == 0 and not root.exists(), said)
 

@@ -5,8 +5,9 @@
 
 It makes a Debian by mmdebstrap, boots it by systemd-nspawn, installs the Debian package of the host, and starts three guests by virsh:
 two with the emulator of the package and one with variables. Then come, one case each: sharing, a restart and a kill of the host, a
-reload, suspend, save, managedsave, setmem, a dump by migration, destroy, a second domain, an upgrade, a removal and a purge. Each
-guest works on files and checks all that it reads; after each step each has gone on, and has read no wrong byte. Guests are emulated.
+reload, suspend, save, managedsave, setmem, a dump by migration, destroy, a second domain, a refused connection, numbers for Prometheus,
+an upgrade, a removal and a purge. Each guest works on files and checks all that it reads; after each step each has gone on, and has
+read no wrong byte. Guests are emulated.
 
 Needs root, mmdebstrap, systemd-nspawn, dpkg-deb, a mirror of Debian, and out/host (`make host`). What is missing is left out, and so
 said. AppArmor, udev and KVM aren't in the container, and are not tried. FOLDER (by default one below /var/tmp) keeps the Debian for the
@@ -42,6 +43,7 @@ INCLUDED = (
 )
 WEB, BUILD = "/run/pageshare/web.sock", "/run/pageshare/build.sock"
 LIBRARY = "/usr/lib/x86_64-linux-gnu/libpageshare-window.so"
+METRICS = "/var/lib/prometheus/node-exporter"
 SECONDS = 400
 # A guest of libvirt: its name, memory and emulator, its kernel's words and a log of what it says, and maybe variables of QEMU.
 DOMAIN = """\
@@ -214,7 +216,9 @@ class Day:
         """The package is installed, and the host serves a domain."""
         shutil.copy(self.package, self.shop.root / "root/host.deb")
         self.shop.try_it("dpkg -P pageshare-host")  # (of an earlier run)
-        self.shop.do("dpkg -i /root/host.deb")
+        said = self.shop.do("dpkg -i /root/host.deb 2>&1")
+        reads_folder = "libvirt-qemu.d" in read(self.shop.root / "etc/apparmor.d/abstractions/libvirt-qemu")
+        must(reads_folder != ("include if exists <abstractions/libvirt-qemu.d/pageshare>" in said), f"libvirt's profiles: {said}")
         # (udev doesn't run in a container)
         self.shop.do(f"test -e /dev/userfaultfd || mknod /dev/userfaultfd c {device_numbers()}")
         self.shop.do("chgrp pageshare-host /dev/userfaultfd && chmod 660 /dev/userfaultfd")
@@ -315,6 +319,28 @@ class Day:
         must(ran.stdout.strip() == "0", f"{ran}")
         must(self.shop.status()["turned_away_total"] == before + 1, self.shop.status())
 
+    def step_metrics(self) -> None:
+        """The timer's unit writes each domain's numbers. Of a host that doesn't answer the last ones stay, and nothing half written."""
+        folder = self.shop.root / METRICS.lstrip("/")
+        self.shop.do(f"mkdir -p {METRICS} && rm -f {METRICS}/pageshare-*")
+        self.shop.do("systemctl start pageshare-host-metrics.service")
+        written = {it.name: it.read_text() for it in folder.glob("pageshare-*")}
+        must(sorted(written) == ["pageshare-build.prom", "pageshare-web.prom"], sorted(written))
+        of_guest = r'\{domain="web",[^}]*guest="web1"\} '
+        due = [r'net_bytes\{domain="web"\} [1-9]', *(f"client_{it}_bytes{of_guest}[1-9]" for it in ("lent", "table"))]
+        due += [f"client_mappings{of_guest}[1-9]", f"client_devices{of_guest}0\n"]
+        for it in due:
+            must(re.search(f"(?m)^pageshare_{it}", written["pageshare-web.prom"]), (it, written["pageshare-web.prom"]))
+        self.shop.do("systemctl kill -s STOP pageshare-host@web")
+        ran = self.shop.try_it("systemctl start pageshare-host-metrics.service")
+        self.shop.do("systemctl kill -s CONT pageshare-host@web")
+        must(ran.returncode != 0, "it counts as good although a host doesn't answer")
+        later = {it.name: it.read_text() for it in folder.glob("pageshare-*")}
+        must(sorted(later) == sorted(written), sorted(later))
+        must(later["pageshare-web.prom"] == written["pageshare-web.prom"], "the last numbers of the host that doesn't answer are gone")
+        must(later["pageshare-build.prom"] != written["pageshare-build.prom"], "the other host's numbers are old")
+        self.shares()
+
     def step_upgrade(self) -> None:
         """The package is installed again: hosts start anew, guests go on."""
         before = self.main_pid()
@@ -327,6 +353,7 @@ class Day:
         said = self.shop.try_it("dpkg -r pageshare-host")
         must(said.returncode == 0 and "web1" in said.stderr, f"{said}")
         must(self.shop.try_it("pgrep -x pageshare-host").returncode != 0, "a host runs still")
+        must(not [*(self.shop.root / METRICS.lstrip("/")).glob("pageshare-*")], "numbers are left for Prometheus")
         for it in self.guests:
             it.goes_on()
 

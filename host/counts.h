@@ -15,7 +15,7 @@ struct counts {
     uint64_t pages;                                /* of windows */
     uint64_t mappings, mappings_most;              /* of the system, that windows take and may take */
     uint64_t parts_whole, parts_split, parts_huge; /* see HOST, Huge pages; huge: those of the whole ones that are a huge page */
-    uint64_t round_ms;                             /* how long the last look took */
+    uint64_t round_ns;                             /* how long the last look took */
 };
 
 #endif

@@ -127,7 +127,7 @@ def counting(path: str, written: bytes) -> int:
 
 def case_counts() -> None:
     """A status shows what clients say of their windows, and whatever a client writes there does no harm."""
-    names = ("mappings", "mappings_limit", "parts_whole", "parts_split", "parts_huge", "look_milliseconds")
+    names = ("mappings", "mappings_limit", "parts_whole", "parts_split", "parts_huge", "look_nanoseconds")
     numbers, most = (1, 1000, 20, 300, 4, 3, 2, 50), 2**64 - 1
     host = Host("--connection-rate", "1000", memory="64M")
     due = {

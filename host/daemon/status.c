@@ -78,7 +78,8 @@ static const struct number of_client[] = {
     OF_CLIENT("client_parts_whole", counts.parts_whole, false, 1, "Parts of 2 MiB of which nothing is lent, as it says"),
     OF_CLIENT("client_parts_huge", counts.parts_huge, false, 1, "Of these, the ones that are a huge page, as it says"),
     OF_CLIENT("client_parts_split", counts.parts_split, false, 1, "Parts of 2 MiB whose pages may be lent, as it says"),
-    OF_CLIENT("client_look_milliseconds", counts.round_ms, false, 1, "How long the client's last look took, as it says"),
+    TIME_OF_CLIENT("client_look_nanoseconds", "client_look_seconds", counts.round_ns, false,
+                   "How long the client's last look took, as it says"),
     OF_CLIENT("client_devices", devices, false, 1, "0: none that pins pages, 1: seen calls, 2: unseen ones, 3: all, 4: unknown"),
 };
 enum { TOTALS_COUNT = sizeof of_totals / sizeof *of_totals, CLIENT_COUNT = sizeof of_client / sizeof *of_client, LABELS = 3 };
@@ -115,7 +116,7 @@ static bool receive(const char *socket_path, struct report *report) {
 
 static double mib(uint64_t pages) { return (double)pages * PAGE / (1 << 20); }
 
-/* Finds what can be seen of clients' processes: what devices may do to their memory, their guests' names and their page tables. */
+/* Finds what can be seen of clients' processes: what devices may do to their memory, their guests' names, and what they take. */
 static void find(struct report *report) {
     const struct status_totals *totals = &report->totals;
     found.table_bytes = 0;
@@ -170,7 +171,7 @@ static void show_windows(const struct report *report) {
                (unsigned long long)counts->parts_whole, (unsigned long long)counts->parts_huge,
                (unsigned long long)counts->parts_split, (unsigned long long)counts->mappings,
                (unsigned long long)counts->mappings_most, (double)client->lent_pages / (double)(counts->mappings + 1),
-               (unsigned long long)counts->round_ms);
+               (unsigned long long)(counts->round_ns / 1000000));
     }
 }
 

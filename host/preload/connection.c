@@ -409,15 +409,22 @@ static void turn(void) {
 
 /* Says which of the files that the library reads are denied to it, for example by a profile of AppArmor. */
 static void report_denied(void) {
-    static const char *const paths[] = {"/proc/self/pagemap",  "/proc/self/smaps",
-                                        "/proc/self/maps",     "/proc/self/status",
-                                        "/proc/self/fd",       "/proc/self/fdinfo",
-                                        "/proc/sys/fs/aio-nr", "/proc/sys/vm/max_map_count",
-                                        "/proc/meminfo",       "/sys/kernel/mm/transparent_hugepage/enabled"};
+    static const char *const paths[] = {"/proc/self/pagemap",
+                                        "/proc/self/smaps",
+                                        "/proc/self/maps",
+                                        "/proc/self/status",
+                                        "/proc/self/fd",
+                                        "/proc/self/fdinfo",
+                                        "/proc/sys/fs/aio-nr",
+                                        "/proc/sys/vm/max_map_count",
+                                        "/proc/meminfo",
+                                        "/proc/pressure/memory",
+                                        "/proc/self/ksm_merging_pages",
+                                        "/sys/kernel/mm/transparent_hugepage/enabled"};
     for (size_t i = 0; i < sizeof paths / sizeof paths[0]; i++) {
         int file = (int)syscall(SYS_openat, AT_FDCWD, paths[i], O_RDONLY | O_CLOEXEC);
         if (file >= 0) syscall(SYS_close, file);
-        else if (errno != ENOENT) /* (a kernel may have no huge pages) */
+        else if (errno != ENOENT && errno != EOPNOTSUPP) /* (a kernel may have no huge pages, no KSM or no pressure) */
             log_line("%s: %s; less is lent for want of it, or nothing", paths[i], strerror(errno));
     }
 }

@@ -18,9 +18,8 @@ void counts_file_write(const struct windows_counts *now) {
                                   .parts_whole = now->parts_whole,
                                   .parts_split = now->parts_split,
                                   .parts_huge = now->parts_huge,
-                                  .round_ms = now->round_ns / 1000000};
+                                  .round_ns = now->round_ns};
     if (file < 0 || pwrite(file, &counts, sizeof counts, 0) == (ssize_t)sizeof counts) return;
     close(file);
-    sharing_disown(file);
     file = NOTHING;
 }
