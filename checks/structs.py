@@ -4,7 +4,7 @@
     checks/structs.py
 
 No proof says in what order a struct of the libraries has its members, and a header with two members of one type exchanged compiles. So
-each struct with #[repr(C)] in FOLDERS must have the members of the header's struct that STRUCTS names, one by one. Prints what fails,
+each struct with #[repr(C)] in FOLDERS must have the members of the header's structs that STRUCTS names, one by one. Prints what fails,
 and last 'N passed, M failed'.
 """
 from __future__ import annotations
@@ -16,13 +16,13 @@ import sys
 from harness import TOP, Tally
 
 HEADERS = ["lib/include/pageshare.h", "lib/include/pageshare_host.h"]
-FOLDERS = {"crates/pageshare_c/src": "rt", "crates/pageshare_host_c/src": "rt", "lib/rust/src": "rs"}
-# The struct of C for each of the others.
+FOLDERS = {"crates/c_surface/src": "rt", "crates/pageshare_c/src": "rt", "crates/pageshare_host_c/src": "rt", "lib/rust/src": "rs"}
+# The structs of C for each of the others.
 STRUCTS = {
     "Answer": "pageshare_answer", "Totals": "pageshare_totals", "PageName": "pageshare_page_name", "Lending": "pageshare_lending",
     "Region": "pageshare_region", "DomainShape": "pageshare_domain_shape", "DomainLoan": "pageshare_loan",
-    "DomainTotals": "pageshare_domain_totals", "HostShape": "pageshare_host_shape", "SessionTold": "pageshare_host_session",
-    "HostTotals": "pageshare_host_totals", "ReceivedPacket": "pageshare_host_received",
+    "DomainTotals": "pageshare_domain_totals pageshare_host_totals", "HostShape": "pageshare_host_shape",
+    "SessionTold": "pageshare_host_session", "ReceivedPacket": "pageshare_host_received",
 }
 # A handle has a pointer and a flag; what is in it is private, and so are its names.
 HANDLES = {"Machine", "Slot", "DomainHandle", "DomainSlot", "HostHandle", "HostSlot", "Handle"}
@@ -51,7 +51,8 @@ def main() -> int:
             for name, inside in STRUCT.findall(file.read_text()):
                 if name not in HANDLES:
                     found = [(member, TYPES.get(kind, "pointer")) for member, kind in MEMBER.findall(inside) if "PhantomData" not in kind]
-                    tally.equal(f"{name} in {file.relative_to(TOP)}", found, due.get(STRUCTS.get(name, "")))
+                    for of_c in STRUCTS.get(name, "").split() or [""]:
+                        tally.equal(f"{name} in {file.relative_to(TOP)}", found, due.get(of_c))
     return tally.close()
 
 

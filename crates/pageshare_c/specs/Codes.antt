@@ -1,29 +1,25 @@
 -- The numbers that C reads.
-use Rattle.std.specs.Prelude.{ℕ, true, length, Option, Some, None, Result, Ok, Err}
+use Rattle.std.specs.Prelude.{ℕ, true, length, Result, Ok, Err}
+use Rattle.c_surface.specs.declared.status.TheConstants as status
 use Rattle.page_model.specs.declared.verdict.Verdict.{Verdict}
 use Rattle.page_model.specs.declared.verdict.Verdict.TheVariants.{NoPage, Unmapped, Already, Joined, Paired, Hinted, Kept, Replaced, Ineligible, Mapped, Stored, Copied, Taken, NoFrame, Bytes, Released, Totals, Closed}
 use Rattle.pageshare_c.specs.declared.answer.Refusal.{Refusal}
 use Rattle.pageshare_c.specs.declared.answer.Refusal.TheVariants as r
 
--- the number of a refusal. 1 to 5 say why a machine wasn't made
+-- the status of a refusal
 abbrev pub status_of : Refusal → ℕ
-status_of r.NoMachine = 6
-status_of r.NoGuest = 7
-status_of r.Full = 8
-status_of r.Length = 9
-status_of r.Crosses = 10
-status_of r.NoPage = 11
-status_of r.Unmapped = 12
+status_of r.NoMachine = status.NO_MACHINE
+status_of r.NoGuest = status.NO_GUEST
+status_of r.Full = status.FULL
+status_of r.Length = status.LENGTH
+status_of r.Crosses = status.CROSSES
+status_of r.NoPage = status.NO_PAGE
+status_of r.Unmapped = status.UNMAPPED
 
--- 0, or the refusal's number
+-- OK, or the refusal's status
 abbrev pub status_told : {X : Type 0} → Result X Refusal → ℕ
-status_told (Ok x) = 0
+status_told (Ok x) = status.OK
 status_told (Err refusal) = status_of refusal
-
--- the status of a call that needs a machine and nothing else
-abbrev pub held_status : {X : Type 0} → Option X → ℕ
-held_status None = 6
-held_status (Some x) = 0
 
 -- the verdict's number
 abbrev pub code_of : Verdict → ℕ

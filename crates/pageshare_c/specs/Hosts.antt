@@ -1,5 +1,7 @@
 -- What a domain's handle holds: how it is begun and made.
-use Rattle.std.specs.Prelude.{◌≡◌, ◌≢◌, ℕ, ◌+◌, ◌⊎◌, Bool, true, false, ◌==◌, if◌then◌else◌, Option, Some, None, is_some}
+use Rattle.std.specs.Prelude.{ℕ, ◌+◌, Bool, true, false, ◌==◌, if◌then◌else◌, Option, Some, None, is_some}
+use Rattle.c_surface.specs.Handles.{Adds, Makes}
+use Rattle.c_surface.specs.declared.status.TheConstants as status
 use Rattle.recent_fingerprints.specs.Notes.{Recent, nothing_noted}
 use Rattle.share_domain.specs.Domains.{DomainView}
 use Rattle.share_domain.specs.Made.{empty_domain}
@@ -17,14 +19,9 @@ of_made none f None = none
 of_made none f (Some (Begun b)) = none
 of_made none f (Some (Made m)) = f m
 
--- a status of the domain, or 6 if there is none that is made
+-- a status of the domain, or that there is none which is made
 abbrev pub made_status : (MadeDomain → ℕ) → Option Hosted → ℕ
-made_status status old = of_made 6 status old
-
--- the status of a call that frees what there is
-abbrev pub free_status : Option Hosted → ℕ
-free_status None = 6
-free_status (Some h) = 0
+made_status found old = of_made status.NO_MACHINE found old
 
 -- the handle with another domain, if there is one that is made
 abbrev pub changed : (MadeDomain → MadeDomain) → Option Hosted → Option Hosted
@@ -47,21 +44,13 @@ made_of s hash recent = Made (record { domain = domain_by hash (empty_domain (co
 abbrev pub begun_of : DomainShape → ℕ → Hosted
 begun_of s hash = Begun (record { shape = s; hash = hash; given = 0; recent = nothing_noted s.recent s.clients s.seed })
 
--- What a call does that makes what a handle holds, by its status: the first cause that holds, or lack of memory where there is no
--- other; then the handle is as it was.
-pub record Makes (cause : ℕ) (made : Hosted) (old new : Option Hosted) (status : ℕ) : Type 0 where
-  pub refused : cause ≢ 0 → status ≡ cause
-  pub memory : cause ≡ 0 → (status ≡ 0) ⊎ (status ≡ 4)
-  pub done : status ≡ 0 → new ≡ Some made
-  pub kept : status ≢ 0 → new ≡ old
-
 -- a domain with frames of its own is made
 abbrev pub MakesDomain : DomainShape → ℕ → Option Hosted → Option Hosted → ℕ → Type 0
-MakesDomain s hash old new status = Makes (make_cause s hash (is_some old)) (made_of s hash (nothing_noted s.recent s.clients s.seed)) old new status
+MakesDomain s hash old new result = Makes (make_cause s hash (is_some old)) (made_of s hash (nothing_noted s.recent s.clients s.seed)) old new result
 
 -- a domain is begun, whose frames come in regions of so many pages
 abbrev pub BeginsDomain : DomainShape → ℕ → ℕ → Option Hosted → Option Hosted → ℕ → Type 0
-BeginsDomain s hash pages old new status = Makes (begin_cause s hash pages (is_some old)) (begun_of s hash) old new status
+BeginsDomain s hash pages old new result = Makes (begin_cause s hash pages (is_some old)) (begun_of s hash) old new result
 
 -- a domain that was begun, with the frames of one machine more: with those of the last one it is made
 abbrev pub next_stage : BegunView → Hosted
@@ -84,15 +73,11 @@ abbrev pub frames_awaited : Hosted → ℕ
 frames_awaited (Begun b) = b.shape.frames
 frames_awaited (Made m) = 0
 
--- the first cause for which a region of so many pages isn't added, or 0
+-- the first cause for which a region of so many pages isn't added, or OK
 abbrev pub add_cause : ℕ → Option Hosted → ℕ
-add_cause pages None = 6
-add_cause pages (Some h) = if awaits_none h then 6 else if pages == frames_awaited h then 0 else 13
+add_cause pages None = status.NO_MACHINE
+add_cause pages (Some h) = if awaits_none h then status.NO_MACHINE else if pages == frames_awaited h then status.OK else status.REGION
 
--- The frames of one machine are added, or not: for the first cause that holds, and then the handle is as it was; or for lack of
--- memory, and then it holds nothing.
-pub record AddsFrames (pages : ℕ) (old new : Option Hosted) (status : ℕ) : Type 0 where
-  pub cause : add_cause pages old ≢ 0 → (status ≡ add_cause pages old) × (new ≡ old)
-  pub memory : add_cause pages old ≡ 0 → (status ≡ 0) ⊎ (status ≡ 4)
-  pub added : status ≡ 0 → new ≡ one_added old
-  pub lost : status ≡ 4 → new ≡ None
+-- the frames of one machine are added, or not
+abbrev pub AddsFrames : ℕ → Option Hosted → Option Hosted → ℕ → Type 0
+AddsFrames pages old new result = Adds (add_cause pages old) (one_added old) old new result

@@ -1,34 +1,28 @@
 -- Clients and their slots, as C names them: what each call answers, and what the handle holds afterwards.
 use Rattle.std.specs.Prelude.{◌≡◌, ◌≢◌, ℕ, ◌==◌, if◌then◌else◌, List, length, slice_get, Option, Some, None, Result, Ok, Err, MatchResult}
+use Rattle.c_surface.specs.Frames.{frame_number}
+use Rattle.c_surface.specs.Statuses.{number_or, room_status, status_of}
+use Rattle.c_surface.specs.Totals.{totals_of}
+use Rattle.c_surface.specs.declared.status.TheConstants as status
+use Rattle.c_surface.specs.declared.totals.DomainTotals.{DomainTotals}
 use Rattle.recent_fingerprints.specs.Notes.{forgotten}
+use Rattle.share_domain.specs.declared.client.TheConstants.{NO_FRAME}
 use Rattle.share_domain.specs.declared.holding.Loan.{Loan}
 use Rattle.share_domain.specs.declared.holding.Slot.{Slot}
 use Rattle.share_domain.specs.declared.fault.LendFault.{LendFault}
-use Rattle.share_domain.specs.declared.fault.LendFault.TheVariants as fault
 use Rattle.share_domain.specs.declared.fault.NoSuchSlot.{NoSuchSlot}
-use Rattle.share_domain.specs.declared.report.DomainReport.{DomainReport}
 use Rattle.share_domain.specs.Domains.{DomainView, next_client, entered, page_machine, LendsIn, RefusesIn, release_answer, after_release}
-use Rattle.share_domain.specs.Leaving.{Leaves, is_here, told}
+use Rattle.share_domain.specs.Leaving.{Leaves, is_here}
 use Rattle.share_domain.specs.Numbers.{slot_number}
 use Rattle.share_domain.specs.Totals.{domain_totals}
 use Rattle.pageshare_c.specs.Domains.{hash_of}
 use Rattle.pageshare_c.specs.Hosts.{changed, made_status, of_made, showing, shows}
-use Rattle.pageshare_c.specs.declared.answer.TheConstants.{NO_FRAME}
 use Rattle.pageshare_c.specs.declared.hosted.Hosted.{Hosted}
 use Rattle.pageshare_c.specs.declared.hosted.Hosted.TheVariants.{Begun, Made}
 use Rattle.pageshare_c.specs.declared.hosted.MadeDomain.{MadeDomain}
 use Rattle.pageshare_c.specs.declared.loan.DomainLoan.{DomainLoan}
-use Rattle.pageshare_c.specs.declared.domain_totals.DomainTotals.{DomainTotals}
 
--- a client enters: 20 if as many are in as there may be
-abbrev pub room_status : Option ℕ → ℕ
-room_status None = 20
-room_status (Some client) = 0
-
-abbrev pub number_or : ℕ → Option ℕ → ℕ
-number_or old None = old
-number_or old (Some n) = n
-
+-- a client enters
 abbrev pub enter_status : Option Hosted → ℕ
 enter_status old = made_status (λ m. room_status (next_client (shows m))) old
 
@@ -40,18 +34,13 @@ after_enter old = changed (λ m. showing (entered (shows m) (next_client (shows 
 
 -- what C gets of a page that wasn't lent
 abbrev pub not_lent : ℕ → DomainLoan
-not_lent status = record { status = status; frame = NO_FRAME; slot = 0; sharers = 0 }
-
-abbrev pub fault_status : LendFault → ℕ
-fault_status fault.NoClient = 21
-fault_status fault.NoSlot = 22
-fault_status fault.NoFrame = 23
+not_lent why = record { status = why; frame = NO_FRAME; slot = 0; sharers = 0 }
 
 -- what C gets of a page, by what became of it; nothing becomes of it without a domain
 abbrev pub loan_told : Option (Result Loan LendFault) → DomainLoan
-loan_told None = not_lent 6
-loan_told (Some (Err fault)) = not_lent (fault_status fault)
-loan_told (Some (Ok loan)) = record { status = 0; frame = loan.frame; slot = slot_number loan.slot; sharers = loan.sharers }
+loan_told None = not_lent status.NO_MACHINE
+loan_told (Some (Err fault)) = not_lent (status_of fault)
+loan_told (Some (Ok loan)) = record { status = status.OK; frame = loan.frame; slot = slot_number loan.slot; sharers = loan.sharers }
 
 -- what became of a client's page at a domain
 abbrev pub Becomes : ℕ → List ℕ → Result Loan LendFault → MadeDomain → MadeDomain → Type 0
@@ -76,13 +65,13 @@ pub record LendsAt (client : ℕ) (page : List ℕ) (answer : DomainLoan) (old n
   pub says : answer ≡ loan_told became
   pub lends : BecomesAt client page became old new
 
--- a client's slot is released: 24 if it isn't the client's
+-- a client's slot is released, if it is the client's
 abbrev pub released_status : Result (Option ℕ) NoSuchSlot → ℕ
-released_status (Ok frame) = 0
-released_status (Err fault) = 24
+released_status (Ok frame) = status.OK
+released_status (Err fault) = status.NOT_ITS_SLOT
 
 abbrev pub freed_or : ℕ → Result (Option ℕ) NoSuchSlot → ℕ
-freed_or old (Ok frame) = told frame
+freed_or old (Ok frame) = frame_number frame
 freed_or old (Err fault) = old
 
 abbrev pub release_status : ℕ → Slot → Option Hosted → ℕ
@@ -94,10 +83,10 @@ freed_after client slot freed old = of_made freed (λ m. freed_or freed (release
 abbrev pub after_release_at : ℕ → Slot → Option Hosted → Option Hosted
 after_release_at client slot old = changed (λ m. showing (after_release client slot (shows m)) m) old
 
--- a client leaves: 9 if there is room for no frame, and 21 if there is no such client
+-- a client leaves: there is room for no frame, or no such client
 abbrev pub leave_status : ℕ → List ℕ → Option Hosted → ℕ
 leave_status client room old =
-    made_status (λ m. if length room == 0 then 9 else if is_here (slice_get (shows m).clients client) then 0 else 21) old
+    made_status (λ m. if length room == 0 then status.LENGTH else if is_here (slice_get (shows m).clients client) then status.OK else status.NO_CLIENT) old
 
 -- the questions of a client that leaves are forgotten
 abbrev pub forgetting : ℕ → MadeDomain → MadeDomain
@@ -112,14 +101,11 @@ LeavesDomain client count room after (Some (Made m)) (Some (Made n)) = Leaves cl
 
 -- A client left, in part or for good, by share_domain's words; or the call was refused, and nothing changed. room and before are what
 -- the caller's memory held for the freed frames and for their number.
-pub record LeavesAt (client status : ℕ) (room after : List ℕ) (before count : ℕ) (old new : Option Hosted) : Type 0 where
-  pub cause : status ≡ leave_status client room old
-  pub left : status ≡ 0 → LeavesDomain client count room after old new
-  pub kept : status ≢ 0 → (after ≡ room) × (count ≡ before) × (new ≡ old)
+pub record LeavesAt (client result : ℕ) (room after : List ℕ) (before count : ℕ) (old new : Option Hosted) : Type 0 where
+  pub cause : result ≡ leave_status client room old
+  pub left : result ≡ status.OK → LeavesDomain client count room after old new
+  pub kept : result ≢ status.OK → (after ≡ room) × (count ≡ before) × (new ≡ old)
 
 -- what C reads of a report
-abbrev pub totals_told : DomainReport → DomainTotals
-totals_told r = record { machines = r.machines; clients = r.clients; slots = r.slots; frames = r.frames; shared = r.shared; reclaimed = r.reclaimed }
-
 abbrev pub totals_after : DomainTotals → Option Hosted → DomainTotals
-totals_after totals old = of_made totals (λ m. totals_told (domain_totals (shows m))) old
+totals_after totals old = of_made totals (λ m. totals_of (domain_totals (shows m))) old

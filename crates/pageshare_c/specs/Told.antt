@@ -1,30 +1,27 @@
 -- What C gets: an answer, and what its room holds afterwards.
 use Rattle.std.specs.Prelude.{ℕ, nat_le, if◌then◌else◌, List, ◌++◌, length, drop, Option, Some, None, Result, Ok, Err}
+use Rattle.c_surface.specs.Frames.{frame_number}
+use Rattle.c_surface.specs.declared.status.TheConstants as status
 use Rattle.page_model.specs.Pages.{State, totals}
 use Rattle.page_model.specs.Parts.{Totals as Report}
 use Rattle.page_model.specs.declared.request.Request.{Request}
 use Rattle.page_model.specs.declared.request.RequestFault.{RequestFault}
 use Rattle.page_model.specs.declared.verdict.Verdict.{Verdict}
 use Rattle.page_model.specs.declared.verdict.Verdict.TheVariants as v
+use Rattle.share_domain.specs.declared.client.TheConstants.{NO_FRAME}
 use Rattle.pageshare_c.specs.declared.hashed_core.HashedCore.{HashedCore}
 use Rattle.pageshare_c.specs.declared.answer.Answer.{Answer}
 use Rattle.pageshare_c.specs.declared.answer.Refusal.{Refusal}
 use Rattle.pageshare_c.specs.declared.answer.Refusal.TheVariants.{NoMachine}
 use Rattle.pageshare_c.specs.declared.answer.Totals.{Totals}
-use Rattle.pageshare_c.specs.declared.answer.TheConstants.{NO_FRAME}
 use Rattle.pageshare_c.specs.Codes.{status_of, code_of, count_of}
 use Rattle.pageshare_c.specs.Framed.{frame_after, frame_freed, page_frame, frame_left}
 use Rattle.pageshare_c.specs.Outcomes.{outcome, store_outcome, lend_outcome}
 
--- the number of a frame, 4,294,967,295 if there is none
-abbrev pub frame_number : Option ℕ → ℕ
-frame_number None = NO_FRAME
-frame_number (Some mpn) = mpn
-
 -- the answer to a request: its verdict, the named page's frame afterwards, and a frame that is free since
 abbrev pub told : Result Verdict Refusal → Option ℕ → Option ℕ → Answer
 told (Ok verdict) frame freed = record {
-  status = 0;
+  status = status.OK;
   verdict = code_of verdict;
   count = count_of verdict;
   frame = frame_number frame;

@@ -1,15 +1,17 @@
 //! What C gets in answer.
 ghost use Rattle.std.specs.Prelude.{◌≡◌, None, Ok, Err};
 ghost use Rattle.pageshare_c.specs.Codes.{code_of, count_of, status_of as status_number};
-ghost use Rattle.pageshare_c.specs.Told.{told, frame_number, numbers};
+ghost use Rattle.pageshare_c.specs.Told.{told, numbers};
 
+use c_surface::{frame_number, status};
 use page_model::{Report, Verdict};
+use share_domain::NO_FRAME;
 
 /// The answer to one request.
 #[repr(C)]
 #[derive(Clone, Copy)]
 pub struct Answer {
-    /// 0 if the request was served, and else why it was not.
+    /// `OK` if the request was served, and else why it was not.
     pub status: u32,
     /// The verdict's number, 1 to 18, or 0 if the request was not served.
     pub verdict: u32,
@@ -21,9 +23,6 @@ pub struct Answer {
     /// A frame that is free since the request, or [`NO_FRAME`].
     pub freed: u32,
 }
-
-/// What an answer names in place of a frame where there is none.
-pub const NO_FRAME: u32 = 4_294_967_295;
 
 /// What a machine counts, as in a [`Report`].
 #[repr(C)]
@@ -61,13 +60,13 @@ pub(crate) fn status_of(refusal: Refusal) -> u32
     ensures { result ≡ status_number refusal }
 {
     match refusal {
-        Refusal::NoMachine => 6,
-        Refusal::NoGuest => 7,
-        Refusal::Full => 8,
-        Refusal::Length => 9,
-        Refusal::Crosses => 10,
-        Refusal::NoPage => 11,
-        Refusal::Unmapped => 12,
+        Refusal::NoMachine => status::NO_MACHINE,
+        Refusal::NoGuest => status::NO_GUEST,
+        Refusal::Full => status::FULL,
+        Refusal::Length => status::LENGTH,
+        Refusal::Crosses => status::CROSSES,
+        Refusal::NoPage => status::NO_PAGE,
+        Refusal::Unmapped => status::UNMAPPED,
     }
 }
 
@@ -125,20 +124,11 @@ pub(crate) fn answer_of(verdict: &Verdict, frame: Option<u32>, freed: Option<u32
     ensures { result ≡ told (Ok verdict.now) frame freed }
 {
     Answer {
-        status: 0,
+        status: status::OK,
         verdict: verdict_number(verdict),
         count: count_in(verdict),
-        frame: number_of(frame),
-        freed: number_of(freed),
-    }
-}
-
-fn number_of(frame: Option<u32>) -> u32
-    ensures { result ≡ frame_number frame }
-{
-    match frame {
-        None => NO_FRAME,
-        Some(mpn) => mpn,
+        frame: frame_number(frame),
+        freed: frame_number(freed),
     }
 }
 

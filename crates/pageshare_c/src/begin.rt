@@ -4,7 +4,8 @@ ghost use Rattle.machine_frames.specs.FrameMap.{no_frames};
 ghost use Rattle.page_model.specs.declared.limits.TheConstants.{MAX_FRAMES};
 ghost use Rattle.recent_fingerprints.specs.Notes.{nothing_noted};
 ghost use Rattle.pageshare_c.specs.Hosts.{awaits_none, begun_of, frames_awaited, made_of, one_added, AddsFrames, BeginsDomain, MakesDomain};
-ghost use Rattle.pageshare_c.specs.Shapes.{IsFit};
+ghost use Rattle.c_surface.specs.Shapes.{IsFit};
+ghost use Rattle.pageshare_c.specs.Shapes.{config_of};
 
 use crate::begun::Begun;
 use crate::domain_handle::DomainHandle;
@@ -13,6 +14,7 @@ use crate::hosted::{Hosted, MadeDomain};
 use crate::limits::{config_of, make_cause};
 use crate::make::{WIDE_SHA256, new_frames};
 use crate::shape::DomainShape;
+use c_surface::{Handle, status};
 use machine_frames::{Frames, FramesFault, Region};
 use recent_fingerprints::RecentFingerprints;
 use share_domain::new_frames as new_frames_of_each;
@@ -20,7 +22,7 @@ use std::alloc::{AllocError, Global};
 
 /// Makes a domain with frames of its own.
 fn new_made(alloc: Global, shape: &DomainShape, hash: u32) -> Result<Box<Hosted>, AllocError>
-    requires fit { IsFit shape.now }
+    requires fit { IsFit (config_of shape.now) shape.now.recent }
     requires hash { hash ≤ WIDE_SHA256 }
     ensures { IfOk result (λ hosted. hosted.value ≡ made_of shape.now hash (nothing_noted shape.now.recent shape.now.clients shape.now.seed)) }
 {
@@ -42,21 +44,21 @@ pub(crate) fn make_domain(
     ensures { MakesDomain shape.now hash domain.old.slot.domain domain.new.slot.domain result }
 {
     let cause = make_cause(shape, hash, domain.is_live());
-    if cause != 0 {
+    if cause != status::OK {
         return cause;
     }
     match new_made(alloc, shape, hash) {
-        Err(_) => 4,
+        Err(_) => status::MEMORY,
         Ok(hosted) => {
             domain.put(hosted);
-            0
+            status::OK
         }
     }
 }
 
 /// Makes a domain that waits for the frames of its machines.
 fn new_begun(alloc: Global, shape: &DomainShape, hash: u32) -> Result<Box<Hosted>, AllocError>
-    requires fit { IsFit shape.now }
+    requires fit { IsFit (config_of shape.now) shape.now.recent }
     requires hash { hash ≤ WIDE_SHA256 }
     ensures { IfOk result (λ hosted. hosted.value ≡ begun_of shape.now hash) }
 {
@@ -76,17 +78,17 @@ pub(crate) fn begin(
     ensures { BeginsDomain shape.now hash pages domain.old.slot.domain domain.new.slot.domain result }
 {
     let cause = make_cause(shape, hash, domain.is_live());
-    if cause != 0 {
+    if cause != status::OK {
         return cause;
     }
     if pages as u64 != u64::from(shape.machines) * u64::from(shape.frames) {
-        return 13;
+        return status::REGION;
     }
     match new_begun(alloc, shape, hash) {
-        Err(_) => 4,
+        Err(_) => status::MEMORY,
         Ok(hosted) => {
             domain.put(hosted);
-            0
+            status::OK
         }
     }
 }
@@ -108,28 +110,28 @@ pub(crate) fn add_frames(alloc: Global, domain: &mut DomainHandle, region: Regio
     ensures { AddsFrames region.pages domain.old.slot.domain domain.new.slot.domain result }
 {
     let held = match domain.take(alloc) {
-        None => return 6,
+        None => return status::NO_MACHINE,
         Some(held) => held,
     };
     let each = frames_awaited(&held);
     if each == 0 {
         domain.put(held);
-        return 6;
+        return status::NO_MACHINE;
     }
     let frames = match new_frames(alloc, each, Some(region)) {
         Err(FramesFault::Region) => {
             domain.put(held);
-            return 13;
+            return status::REGION;
         }
-        Err(FramesFault::Frames) => return 4,
-        Err(FramesFault::OutOfMemory) => return 4,
+        Err(FramesFault::Frames) => return status::MEMORY,
+        Err(FramesFault::OutOfMemory) => return status::MEMORY,
         Ok(frames) => frames,
     };
     match added(alloc, held, frames) {
-        None => 4,
+        None => status::MEMORY,
         Some(hosted) => {
             domain.put(hosted);
-            0
+            status::OK
         }
     }
 }

@@ -4,7 +4,8 @@ ghost use Rattle.page_model.specs.declared.limits.TheConstants.{MAX_FRAMES};
 ghost use Rattle.machine_frames.specs.FrameMap.{no_frames};
 ghost use Rattle.recent_fingerprints.specs.Notes.{nothing_noted};
 ghost use Rattle.pageshare_c.specs.Hosts.{next_stage};
-ghost use Rattle.pageshare_c.specs.Shapes.{IsFit};
+ghost use Rattle.c_surface.specs.Shapes.{IsFit};
+ghost use Rattle.pageshare_c.specs.Shapes.{config_of};
 
 use crate::hashed_domain::HashedDomain;
 use crate::hosted::{Hosted, MadeDomain};
@@ -39,7 +40,7 @@ impl Model for Begun {
 impl Begun {
     /// Begins a domain that has the frames of no machine yet.
     pub(crate) fn new(alloc: Global, shape: &DomainShape, hash: u32) -> Result<Begun, AllocError>
-        requires fit { IsFit shape.now }
+        requires fit { IsFit (config_of shape.now) shape.now.recent }
         requires hash { hash ≤ WIDE_SHA256 }
         ensures { IfOk result (λ begun. begun
             ≡ record { shape = shape.now; hash = hash; given = 0; recent = nothing_noted shape.now.recent shape.now.clients shape.now.seed }) }

@@ -1,9 +1,9 @@
 //! What C keeps of a domain.
-ghost use Rattle.std.specs.Prelude.{◌≡◌, Some, None, MatchOption, is_some};
+ghost use Rattle.std.specs.Prelude.{◌≡◌, Some, None, is_some};
 
 use crate::domain_slot::DomainSlot;
 use crate::hosted::Hosted;
-use box_parcels::Parcel;
+use c_surface::{Handle, Parcel};
 use std::alloc::Global;
 
 /// A handle: room for one domain. It holds none while all its bytes are 0.
@@ -14,19 +14,16 @@ pub struct DomainHandle {
     ghost agree: { is_some slot.domain ≡ live },
 }
 
-impl DomainHandle {
-    /// Whether the handle holds a domain.
-    pub(crate) fn is_live(&self) -> bool
-        ensures { result ≡ is_some self.now.slot.domain }
-    {
+impl Handle for DomainHandle {
+    type Held = Hosted;
+
+    ghost held = { λ h. h.slot.domain };
+
+    fn is_live(&self) -> bool {
         self.live
     }
 
-    /// Takes the domain out of the handle. Each call puts it back at its end, which costs a load and a store.
-    pub(crate) fn take(&mut self, alloc: Global) -> Option<Box<Hosted>>
-        ensures gone { self.new.slot.domain ≡ None }
-        ensures value { MatchOption result (self.old.slot.domain ≡ None) (λ domain. self.old.slot.domain ≡ Some domain.value) }
-    {
+    fn take(&mut self, alloc: Global) -> Option<Box<Hosted>> {
         if self.live {
             self.live = false;
             Some(self.slot.empty(alloc).unwrap())
@@ -35,13 +32,12 @@ impl DomainHandle {
         }
     }
 
-    /// Puts a domain into a handle that holds none.
-    pub(crate) fn put(&mut self, domain: Box<Hosted>)
+    fn put(&mut self, value: Box<Hosted>)
         requires { self.old.slot.domain ≡ None }
-        ensures { self.new.slot.domain ≡ Some domain.value }
+        ensures { self.new.slot.domain ≡ Some value.value }
     {
         self.live = true;
-        self.slot.fill(Parcel::wrap(domain));
+        self.slot.fill(Parcel::wrap(value));
     }
 }
 

@@ -1,7 +1,6 @@
-//! The numbers that C reads, as include/pageshare.h has them.
+//! The numbers that C reads, as lib/include/pageshare.h has them. Those of statuses are in c_surface.
 ghost use Rattle.std.specs.Prelude.{◌≡◌};
-ghost use Rattle.share_domain.specs.declared.client.TheConstants as domain;
-ghost use Rattle.pageshare_c.specs.declared.answer.TheConstants.{NO_FRAME};
+ghost use Rattle.share_domain.specs.declared.client.TheConstants.{NO_FRAME};
 ghost use Rattle.share_domain.specs.declared.number.TheConstants.{SLOTS_APART};
 ghost use Rattle.pageshare_c.specs.declared.make.TheConstants.{SHA256, FOLD, WIDE_SHA256};
 
@@ -12,5 +11,4 @@ pub fn numbers_law()
     ensures fold { FOLD ≡ 1 }
     ensures wide { WIDE_SHA256 ≡ 2 }
     ensures slots_apart { SLOTS_APART ≡ 4294967296 }
-    ensures domain { domain.NO_FRAME ≡ NO_FRAME }
 {}

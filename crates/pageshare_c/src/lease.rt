@@ -1,10 +1,9 @@
 //! Clients that enter, release their slots and leave.
 ghost use Rattle.std.specs.Prelude.{◌≡◌, Some};
-ghost use Rattle.share_domain.specs.Leaving.{told};
 ghost use Rattle.pageshare_c.specs.Leases.{after_enter, after_release_at, client_after, enter_status, freed_after, release_status, LeavesAt};
 
-use crate::answer::NO_FRAME;
 use crate::hosted::Hosted;
+use c_surface::{frame_number, status};
 use share_domain::Slot;
 
 /// Lets a client in, writes its number to `client`, and returns the status.
@@ -14,24 +13,14 @@ pub(crate) fn enter(hosted: &mut Hosted, client: &mut u32) -> u32
     ensures now { Some hosted.new ≡ after_enter (Some hosted.old) }
 {
     match hosted {
-        Hosted::Begun(_) => 6,
+        Hosted::Begun(_) => status::NO_MACHINE,
         Hosted::Made(made) => match made.domain.enter() {
-            None => 20,
+            None => status::NO_ROOM,
             Some(number) => {
                 *client = number;
-                0
+                status::OK
             }
         },
-    }
-}
-
-/// Returns the number of a frame, or that there is none.
-fn told(frame: Option<u32>) -> u32
-    ensures { result ≡ told frame }
-{
-    match frame {
-        None => NO_FRAME,
-        Some(frame) => frame,
     }
 }
 
@@ -42,12 +31,12 @@ pub(crate) fn release(hosted: &mut Hosted, client: u32, slot: Slot, freed: &mut 
     ensures now { Some hosted.new ≡ after_release_at client slot (Some hosted.old) }
 {
     match hosted {
-        Hosted::Begun(_) => 6,
+        Hosted::Begun(_) => status::NO_MACHINE,
         Hosted::Made(made) => match made.domain.release(client, slot) {
-            Err(_) => 24,
+            Err(_) => status::NOT_ITS_SLOT,
             Ok(frame) => {
-                *freed = told(frame);
-                0
+                *freed = frame_number(frame);
+                status::OK
             }
         },
     }
@@ -59,17 +48,17 @@ pub(crate) fn leave(hosted: &mut Hosted, client: u32, freed: &mut [u32], count: 
     ensures { LeavesAt client result freed.old freed.new count.old count.new (Some hosted.old) (Some hosted.new) }
 {
     match hosted {
-        Hosted::Begun(_) => 6,
+        Hosted::Begun(_) => status::NO_MACHINE,
         Hosted::Made(made) => {
             if freed.is_empty() {
-                return 9;
+                return status::LENGTH;
             }
             match made.domain.leave(client, freed) {
-                None => 21,
+                None => status::NO_CLIENT,
                 Some(released) => {
                     made.recent.forget(client);
                     *count = released;
-                    0
+                    status::OK
                 }
             }
         }

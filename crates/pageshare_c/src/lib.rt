@@ -5,21 +5,23 @@
 //! by a status above 0, and then nothing has changed. A status above 0 is the first cause that holds, in the order of the
 //! numbers; only [`pageshare_make`] first checks whether the handle holds a machine already.
 //!
-//! `include/pageshare.h` declares the same functions in C, and says what the caller owes.
+//! `lib/include/pageshare.h` declares the same functions in C, and says what the caller owes.
 #![tactic(auto)]
 
 ghost use Rattle.std.specs.Prelude.{◌≡◌, ◌≢◌, length, None, Some, Ok};
 ghost use Rattle.std.specs.Option.{option_map};
 ghost use Rattle.page_model.specs.Limits.{shapes};
 ghost use Rattle.page_model.specs.Replay.{empty_state};
+ghost use Rattle.c_surface.specs.Statuses.{held_status};
+ghost use Rattle.c_surface.specs.declared.status.TheConstants as status;
 ghost use Rattle.pageshare_c.specs.Access.{store_of, load_of};
 ghost use Rattle.page_digest.specs.Hashes.{fold_hash};
 ghost use Rattle.pageshare_c.specs.Asked.{asked, seen_after};
-ghost use Rattle.pageshare_c.specs.Codes.{held_status, status_told};
+ghost use Rattle.pageshare_c.specs.Codes.{status_told};
 ghost use Rattle.pageshare_c.specs.Found.{text_of, frame_found, HoldsText};
 ghost use Rattle.pageshare_c.specs.Framed.{frame_freed, frame_left, LeftFree};
 ghost use Rattle.pageshare_c.specs.Hashed.{hash_number};
-ghost use Rattle.pageshare_c.specs.Hosts.{free_status, made_status, AddsFrames, BeginsDomain, MakesDomain};
+ghost use Rattle.pageshare_c.specs.Hosts.{made_status, AddsFrames, BeginsDomain, MakesDomain};
 ghost use Rattle.pageshare_c.specs.InTurn.{LendsGroup};
 ghost use Rattle.pageshare_c.specs.Kept.{FramesKept, StoreKept, LendKept, restarted_core};
 ghost use Rattle.pageshare_c.specs.Leases.{after_enter, after_release_at, client_after, enter_status, freed_after, release_status, totals_after, LeavesAt, LendsAt};
@@ -55,14 +57,15 @@ mod slot;
 mod whole;
 
 pub use ahead::PageName;
-pub use answer::{Answer, NO_FRAME, Refusal, Totals};
+pub use answer::{Answer, Refusal, Totals};
 use answer::{refuse, status_of};
 use ask::ask;
 use begin::{add_frames, begin, make_domain};
 pub use begun::Begun;
+pub use c_surface::DomainTotals;
+use c_surface::{Handle, free, status};
 pub use domain_handle::DomainHandle;
 pub use domain_slot::DomainSlot;
-pub use domain_totals::DomainTotals;
 use domain_totals::report as report_domain;
 pub use group::Lending;
 pub use hashed_core::HashedCore;
@@ -80,17 +83,17 @@ use page_model::Request;
 use recent_fingerprints::PageName as AskedPage;
 use serve::{load_request, serve, serve_count, serve_load, store_request};
 pub use shape::DomainShape;
-pub use share_domain::SLOTS_APART;
 use share_domain::slot_by;
+pub use share_domain::{NO_FRAME, SLOTS_APART};
 pub use slot::Slot;
 use std::alloc::Global;
 
 /// Makes a machine with `frames` frames. Guest i has `pages[i]` pages and the salt `salts[i]`.
 ///
-/// The status is 0 if it is made, 5 if the handle holds a machine already, and else 1 (0 frames, or more than
-/// 1,048,576), 2 (no guest, more than 64, or not as many salts as guests), 3 (a guest with no page, or more than
-/// 1,048,576 pages in total) or 4 (memory was refused). This takes all memory that the machine needs; no other call
-/// asks for any.
+/// The status is `OK` if it is made, `IN_USE` if the handle holds a machine already, and else `FRAMES` (0 frames, or
+/// more than 1,048,576), `GUESTS` (no guest, more than 64, or not as many salts as guests), `PAGES` (a guest with no
+/// page, or more than 1,048,576 pages in total) or `MEMORY` (memory was refused). This takes all memory that the machine
+/// needs; no other call asks for any.
 #[unsafe(no_mangle)]
 pub extern "C" fn pageshare_make(
     alloc: Global,
@@ -105,7 +108,7 @@ pub extern "C" fn pageshare_make(
 }
 
 /// Does the same with a hash of the caller's choice: 0 is SHA-256, as `pageshare_make` has it, and 1 is the fast one. The
-/// status is 14 if the handle holds no machine and there is no such hash.
+/// status is `HASH` if the handle holds no machine and there is no such hash.
 #[unsafe(no_mangle)]
 pub extern "C" fn pageshare_make_hashed(
     alloc: Global,
@@ -121,7 +124,7 @@ pub extern "C" fn pageshare_make_hashed(
 }
 
 /// Does the same with frames in the caller's region, which has room for exactly as many pages: frame n is the n-th page of it.
-/// The status is 13, checked after 3, if it has room for another number.
+/// The status is `REGION`, checked after `PAGES`, if it has room for another number.
 ///
 /// The region is the library's for good, unless the status is above 0. A machine that was freed doesn't use it again.
 #[unsafe(no_mangle)]
@@ -139,16 +142,13 @@ pub extern "C" fn pageshare_make_in(
     make(alloc, machine, frames, pages, salts, hash, Some(region))
 }
 
-/// Frees the machine. The status is 6 if the handle holds none.
+/// Frees the machine. The status is `NO_MACHINE` if the handle holds none.
 #[unsafe(no_mangle)]
 pub extern "C" fn pageshare_free(alloc: Global, machine: &mut Machine) -> u32
     ensures none { machine.new.slot.core ≡ None }
     ensures status { result ≡ held_status machine.old.slot.core }
 {
-    match machine.take(alloc) {
-        None => 6,
-        Some(_core) => 0,
-    }
+    free(machine, alloc)
 }
 
 /// Proposes a page for sharing.
@@ -225,7 +225,7 @@ pub extern "C" fn pageshare_release(
 /// Stores a whole page, which counts as the 64 stores of 64 bytes each that write it. The verdict is the first one's: if that is
 /// `NoPage` or `NoFrame`, so are the others, and otherwise they are `Stored`.
 ///
-/// The status is 8 if fewer than 64 requests are left to count.
+/// The status is `FULL` if fewer than 64 requests are left to count.
 #[unsafe(no_mangle)]
 pub extern "C" fn pageshare_store_page(
     alloc: Global,
@@ -252,7 +252,7 @@ pub extern "C" fn pageshare_store_page(
 /// Lends a page: stores it whole, and proposes it unless its stores were refused. The verdict is the proposal's, or `NoPage` or
 /// `NoFrame`. A frame is freed if the page had one for itself and now shares another's.
 ///
-/// The status is 8 if fewer than 65 requests are left to count.
+/// The status is `FULL` if fewer than 65 requests are left to count.
 #[unsafe(no_mangle)]
 pub extern "C" fn pageshare_lend(
     alloc: Global,
@@ -280,8 +280,8 @@ pub extern "C" fn pageshare_lend(
 /// Lends four pages, one after the other in this order, as by four calls of [`pageshare_lend`]: each answer is that of the page at
 /// its place. With SHA-256 their hashes are computed together, from the bytes where they are. One page may be named twice.
 ///
-/// The status is 6 if the handle holds no machine, and then the answers stay as they are. Else it is 0, and each answer has its
-/// own.
+/// The status is `NO_MACHINE` if the handle holds no machine, and then the answers stay as they are. Else it is `OK`, and each
+/// answer has its own.
 #[unsafe(no_mangle)]
 pub extern "C" fn pageshare_lend_four(
     alloc: Global,
@@ -293,11 +293,11 @@ pub extern "C" fn pageshare_lend_four(
     ensures status { result ≡ held_status machine.old.slot.core }
 {
     match machine.take(alloc) {
-        None => 6,
+        None => status::NO_MACHINE,
         Some(mut core) => {
             core.lend_four(pages, answers);
             machine.put(core);
-            0
+            status::OK
         }
     }
 }
@@ -315,11 +315,11 @@ pub extern "C" fn pageshare_lend_eight(
     ensures status { result ≡ held_status machine.old.slot.core }
 {
     match machine.take(alloc) {
-        None => 6,
+        None => status::NO_MACHINE,
         Some(mut core) => {
             core.lend_eight(pages, answers);
             machine.put(core);
-            0
+            status::OK
         }
     }
 }
@@ -371,41 +371,41 @@ pub extern "C" fn pageshare_count(
 }
 
 /// Begins the count of requests anew, so that a machine that has counted 4,294,967,295 of them serves again. All else
-/// stays. The status is 6 if the handle holds no machine.
+/// stays. The status is `NO_MACHINE` if the handle holds no machine.
 #[unsafe(no_mangle)]
 pub extern "C" fn pageshare_restart_count(alloc: Global, machine: &mut Machine) -> u32
     ensures count { machine.new.slot.core ≡ option_map restarted_core machine.old.slot.core }
     ensures status { result ≡ held_status machine.old.slot.core }
 {
     match machine.take(alloc) {
-        None => 6,
+        None => status::NO_MACHINE,
         Some(mut core) => {
             core.restart_count();
             machine.put(core);
-            0
+            status::OK
         }
     }
 }
 
 /// Computes the hashes of these pages ahead of their proposals, four at a time. It skips pages that don't exist, aren't
-/// private, or whose hash is known. It is no request and changes no answer. The status is 6 if the handle holds no
-/// machine.
+/// private, or whose hash is known. It is no request and changes no answer. The status is `NO_MACHINE` if the handle
+/// holds no machine.
 #[unsafe(no_mangle)]
 pub extern "C" fn pageshare_hash(alloc: Global, machine: &mut Machine, pages: &[PageName]) -> u32
     ensures same { machine.new.slot.core ≡ machine.old.slot.core }
     ensures status { result ≡ held_status machine.old.slot.core }
 {
     match machine.take(alloc) {
-        None => 6,
+        None => status::NO_MACHINE,
         Some(mut core) => {
             core.note_hashes(pages);
             machine.put(core);
-            0
+            status::OK
         }
     }
 }
 
-/// Gets the machine's totals, and is no request. The status is 6 if the handle holds no machine.
+/// Gets the machine's totals, and is no request. The status is `NO_MACHINE` if the handle holds no machine.
 #[unsafe(no_mangle)]
 pub extern "C" fn pageshare_report(alloc: Global, machine: &mut Machine, totals: &mut Totals) -> u32
     ensures same { machine.new.slot.core ≡ machine.old.slot.core }
@@ -413,17 +413,17 @@ pub extern "C" fn pageshare_report(alloc: Global, machine: &mut Machine, totals:
     ensures totals { totals.new ≡ value_or totals.old (counts (seen machine.old.slot.core)) }
 {
     match machine.take(alloc) {
-        None => 6,
+        None => status::NO_MACHINE,
         Some(core) => {
             *totals = core.totals();
             machine.put(core);
-            0
+            status::OK
         }
     }
 }
 
-/// Copies a page to the room; an unmapped page reads as zeros. The status is 6 if the handle holds no machine, and 11 if
-/// there is no such page.
+/// Copies a page to the room; an unmapped page reads as zeros. The status is `NO_MACHINE` if the handle holds no
+/// machine, and `NO_PAGE` if there is no such page.
 #[unsafe(no_mangle)]
 pub extern "C" fn pageshare_read(
     alloc: Global,
@@ -437,17 +437,17 @@ pub extern "C" fn pageshare_read(
     ensures bytes { room.new ≡ value_or room.old (text_of (seen machine.old.slot.core) guest ppn) }
 {
     match machine.take(alloc) {
-        None => 6,
+        None => status::NO_MACHINE,
         Some(core) => {
             let copied = core.copy_page(guest, ppn, room);
             machine.put(core);
-            if copied { 0 } else { 11 }
+            if copied { status::OK } else { status::NO_PAGE }
         }
     }
 }
 
-/// Gets the number of a page's frame. The status is 6 if the handle holds no machine, 11 if there is no such page, and
-/// 12 if it is unmapped.
+/// Gets the number of a page's frame. The status is `NO_MACHINE` if the handle holds no machine, `NO_PAGE` if there is
+/// no such page, and `UNMAPPED` if it is unmapped.
 #[unsafe(no_mangle)]
 pub extern "C" fn pageshare_frame(
     alloc: Global,
@@ -459,10 +459,10 @@ pub extern "C" fn pageshare_frame(
     ensures same { machine.new.slot.core ≡ machine.old.slot.core }
     ensures status { result ≡ status_told (frame_found machine.old.slot.core guest ppn) }
     ensures frame { mpn.new ≡ value_or mpn.old (frame_found machine.old.slot.core guest ppn) }
-    ensures bytes { result ≡ 0 → HoldsText machine.old.slot.core guest ppn mpn.new }
+    ensures bytes { result ≡ status.OK → HoldsText machine.old.slot.core guest ppn mpn.new }
 {
     match machine.take(alloc) {
-        None => 6,
+        None => status::NO_MACHINE,
         Some(core) => {
             let found = core.find_frame(guest, ppn);
             machine.put(core);
@@ -470,7 +470,7 @@ pub extern "C" fn pageshare_frame(
                 Err(refusal) => status_of(refusal),
                 Ok(frame) => {
                     *mpn = frame;
-                    0
+                    status::OK
                 }
             }
         }
@@ -478,7 +478,8 @@ pub extern "C" fn pageshare_frame(
 }
 
 /// Gets the address of a page's 4,096 bytes, which may be read, never written, and only until the next call with this
-/// handle. The status is 6 if the handle holds no machine, 11 if there is no such page, and 12 if it is unmapped.
+/// handle. The status is `NO_MACHINE` if the handle holds no machine, `NO_PAGE` if there is no such page, and
+/// `UNMAPPED` if it is unmapped.
 ///
 /// If the status is above 0, `at` stays as it is. No contract says what is at the address; [`pageshare_read`] copies
 /// the bytes.
@@ -492,16 +493,16 @@ pub extern "C" fn pageshare_page(
 ) -> u32
     ensures same { machine.new.slot.core ≡ machine.old.slot.core }
     ensures status { result ≡ status_told (frame_found machine.old.slot.core guest ppn) }
-    ensures room { result ≢ 0 → at.new ≡ at.old }
+    ensures room { result ≢ status.OK → at.new ≡ at.old }
 {
     match machine.take(alloc) {
-        None => 6,
+        None => status::NO_MACHINE,
         Some(core) => {
             let found = core.put_address(guest, ppn, at);
             machine.put(core);
             match found {
                 Err(refusal) => status_of(refusal),
-                Ok(_) => 0,
+                Ok(_) => status::OK,
             }
         }
     }
@@ -509,8 +510,8 @@ pub extern "C" fn pageshare_page(
 
 /// Makes a domain with frames of its own.
 ///
-/// The status is 0 if it is made, 5 if the handle holds a domain already, and else 14 (no such hash), 16 (machines), 17 (slots), 1
-/// (frames), 18 (clients), 19 (recent) or 4 (memory was refused).
+/// The status is `OK` if it is made, `IN_USE` if the handle holds a domain already, and else `HASH`, `MACHINES`, `SLOTS`, `FRAMES`,
+/// `CLIENTS`, `RECENT` or `MEMORY`.
 #[unsafe(no_mangle)]
 pub extern "C" fn pageshare_domain_make_shaped(
     alloc: Global,
@@ -525,7 +526,8 @@ pub extern "C" fn pageshare_domain_make_shaped(
 
 /// Begins a domain, whose machines' frames come in regions: `pages` is how many pages these have room for.
 ///
-/// The status is as for [`pageshare_domain_make_shaped`], with 13 before 4 if that isn't as many pages as all machines have frames.
+/// The status is as for [`pageshare_domain_make_shaped`], with `REGION` before `MEMORY` if that isn't as many pages as all machines
+/// have frames.
 #[unsafe(no_mangle)]
 pub extern "C" fn pageshare_domain_begin(
     alloc: Global,
@@ -541,8 +543,8 @@ pub extern "C" fn pageshare_domain_begin(
 
 /// Gives a domain that was begun the frames of its next machine. With those of the last one the domain is made.
 ///
-/// The status is 0, 6 if no domain was begun or it is made, 13 if the region has room for another number of frames, or 4 if memory
-/// was refused: then the handle holds nothing.
+/// The status is `OK`, `NO_MACHINE` if no domain was begun or it is made, `REGION` if the region has room for another number of
+/// frames, or `MEMORY` if memory was refused: then the handle holds nothing.
 #[unsafe(no_mangle)]
 pub extern "C" fn pageshare_domain_add(
     alloc: Global,
@@ -554,21 +556,19 @@ pub extern "C" fn pageshare_domain_add(
     add_frames(alloc, domain, region)
 }
 
-/// Frees the domain. The status is 6 if the handle holds none.
+/// Frees the domain. The status is `NO_MACHINE` if the handle holds none.
 #[unsafe(no_mangle)]
 pub extern "C" fn pageshare_domain_free(alloc: Global, domain: &mut DomainHandle) -> u32
     ensures none { domain.new.slot.domain ≡ None }
-    ensures status { result ≡ free_status domain.old.slot.domain }
+    ensures status { result ≡ held_status domain.old.slot.domain }
 {
-    match domain.take(alloc) {
-        None => 6,
-        Some(_hosted) => 0,
-    }
+    free(domain, alloc)
 }
 
 /// Lets a client in: `client` is then its number, the least that no client has.
 ///
-/// The status is 6 without a domain, and 20 if as many clients are in as there may be; then `client` stays as it is.
+/// The status is `NO_MACHINE` without a domain, and `NO_ROOM` if as many clients are in as there may be; then `client`
+/// stays as it is.
 #[unsafe(no_mangle)]
 pub extern "C" fn pageshare_domain_enter(
     alloc: Global,
@@ -580,7 +580,7 @@ pub extern "C" fn pageshare_domain_enter(
     ensures now { domain.new.slot.domain ≡ after_enter domain.old.slot.domain }
 {
     match domain.take(alloc) {
-        None => 6,
+        None => status::NO_MACHINE,
         Some(mut hosted) => {
             let status = enter(&mut hosted, client);
             domain.put(hosted);
@@ -592,8 +592,8 @@ pub extern "C" fn pageshare_domain_enter(
 /// Lends a client's page: it gets a free slot of the machine that its hash names, and the frame of the pages that are equal to it or
 /// one of its own.
 ///
-/// The status is 6 without a domain, 21 if no such client is in, 22 if that machine has no free slot, and 23 if the page joins no
-/// other and all frames of the machine but the spare one are in use.
+/// The status is `NO_MACHINE` without a domain, `NO_CLIENT` if no such client is in, `NO_SLOT` if that machine has no free slot,
+/// and `NO_FRAME` if the page joins no other and all frames of the machine but the spare one are in use.
 #[unsafe(no_mangle)]
 pub extern "C" fn pageshare_domain_lend(
     alloc: Global,
@@ -604,7 +604,7 @@ pub extern "C" fn pageshare_domain_lend(
     ensures { LendsAt client page.now result domain.old.slot.domain domain.new.slot.domain }
 {
     match domain.take(alloc) {
-        None => not_lent(6),
+        None => not_lent(status::NO_MACHINE),
         Some(mut hosted) => {
             let loan = lend_page(&mut hosted, client, page);
             domain.put(hosted);
@@ -615,7 +615,8 @@ pub extern "C" fn pageshare_domain_lend(
 
 /// Releases a client's slot: `freed` is then its frame, or [`NO_FRAME`] if other slots have the frame, too.
 ///
-/// The status is 6 without a domain, and 24 if the slot isn't the client's; then `freed` stays as it is.
+/// The status is `NO_MACHINE` without a domain, and `NOT_ITS_SLOT` if the slot isn't the client's; then `freed` stays
+/// as it is.
 #[unsafe(no_mangle)]
 pub extern "C" fn pageshare_domain_release(
     alloc: Global,
@@ -629,7 +630,7 @@ pub extern "C" fn pageshare_domain_release(
     ensures now { domain.new.slot.domain ≡ after_release_at client (slot_by slot) domain.old.slot.domain }
 {
     match domain.take(alloc) {
-        None => 6,
+        None => status::NO_MACHINE,
         Some(mut hosted) => {
             let status = release(&mut hosted, client, slot_by(slot), freed);
             domain.put(hosted);
@@ -641,7 +642,8 @@ pub extern "C" fn pageshare_domain_release(
 /// Releases slots of a client that leaves, in the order of their numbers, as many as `freed` has places: `count` is then how many,
 /// and each of the first places of `freed` holds the frame that is free since, or [`NO_FRAME`]. With 0 the client is out.
 ///
-/// The status is 6 without a domain, 9 if `freed` has no place, and 21 if there is no such client; then nothing is written.
+/// The status is `NO_MACHINE` without a domain, `LENGTH` if `freed` has no place, and `NO_CLIENT` if there is no such
+/// client; then nothing is written.
 #[unsafe(no_mangle)]
 pub extern "C" fn pageshare_domain_leave(
     alloc: Global,
@@ -653,7 +655,7 @@ pub extern "C" fn pageshare_domain_leave(
     ensures { LeavesAt client result freed.old freed.new count.old count.new domain.old.slot.domain domain.new.slot.domain }
 {
     match domain.take(alloc) {
-        None => 6,
+        None => status::NO_MACHINE,
         Some(mut hosted) => {
             let status = leave(&mut hosted, client, freed, count);
             domain.put(hosted);
@@ -673,7 +675,7 @@ pub extern "C" fn pageshare_domain_fingerprint(salt: u32, page: &[u8; 4096]) -> 
 /// Asks about a page of a client: `seen` is then 1 if another page was asked about with this fingerprint, within the last questions
 /// that the domain remembers, and else 0.
 ///
-/// The status is 6 without a domain, and then `seen` stays as it is.
+/// The status is `NO_MACHINE` without a domain, and then `seen` stays as it is.
 #[unsafe(no_mangle)]
 pub extern "C" fn pageshare_domain_ask(
     alloc: Global,
@@ -683,12 +685,12 @@ pub extern "C" fn pageshare_domain_ask(
     fingerprint: u64,
     seen: &mut u8,
 ) -> u32
-    ensures status { result ≡ made_status (λ m. 0) domain.old.slot.domain }
+    ensures status { result ≡ made_status (λ m. status.OK) domain.old.slot.domain }
     ensures seen { seen.new ≡ seen_after (record { client = client; number = page }) fingerprint seen.old domain.old.slot.domain }
     ensures noted { domain.new.slot.domain ≡ asked (record { client = client; number = page }) fingerprint domain.old.slot.domain }
 {
     match domain.take(alloc) {
-        None => 6,
+        None => status::NO_MACHINE,
         Some(mut hosted) => {
             let page = AskedPage {
                 client,
@@ -701,7 +703,8 @@ pub extern "C" fn pageshare_domain_ask(
     }
 }
 
-/// Gets what the domain counts. It looks at each slot. The status is 6 without a domain, and then `totals` stays as it is.
+/// Gets what the domain counts. It looks at each slot. The status is `NO_MACHINE` without a domain, and then `totals`
+/// stays as it is.
 #[unsafe(no_mangle)]
 pub extern "C" fn pageshare_domain_report(
     alloc: Global,
@@ -709,11 +712,11 @@ pub extern "C" fn pageshare_domain_report(
     totals: &mut DomainTotals,
 ) -> u32
     ensures same { domain.new.slot.domain ≡ domain.old.slot.domain }
-    ensures status { result ≡ made_status (λ m. 0) domain.old.slot.domain }
+    ensures status { result ≡ made_status (λ m. status.OK) domain.old.slot.domain }
     ensures totals { totals.new ≡ totals_after totals.old domain.old.slot.domain }
 {
     match domain.take(alloc) {
-        None => 6,
+        None => status::NO_MACHINE,
         Some(hosted) => {
             let status = report_domain(&hosted, totals);
             domain.put(hosted);

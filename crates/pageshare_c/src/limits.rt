@@ -1,49 +1,27 @@
 //! Which domains there are.
 ghost use Rattle.std.specs.Prelude.{◌≡◌, ◌≤◌};
-ghost use Rattle.pageshare_c.specs.Shapes.{config_of, make_cause, shape_status, IsFit};
+ghost use Rattle.c_surface.specs.Shapes.{IsFit};
+ghost use Rattle.c_surface.specs.declared.status.TheConstants as status;
+ghost use Rattle.pageshare_c.specs.Shapes.{config_of, make_cause};
 
 use crate::make::WIDE_SHA256;
 use crate::shape::DomainShape;
-use page_model::{MAX_FRAMES, MAX_PAGES};
-use recent_fingerprints::MAX_PLACES;
-use share_domain::{DomainConfig, MAX_CLIENTS, MAX_MACHINES};
+use c_surface::{shape_status, status};
+use share_domain::DomainConfig;
 
-/// Returns the status of the first number that no domain has, or 0.
-fn shape_status(shape: &DomainShape) -> u32
-    ensures status { result ≡ shape_status shape.now }
-    ensures fits { result ≡ 0 → IsFit shape.now }
-{
-    if shape.machines == 0 || shape.machines > MAX_MACHINES {
-        return 16;
-    }
-    if shape.slots == 0 || shape.slots > MAX_PAGES {
-        return 17;
-    }
-    if shape.frames < 2 || shape.frames > MAX_FRAMES {
-        return 1;
-    }
-    if shape.clients == 0 || shape.clients > MAX_CLIENTS {
-        return 18;
-    }
-    if shape.recent == 0 || shape.recent > MAX_PLACES {
-        return 19;
-    }
-    0
-}
-
-/// Returns the first cause for which no domain is made, or 0, if the handle holds one or not.
+/// Returns the first cause for which no domain is made, or `OK`, if the handle holds one or not.
 pub(crate) fn make_cause(shape: &DomainShape, hash: u32, used: bool) -> u32
     ensures cause { result ≡ make_cause shape.now hash used }
-    ensures fits { result ≡ 0 → IsFit shape.now }
-    ensures hash { result ≡ 0 → hash ≤ WIDE_SHA256 }
+    ensures fits { result ≡ status.OK → IsFit (config_of shape.now) shape.now.recent }
+    ensures hash { result ≡ status.OK → hash ≤ WIDE_SHA256 }
 {
     if used {
-        return 5;
+        return status::IN_USE;
     }
     if hash > WIDE_SHA256 {
-        return 14;
+        return status::HASH;
     }
-    shape_status(shape)
+    shape_status(&config_of(shape), shape.recent)
 }
 
 /// Returns what share_domain takes of the numbers.

@@ -1,17 +1,17 @@
 //! Pages that clients lend, as C gets them.
 ghost use Rattle.std.specs.Prelude.{◌≡◌, Some};
-ghost use Rattle.pageshare_c.specs.Leases.{fault_status, loan_told, not_lent, LendsAt};
+ghost use Rattle.pageshare_c.specs.Leases.{loan_told, not_lent, LendsAt};
 
-use crate::answer::NO_FRAME;
 use crate::hosted::Hosted;
+use c_surface::{status, status_of};
 use page_model::Page;
-use share_domain::{LendFault, Loan, slot_number};
+use share_domain::{LendFault, Loan, NO_FRAME, slot_number};
 
 /// What became of a page that was to be lent.
 #[repr(C)]
 #[derive(Clone, Copy)]
 pub struct DomainLoan {
-    /// 0 if the page was lent, and else why it was not.
+    /// `OK` if the page was lent, and else why it was not.
     pub status: u32,
     /// The frame that holds the page's bytes, or [`NO_FRAME`].
     pub frame: u32,
@@ -26,7 +26,7 @@ pub(crate) fn lend(hosted: &mut Hosted, client: u32, page: &Page) -> DomainLoan
     ensures { LendsAt client page.now result (Some hosted.old) (Some hosted.new) }
 {
     match hosted {
-        Hosted::Begun(_) => not_lent(6),
+        Hosted::Begun(_) => not_lent(status::NO_MACHINE),
         Hosted::Made(made) => loan_told(made.domain.lend(client, page)),
     }
 }
@@ -36,9 +36,9 @@ fn loan_told(became: Result<Loan, LendFault>) -> DomainLoan
     ensures { result ≡ loan_told (Some became) }
 {
     match became {
-        Err(fault) => not_lent(fault_status(fault)),
+        Err(fault) => not_lent(status_of(fault)),
         Ok(loan) => DomainLoan {
-            status: 0,
+            status: status::OK,
             frame: loan.frame,
             slot: slot_number(loan.slot),
             sharers: loan.sharers,
@@ -55,16 +55,5 @@ pub(crate) fn not_lent(status: u32) -> DomainLoan
         frame: NO_FRAME,
         slot: 0,
         sharers: 0,
-    }
-}
-
-/// Returns the status for a page that wasn't lent.
-fn fault_status(fault: LendFault) -> u32
-    ensures { result ≡ fault_status fault }
-{
-    match fault {
-        LendFault::NoClient => 21,
-        LendFault::NoSlot => 22,
-        LendFault::NoFrame => 23,
     }
 }

@@ -1,9 +1,9 @@
 //! What C keeps of a machine.
-ghost use Rattle.std.specs.Prelude.{◌≡◌, Some, None, MatchOption, is_some};
+ghost use Rattle.std.specs.Prelude.{◌≡◌, Some, None, is_some};
 
 use crate::hashed_core::HashedCore;
 use crate::slot::Slot;
-use box_parcels::Parcel;
+use c_surface::{Handle, Parcel};
 use std::alloc::Global;
 
 /// A handle: room for one machine. It holds none while all its bytes are 0.
@@ -14,19 +14,16 @@ pub struct Machine {
     ghost agree: { is_some slot.core ≡ live },
 }
 
-impl Machine {
-    /// Whether the handle holds a machine.
-    pub(crate) fn is_live(&self) -> bool
-        ensures { result ≡ is_some self.now.slot.core }
-    {
+impl Handle for Machine {
+    type Held = HashedCore;
+
+    ghost held = { λ h. h.slot.core };
+
+    fn is_live(&self) -> bool {
         self.live
     }
 
-    /// Takes the machine out of the handle. Each call puts it back at its end, which costs a load and a store.
-    pub(crate) fn take(&mut self, alloc: Global) -> Option<Box<HashedCore>>
-        ensures gone { self.new.slot.core ≡ None }
-        ensures value { MatchOption result (self.old.slot.core ≡ None) (λ core. self.old.slot.core ≡ Some core.value) }
-    {
+    fn take(&mut self, alloc: Global) -> Option<Box<HashedCore>> {
         if self.live {
             self.live = false;
             Some(self.slot.empty(alloc).unwrap())
@@ -35,13 +32,12 @@ impl Machine {
         }
     }
 
-    /// Puts a machine into a handle that holds none.
-    pub(crate) fn put(&mut self, core: Box<HashedCore>)
+    fn put(&mut self, value: Box<HashedCore>)
         requires { self.old.slot.core ≡ None }
-        ensures { self.new.slot.core ≡ Some core.value }
+        ensures { self.new.slot.core ≡ Some value.value }
     {
         self.live = true;
-        self.slot.fill(Parcel::wrap(core));
+        self.slot.fill(Parcel::wrap(value));
     }
 }
 

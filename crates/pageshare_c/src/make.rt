@@ -11,6 +11,7 @@ ghost use Rattle.pageshare_c.specs.Made.{IsUnfit, Makes};
 
 use crate::hashed_core::HashedCore;
 use crate::machine::Machine;
+use c_surface::{Handle, status};
 use machine_frames::{Frames, FramesFault, Region};
 use merge_core::Core;
 use page_digest::{FoldHash, Sha256Hash, WideSha256Hash};
@@ -39,32 +40,32 @@ pub(crate) fn make(
     ensures { Makes frames pages.now salts.now hash (option_map (λ r. r.pages) region) machine.old.slot.core machine.new.slot.core result }
 {
     if machine.is_live() {
-        return 5;
+        return status::IN_USE;
     }
     if hash > WIDE_SHA256 {
-        return 14;
+        return status::HASH;
     }
     let shape = match MachineShape::new(frames, pages, salts) {
-        Err(ShapeFault::Frames) => return 1,
-        Err(ShapeFault::Guests) => return 2,
-        Err(ShapeFault::Pages) => return 3,
+        Err(ShapeFault::Frames) => return status::FRAMES,
+        Err(ShapeFault::Guests) => return status::GUESTS,
+        Err(ShapeFault::Pages) => return status::PAGES,
         Ok(shape) => shape,
     };
     let free = match new_frames(alloc, shape.frames(), region) {
-        Err(FramesFault::Frames) => return 1,
-        Err(FramesFault::Region) => return 13,
-        Err(FramesFault::OutOfMemory) => return 4,
+        Err(FramesFault::Frames) => return status::FRAMES,
+        Err(FramesFault::Region) => return status::REGION,
+        Err(FramesFault::OutOfMemory) => return status::MEMORY,
         Ok(free) => free,
     };
     let core = match new_core(alloc, &shape, hash, free) {
-        Err(_) => return 4,
+        Err(_) => return status::MEMORY,
         Ok(core) => core,
     };
     match Box::new(alloc, core) {
-        Err(_) => 4,
+        Err(_) => status::MEMORY,
         Ok(core) => {
             machine.put(core);
-            0
+            status::OK
         }
     }
 }

@@ -12,6 +12,7 @@ ghost use Rattle.pageshare_c.specs.Told.{told, answer_to, counted, loaded, overl
 use crate::answer::{Answer, Refusal, Totals, answer_of, refuse, totals_of};
 use crate::framed::{find_named, find_own, freed_at};
 use crate::machine::Machine;
+use c_surface::Handle;
 use merge_core::{Core, MAX_REQUESTS};
 use page_digest::PageHash;
 use page_model::{Request, RequestFault, Verdict};

@@ -5,7 +5,7 @@ ghost use Rattle.pageshare_c.specs.Held.{core_row};
 ghost use Rattle.pageshare_c.specs.declared.hashed_core.HashedCore.{HashedCore};
 
 use crate::hashed_core::HashedCore;
-use box_parcels::Parcel;
+use c_surface::Parcel;
 use std::alloc::Global;
 use std::marker::Model;
 
@@ -19,7 +19,7 @@ pub struct Slot {
 }
 
 impl Model for Slot {
-    ghost use Rattle.box_parcels.specs.Held.{held_owns};
+    ghost use Rattle.c_surface.specs.Held.{held_owns};
     ghost use Rattle.pageshare_c.specs.Held.{core_row};
 
     ghost also_owns = { λ s. held_owns core_row s.at s.core };

@@ -1,6 +1,9 @@
 -- Connections and sessions, as C names them.
 use Rattle.std.specs.Prelude.{◌≡◌, ℕ, List, length, Option, Some, None, if◌then◌else◌, MatchBool, ◌==◌}
-use Rattle.share_domain.specs.declared.report.DomainReport.{DomainReport}
+use Rattle.c_surface.specs.Statuses.{number_or, room_status}
+use Rattle.c_surface.specs.Totals.{totals_of}
+use Rattle.c_surface.specs.declared.status.TheConstants as status
+use Rattle.c_surface.specs.declared.totals.DomainTotals.{DomainTotals}
 use Rattle.share_domain.specs.Totals.{domain_totals}
 use Rattle.host_sessions.specs.declared.session.Begun.{Begun}
 use Rattle.host_sessions.specs.declared.session.Link.{Link}
@@ -14,61 +17,48 @@ use Rattle.host_sessions.specs.Steps.{HostView, with_sessions, with_session}
 use Rattle.host_sessions.specs.Ends.{Ends}
 use Rattle.pageshare_host_c.specs.Hosts.{AtHost, of_made, made_status}
 use Rattle.pageshare_host_c.specs.Packets.{fault_status}
-use Rattle.pageshare_host_c.specs.declared.calls.HostTotals.{HostTotals}
 use Rattle.pageshare_host_c.specs.declared.calls.SessionTold.{SessionTold}
 use Rattle.pageshare_host_c.specs.declared.hosted.Hosted.{Hosted}
 
--- a connection: 20 if there are as many sessions as there may be
-abbrev pub room_status : Option ℕ → ℕ
-room_status None = 20
-room_status (Some n) = 0
-
-abbrev pub number_or : ℕ → Option ℕ → ℕ
-number_or old None = old
-number_or old (Some n) = n
-
-pub record Connects (name : List ℕ) (status number number' : ℕ) (old new : HostView) : Type 0 where
-  pub status-is : status ≡ room_status (next_number old.sessions)
+-- a connection gets the first number that no session has
+pub record Connects (name : List ℕ) (result number number' : ℕ) (old new : HostView) : Type 0 where
+  pub status-is : result ≡ room_status (next_number old.sessions)
   pub number-is : number' ≡ number_or number (next_number old.sessions)
   pub now : new ≡ with_sessions old (connected name (next_number old.sessions) old.sessions)
 
 abbrev pub ConnectsAt : List ℕ → ℕ → ℕ → ℕ → Option Hosted → Option Hosted → Type 0
-ConnectsAt name status number number' old new = AtHost ((status ≡ 6) × (number' ≡ number)) (λ h n. Connects name status number number' h n) old new
+ConnectsAt name result number number' old new = AtHost ((result ≡ status.NO_MACHINE) × (number' ≡ number)) (λ h n. Connects name result number number' h n) old new
 
 abbrev pub there_status : Session → ℕ
-there_status s = if is_free s then 32 else 0
+there_status s = if is_free s then status.NO_SESSION else status.OK
 
-pub record Disconnects (number status : ℕ) (old new : HostView) : Type 0 where
-  pub status-is : status ≡ there_status (session_at old.sessions number)
+pub record Disconnects (number result : ℕ) (old new : HostView) : Type 0 where
+  pub status-is : result ≡ there_status (session_at old.sessions number)
   pub now : new ≡ with_session old number (gone (session_at old.sessions number))
 
 abbrev pub DisconnectsAt : ℕ → ℕ → Option Hosted → Option Hosted → Type 0
-DisconnectsAt number status old new = AtHost (status ≡ 6) (λ h n. Disconnects number status h n) old new
+DisconnectsAt number result old new = AtHost (result ≡ status.NO_MACHINE) (λ h n. Disconnects number result h n) old new
 
 -- a session's process has ended
 abbrev pub end_status : Option ℕ → ℕ
-end_status None = 32
-end_status (Some count) = 0
+end_status None = status.NO_SESSION
+end_status (Some count) = status.OK
 
-abbrev pub count_or : ℕ → Option ℕ → ℕ
-count_or old None = old
-count_or old (Some n) = n
-
-pub record EndsSession (number status : ℕ) (room after : List ℕ) (count count' : ℕ) (old new : HostView) : Type 0 where
+pub record EndsSession (number result : ℕ) (room after : List ℕ) (count count' : ℕ) (old new : HostView) : Type 0 where
   pub answer : Option ℕ
   pub ends : Ends number (session_at old.sessions number) answer room after old new
   pub others : SparesOthers (session_at old.sessions number) old.domain new.domain
   pub bytes : BytesStay old.domain new.domain
-  pub status-is : status ≡ end_status answer
-  pub count-is : count' ≡ count_or count answer
+  pub status-is : result ≡ end_status answer
+  pub count-is : count' ≡ number_or count answer
 
 abbrev pub EndsWith : ℕ → ℕ → List ℕ → List ℕ → ℕ → ℕ → HostView → HostView → Type 0
-EndsWith number status room after count count' old new =
-    MatchBool (length room == 0) ((status ≡ 33) × (after ≡ room) × (count' ≡ count) × (new ≡ old)) (EndsSession number status room after count count' old new)
+EndsWith number result room after count count' old new =
+    MatchBool (length room == 0) ((result ≡ status.SHORT) × (after ≡ room) × (count' ≡ count) × (new ≡ old)) (EndsSession number result room after count count' old new)
 
 abbrev pub EndsAt : ℕ → ℕ → List ℕ → List ℕ → ℕ → ℕ → Option Hosted → Option Hosted → Type 0
-EndsAt number status room after count count' old new =
-    AtHost ((status ≡ 6) × (after ≡ room) × (count' ≡ count)) (λ h n. EndsWith number status room after count count' h n) old new
+EndsAt number result room after count count' old new =
+    AtHost ((result ≡ status.NO_MACHINE) × (after ≡ room) × (count' ≡ count)) (λ h n. EndsWith number result room after count count' h n) old new
 
 -- what C is told of a session
 abbrev pub state_of_link : Link → ℕ
@@ -90,14 +80,14 @@ messages_of (session.Refused fault) = 0
 messages_of (session.Begun b) = b.messages
 
 abbrev pub link_fault : Link → ℕ
-link_fault link.Talking = 0
-link_fault link.Gone = 0
+link_fault link.Talking = status.OK
+link_fault link.Gone = status.OK
 link_fault (link.Broken fault) = fault_status fault
-link_fault link.Ended = 0
+link_fault link.Ended = status.OK
 
 abbrev pub fault_told : Session → ℕ
-fault_told session.Free = 0
-fault_told (session.Silent name) = 0
+fault_told session.Free = status.OK
+fault_told (session.Silent name) = status.OK
 fault_told (session.Refused fault) = fault_status fault
 fault_told (session.Begun b) = link_fault b.link
 
@@ -115,8 +105,5 @@ abbrev pub session_after : ℕ → SessionTold → Option Hosted → SessionTold
 session_after number told old = of_made told (λ h. told_or told (session_slots h.domain.machines (session_at h.sessions number)) (session_at h.sessions number)) old
 
 -- what a host counts
-abbrev pub totals_told : DomainReport → HostTotals
-totals_told r = record { machines = r.machines; clients = r.clients; slots = r.slots; frames = r.frames; shared = r.shared; reclaimed = r.reclaimed }
-
-abbrev pub totals_after : HostTotals → Option Hosted → HostTotals
-totals_after totals old = of_made totals (λ h. totals_told (domain_totals h.domain)) old
+abbrev pub totals_after : DomainTotals → Option Hosted → DomainTotals
+totals_after totals old = of_made totals (λ h. totals_of (domain_totals h.domain)) old

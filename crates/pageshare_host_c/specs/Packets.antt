@@ -1,5 +1,6 @@
 -- What C is told of a packet.
 use Rattle.std.specs.Prelude.{◌≡◌, ℕ, ◌||◌, nat_lt, MatchBool, List, [], ◌++◌, length, drop, Option, Some, None}
+use Rattle.c_surface.specs.declared.status.TheConstants as status
 use Rattle.page_digest.specs.Hashes.{fold_hash}
 use Rattle.host_messages.specs.declared.fault.MessageFault.{MessageFault}
 use Rattle.host_messages.specs.declared.fault.MessageFault.TheVariants as message
@@ -18,28 +19,28 @@ use Rattle.pageshare_host_c.specs.declared.hosted.Hosted.{Hosted}
 use Rattle.pageshare_host_c.specs.declared.receive.ReceivedPacket.{ReceivedPacket}
 
 abbrev pub message_status : MessageFault → ℕ
-message_status message.Head = 64
-message_status message.Kind = 65
-message_status message.Version = 66
-message_status message.Count = 67
-message_status message.Length = 68
-message_status message.Answer = 73
+message_status message.Head = status.FAULT_HEAD
+message_status message.Kind = status.FAULT_KIND
+message_status message.Version = status.FAULT_VERSION
+message_status message.Count = status.FAULT_COUNT
+message_status message.Length = status.FAULT_LENGTH
+message_status message.Answer = status.FAULT_ANSWER
 
 abbrev pub fault_status : SessionFault → ℕ
 fault_status (fault.Message f) = message_status f
-fault_status fault.Early = 69
-fault_status fault.Again = 70
-fault_status fault.Pages = 71
-fault_status fault.Clients = 72
+fault_status fault.Early = status.FAULT_EARLY
+fault_status fault.Again = status.FAULT_AGAIN
+fault_status fault.Pages = status.FAULT_PAGES
+fault_status fault.Clients = status.FAULT_CLIENTS
 
 abbrev pub status_of : Received → ℕ
-status_of got.NoSession = 32
+status_of got.NoSession = status.NO_SESSION
 status_of (got.Fault f) = fault_status f
-status_of (got.Welcome welcome) = 0
-status_of (got.Resumed welcome before freed) = 0
-status_of (got.Seen answers) = 0
-status_of (got.Loans loans) = 0
-status_of (got.Released freed) = 0
+status_of (got.Welcome welcome) = status.OK
+status_of (got.Resumed welcome before freed) = status.OK
+status_of (got.Seen answers) = status.OK
+status_of (got.Loans loans) = status.OK
+status_of (got.Released freed) = status.OK
 
 -- the session that was taken up
 abbrev pub resumed_of : Received → ℕ
@@ -66,7 +67,7 @@ abbrev pub put_front : List ℕ → List ℕ → List ℕ
 put_front xs room = xs ++ drop (length xs) room
 
 abbrev pub refused : ℕ → ReceivedPacket
-refused status = record { status = status; reply_bytes = 0; freed = 0; resumed = NO_FRAME }
+refused why = record { status = why; reply_bytes = 0; freed = 0; resumed = NO_FRAME }
 
 -- C is told what came of a packet: the reply's bytes, and the frames that are free since
 pub record Tells (received : Received) (told : ReceivedPacket) (reply reply' freed freed' : List ℕ) : Type 0 where
@@ -75,8 +76,8 @@ pub record Tells (received : Received) (told : ReceivedPacket) (reply reply' fre
   pub freed-is : freed' ≡ put_front (frees_of received) freed
 
 -- nothing was done, and nothing written
-pub record IsRefused (status : ℕ) (told : ReceivedPacket) (reply reply' freed freed' : List ℕ) : Type 0 where
-  pub told-is : told ≡ refused status
+pub record IsRefused (why : ℕ) (told : ReceivedPacket) (reply reply' freed freed' : List ℕ) : Type 0 where
+  pub told-is : told ≡ refused why
   pub reply-is : reply' ≡ reply
   pub freed-is : freed' ≡ freed
 
@@ -93,9 +94,9 @@ pub record ReceivesPacket (session : ℕ) (bytes : List ℕ) (pages : List (List
 abbrev pub ReceivesWith : ℕ → List ℕ → List (List ℕ) → ReceivedPacket → List ℕ → List ℕ → List ℕ → List ℕ → HostView → HostView → Type 0
 ReceivesWith session bytes pages told reply reply' freed freed' old new =
     MatchBool (nat_lt (length reply) MAX_MESSAGE_BYTES || nat_lt (length freed) MAX_IN_MESSAGE)
-    (IsRefused 33 told reply reply' freed freed' × (new ≡ old))
+    (IsRefused status.SHORT told reply reply' freed freed' × (new ≡ old))
     (ReceivesPacket session bytes pages told reply reply' freed freed' old new)
 
 abbrev pub ReceivesAt : ℕ → List ℕ → List (List ℕ) → ReceivedPacket → List ℕ → List ℕ → List ℕ → List ℕ → Option Hosted → Option Hosted → Type 0
 ReceivesAt session bytes pages told reply reply' freed freed' old new =
-    AtHost (IsRefused 6 told reply reply' freed freed') (λ h n. ReceivesWith session bytes pages told reply reply' freed freed' h n) old new
+    AtHost (IsRefused status.NO_MACHINE told reply reply' freed freed') (λ h n. ReceivesWith session bytes pages told reply reply' freed freed' h n) old new

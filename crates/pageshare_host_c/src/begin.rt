@@ -10,6 +10,7 @@ use crate::handle::HostHandle;
 use crate::hosted::Hosted;
 use crate::shape::{HostShape, begin_cause};
 use crate::waiting::Waiting;
+use c_surface::{Handle, status};
 use machine_frames::{Frames, FramesFault, Region};
 use std::alloc::{AllocError, Global};
 
@@ -28,14 +29,14 @@ pub(crate) fn begin(alloc: Global, host: &mut HostHandle, shape: &HostShape) -> 
     ensures { BeginsHost shape.now host.old.slot.host host.new.slot.host result }
 {
     let cause = begin_cause(shape, host.is_live());
-    if cause != 0 {
+    if cause != status::OK {
         return cause;
     }
     match new_waiting(alloc, shape) {
-        Err(_) => 4,
+        Err(_) => status::MEMORY,
         Ok(boxed) => {
             host.put(boxed);
-            0
+            status::OK
         }
     }
 }
@@ -57,28 +58,28 @@ pub(crate) fn add_frames(alloc: Global, host: &mut HostHandle, region: Region) -
     ensures { AddsFrames region.pages host.old.slot.host host.new.slot.host result }
 {
     let held = match host.take(alloc) {
-        None => return 6,
+        None => return status::NO_MACHINE,
         Some(held) => held,
     };
     let each = frames_awaited(&held);
     if each == 0 {
         host.put(held);
-        return 6;
+        return status::NO_MACHINE;
     }
     let frames = match Frames::in_region(alloc, each, region) {
         Err(FramesFault::Region) => {
             host.put(held);
-            return 13;
+            return status::REGION;
         }
-        Err(FramesFault::Frames) => return 4,
-        Err(FramesFault::OutOfMemory) => return 4,
+        Err(FramesFault::Frames) => return status::MEMORY,
+        Err(FramesFault::OutOfMemory) => return status::MEMORY,
         Ok(frames) => frames,
     };
     match added(alloc, held, frames) {
-        None => 4,
+        None => status::MEMORY,
         Some(next) => {
             host.put(next);
-            0
+            status::OK
         }
     }
 }

@@ -1,13 +1,14 @@
 //! Connections that begin and end, and what is known of sessions.
 ghost use Rattle.std.specs.Prelude.{◌≡◌, Some};
+ghost use Rattle.c_surface.specs.declared.status.TheConstants as status;
 ghost use Rattle.pageshare_host_c.specs.Hosts.{made_status};
-ghost use Rattle.pageshare_host_c.specs.Calls.{ConnectsAt, DisconnectsAt, EndsAt, session_status, session_after, session_told, state_of, fault_told, messages_of, link_fault, totals_after, totals_told};
+ghost use Rattle.pageshare_host_c.specs.Calls.{ConnectsAt, DisconnectsAt, EndsAt, session_status, session_after, session_told, state_of, fault_told, messages_of, link_fault, totals_after};
 
 use crate::hosted::Hosted;
 use crate::receive::fault_status;
+use c_surface::{DomainTotals, status, totals_of};
 use host_messages::Name;
 use host_sessions::{Link, Session};
-use share_domain::DomainReport;
 
 /// What is known of a session.
 #[repr(C)]
@@ -22,29 +23,17 @@ pub struct SessionTold {
     pub messages: u64,
 }
 
-/// What a host counts.
-#[repr(C)]
-#[derive(Clone, Copy)]
-pub struct HostTotals {
-    pub machines: u32,
-    pub clients: u32,
-    pub slots: u32,
-    pub frames: u32,
-    pub shared: u32,
-    pub reclaimed: u32,
-}
-
 /// Notes a connection, writes its session's number, and returns the status.
 pub(crate) fn connect(hosted: &mut Hosted, name: Name, session: &mut u32) -> u32
     ensures { ConnectsAt name result session.old session.new (Some hosted.old) (Some hosted.new) }
 {
     match hosted {
-        Hosted::Waiting(_) => 6,
+        Hosted::Waiting(_) => status::NO_MACHINE,
         Hosted::Made(host) => match host.connect(name) {
-            None => 20,
+            None => status::NO_ROOM,
             Some(number) => {
                 *session = number;
-                0
+                status::OK
             }
         },
     }
@@ -55,12 +44,12 @@ pub(crate) fn disconnect(hosted: &mut Hosted, session: u32) -> u32
     ensures { DisconnectsAt session result (Some hosted.old) (Some hosted.new) }
 {
     match hosted {
-        Hosted::Waiting(_) => 6,
+        Hosted::Waiting(_) => status::NO_MACHINE,
         Hosted::Made(host) => {
             if host.disconnect(session) {
-                return 0;
+                return status::OK;
             }
-            32
+            status::NO_SESSION
         }
     }
 }
@@ -70,16 +59,16 @@ pub(crate) fn end(hosted: &mut Hosted, session: u32, freed: &mut [u32], count: &
     ensures { EndsAt session result freed.old freed.new count.old count.new (Some hosted.old) (Some hosted.new) }
 {
     match hosted {
-        Hosted::Waiting(_) => 6,
+        Hosted::Waiting(_) => status::NO_MACHINE,
         Hosted::Made(host) => {
             if freed.is_empty() {
-                return 33;
+                return status::SHORT;
             }
             match host.end(session, freed) {
-                None => 32,
+                None => status::NO_SESSION,
                 Some(released) => {
                     *count = released;
-                    0
+                    status::OK
                 }
             }
         }
@@ -92,14 +81,14 @@ pub(crate) fn tell_session(hosted: &Hosted, session: u32, told: &mut SessionTold
     ensures told { told.new ≡ session_after session told.old (Some hosted.now) }
 {
     match hosted {
-        Hosted::Waiting(_) => 6,
+        Hosted::Waiting(_) => status::NO_MACHINE,
         Hosted::Made(host) => {
             let found = host.session(session);
             if found.is_free() {
-                return 32;
+                return status::NO_SESSION;
             }
             *told = session_told(host.slots_of(session), &found);
-            0
+            status::OK
         }
     }
 }
@@ -146,54 +135,40 @@ fn messages_of(session: &Session) -> u64
     }
 }
 
-/// Returns the status of the fault that broke a session, or 0.
+/// Returns the status of the fault that broke a session, or `OK`.
 fn fault_of(session: &Session) -> u32
     ensures { result ≡ fault_told session.now }
 {
     match session {
-        Session::Free => 0,
-        Session::Silent(_) => 0,
+        Session::Free => status::OK,
+        Session::Silent(_) => status::OK,
         Session::Refused(fault) => fault_status(fault),
         Session::Begun(begun) => link_fault(&begun.link),
     }
 }
 
-/// Returns the status of the fault that broke a link, or 0.
+/// Returns the status of the fault that broke a link, or `OK`.
 fn link_fault(link: &Link) -> u32
     ensures { result ≡ link_fault link.now }
 {
     match link {
-        Link::Talking => 0,
-        Link::Gone => 0,
+        Link::Talking => status::OK,
+        Link::Gone => status::OK,
         Link::Broken(fault) => fault_status(fault),
-        Link::Ended => 0,
+        Link::Ended => status::OK,
     }
 }
 
 /// Writes what the host counts, and returns the status.
-pub(crate) fn report(hosted: &Hosted, totals: &mut HostTotals) -> u32
-    ensures status { result ≡ made_status (λ h. 0) (Some hosted.now) }
+pub(crate) fn report(hosted: &Hosted, totals: &mut DomainTotals) -> u32
+    ensures status { result ≡ made_status (λ h. status.OK) (Some hosted.now) }
     ensures totals { totals.new ≡ totals_after totals.old (Some hosted.now) }
 {
     match hosted {
-        Hosted::Waiting(_) => 6,
+        Hosted::Waiting(_) => status::NO_MACHINE,
         Hosted::Made(host) => {
-            *totals = totals_told(&host.report());
-            0
+            *totals = totals_of(&host.report());
+            status::OK
         }
-    }
-}
-
-/// Returns what C reads of a report.
-fn totals_told(report: &DomainReport) -> HostTotals
-    ensures { result ≡ totals_told report.now }
-{
-    HostTotals {
-        machines: report.machines,
-        clients: report.clients,
-        slots: report.slots,
-        frames: report.frames,
-        shared: report.shared,
-        reclaimed: report.reclaimed,
     }
 }

@@ -1,9 +1,9 @@
 //! What C keeps of a host.
-ghost use Rattle.std.specs.Prelude.{◌≡◌, Some, None, MatchOption, is_some};
+ghost use Rattle.std.specs.Prelude.{◌≡◌, Some, None, is_some};
 
 use crate::hosted::Hosted;
 use crate::slot::HostSlot;
-use box_parcels::Parcel;
+use c_surface::{Handle, Parcel};
 use std::alloc::Global;
 
 /// A handle: room for one host. It holds none while all its bytes are 0.
@@ -14,19 +14,16 @@ pub struct HostHandle {
     ghost agree: { is_some slot.host ≡ live },
 }
 
-impl HostHandle {
-    /// Whether the handle holds a host.
-    pub(crate) fn is_live(&self) -> bool
-        ensures { result ≡ is_some self.now.slot.host }
-    {
+impl Handle for HostHandle {
+    type Held = Hosted;
+
+    ghost held = { λ h. h.slot.host };
+
+    fn is_live(&self) -> bool {
         self.live
     }
 
-    /// Takes the host out of the handle. Each call puts it back at its end, which costs a load and a store.
-    pub(crate) fn take(&mut self, alloc: Global) -> Option<Box<Hosted>>
-        ensures gone { self.new.slot.host ≡ None }
-        ensures value { MatchOption result (self.old.slot.host ≡ None) (λ host. self.old.slot.host ≡ Some host.value) }
-    {
+    fn take(&mut self, alloc: Global) -> Option<Box<Hosted>> {
         if self.live {
             self.live = false;
             Some(self.slot.empty(alloc).unwrap())
@@ -35,13 +32,12 @@ impl HostHandle {
         }
     }
 
-    /// Puts a host into a handle that holds none.
-    pub(crate) fn put(&mut self, host: Box<Hosted>)
+    fn put(&mut self, value: Box<Hosted>)
         requires { self.old.slot.host ≡ None }
-        ensures { self.new.slot.host ≡ Some host.value }
+        ensures { self.new.slot.host ≡ Some value.value }
     {
         self.live = true;
-        self.slot.fill(Parcel::wrap(host));
+        self.slot.fill(Parcel::wrap(value));
     }
 }
 

@@ -1,4 +1,4 @@
-//! The numbers that C reads, as include/pageshare_host.h has them.
+//! The numbers that C reads, as lib/include/pageshare_host.h has them.
 ghost use Rattle.std.specs.Prelude.{◌≡◌, ◌^◌};
 ghost use Rattle.host_messages.specs.declared.limits.TheConstants.{MAX_IN_MESSAGE, MAX_MESSAGE_BYTES, NO_FRAME, PASSING, VERSION};
 

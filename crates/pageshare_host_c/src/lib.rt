@@ -1,14 +1,16 @@
 //! A host of VMM processes for C: each function that a program in C or C++ calls.
 //!
 //! C makes room for a [`HostHandle`], which holds no host while its bytes are 0, and passes its address to each call. No call has a
-//! condition on its arguments except that its references are valid. `include/pageshare_host.h` declares the same functions in C, and
+//! condition on its arguments except that its references are valid. `lib/include/pageshare_host.h` declares the same functions in C, and
 //! says what the caller owes.
 #![tactic(auto)]
 
 ghost use Rattle.std.specs.Prelude.{◌≡◌, None};
+ghost use Rattle.c_surface.specs.Statuses.{held_status};
+ghost use Rattle.c_surface.specs.declared.status.TheConstants as status;
 ghost use Rattle.page_digest.specs.Hashes.{fold_hash};
 ghost use Rattle.pageshare_host_c.specs.Calls.{ConnectsAt, DisconnectsAt, EndsAt, session_status, session_after, totals_after};
-ghost use Rattle.pageshare_host_c.specs.Hosts.{free_status, made_status, AddsFrames, BeginsHost};
+ghost use Rattle.pageshare_host_c.specs.Hosts.{made_status, AddsFrames, BeginsHost};
 ghost use Rattle.pageshare_host_c.specs.Packets.{ReceivesAt};
 
 mod begin;
@@ -22,7 +24,9 @@ mod slot;
 mod waiting;
 
 use begin::{add_frames, begin};
-pub use calls::{HostTotals, SessionTold};
+pub use c_surface::DomainTotals;
+use c_surface::{Handle, free, status};
+pub use calls::SessionTold;
 use calls::{connect, disconnect, end, report, tell_session};
 pub use handle::HostHandle;
 pub use hosted::Hosted;
@@ -38,8 +42,8 @@ pub use waiting::Waiting;
 
 /// Begins a host, whose machines' frames come in regions.
 ///
-/// The status is 0, 5 if the handle holds a host already, and else 16 (machines), 17 (slots), 1 (frames), 18 (sessions), 19
-/// (questions) or 4 (memory).
+/// The status is `OK`, `IN_USE` if the handle holds a host already, and else `MACHINES`, `SLOTS`, `FRAMES`, `CLIENTS` (of sessions),
+/// `RECENT` or `MEMORY`.
 #[unsafe(no_mangle)]
 pub extern "C" fn pageshare_host_begin(
     alloc: Global,
@@ -53,8 +57,8 @@ pub extern "C" fn pageshare_host_begin(
 
 /// Gives a host that was begun the frames of its next machine. With those of the last one the host is made.
 ///
-/// The status is 0, 6 if no host was begun or it is made, 13 if the region has room for another number of frames, or 4 if memory was
-/// refused: then the handle holds nothing.
+/// The status is `OK`, `NO_MACHINE` if no host was begun or it is made, `REGION` if the region has room for another number of
+/// frames, or `MEMORY` if memory was refused: then the handle holds nothing.
 #[unsafe(no_mangle)]
 pub extern "C" fn pageshare_host_add(alloc: Global, host: &mut HostHandle, region: Region) -> u32
     ensures { AddsFrames region.pages host.old.slot.host host.new.slot.host result }
@@ -62,21 +66,19 @@ pub extern "C" fn pageshare_host_add(alloc: Global, host: &mut HostHandle, regio
     add_frames(alloc, host, region)
 }
 
-/// Frees the host. The status is 6 if the handle holds none.
+/// Frees the host. The status is `NO_MACHINE` if the handle holds none.
 #[unsafe(no_mangle)]
 pub extern "C" fn pageshare_host_free(alloc: Global, host: &mut HostHandle) -> u32
     ensures none { host.new.slot.host ≡ None }
-    ensures status { result ≡ free_status host.old.slot.host }
+    ensures status { result ≡ held_status host.old.slot.host }
 {
-    match host.take(alloc) {
-        None => 6,
-        Some(_hosted) => 0,
-    }
+    free(host, alloc)
 }
 
 /// A peer has connected: `session` is then its session's number.
 ///
-/// The status is 6 without a host, and 20 if there are as many sessions as there may be; then `session` stays as it is.
+/// The status is `NO_MACHINE` without a host, and `NO_ROOM` if there are as many sessions as there may be; then
+/// `session` stays as it is.
 #[unsafe(no_mangle)]
 pub extern "C" fn pageshare_host_connect(
     alloc: Global,
@@ -87,7 +89,7 @@ pub extern "C" fn pageshare_host_connect(
     ensures { ConnectsAt name.now result session.old session.new host.old.slot.host host.new.slot.host }
 {
     match host.take(alloc) {
-        None => 6,
+        None => status::NO_MACHINE,
         Some(mut hosted) => {
             let status = connect(&mut hosted, *name, session);
             host.put(hosted);
@@ -98,8 +100,8 @@ pub extern "C" fn pageshare_host_connect(
 
 /// Receives a packet of a session.
 ///
-/// The status is 6 without a host, 33 if a buffer is too short, 32 if no session with this number takes messages, and above 63 if the
-/// packet is at fault.
+/// The status is `NO_MACHINE` without a host, `SHORT` if a buffer is too short, `NO_SESSION` if no session with this number takes
+/// messages, and that of a fault (`FAULT_HEAD` and on) if the packet has one.
 #[unsafe(no_mangle)]
 pub extern "C" fn pageshare_host_receive(
     alloc: Global,
@@ -113,7 +115,7 @@ pub extern "C" fn pageshare_host_receive(
     ensures { ReceivesAt session bytes.now pages.now result reply.old reply.new freed.old freed.new host.old.slot.host host.new.slot.host }
 {
     match host.take(alloc) {
-        None => refused(6),
+        None => refused(status::NO_MACHINE),
         Some(mut hosted) => {
             let told = receive(&mut hosted, session, bytes, pages, reply, freed);
             host.put(hosted);
@@ -122,7 +124,8 @@ pub extern "C" fn pageshare_host_receive(
     }
 }
 
-/// A session's connection has ended. The status is 6 without a host, and 32 if there is no such session.
+/// A session's connection has ended. The status is `NO_MACHINE` without a host, and `NO_SESSION` if there is no such
+/// session.
 #[unsafe(no_mangle)]
 pub extern "C" fn pageshare_host_disconnect(
     alloc: Global,
@@ -132,7 +135,7 @@ pub extern "C" fn pageshare_host_disconnect(
     ensures { DisconnectsAt session result host.old.slot.host host.new.slot.host }
 {
     match host.take(alloc) {
-        None => 6,
+        None => status::NO_MACHINE,
         Some(mut hosted) => {
             let status = disconnect(&mut hosted, session);
             host.put(hosted);
@@ -143,7 +146,8 @@ pub extern "C" fn pageshare_host_disconnect(
 
 /// A session's process has ended: releases as many of its slots as `freed` has places. `count` is then how many.
 ///
-/// The status is 6 without a host, 33 if `freed` has no place, and 32 if there is no such session; then nothing is written.
+/// The status is `NO_MACHINE` without a host, `SHORT` if `freed` has no place, and `NO_SESSION` if there is no such
+/// session; then nothing is written.
 #[unsafe(no_mangle)]
 pub extern "C" fn pageshare_host_end(
     alloc: Global,
@@ -155,7 +159,7 @@ pub extern "C" fn pageshare_host_end(
     ensures { EndsAt session result freed.old freed.new count.old count.new host.old.slot.host host.new.slot.host }
 {
     match host.take(alloc) {
-        None => 6,
+        None => status::NO_MACHINE,
         Some(mut hosted) => {
             let status = end(&mut hosted, session, freed, count);
             host.put(hosted);
@@ -164,7 +168,8 @@ pub extern "C" fn pageshare_host_end(
     }
 }
 
-/// Gets what is known of a session. The status is 6 without a host, and 32 if there is no such session; then `told` stays as it is.
+/// Gets what is known of a session. The status is `NO_MACHINE` without a host, and `NO_SESSION` if there is no such session; then
+/// `told` stays as it is.
 #[unsafe(no_mangle)]
 pub extern "C" fn pageshare_host_session(
     alloc: Global,
@@ -177,7 +182,7 @@ pub extern "C" fn pageshare_host_session(
     ensures told { told.new ≡ session_after session told.old host.old.slot.host }
 {
     match host.take(alloc) {
-        None => 6,
+        None => status::NO_MACHINE,
         Some(hosted) => {
             let status = tell_session(&hosted, session, told);
             host.put(hosted);
@@ -186,19 +191,20 @@ pub extern "C" fn pageshare_host_session(
     }
 }
 
-/// Gets what the host counts. It looks at each slot. The status is 6 without a host, and then `totals` stays as it is.
+/// Gets what the host counts. It looks at each slot. The status is `NO_MACHINE` without a host, and then `totals` stays
+/// as it is.
 #[unsafe(no_mangle)]
 pub extern "C" fn pageshare_host_report(
     alloc: Global,
     host: &mut HostHandle,
-    totals: &mut HostTotals,
+    totals: &mut DomainTotals,
 ) -> u32
     ensures same { host.new.slot.host ≡ host.old.slot.host }
-    ensures status { result ≡ made_status (λ h. 0) host.old.slot.host }
+    ensures status { result ≡ made_status (λ h. status.OK) host.old.slot.host }
     ensures totals { totals.new ≡ totals_after totals.old host.old.slot.host }
 {
     match host.take(alloc) {
-        None => 6,
+        None => status::NO_MACHINE,
         Some(hosted) => {
             let status = report(&hosted, totals);
             host.put(hosted);

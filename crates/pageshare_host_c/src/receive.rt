@@ -4,6 +4,7 @@ ghost use Rattle.host_messages.specs.declared.limits.TheConstants.{MAX_IN_MESSAG
 ghost use Rattle.pageshare_host_c.specs.Packets.{ReceivesAt, Tells, status_of, fault_status, message_status, resumed_of, frees_of, put_front, refused};
 
 use crate::hosted::Hosted;
+use c_surface::status;
 use host_messages::{MAX_IN_MESSAGE, MAX_MESSAGE_BYTES, MessageFault, NO_FRAME};
 use host_sessions::{Received, SessionFault};
 use page_model::Page;
@@ -33,13 +34,13 @@ pub(crate) fn receive(
     ensures { ReceivesAt session bytes.now pages.now result reply.old reply.new freed.old freed.new (Some hosted.old) (Some hosted.new) }
 {
     match hosted {
-        Hosted::Waiting(_) => refused(6),
+        Hosted::Waiting(_) => refused(status::NO_MACHINE),
         Hosted::Made(host) => {
             if reply.len() < MAX_MESSAGE_BYTES {
-                return refused(33);
+                return refused(status::SHORT);
             }
             if freed.len() < MAX_IN_MESSAGE {
-                return refused(33);
+                return refused(status::SHORT);
             }
             tell(host.receive(session, bytes, pages), reply, freed)
         }
@@ -118,13 +119,13 @@ fn status_of(received: &Received) -> u32
     ensures { result ≡ status_of received.now }
 {
     match received {
-        Received::NoSession => 32,
+        Received::NoSession => status::NO_SESSION,
         Received::Fault(fault) => fault_status(fault),
-        Received::Welcome(_) => 0,
-        Received::Resumed(_, _, _) => 0,
-        Received::Seen(_) => 0,
-        Received::Loans(_) => 0,
-        Received::Released(_) => 0,
+        Received::Welcome(_) => status::OK,
+        Received::Resumed(_, _, _) => status::OK,
+        Received::Seen(_) => status::OK,
+        Received::Loans(_) => status::OK,
+        Received::Released(_) => status::OK,
     }
 }
 
@@ -134,10 +135,10 @@ pub(crate) fn fault_status(fault: &SessionFault) -> u32
 {
     match fault {
         SessionFault::Message(fault) => message_status(fault),
-        SessionFault::Early => 69,
-        SessionFault::Again => 70,
-        SessionFault::Pages => 71,
-        SessionFault::Clients => 72,
+        SessionFault::Early => status::FAULT_EARLY,
+        SessionFault::Again => status::FAULT_AGAIN,
+        SessionFault::Pages => status::FAULT_PAGES,
+        SessionFault::Clients => status::FAULT_CLIENTS,
     }
 }
 
@@ -146,12 +147,12 @@ fn message_status(fault: &MessageFault) -> u32
     ensures { result ≡ message_status fault.now }
 {
     match fault {
-        MessageFault::Head => 64,
-        MessageFault::Kind => 65,
-        MessageFault::Version => 66,
-        MessageFault::Count => 67,
-        MessageFault::Length => 68,
-        MessageFault::Answer => 73,
+        MessageFault::Head => status::FAULT_HEAD,
+        MessageFault::Kind => status::FAULT_KIND,
+        MessageFault::Version => status::FAULT_VERSION,
+        MessageFault::Count => status::FAULT_COUNT,
+        MessageFault::Length => status::FAULT_LENGTH,
+        MessageFault::Answer => status::FAULT_ANSWER,
     }
 }
 

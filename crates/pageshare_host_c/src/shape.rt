@@ -1,11 +1,11 @@
 //! What a host is made of, as C says it.
 ghost use Rattle.std.specs.Prelude.{◌≡◌};
-ghost use Rattle.pageshare_host_c.specs.Shapes.{config_of, begin_cause, shape_status, IsFit};
+ghost use Rattle.c_surface.specs.declared.status.TheConstants as status;
+ghost use Rattle.pageshare_host_c.specs.Shapes.{begin_cause, config_of, IsFit};
 
+use c_surface::{shape_status, status};
 use host_sessions::HostConfig;
-use page_model::{MAX_FRAMES, MAX_PAGES};
-use recent_fingerprints::MAX_PLACES;
-use share_domain::{DomainConfig, MAX_CLIENTS, MAX_MACHINES};
+use share_domain::DomainConfig;
 
 /// What a host is made of.
 #[repr(C)]
@@ -35,38 +35,15 @@ pub struct HostShape {
     pub reserved: u32,
 }
 
-/// Returns the status of the first number that no host has, or 0.
-fn shape_status(shape: &HostShape) -> u32
-    ensures status { result ≡ shape_status shape.now }
-    ensures fits { result ≡ 0 → IsFit shape.now }
-{
-    if shape.machines == 0 || shape.machines > MAX_MACHINES {
-        return 16;
-    }
-    if shape.slots == 0 || shape.slots > MAX_PAGES {
-        return 17;
-    }
-    if shape.frames < 2 || shape.frames > MAX_FRAMES {
-        return 1;
-    }
-    if shape.sessions == 0 || shape.sessions > MAX_CLIENTS {
-        return 18;
-    }
-    if shape.recent == 0 || shape.recent > MAX_PLACES {
-        return 19;
-    }
-    0
-}
-
-/// Returns the first cause for which no host is begun, or 0, if the handle holds one or not.
+/// Returns the first cause for which no host is begun, or `OK`, if the handle holds one or not.
 pub(crate) fn begin_cause(shape: &HostShape, used: bool) -> u32
     ensures cause { result ≡ begin_cause shape.now used }
-    ensures fits { result ≡ 0 → IsFit shape.now }
+    ensures fits { result ≡ status.OK → IsFit shape.now }
 {
     if used {
-        return 5;
+        return status::IN_USE;
     }
-    shape_status(shape)
+    shape_status(&config_of(shape).domain, shape.recent)
 }
 
 /// Returns what a host is made of.

@@ -5,7 +5,7 @@ ghost use Rattle.pageshare_host_c.specs.Held.{hosted_row};
 ghost use Rattle.pageshare_host_c.specs.declared.hosted.Hosted.{Hosted};
 
 use crate::hosted::Hosted;
-use box_parcels::Parcel;
+use c_surface::Parcel;
 use std::alloc::Global;
 use std::marker::Model;
 
@@ -19,7 +19,7 @@ pub struct HostSlot {
 }
 
 impl Model for HostSlot {
-    ghost use Rattle.box_parcels.specs.Held.{held_owns};
+    ghost use Rattle.c_surface.specs.Held.{held_owns};
     ghost use Rattle.pageshare_host_c.specs.Held.{hosted_row};
 
     ghost also_owns = { λ s. held_owns hosted_row s.at s.host };

@@ -34,10 +34,10 @@ use Rattle.std_alloc.proofs.BoxSteps.Form.{Bx, R, P, B, word}
 use Rattle.std_alloc.proofs.BoxSteps.Steps.{box_out, box_in}
 use Rattle.std_alloc.proofs.boxed.Box.into_raw_with_allocator.Met.{met}
 use Rattle.std_alloc.specs.contracts.boxed.Box.into_raw_with_allocator as into_raw
-use Rattle.box_parcels.proofs.Parcels.{two, Block, parcel_typed, parcel_closes}
-use Rattle.box_parcels.proofs.parcel.Parcel.wrap.Code as code
-use Rattle.box_parcels.proofs.parcel.Parcel.wrap.Statement.{statement}
-use Rattle.box_parcels.specs.contracts.parcel.Parcel.wrap as f
+use Rattle.c_surface.proofs.Parcels.{two, Block, parcel_typed, parcel_closes}
+use Rattle.c_surface.proofs.parcel.Parcel.wrap.Code as code
+use Rattle.c_surface.proofs.parcel.Parcel.wrap.Statement.{statement}
+use Rattle.c_surface.specs.contracts.parcel.Parcel.wrap as f
 
 pub wrap_spec : {M : Type 1} → statement M
 wrap_spec 𝓤 𝓛 𝓜 𝓡 wired X H value_laws heap_laws ghosts methods drops_value drops_heap allocates value_drops heap_drops =

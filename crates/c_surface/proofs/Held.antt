@@ -13,8 +13,8 @@ use Rattle.std.proofs.alloc.Global.TheLaws as global_laws
 use Rattle.std.specs.contracts.alloc.Global as global
 use Rattle.std.specs.contracts.impls.GlobalAllocator.TheImpl as allocator
 use Rattle.std_alloc.proofs.SendSync.{lies}
-use Rattle.box_parcels.proofs.Parcels.{Parcel}
-use Rattle.box_parcels.specs.Held.{heap, held_owns}
+use Rattle.c_surface.proofs.Parcels.{Parcel}
+use Rattle.c_surface.specs.Held.{heap, held_owns}
 
 abbrev pub Heap : RattleType
 Heap = global.the_row

@@ -34,10 +34,10 @@ use Rattle.std_alloc.proofs.BoxSteps.Form.{Bx, R, P, B}
 use Rattle.std_alloc.proofs.BoxSteps.Steps.{box_out, box_in}
 use Rattle.std_alloc.proofs.boxed.Box.from_raw.Met.{met}
 use Rattle.std_alloc.specs.contracts.boxed.Box.from_raw as from_raw
-use Rattle.box_parcels.proofs.Parcels.{two, Parcel, parcel_typed, parcel_opens}
-use Rattle.box_parcels.proofs.parcel.Parcel.unwrap.Code as code
-use Rattle.box_parcels.proofs.parcel.Parcel.unwrap.Statement.{statement}
-use Rattle.box_parcels.specs.contracts.parcel.Parcel.unwrap as f
+use Rattle.c_surface.proofs.Parcels.{two, Parcel, parcel_typed, parcel_opens}
+use Rattle.c_surface.proofs.parcel.Parcel.unwrap.Code as code
+use Rattle.c_surface.proofs.parcel.Parcel.unwrap.Statement.{statement}
+use Rattle.c_surface.specs.contracts.parcel.Parcel.unwrap as f
 
 pub unwrap_spec : {M : Type 1} → statement M
 unwrap_spec 𝓤 𝓛 𝓜 𝓡 wired X H value_laws heap_laws ghosts methods drops_value drops_heap allocates value_drops heap_drops =

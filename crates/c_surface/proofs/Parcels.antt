@@ -27,7 +27,7 @@ use Rattle.core.proofs.alloc.Calls.{Al, Fits, handle_tells}
 use Rattle.core.specs.declared.alloc.Allocator.{Ghosts}
 use Rattle.std_alloc.proofs.ResultValues.{and_tt}
 use Rattle.std_alloc.specs.Box.Ownership.{box_owns}
-use Rattle.box_parcels.specs.contracts.parcel.Parcel as parcel
+use Rattle.c_surface.specs.contracts.parcel.Parcel as parcel
 
 abbrev pub two : Val → Val → Val
 two v w = vstruct (vcons v (vcons w vnil))

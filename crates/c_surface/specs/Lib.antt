@@ -1,0 +1,6 @@
+pub mod Frames
+pub mod Handles
+pub mod Held
+pub mod Shapes
+pub mod Statuses
+pub mod Totals
