@@ -1,11 +1,12 @@
 #!/usr/bin/env python3
-"""Compares the members of structs that C, the proved libraries and the wrapper in Rust share: their order, names and types.
+"""Compares what C, the proved libraries and the wrapper in Rust share: the members of structs, and the numbers of statuses.
 
     checks/structs.py
 
 No proof says in what order a struct of the libraries has its members, and a header with two members of one type exchanged compiles. So
-each struct with #[repr(C)] in FOLDERS must have the members of the header's structs that STRUCTS names, one by one. Prints what fails,
-and last 'N passed, M failed'.
+each struct with #[repr(C)] in FOLDERS must have the members of the header's structs that STRUCTS names, one by one: their order, names
+and types. And each constant of STATUSES must be the number that a header has under the same name. Prints what fails, and last
+'N passed, M failed'.
 """
 from __future__ import annotations
 
@@ -17,6 +18,10 @@ from harness import TOP, Tally
 
 HEADERS = ["lib/include/pageshare.h", "lib/include/pageshare_host.h"]
 FOLDERS = {"crates/c_surface/src": "rt", "crates/pageshare_c/src": "rt", "crates/pageshare_host_c/src": "rt", "lib/rust/src": "rs"}
+# The statuses of the proved libraries, and what a header writes before a name. FAULT_ANSWER is a fault that no packet of a client has.
+STATUSES = "crates/c_surface/src/status.rt"
+PREFIXES = ("PAGESHARE_ERROR_", "PAGESHARE_", "PAGESHARE_HOST_ERROR_", "PAGESHARE_HOST_")
+NOT_OF_C = {"FAULT_ANSWER"}
 # The structs of C for each of the others.
 STRUCTS = {
     "Answer": "pageshare_answer", "Totals": "pageshare_totals", "PageName": "pageshare_page_name", "Lending": "pageshare_lending",
@@ -29,6 +34,8 @@ HANDLES = {"Machine", "Slot", "DomainHandle", "DomainSlot", "HostHandle", "HostS
 # What stands for a type of C. Each other one is a pointer, but for PhantomData, which takes no place.
 TYPES = {"u8": "uint8_t", "u32": "uint32_t", "u64": "uint64_t", "usize": "size_t"}
 STRUCT = re.compile(r"#\[repr\(C\)\]\n(?:[ #/][^\n]*\n)*(?:pub(?:\(crate\))? )?struct (\w+)[^{\n]*\{\n((?:[^}\n][^\n]*\n)*)\}")
+STATUS = re.compile(r"^pub const (\w+): u32 = (\d+);$", re.M)
+ENUMERATOR = re.compile(r"^\s*(PAGESHARE_\w+) = (\d+)\b", re.M)
 MEMBER = re.compile(r"^\s*(?:pub(?:\(crate\))? )?(\w+): ([^\n]+?),$", re.M)
 
 
@@ -43,9 +50,18 @@ def structs_of_c() -> dict[str, list[tuple[str, str]]]:
     return found
 
 
+def compare_statuses(tally: Tally) -> None:
+    """Each status is the number that the headers have under its name."""
+    of_c = dict(pair for header in HEADERS for pair in ENUMERATOR.findall((TOP / header).read_text()))
+    for name, number in STATUS.findall((TOP / STATUSES).read_text()):
+        found = {of_c[prefix + name] for prefix in PREFIXES if prefix + name in of_c}
+        tally.equal(f"{name} in {STATUSES}", found, set() if name in NOT_OF_C else {number})
+
+
 def main() -> int:
     argparse.ArgumentParser(description=__doc__.splitlines()[0]).parse_args()
     tally, due = Tally(), structs_of_c()
+    compare_statuses(tally)
     for folder, suffix in FOLDERS.items():
         for file in sorted((TOP / folder).rglob(f"*.{suffix}")):
             for name, inside in STRUCT.findall(file.read_text()):
