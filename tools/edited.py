@@ -47,6 +47,11 @@ def functions_of(crate: Any) -> Functions:
     return found
 
 
+def path_of(function: Any) -> tuple[str, ...]:
+    """A function's path in its crate. A line 'refused:' names a method by it."""
+    return (*function.module, *filter(None, [function.owner]), function.name)
+
+
 def edited_in(kit: Any, crate: Any) -> set[Any]:
     """The functions that the edits of a crate change or name."""
     if not os.path.isdir(f"{crate.folder}/edits"):
@@ -78,12 +83,13 @@ def main() -> int:
             continue
         functions = functions_of(crate)
         public = [it for it, (head, _body) in functions.items() if PUBLIC.match(head) and "ensures" in head]
-        have = with_callers(functions, edited_in(kit, crate)) & {*public}
+        known = {path_of(it): it for it in functions}
+        have = with_callers(functions, {known.get(path_of(it), it) for it in edited_in(kit, crate) if it}) & {*public}
         sums = [sums[0] + len(public), sums[1] + len(have)]
         print(f"{crate.name}: {len(public)} public functions with a contract, {len(have)} with an edit")
         for it in public:
             if it not in have:
-                print("  none: " + "::".join([*it.module, *filter(None, [it.owner]), it.name]))
+                print("  none: " + "::".join(path_of(it)))
     print(f"in all {sums[0]} public functions with a contract, {sums[1]} with an edit")
     return 0
 

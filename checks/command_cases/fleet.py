@@ -166,17 +166,20 @@ def numbers_of(row: dict[str, Any], names: list[str]) -> list[str]:
 
 
 def crooked(table: str) -> list[tuple[str, str]]:
-    """The rows of a table with a number that doesn't end below its heading."""
+    """The rows of a table with a number that doesn't end below its heading: of guests, of the total and of copies."""
     lines = table.splitlines()
-    heads = [n for n, line in enumerate(lines) if re.match(r"guest |  +memory ", line)]
+    heads = [n for n, line in enumerate(lines) if re.match(r"guest |  +memory |copies ", line)]
     found = []
-    for head, columns in zip(heads, (10, 13)):
-        due = [word.end() for word in re.finditer(r"\S+", lines[head])][:columns]
-        for line in itertools.takewhile(str.strip, lines[head + 1:]):
-            ends = [word.end() for word in re.finditer(r"\S+", line)]
-            if (ends if head == heads[0] else ends[1:])[:columns] != due:
-                found.append((lines[head], line))
+    for head, words, places in zip(heads, (0, 1, 0), (slice(10), slice(13), slice(-4, None))):
+        due = ends_of(lines[head])[places]
+        rows = itertools.takewhile(str.strip, lines[head + 1:])
+        found += [(lines[head], row) for row in rows if ends_of(row)[words:][places] != due]
     return found
+
+
+def ends_of(line: str) -> list[int]:
+    """Where each word of a line ends."""
+    return [word.end() for word in re.finditer(r"\S+", line)]
 
 
 def many_pairs(subject: Subject, folder: pathlib.Path) -> None:

@@ -1,6 +1,7 @@
 //! A domain whose frames are given for one machine after the other.
-ghost use Rattle.std.specs.Prelude.{◌≡◌};
+ghost use Rattle.std.specs.Prelude.{◌≡◌, ◌∷◌, [], None, Some};
 ghost use Rattle.machine_frames.specs.FrameMap.{no_frames};
+ghost use Rattle.page_model.specs.Pages.{blank};
 
 use machine_frames::Frames;
 use page_digest::FoldHash;
@@ -8,28 +9,79 @@ use share_domain::{Domain, DomainConfig, GivenFrames};
 use std::alloc::Global;
 use std::process::Abort;
 
+const CONFIG: DomainConfig = DomainConfig {
+    machines: 2,
+    slots: 5,
+    frames: 3,
+    clients: 2,
+    salt: 7,
+};
+
 fn three_frames(rt: &impl Abort, alloc: Global) -> Frames
     ensures { result ≡ no_frames 3 }
 {
     Frames::new(alloc, 3).expect(rt, "there is memory")
 }
 
+/// Takes the first two of three frames.
+fn take_two(rt: &impl Abort, frames: &mut Frames)
+    requires { frames.old ≡ no_frames 3 }
+    ensures { frames.new ≡ Some blank ∷ Some blank ∷ None ∷ [] }
+{
+    assert!(rt; frames.take_zeroed() == Some(0));
+    assert!(rt; frames.take_zeroed() == Some(1));
+}
+
+/// Returns three free frames, of which frame 1 is taken first.
+fn turned_frames(rt: &impl Abort, alloc: Global) -> Frames
+    ensures { result ≡ no_frames 3 }
+{
+    let mut frames = three_frames(rt, alloc);
+    take_two(rt, &mut frames);
+    frames.give_back(0);
+    frames.give_back(1);
+    frames
+}
+
+/// Returns the frame of the first page that each machine gets.
+fn first_frames(domain: &mut Domain<FoldHash>) -> [Option<u32>; 2] {
+    let mut first = [None; 2];
+    for byte in 0..16 {
+        if let Ok(loan) = domain.lend(0, &[byte; 4096]) {
+            let m = loan.slot.machine as usize;
+            if m < 2 && first[m].is_none() {
+                first[m] = Some(loan.frame);
+            }
+        }
+    }
+    first
+}
+
+/// The frames of the two machines are taken in different orders, so the first frame of each shows whose it is.
+#[test]
+fn each_machine_has_the_frames_that_were_given_for_it(rt: HostRuntime) {
+    let mut given = GivenFrames::new(rt.alloc(), 2, 3).expect(&rt, "there is memory");
+    given.add(three_frames(&rt, rt.alloc()));
+    given.add(turned_frames(&rt, rt.alloc()));
+    let mut domain = Domain::with_frames(rt.alloc(), &CONFIG, FoldHash, given.into_frames()).expect(
+        &rt,
+        "there is memory",
+    );
+    assert!(rt; domain.enter() == Some(0));
+    let first = first_frames(&mut domain);
+    assert!(rt; first[0] == Some(0));
+    assert!(rt; first[1] == Some(4));
+}
+
 /// Gives the frames of two machines, and makes a domain of them.
 #[test]
 fn a_domain_has_the_frames_that_were_given(rt: HostRuntime) {
-    let config = DomainConfig {
-        machines: 2,
-        slots: 5,
-        frames: 3,
-        clients: 2,
-        salt: 7,
-    };
     let mut given = GivenFrames::new(rt.alloc(), 2, 3).expect(&rt, "there is memory");
     given.add(three_frames(&rt, rt.alloc()));
     assert!(rt; !given.are_all());
     given.add(three_frames(&rt, rt.alloc()));
     assert!(rt; given.are_all());
-    let mut domain = Domain::with_frames(rt.alloc(), &config, FoldHash, given.into_frames()).expect(
+    let mut domain = Domain::with_frames(rt.alloc(), &CONFIG, FoldHash, given.into_frames()).expect(
         &rt,
         "there is memory",
     );
@@ -38,4 +90,12 @@ fn a_domain_has_the_frames_that_were_given(rt: HostRuntime) {
     assert!(rt; domain.enter() == Some(0));
     assert!(rt; domain.lend(0, &[5; 4096]).is_ok());
     assert!(rt; domain.report().frames == 1);
+}
+
+/// There is room for the frames of as many machines as there may be.
+#[test]
+fn frames_of_as_many_machines_as_there_may_be(rt: HostRuntime) {
+    let mut given = GivenFrames::new(rt.alloc(), 64, 3).expect(&rt, "there is memory");
+    given.add(three_frames(&rt, rt.alloc()));
+    assert!(rt; !given.are_all());
 }

@@ -20,13 +20,13 @@ fn many_clients_enter(rt: HostRuntime) {
     assert!(rt; domain.held_by(299) == 0);
 }
 
-/// As many slots as a machine may have. The last one is lent first.
+/// As many slots and frames as a machine may have. The last slot is lent first.
 #[test]
 fn a_million_slots(rt: HostRuntime) {
     let config = DomainConfig {
         machines: 1,
         slots: 1_048_576,
-        frames: 2,
+        frames: 1_048_576,
         clients: 2,
         salt: 7,
     };

@@ -1,5 +1,7 @@
-//! Worked lists of pages asked about. This crate has only tests.
+//! Worked lists of pages asked about, and of the fingerprints of frames. This crate has only tests.
 #![tactic(auto)]
 
 #[cfg(test)]
 mod asked;
+#[cfg(test)]
+mod kept;

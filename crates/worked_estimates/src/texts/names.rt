@@ -15,10 +15,10 @@ const NAMES: [[&str; 4]; 7] = [
         "&lt;a &amp; &apos;b&apos; &quot;c&quot;&gt;",
     ],
     [
-        "a\nb\u{1b}[2J\u{fffe}\u{85}",
-        "a\u{fffd}b\u{fffd}[2J\u{fffd}\u{fffd}",
-        "a\u{fffd}b\u{fffd}[2J\u{fffd}\u{fffd}",
-        "a\u{fffd}b\u{fffd}[2J\u{fffd}\u{fffd}",
+        "a\nb\u{1b}[2J\u{fffe}\u{85}\u{9b}",
+        "a\u{fffd}b\u{fffd}[2J\u{fffd}\u{fffd}\u{fffd}",
+        "a\u{fffd}b\u{fffd}[2J\u{fffd}\u{fffd}\u{fffd}",
+        "a\u{fffd}b\u{fffd}[2J\u{fffd}\u{fffd}\u{fffd}",
     ],
     [
         "1234567890123456789012",
