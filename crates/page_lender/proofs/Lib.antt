@@ -1,6 +1,6 @@
 mod Decided
 mod Histories
-mod Kept
+pub mod Kept
 mod Outcomes
 mod Slots
 mod Unseen

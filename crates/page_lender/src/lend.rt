@@ -15,7 +15,7 @@ impl PageLender {
     pub fn new() -> PageLender
         ensures belief { result.belief ≡ Belief.Private }
         ensures ordered { result.ordered ≡ false }
-        ensures bars { is_barred result.bars ≡ false }
+        ensures bars { result.bars ≡ record { called = false; pinned = false; inherited = false; locked = false; left = false; ended = false } }
     {
         let bars = Bars {
             called: false,
@@ -85,6 +85,17 @@ impl PageLender {
     {
         self.belief = self.belief.after(outcome);
         self.ordered = false;
+    }
+
+    /// Takes back the order that `next` gave, with which nobody began.
+    pub fn withdraw(&mut self)
+        requires { self.old.ordered ≡ true }
+        ensures { self.new ≡ record self.old { ordered = false } }
+    {
+        *self = PageLender {
+            ordered: false,
+            ..*self
+        };
     }
 
     /// Returns whether an order that touches the page was given, and nothing is known of it yet.

@@ -1,4 +1,4 @@
-//! A lender of one page beside the protocol of windows, by the public calls of `page_lender` and `window_events`. This crate has only tests.
+//! Lenders of one page and of a window beside the protocol of windows, by the public calls of `page_lender`, `window_lender` and `window_events`. This crate has only tests.
 #![tactic(auto)]
 
 #[cfg(test)]
@@ -9,3 +9,5 @@ mod lives;
 mod moves;
 #[cfg(test)]
 mod numbers;
+#[cfg(test)]
+mod windows;

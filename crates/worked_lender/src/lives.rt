@@ -27,7 +27,7 @@ struct Life {
 }
 
 /// Returns whether what is believed is right of the page.
-fn is_right(belief: Belief, page: &Page) -> bool {
+pub fn is_right(belief: Belief, page: &Page) -> bool {
     let bare = is_bare(page);
     match belief {
         Belief::Private
@@ -61,9 +61,9 @@ fn count(counts: &mut Counts, order: Order, outcome: Outcome) {
 /// Takes an outcome of the order that is open, and plays its events.
 fn finish<A: Allocator>(rt: &impl Abort, life: &mut Life, mappings: &mut Mappings<A>) {
     let order = life.lender.belief.due();
-    let (outcome, was_done) = outcome_of(rt, mappings, &mut life.host, order, &mut life.numbers);
+    let (outcome, was_done) = outcome_of(rt, mappings, 0, &mut life.host, order, &mut life.numbers);
     if was_done || outcome == Outcome::Done {
-        carry_out(rt, mappings, order);
+        carry_out(rt, mappings, 0, order);
     }
     assert!(rt; life.lender.ordered);
     assert!(rt; order.has(outcome));
@@ -73,7 +73,7 @@ fn finish<A: Allocator>(rt: &impl Abort, life: &mut Life, mappings: &mut Mapping
 
 /// Tells the lender what is so: the page shows no frame itself.
 fn hear<A: Allocator>(rt: &impl Abort, life: &mut Life, mappings: &Mappings<A>) {
-    if is_bare(&page_of(rt, mappings)) || life.lender.is_busy() {
+    if is_bare(&page_of(rt, mappings, 0)) || life.lender.is_busy() {
         return;
     }
     let notice = if life.numbers.coin() {
@@ -90,7 +90,7 @@ fn set_bars<A: Allocator>(rt: &impl Abort, life: &mut Life, mappings: &Mappings<
     if !may_go_on {
         return;
     }
-    let page = page_of(rt, mappings);
+    let page = page_of(rt, mappings, 0);
     assert!(rt; !page.guarded);
     let must_own = bars.pinned || bars.inherited || bars.locked || bars.left || bars.ended;
     assert!(rt; !must_own || !is_bare(&page));
@@ -138,7 +138,7 @@ fn live<A: Allocator>(rt: &impl Abort, mappings: &mut Mappings<A>, seed: u64, mo
     };
     for _ in 0..moves {
         go_on(rt, &mut life, mappings);
-        let page = page_of(rt, mappings);
+        let page = page_of(rt, mappings, 0);
         assert!(rt; is_right(life.lender.belief, &page));
         assert!(rt; life.host.agrees(life.lender.belief));
     }

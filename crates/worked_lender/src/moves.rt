@@ -12,9 +12,9 @@ fn must<A: Allocator>(rt: &impl Abort, mappings: &mut Mappings<A>, event: Event)
     assert!(rt; is_possible);
 }
 
-/// Returns page 0, which is there.
-pub fn page_of<A: Allocator>(rt: &impl Abort, mappings: &Mappings<A>) -> Page {
-    mappings.page(0).expect(rt, "there is a page")
+/// Returns a page, which is there.
+pub fn page_of<A: Allocator>(rt: &impl Abort, mappings: &Mappings<A>, page: u32) -> Page {
+    mappings.page(page).expect(rt, "there is a page")
 }
 
 /// Returns whether a page shows a frame itself.
@@ -25,47 +25,58 @@ pub fn is_bare(page: &Page) -> bool {
     }
 }
 
-/// Carries out an order on page 0: the events that it stands for, each of which must be possible.
-pub fn carry_out<A: Allocator>(rt: &impl Abort, mappings: &mut Mappings<A>, order: Order) {
+/// Carries out an order on a page: the events that it stands for, each of which must be possible.
+pub fn carry_out<A: Allocator>(
+    rt: &impl Abort,
+    mappings: &mut Mappings<A>,
+    page: u32,
+    order: Order,
+) {
     match order {
         Order::Wait | Order::Copy | Order::Lend | Order::FindLoan => {}
-        Order::Hold => must(rt, mappings, Event::Guard(0)),
+        Order::Hold => must(rt, mappings, Event::Guard(page)),
         Order::Compare(frame) => {
-            must(rt, mappings, Event::Copy(0));
-            must(rt, mappings, Event::Lend(0, frame));
+            must(rt, mappings, Event::Copy(page));
+            must(rt, mappings, Event::Lend(page, frame));
         }
-        Order::Map(_) => must(rt, mappings, Event::Map(0)),
-        Order::LetGo => must(rt, mappings, Event::Unguard(0)),
+        Order::Map(_) => must(rt, mappings, Event::Map(page)),
+        Order::LetGo => must(rt, mappings, Event::Unguard(page)),
         Order::CopyInPlace | Order::TakeHome => {
-            let shown = mappings.shown(0).expect(rt, "there is a page");
-            must(rt, mappings, Event::Write(0, shown));
+            let shown = mappings.shown(page).expect(rt, "there is a page");
+            must(rt, mappings, Event::Write(page, shown));
         }
-        Order::Release(_) | Order::FindSlot(_) => must(rt, mappings, Event::Release(0)),
+        Order::Release(_) | Order::FindSlot(_) => must(rt, mappings, Event::Release(page)),
     }
 }
 
-/// Returns whether page 0 may be done with as the order says: a comparison finds a guarded page equal to the frame, and a page is mapped
+/// Returns whether a page may be done with as the order says: a comparison finds a guarded page equal to the frame, and a page is mapped
 /// whose guard stood since.
-pub fn can_be_done<A: Allocator>(rt: &impl Abort, mappings: &Mappings<A>, order: Order) -> bool {
-    let page = page_of(rt, mappings);
+pub fn can_be_done<A: Allocator>(
+    rt: &impl Abort,
+    mappings: &Mappings<A>,
+    page: u32,
+    order: Order,
+) -> bool {
+    let known = page_of(rt, mappings, page);
     match order {
         Order::Compare(frame) => {
             let bytes = mappings.frames().get(frame as usize).copied();
-            page.guarded && bytes.is_some() && bytes == mappings.shown(0)
+            known.guarded && bytes.is_some() && bytes == mappings.shown(page)
         }
-        Order::Map(_) => page.frame_fresh,
+        Order::Map(_) => known.frame_fresh,
         _ => true,
     }
 }
 
-/// Returns what the system makes of an order on page 0, and whether it was done.
+/// Returns what the system makes of an order on a page, and whether it was done.
 fn local_outcome<A: Allocator>(
     rt: &impl Abort,
     mappings: &Mappings<A>,
+    page: u32,
     order: Order,
     numbers: &mut Numbers,
 ) -> (Outcome, bool) {
-    let can_fail = !can_be_done(rt, mappings, order);
+    let can_fail = !can_be_done(rt, mappings, page, order);
     let is_lost = order.has(Outcome::Unknown) && numbers.next() % 8 == 0;
     if can_fail || numbers.next() % 8 == 0 {
         return (
@@ -91,6 +102,7 @@ fn local_outcome<A: Allocator>(
 pub fn outcome_of<A: Allocator>(
     rt: &impl Abort,
     mappings: &Mappings<A>,
+    page: u32,
     host: &mut Host,
     order: Order,
     numbers: &mut Numbers,
@@ -106,7 +118,7 @@ pub fn outcome_of<A: Allocator>(
             let outcome = host.find_slot(slot, numbers);
             (outcome, host.given.is_none())
         }
-        _ => local_outcome(rt, mappings, order, numbers),
+        _ => local_outcome(rt, mappings, page, order, numbers),
     }
 }
 

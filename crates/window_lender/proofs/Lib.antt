@@ -1,0 +1,9 @@
+mod Followed
+mod Given
+mod Histories
+mod Made
+mod Opened
+mod Ordered
+mod Packing
+mod Ranges
+mod Works

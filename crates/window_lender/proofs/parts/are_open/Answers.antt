@@ -1,0 +1,18 @@
+use Rattle.std.proofs.Common.{rules, ◌≡◌, refl, arith, subst}
+use Rattle.window_lender.specs.Runs.{Each, HasOpen}
+use Rattle.window_lender.proofs.Ranges.{each_more, none}
+use Rattle.window_lender.proofs.parts.are_open.Goals as goal
+
+pub loop-place-init : goal.loop-place-init
+loop-place-init g c = none (HasOpen c.args.work) c.args.from c.args.pages.now
+
+pub loop-place-preserved : goal.loop-place-preserved
+loop-place-preserved g c = each_more (HasOpen c.args.work) c.args.from c.loop-place.place c.args.pages.now c.get-page.result c.loop-place.invariant c.get-page.ensures (c.has_open.ensures.yes (search rules))
+
+pub returns : goal.returns
+returns g c =
+    let e : c.loop-place.place ≡ c.args.to = omega arith in
+    record {
+      yes = λ h. subst (λ t. Each (HasOpen c.args.work) c.args.from t c.args.pages.now) e c.loop-place.invariant;
+      no = λ h. refl;
+    }

@@ -1,0 +1,5 @@
+pub mod Events
+pub mod Histories
+pub mod Packing
+pub mod Runs
+pub mod Works

@@ -1,0 +1,95 @@
+-- A page's lender in two numbers, a kind and a byte.
+use Rattle.std.specs.Prelude.{ℕ, ◌+◌, ◌*◌, ◌/◌, ◌%◌, ◌==◌, Bool, true, false}
+use Rattle.page_lender.specs.declared.bars.Bars.{Bars}
+use Rattle.page_lender.specs.declared.belief.Belief.{Belief}
+use Rattle.page_lender.specs.declared.page.PageLender.{PageLender}
+use Rattle.window_lender.specs.declared.packed.Kind.{Kind}
+
+-- which belief it is
+abbrev pub kind_of : Belief → Kind
+kind_of Belief.Private = Kind.Private
+kind_of Belief.Chosen = Kind.Chosen
+kind_of Belief.Copied = Kind.Copied
+kind_of Belief.Unanswered = Kind.Unanswered
+kind_of (Belief.Loaned slot n) = Kind.Loaned
+kind_of (Belief.Held slot n) = Kind.Held
+kind_of (Belief.Equal slot n) = Kind.Equal
+kind_of (Belief.LettingGo slot) = Kind.LettingGo
+kind_of (Belief.Shown slot n) = Kind.Shown
+kind_of (Belief.Homing slot n true) = Kind.HomingInPlace
+kind_of (Belief.Homing slot n false) = Kind.Homing
+kind_of (Belief.Leaving slot) = Kind.Leaving
+kind_of (Belief.Unreleased slot) = Kind.Unreleased
+
+-- its slot, or 0
+abbrev pub slot_in : Belief → ℕ
+slot_in Belief.Private = 0
+slot_in Belief.Chosen = 0
+slot_in Belief.Copied = 0
+slot_in Belief.Unanswered = 0
+slot_in (Belief.Loaned slot n) = slot
+slot_in (Belief.Held slot n) = slot
+slot_in (Belief.Equal slot n) = slot
+slot_in (Belief.LettingGo slot) = slot
+slot_in (Belief.Shown slot n) = slot
+slot_in (Belief.Homing slot n in_place) = slot
+slot_in (Belief.Leaving slot) = slot
+slot_in (Belief.Unreleased slot) = slot
+
+-- its frame, or 0
+abbrev pub frame_in : Belief → ℕ
+frame_in Belief.Private = 0
+frame_in Belief.Chosen = 0
+frame_in Belief.Copied = 0
+frame_in Belief.Unanswered = 0
+frame_in (Belief.Loaned slot n) = n
+frame_in (Belief.Held slot n) = n
+frame_in (Belief.Equal slot n) = n
+frame_in (Belief.LettingGo slot) = 0
+frame_in (Belief.Shown slot n) = n
+frame_in (Belief.Homing slot n in_place) = n
+frame_in (Belief.Leaving slot) = 0
+frame_in (Belief.Unreleased slot) = 0
+
+-- the belief of this kind
+abbrev pub belief_in : Kind → ℕ → ℕ → Belief
+belief_in Kind.Private slot n = Belief.Private
+belief_in Kind.Chosen slot n = Belief.Chosen
+belief_in Kind.Copied slot n = Belief.Copied
+belief_in Kind.Unanswered slot n = Belief.Unanswered
+belief_in Kind.Loaned slot n = Belief.Loaned slot n
+belief_in Kind.Held slot n = Belief.Held slot n
+belief_in Kind.Equal slot n = Belief.Equal slot n
+belief_in Kind.LettingGo slot n = Belief.LettingGo slot
+belief_in Kind.Shown slot n = Belief.Shown slot n
+belief_in Kind.HomingInPlace slot n = Belief.Homing slot n true
+belief_in Kind.Homing slot n = Belief.Homing slot n false
+belief_in Kind.Leaving slot n = Belief.Leaving slot
+belief_in Kind.Unreleased slot n = Belief.Unreleased slot
+
+abbrev pub digit : Bool → ℕ
+digit true = 1
+digit false = 0
+
+-- whether an order is open, and the bars, as bits of a byte
+abbrev pub flags_of : Bool → Bars → ℕ
+flags_of ordered bars =
+    digit ordered + 2 * digit bars.called + 4 * digit bars.pinned + 8 * digit bars.inherited + 16 * digit bars.locked + 32 * digit bars.left + 64 * digit bars.ended
+
+-- one of the facts
+abbrev pub bit : ℕ → ℕ → Bool
+bit flags weight = flags / weight % 2 == 1
+
+abbrev pub bars_in : ℕ → Bars
+bars_in flags = record {
+  called = bit flags 2;
+  pinned = bit flags 4;
+  inherited = bit flags 8;
+  locked = bit flags 16;
+  left = bit flags 32;
+  ended = bit flags 64;
+}
+
+-- the lender of a page
+abbrev pub page_in : Kind → ℕ → ℕ → ℕ → PageLender
+page_in kind slot n flags = record { belief = belief_in kind slot n; ordered = bit flags 1; bars = bars_in flags }
