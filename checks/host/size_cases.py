@@ -9,6 +9,7 @@ import threading
 import time
 from typing import Any, Sequence
 
+from harness import StrPath
 from places import AS_NOBODY, CC, FLAGS, HERE, OUT, TOP, Host, compile_c, must, preloaded
 from qemu_guests import read
 
@@ -182,6 +183,7 @@ def case_late() -> None:
 def case_paced() -> None:
     """The library's thread works for nearly all of its processor time where naps themselves take time, by clocks that a program sets."""
     program = HERE.place.room / "paced"
-    words = [CC, *FLAGS, f"-I{PRELOAD}", f"-I{TOP / 'host'}", f"-I{TOP / 'window'}", f"-I{TOP / 'lib/include'}", "-Wl,--wrap=clock_gettime", "-o", program, TOP / "checks/host/paced.c", PRELOAD / "budget.c"]
-    must(subprocess.run(words).returncode == 0, "paced.c doesn't compile")
+    folders = (PRELOAD, TOP / "host", TOP / "window", TOP / "lib/include")
+    words: list[StrPath] = [CC, *FLAGS, *(f"-I{it}" for it in folders), "-Wl,--wrap=clock_gettime", "-o", program]
+    must(subprocess.run([*words, TOP / "checks/host/paced.c", PRELOAD / "budget.c"]).returncode == 0, "paced.c doesn't compile")
     must(subprocess.run([program]).returncode == 0, "the thread works for too little of its time, or too long")
