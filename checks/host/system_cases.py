@@ -167,7 +167,8 @@ def case_refused() -> None:
 
 def run_kvm(host: Host, device: int, seed: int, seconds: str, more: Mapping[str, str], standin: pathlib.Path | None) -> subprocess.Popen[str]:
     program = HERE.place.room / "kvm"
-    words = preloaded(host, {"PAGESHARE_COUNTS": str(HERE.place.room / f"counts{seed}"), "PAGESHARE_DONTFORK": "1", **more})
+    counts = HERE.place.room / f"counts-{'standin' if standin else 'kvm'}-{seed}"  # (those of another run would be old)
+    words = preloaded(host, {"PAGESHARE_COUNTS": str(counts), "PAGESHARE_DONTFORK": "1", **more})
     if standin:
         words["LD_PRELOAD"] += f":{standin}"
     command = [*AS_NOBODY, str(program), str(device), str(seed), seconds]
