@@ -1,0 +1,4 @@
+mod Believed
+mod Freed
+mod Lists
+mod Loaned
