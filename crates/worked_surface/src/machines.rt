@@ -15,7 +15,10 @@ use std::thread::Threads;
 
 /// A machine of one guest with one page.
 pub fn one_guest(alloc: Global) -> Result<Config, AllocError>
-    ensures { IfOk result (λ config. length config.pages.items ≡ 1) }
+    ensures guests { IfOk result (λ config. length config.pages.items ≡ 1) }
+    ensures frames { IfOk result (λ config. config.frames ≡ 1) }
+    ensures pages { IfOk result (λ config. config.pages.items ≡ 1 ∷ []) }
+    ensures salts { IfOk result (λ config. config.salts.items ≡ 0 ∷ []) }
 {
     Ok(Config {
         frames: 1,
@@ -76,12 +79,21 @@ fn serve<R: Threads + Wait + Sync + Abort>(
     Some(closed)
 }
 
+/// Returns the first byte of page 0 of guest 0.
+fn first_byte(rt: &impl Abort, merger: &Merger<Sha256Hash>) -> u8 {
+    let core = merger.core();
+    assert!(rt; core.guests() > 0);
+    assert!(rt; core.pages(0) > 0);
+    merger.read(0, 0, 0)
+}
+
 /// Checks what a settled machine shows.
 fn look(rt: &impl Abort, settled: &Settled<Sha256Hash>) {
     let core = settled.core();
-    assert!(rt; core.guests() > 0);
+    assert!(rt; core.guests() == 1);
     assert!(rt; core.pages(0) > 0);
     assert!(rt; settled.read(0, 0, 0) == 0x41);
+    assert!(rt; settled.port(0).drained());
     assert!(rt; settled.journal().len() == 2);
     assert!(rt; settled.report().mapped() == 1);
 }
@@ -91,6 +103,7 @@ fn a_machine(rt: HostRuntime) -> Result<(), Fail> {
     let (mut merger, ports) = new_machine(rt.alloc())?;
     let port = only(ports).ok_or("not one port")?;
     let port = serve(&rt, rt.alloc(), &mut merger, port).ok_or("busy")?;
+    assert!(rt; first_byte(&rt, &merger) == 0x41);
     assert!(rt; merger.journal().len() == 2);
     assert!(rt; merger.report().entries() == 2);
     match settle(merger, list_of(rt.alloc(), port)?) {

@@ -1,7 +1,9 @@
 //! `watched_machine`: a machine whose reports are published.
-ghost use Rattle.std.specs.Prelude.{◌≡◌, ◌<◌, IfOk, IfSome};
+ghost use Rattle.std.specs.Prelude.{◌≡◌, ◌<◌, ◌∷◌, [], IfOk, IfSome};
+ghost use Rattle.page_model.specs.Limits.{shapes};
+ghost use Rattle.page_model.specs.Replay.{empty_state};
 ghost use Rattle.share_rings.specs.Ends.{closed_name, port_name};
-ghost use Rattle.merge_run.specs.View.{closed_names, end_names, ends_of, guest_count, port_names};
+ghost use Rattle.merge_run.specs.View.{closed_names, end_names, ends_of, guest_count, memory_of, port_names};
 ghost use Rattle.merge_reports.specs.Lists.{publisher_id, told_id, watch_id};
 ghost use Rattle.watched_machine.specs.View.{merger_in, publisher_in};
 
@@ -19,9 +21,17 @@ use watched_machine::{
 fn new_machine<R: Wait>(rt: &R, alloc: Global) -> Result<(Merger<Sha256Hash>, Vec<Port>), Fault>
     ensures pairs { IfOk result (λ (merger, ports). port_names ports.items ≡ end_names (ends_of (merger_in merger))) }
     ensures guests { IfOk result (λ (merger, _). guest_count (merger_in merger) ≡ 1) }
+    ensures memory { IfOk result (λ (merger, _). memory_of (merger_in merger) ≡ empty_state 1 (shapes (0 ∷ []) (1 ∷ []))) }
 {
     let config = one_guest(alloc)?;
     Machine::new(rt, alloc, &config, Sha256Hash)
+}
+
+/// Returns the first byte of the page of a new machine.
+fn first_byte(merger: &Merger<Sha256Hash>) -> u8
+    requires { memory_of (merger_in merger.now) ≡ empty_state 1 (shapes (0 ∷ []) (1 ∷ [])) }
+{
+    merger.read(0, 0, 0)
 }
 
 /// Publishes, and lets the watch learn it. Returns what it reads before and after.
@@ -66,6 +76,15 @@ fn serve<R: Threads + Wait + Sync + Abort>(
     closed
 }
 
+/// Checks what a settled machine shows of its guest.
+fn look(rt: &impl Abort, settled: &Settled<Sha256Hash>) {
+    let core = settled.core();
+    assert!(rt; core.guests() == 1);
+    assert!(rt; core.pages(0) > 0);
+    assert!(rt; settled.read(0, 0, 0) == 0x41);
+    assert!(rt; settled.port(0).drained());
+}
+
 /// Ends a settled machine, which still tells what was published.
 fn end_settled<R: Wait + Abort>(rt: &R, settled: Settled<Sha256Hash>) {
     let mut settled = settled;
@@ -74,6 +93,7 @@ fn end_settled<R: Wait + Abort>(rt: &R, settled: Settled<Sha256Hash>) {
     assert!(rt; watch.read() == Some(settled.report()));
     assert!(rt; settled.journal().len() == 2);
     assert!(rt; settled.core().entries() == 2);
+    look(rt, &settled);
     settled.end(rt);
     assert!(rt; watch.read().is_none());
 }
@@ -97,6 +117,7 @@ fn a_watched_machine(rt: HostRuntime) -> Result<(), Fail> {
     let Ok((mut merger, ports)) = new_machine(&rt, rt.alloc()) else {
         panic!(rt; "no machine");
     };
+    assert!(rt; first_byte(&merger) == 0);
     let port = only(ports).expect(&rt, "one port");
     let mut watch = merger.watch().expect(&rt, "a watch");
     let closed = serve(&rt, rt.alloc(), &mut merger, port);
