@@ -185,7 +185,8 @@ def make_standin() -> pathlib.Path:
 def case_kvm() -> None:
     """Memory that a monitor gives to a guest of KVM is lent where PAGESHARE_OFFER says so, and leaves with its slot."""
     compile_c("kvm")
-    made, seconds = make_standin(), "5" if HERE.is_short else os.environ.get("SECONDS", "20")
+    # (a range is a window a second after it was offered, and a page is lent after three looks at the same bytes)
+    made, seconds = make_standin(), "15" if HERE.is_short else os.environ.get("SECONDS", "20")
     for is_real in (True, False):
         try:
             device = os.open("/dev/kvm" if is_real else "/dev/null", os.O_RDWR)
@@ -199,7 +200,8 @@ def case_kvm() -> None:
         said = [it.communicate(timeout=200)[0].splitlines() for it in ran]
         print(f"  {'KVM' if is_real else 'a stand-in'}: {[it[-2:] for it in said]}")
         must(all(it.returncode == 0 for it in ran), f"{said}")
-        must("at most 0 pages" in said[2][-2] and "at most 0 pages" not in said[0][-2], f"{said}")
+        none = ["at most 0 pages" in it[-2] for it in said]
+        must(none[2] and not all(none[:2]), f"{said}")
         os.close(device)
         all_released(host)
         host.stop()
