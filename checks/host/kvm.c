@@ -102,7 +102,8 @@ static struct {
 } ranges[RANGES];
 
 static void write_pages(size_t i) {
-    size_t first = draw(RANGE_PAGES), count = 1 + draw(RANGE_PAGES - first);
+    /* (mostly in the first quarter, so that other pages are idle) */
+    size_t first = draw(draw(8) == 0 ? RANGE_PAGES : RANGE_PAGES / 4), count = 1 + draw(RANGE_PAGES - first);
     if (count > 16) count = 16;
     for (size_t page = first; page < first + count; page++) {
         int byte = (int)draw(4); /* (few, so that many are equal; 0 makes zeros) */
@@ -129,20 +130,24 @@ static void give_or_take(size_t i) {
     if (give((unsigned)i, (uint64_t)i << 28, ranges[i].at, is_given ? RANGE_PAGES * PAGE : 0, 0)) ranges[i].is_given = is_given;
 }
 
-static void do_at_random(unsigned seconds) {
+static void do_at_random(unsigned seconds, bool is_on) {
     time_t end = time(NULL) + (time_t)seconds;
     size_t steps = 0;
     long most = 0;
+    check(!is_on || is_lent(0), "nothing is lent of what was given back");
     for (size_t i = 0; i < RANGES; i++) ranges[i].at = memory(RANGE_PAGES), ranges[i].copy = calloc(RANGE_PAGES, PAGE);
+    for (size_t i = 0; i < RANGES; i++) give_or_take(i);
     for (; time(NULL) < end && !wrong; steps++) {
         size_t i = draw(RANGES);
-        switch (draw(40)) {
+        switch (draw(400)) {
         case 0: map_anew(i); break;
-        case 1: give_up(i); break;
-        case 2:
-        case 3: give_or_take(i); break;
-        case 4: usleep((useconds_t)draw(300000)); break;
-        default: write_pages(i);
+        case 1:
+        case 2: give_up(i); break;
+        case 3:
+        case 4: give_or_take(i); break;
+        default:
+            if (draw(40) == 0) usleep((useconds_t)draw(300000));
+            else write_pages(i);
         }
         check(memcmp(ranges[i].at, ranges[i].copy, RANGE_PAGES * PAGE) == 0, "each byte is as it was written");
         if (library_count("lent") > most) most = library_count("lent");
@@ -156,8 +161,9 @@ int main(int count, char **words) {
     seed = strtoull(words[2], NULL, 10);
     machine = ioctl(atoi(words[1]), KVM_CREATE_VM, 0);
     if (machine < 0) return perror("KVM_CREATE_VM"), 2;
-    do_steps(offer && strcmp(offer, "kvm") == 0);
-    do_at_random((unsigned)atoi(words[3]));
+    bool is_on = offer && strcmp(offer, "kvm") == 0;
+    do_steps(is_on);
+    do_at_random((unsigned)atoi(words[3]), is_on);
     puts(wrong ? "kvm: WRONG" : "kvm: good");
     return wrong != 0;
 }
