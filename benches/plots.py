@@ -15,7 +15,7 @@ import os
 import re
 from collections.abc import Sequence
 
-from charts import DASHED, HEIGHT, Chart, Point
+from charts import BLUE, DASHED, RED, SOLID, Chart, Point
 
 DOCS = os.path.join(os.path.dirname(os.path.dirname(os.path.abspath(__file__))), "docs")
 MIXES = {
@@ -23,7 +23,7 @@ MIXES = {
     "stores and loads": ("plain-rates.svg", "Requests served by whole runs, stores and loads"),
 }
 # Each side has a line of its own kind.
-SIDES = [("proved", "#1f5fa8", ""), ("plain Rust", "#c0392b", DASHED)]
+SIDES = [("proved", BLUE, SOLID), ("plain Rust", RED, DASHED)]
 
 
 def steps(low: float, high: float) -> list[float]:
@@ -56,16 +56,17 @@ def plot(path: str, title: str, across: str, up: str, lines: Sequence[Sequence[P
         chart.row(place((columns[0], tick))[1], f"{tick:,.10g}", 6)
     chart.axes()
     for column in columns:
-        chart.text(place((column, ticks[0]))[0], chart.bottom + 16, f"{column:,.0f}", ' text-anchor="middle"')
-    chart.text((chart.left + chart.right) / 2, HEIGHT - 10, across, ' text-anchor="middle"')
+        chart.column(place((column, ticks[0]))[0], chart.bottom + 16, f"{column:,.0f}")
+    chart.column((chart.left + chart.right) / 2, chart.height - 10, across)
     for (name, colour, dashes), line, row in zip(SIDES, lines, (0, 1)):
         where = [place(point) for point in line]
         if where:
             left = chart.right - 220 + 110 * row
-            chart.shapes.append(f'<path d="M{left} {chart.top - 18}h24" stroke="{colour}" stroke-width="2"{dashes}/>')
+            chart.put("path", d=f"M{left} {chart.top - 18}h24", stroke=colour, stroke_width=2, **dashes)
             chart.text(left + 30, chart.top - 14, name)
-            chart.curve(where, colour, dashes)
-            chart.shapes.extend(f'<circle cx="{x:.1f}" cy="{y:.1f}" r="3.5" fill="{colour}"/>' for x, y in where)
+            chart.curve(where, colour, **dashes)
+            for x, y in where:
+                chart.put("circle", cx=x, cy=y, r=3.5, fill=colour)
     chart.save(path)
 
 

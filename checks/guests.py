@@ -272,8 +272,9 @@ def with_guests(tally: Tally, library: StrPath, seconds: str) -> None:
     passes(tally, [build("tiny", library)])
     wrong_program(tally, fleet, guest)
     figures = OUT / "fleet.json"
-    if passes(tally, [fleet, "--seconds", seconds, "--json", figures, "--svg", OUT / "fleet.svg", guest]):
+    if passes(tally, [fleet, "--seconds", seconds, "--json", figures, guest]):
         goals(json.loads(figures.read_text()))
+        passes(tally, [TOP / "benches/held.py", figures])
     stress = ["--processors", "2", "--round", "20", "--rest", "2", "--mib", "64", "--renew", "3"]
     passes(tally, [fleet, "--seconds", seconds, *stress, guest])
     trace(tally, library, guest)

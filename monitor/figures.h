@@ -1,4 +1,4 @@
-/* What a fleet's run came to: a sample each second, a table, JSON, a line on a terminal, and a picture. */
+/* What a fleet's run came to: a sample each second, a table, JSON, and a line on a terminal. */
 #ifndef MONITOR_FIGURES_H
 #define MONITOR_FIGURES_H
 
@@ -40,8 +40,7 @@ struct sample *figures_next(struct figures *figures);
 /* Draws a line anew on a terminal: what the last sample shows. */
 void figures_watch(const struct figures *figures, FILE *to);
 void figures_print(struct figures *figures, FILE *to);
-/* Answer false, with errno, where the file can't be written. */
+/* Returns false, with errno, where the file can't be written. benches/held.py draws a picture of the file. */
 bool figures_json(struct figures *figures, const char *path);
-bool figures_svg(const struct figures *figures, const char *path);
 
 #endif

@@ -15,7 +15,7 @@
  *     --journal FILE --requests N              what was asked of the domain, and to FILE.replay the lines that `pageshare replay`
  *                                              must print; when so many are written, and after 10 s at least, the run ends
  *     --words TEXT                             more of Linux's command line
- *     --json FILE, --svg FILE, --watch         figures, a picture, a line a second on a terminal
+ *     --json FILE, --watch                     figures, of which benches/held.py draws a picture; a line a second on a terminal
  *
  * Prints a table at the end. The status is 0 where every processor ran to the end and saw no wrong word, 1 where not, 2 for a bad
  * command line.
@@ -59,7 +59,7 @@ struct fleet {
     unsigned guests, mib, seconds, processors, rest, round_ms, frames, slots, renew;
     uint32_t requests;
     bool watch;
-    const char *journal_path, *json, *svg, *program, *kernel, *initrd, *words, *trace;
+    const char *journal_path, *json, *program, *kernel, *initrd, *words, *trace;
     struct journal *journal;
     struct lender *lender;
     struct windows *windows;
@@ -308,7 +308,6 @@ static bool write_figures(struct fleet *fleet) {
     figures->name = WAYS[fleet->way];
     figures_print(figures, stdout);
     if (fleet->json != NULL && !figures_json(figures, fleet->json)) right = trouble(fleet->json);
-    if (fleet->svg != NULL && !figures_svg(figures, fleet->svg)) right = trouble(fleet->svg);
     if (fflush(stdout) != 0) right = trouble("standard output");
     return right;
 }
@@ -404,7 +403,6 @@ static bool set_option(struct fleet *fleet, int option) {
     case 'w': right = word(optarg, WAYS, 3, &found), fleet->way = (enum way)found; return right;
     case 'j': fleet->journal_path = optarg; return true;
     case 'J': fleet->json = optarg; return true;
-    case 'S': fleet->svg = optarg; return true;
     case 'k': fleet->kernel = optarg; return true;
     case 'n': fleet->initrd = optarg; return true;
     case 'x': fleet->words = optarg; return true;
@@ -418,9 +416,9 @@ static bool read_options(struct fleet *fleet, int count, char **words) {
     static const struct option options[] = {
         {"guests", 1, NULL, 'g'}, {"mib", 1, NULL, 'm'},     {"seconds", 1, NULL, 's'},  {"processors", 1, NULL, 'p'},
         {"rest", 1, NULL, 'r'},   {"round", 1, NULL, 'o'},   {"requests", 1, NULL, 'q'}, {"way", 1, NULL, 'w'},
-        {"renew", 1, NULL, 'e'},  {"journal", 1, NULL, 'j'}, {"json", 1, NULL, 'J'},     {"svg", 1, NULL, 'S'},
-        {"watch", 0, NULL, 'W'},  {"trace", 1, NULL, 't'},   {"slots", 1, NULL, 'l'},    {"frames", 1, NULL, 'f'},
-        {"kernel", 1, NULL, 'k'}, {"initrd", 1, NULL, 'n'},  {"words", 1, NULL, 'x'},    {NULL, 0, NULL, 0}};
+        {"renew", 1, NULL, 'e'},  {"journal", 1, NULL, 'j'}, {"json", 1, NULL, 'J'},     {"watch", 0, NULL, 'W'},
+        {"trace", 1, NULL, 't'},  {"slots", 1, NULL, 'l'},   {"frames", 1, NULL, 'f'},   {"kernel", 1, NULL, 'k'},
+        {"initrd", 1, NULL, 'n'}, {"words", 1, NULL, 'x'},   {NULL, 0, NULL, 0}};
     int option;
     while ((option = getopt_long(count, words, "", options, NULL)) != -1)
         if (!set_option(fleet, option)) return false;

@@ -4,12 +4,12 @@ from __future__ import annotations
 import pathlib
 from collections.abc import Sequence
 
-from charts import DASHED, HEIGHT, Chart
+from charts import BLUE, DASHED, RED, SOLID, Chart
 
 # Of some guests: their work, how many they are, and which parts are shared, reclaimed and zeros, in percent.
 Row = tuple[str, int, float, float, float]
-LINES = [("idle", 0, "shared, idle", "#1f5fa8", ""), ("idle", 1, "reclaimed, idle", "#1f5fa8", DASHED),
-         ("busy", 0, "shared, at work", "#c0392b", ""), ("busy", 1, "reclaimed, at work", "#c0392b", DASHED)]
+LINES = [("idle", 0, "shared, idle", BLUE, SOLID), ("idle", 1, "reclaimed, idle", BLUE, DASHED),
+         ("busy", 0, "shared, at work", RED, SOLID), ("busy", 1, "reclaimed, at work", RED, DASHED)]
 
 
 def draw(rows: Sequence[Row], path: pathlib.Path) -> None:
@@ -23,16 +23,16 @@ def draw(rows: Sequence[Row], path: pathlib.Path) -> None:
     for percent in range(0, 101, 20):
         chart.row(place(1, percent)[1], f"{percent} %", 8)
     for count in range(1, most + 1):
-        chart.text(place(count, 0)[0], chart.bottom + 18, str(count), ' text-anchor="middle"')
-    chart.text((chart.left + chart.right) / 2, HEIGHT - 12, "guests of 128 MiB", ' text-anchor="middle"')
+        chart.column(place(count, 0)[0], chart.bottom + 18, str(count))
+    chart.column((chart.left + chart.right) / 2, chart.height - 12, "guests of 128 MiB")
     ends = []
     for work, column, label, colour, dashes in LINES:
         points = [place(row[1], row[2:][column]) for row in rows if row[0] == work]
         if points:
-            chart.curve(points, colour, dashes)
+            chart.curve(points, colour, **dashes)
             ends.append((points[-1][1] + 4, points[-1][0] + 8, label, colour))
     lowest = 0.0
     for y, x, label, colour in sorted(ends):
         lowest = max(y, lowest + 14)
-        chart.text(x, lowest, label, f' fill="{colour}"')
+        chart.text(x, lowest, label, fill=colour)
     chart.save(path)
