@@ -1,7 +1,7 @@
 .PHONY: test edits check build demo install uninstall dist package traces commands estimate fleet no-thread embed windows guests host fuzz tenants soak hints bench bench-v3
 
 # The gate is these three commands. They say how far they are and what failed, and leave the times of their steps at out/gate.tsv. On
-# a machine that has run none of it all is done from nothing.
+# a computer that has run none of it all is done from nothing.
 
 # Every proof, every test, each program, and the runs of the proved program.
 test:
@@ -21,7 +21,7 @@ SUFFIX = $(patsubst -v2,,$(patsubst x86-64-%,-%,$(CPU)))
 # (Rust links a library by its name alone, so that the one for x86-64-v3 has a folder of its own)
 FOLDER = $(patsubst -%,%/,$(SUFFIX))
 
-# The proved program, left at out/pageshare, or for x86-64-v3 at out/pageshare-v3. What a gate on this machine has proved of the
+# The proved program, left at out/pageshare, or for x86-64-v3 at out/pageshare-v3. What a gate on this computer has proved of the
 # same files is taken from it, and what is proved here is kept for it.
 build: out/pageshare$(SUFFIX)
 
@@ -81,7 +81,7 @@ estimate: out/pageshare
 	checks/estimate.py $(or $(COUNT),1000) $(SEED)
 
 # Outside the gate: the numbers of fleets by `fleet`, by Dask's distributed engine and by SQL, beside a plain count in Python, and the
-# memory of a live process by `digest` (SEED may be given). What this machine has no packages for is skipped, and reported.
+# memory of a live process by `digest` (SEED may be given). What this computer has no packages for is skipped, and reported.
 fleet: out/pageshare
 	checks/fleet.py $(SEED)
 	checks/live.py
@@ -122,17 +122,17 @@ bench: out/pageshare out/page_bench
 bench-v3: out/pageshare-v3 out/page_bench-v3 bench
 
 # Outside the gate: the library for C and Rust, left at out/libpageshare.a, or for x86-64-v3 at out/v3/libpageshare.a, with its
-# examples and tests. What this machine has no program for is skipped, and reported.
+# examples and tests. What this computer has no program for is skipped, and reported.
 embed: out/$(FOLDER)libpageshare.a
 	checks/embed.sh $<
 
 # Outside the gate: windows, through which guests' idle pages are lent (docs/MONITOR.md), by programs of threads, each stress for SECONDS
-# (10) at most. What this machine has no userfaultfd, sanitizer or right for is skipped, and reported.
+# (10) at most. What this computer has no userfaultfd, sanitizer or right for is skipped, and reported.
 windows: out/libpageshare.a out/window_trace
 	checks/windows.py out/libpageshare.a $(or $(SECONDS),10)
 
 # Outside the gate: guests under KVM whose memory the library shares (docs/MONITOR.md), for SECONDS (30) each, with KSM=1 under the
-# kernel's KSM as well, and with KERNEL=bzImage Linux as well. What this machine has no KVM or userfaultfd for is skipped, and reported.
+# kernel's KSM as well, and with KERNEL=bzImage Linux as well. What this computer has no KVM or userfaultfd for is skipped, and reported.
 guests: out/libpageshare.a out/pageshare out/window_trace
 	checks/guests.py out/libpageshare.a $(or $(SECONDS),30)
 

@@ -10,7 +10,7 @@ Cargo package benches/, which is copied to out/bench and built there. --crates n
 crates, as Debian's packages librust-hex-dev, librust-rayon-dev, librust-sha2-dev and librust-slab-dev leave it at
 /usr/share/cargo/registry; without it cargo looks for them as it is set up to. The opponents hash in software, as the proved
 programs must, unless --instructions is given: the kit has no way to a processor's SHA instructions. Where cargo or a crate isn't at
-hand the table says so, and shows our side alone. Standard library only; nothing else may run on the machine meanwhile.
+hand the table says so, and shows our side alone. Standard library only; nothing else may run on the computer meanwhile.
 
 Each measure is made in turns, ours and theirs, --turns times; the table has the least and the middle of each, and the
 ratio of the least ones. The last lines name each ratio above its goal, and the status is then 1. --table writes the

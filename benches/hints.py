@@ -8,7 +8,7 @@ another has --times as many (4). Both are replayed --turns times (9), in turns, 
 program that takes the word `replay`. The machine has a frame for each page, so the table is as full as it gets. Each report
 must count all the hints, and the least time of the longer journal may be 1.2 times --times that of the shorter: a table that
 is searched from its front takes about --times squared. Prints both times (status 0, or 1 where it takes longer). Nothing else
-may run on the machine meanwhile.
+may run on the computer meanwhile.
 """
 from __future__ import annotations
 

@@ -1,7 +1,7 @@
 #!/usr/bin/env python3
 """Times how many pages are lent a second, of which every other one equals the one before: by the C library (benches/embed.c), by
 plain Rust with a map from a 64-bit hash to frames (benches/lend.rs), and how many the kernel's KSM merges a second, of the same
-pages, where this machine has it and may write to its settings. These are put back, whatever happens.
+pages, where this computer has it and may write to its settings. These are put back, whatever happens.
 
     benches/lends.py [LIBRARY]
 

@@ -6,7 +6,7 @@
 The parts, by default all: `made`, what make builds of C (the libraries, the host, what monitors preload); `sources`, each C file of the
 tree by itself, as gcc and clang see it, plain and with the address and undefined-behaviour sanitizers, and with a record of events
 where there is one; `headers`, each public header by itself as C and C++; `benches`, the benchmarks in C and Rust. Warnings are errors.
-A C file that is in no folder of FLAGS has failed, so that none is left out. The objects go to out/builds. What this machine has no
+A C file that is in no folder of FLAGS has failed, so that none is left out. The objects go to out/builds. What this computer has no
 compiler for is left out, and so said. The last line is `N passed, M failed`, of files (status 0 where none failed, else 1).
 """
 from __future__ import annotations

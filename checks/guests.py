@@ -7,7 +7,7 @@ LIBRARY is libpageshare.a, by default out/libpageshare.a (`make embed`); a fleet
 with 0 everything is only built. All that is built goes to out/monitor. In turn: two guests of a few instructions; a program that is no guest's, refused; a fleet of three
 guests, and a table of its figures beside their goals; a fleet under stress, two processors a guest, of which guests end and others
 begin; a record of a fleet's events, played by `out/window_trace`; a journal of 100,000 requests, replayed by `out/pageshare replay` to
-the same verdicts and report; a stand-in for a kernel, booted as Linux is. What the machine has no KVM, no userfaultfd or no compiler for
+the same verdicts and report; a stand-in for a kernel, booted as Linux is. What the computer has no KVM, no userfaultfd or no compiler for
 is left out, and so said. `make windows` has the tests of windows that need no KVM.
 
 With KERNEL=BZIMAGE in the environment a fleet of Linux guests runs as well, whose first process is init.c.

@@ -9,8 +9,8 @@
 
 Each of these lines but the last two is a case. A case that fails is printed: its name, what was got, and what was due. `close` prints
 `N passed, M failed`, with `, K skipped` where parts were left out, and returns the status of the check, which is 0 where none failed and
-else 1. A part is a function that takes the tally; if it raises LeftOut, this machine can't do it, which is printed and counted as
-skipped. With NOTHING_LEFT_OUT=1 in the environment it counts as failed as well if Debian has a package for it that this machine lacks.
+else 1. A part is a function that takes the tally; if it raises LeftOut, this computer can't do it, which is printed and counted as
+skipped. With NOTHING_LEFT_OUT=1 in the environment it counts as failed as well if Debian has a package for it that this computer lacks.
 """
 from __future__ import annotations
 
@@ -54,7 +54,7 @@ MOST, BEFORE = 300, 60
 
 
 class LeftOut(Exception):
-    """What this machine can't do, and why; with the package of Debian that would mend it, if there is one."""
+    """What this computer can't do, and why; with the package of Debian that would mend it, if there is one."""
 
     def __init__(self, what: object, package: str | None = None) -> None:
         super().__init__(f"{what} (Debian's {package})" if package else what)
@@ -70,7 +70,7 @@ def needs(what: str, *programs: str) -> None:
 
 @functools.cache
 def has_package(package: str) -> bool:
-    """Whether this machine's apt-get could install a package of Debian."""
+    """Whether this computer's apt-get could install a package of Debian."""
     if shutil.which("apt-cache") is None:
         return False
     said = subprocess.run(["apt-cache", "policy", package], stdin=subprocess.DEVNULL, capture_output=True, text=True, check=False).stdout

@@ -136,7 +136,7 @@ def tallied(is_whole: bool, package: str | None) -> tuple[int, int, int]:
 
 
 def left_out(plain: Plain) -> None:
-    """What a machine can't do is said, and counts as skipped; what it can do is done."""
+    """What a computer can't do is said, and counts as skipped; what it can do is done."""
     def part(of: Tally, program: str) -> None:
         needs("a part", "sh", program)
         of.case("it is done", [])

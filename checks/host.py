@@ -8,11 +8,11 @@ Without words all cases but `soak` run; --list names them. --gate runs those tha
 that need no guest, shortened, and one with two guests. Each case has a time, after which it has failed. Needs root, out/host/pageshare-host and
 out/host/libpageshare-window.so (`make host`). Guests are QEMU with Debian's kernel and busybox, run as the user nobody beside a host
 of another user; each checks all that it reads. With INSTALL=1 in the environment missing packages are installed by apt-get, but for
-the kernel, which is only unpacked. What the machine lacks is left out, and so said.
+the kernel, which is only unpacked. What the computer lacks is left out, and so said.
 
 GUESTS=N takes another number of guests than 3, SECONDS=N another length of `fuzz`, `soak`, `breaker`, `storm`, `refusals` and `size`. SEEDS=N
 takes another number of seeds than 8 for `breaker` and 16 for `refusals`; with SANITIZE=1 `breaker` runs under a library with sanitizers.
-Everything runs on this machine, over sockets in a folder of its own, which is removed afterwards. The last line is `N passed, M failed`, of
+Everything runs on this computer, over sockets in a folder of its own, which is removed afterwards. The last line is `N passed, M failed`, of
 cases (status 0 where none failed, else 1). benches/host.py has the cases that measure.
 """
 from __future__ import annotations

@@ -19,7 +19,7 @@ With --installed, `make install` puts everything below a prefix in a new folder,
 leave nothing. With --host the host alone, from what `make host` left in out/host, is installed below a prefix and tried. Both make the
 Debian packages for lintian, and neither needs the network.
 
-What this machine has no program for is left out, and named. Prints each case that went wrong, and last `N passed, M failed` (status 0
+What this computer has no program for is left out, and named. Prints each case that went wrong, and last `N passed, M failed` (status 0
 where all passed, else 1).
 """
 from __future__ import annotations
@@ -119,7 +119,7 @@ def run(*words: StrPath, env: Mapping[str, str] = PLAIN, folder: StrPath | None 
 
 
 def has(name: str) -> bool:
-    """Whether this machine has a program."""
+    """Whether this computer has a program."""
     return shutil.which(name) is not None
 
 

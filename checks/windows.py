@@ -7,7 +7,7 @@ LIBRARY is libpageshare.a, by default out/libpageshare.a (`make embed`); a stres
 built goes to out/window. In turn: what becomes of pages (pages.c), of those that leave their window (leaves.c), and of huge pages
 (parts.c); what the system refuses (guards.c); a frames' file without memory
 (full.c); how long a write waits (stalls.c); and a stress (stress.c), by each way of holding and finding pages, under the address and
-the thread sanitizer, and with a record of its events that `out/window_trace` must play. What this machine can't do is left out, and so
+the thread sanitizer, and with a record of its events that `out/window_trace` must play. What this computer can't do is left out, and so
 said. CC names another compiler than cc, and CFLAGS more words for it.
 
 With WRONG=1 in the environment the stress runs with wrong bodies in place of right ones, too, and each must be found.

@@ -4,7 +4,7 @@
     tools/build.py CRATE FILE [--cpu LEVEL]
     tools/build.py --products
 
-First the crates below are proved, many side by side, but for what was proved of the same files: by an earlier run on this machine
+First the crates below are proved, many side by side, but for what was proved of the same files: by an earlier run on this computer
 where the kit keeps that, and else in this tree, for example by `make test`. A program for x86-64-v2 is then put to FILE as it was
 built when it was proved. A program for another processor LEVEL, such as x86-64-v3, and each static library are proved as they are
 built, over the same libraries: the kit keeps what it checked of neither. A note, FILE.of, says of which files FILE was built, and

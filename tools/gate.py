@@ -14,10 +14,10 @@ shows how far it is; elsewhere it prints a line for each crate. What failed is p
 repeats it alone. The last line is 'N passed, M failed'. All that the steps print is kept in out/gate-test.log, out/gate-edits.log or
 out/gate-check.log.
 
-`check` leaves out what the machine lacks. It names that before the last line, which is 'N passed, M failed, K skipped'. With
+`check` leaves out what the computer lacks. It names that before the last line, which is 'N passed, M failed, K skipped'. With
 NOTHING_LEFT_OUT=1 in the environment, what was left out for want of a package that Debian has counts as failed.
 
-On a machine that has run none of it all is done from nothing. What an earlier run there has proved or seen refused, of the same
+On a computer that has run none of it all is done from nothing. What an earlier run there has proved or seen refused, of the same
 files, is taken from it if the kit keeps that, but with --anew.
 
 out/gate.tsv has a line for each step of these commands: the command, the kind, the crate or the step, when it started, its wall

@@ -4,7 +4,7 @@
     tools/prove.py [--test] CRATE ..
 
 --test may stand anywhere among the crates, and is meant for all of them.
-What is proved of the same files is taken as it is: from an earlier run on this machine where the kit keeps that, and else from this
+What is proved of the same files is taken as it is: from an earlier run on this computer where the kit keeps that, and else from this
 tree, where `make test` or this script left it. Status 0 where all is proved and passed, else 1.
 """
 from __future__ import annotations
