@@ -1,6 +1,6 @@
 /*
- * Times calls of the C library: of two guests with 512 pages each, all mapped; of whole pages, of two guests with 512 pages each of
- * which none is mapped; and lends of 16,384 pages, of which every other one equals the one before. Prints the nanoseconds of one
+ * Times calls of the C library, of two guests with 512 pages each, all mapped; calls of whole pages, of two such guests of whose pages
+ * none is mapped; and lends of 16,384 pages, of which every other one equals the one before. Prints the nanoseconds of one
  * call, and of these lends the pages lent a second, in the best of several runs, since other programs only ever add to it.
  *
  *     cc -O2 -Ilib/include benches/embed.c out/libpageshare.a -o out/embed/bench && out/embed/bench

@@ -57,8 +57,8 @@ static long held(const struct memory *memory) {
 }
 
 /*
- * The content of a page. Page n is client n % 3's. Of nine pages in a row three are equal, one of each client; three are like no
- * other; and three are equal to a page of the same client nine pages on.
+ * The content of a page. Page n is client n % 3's. Of nine pages in a row three are equal, one of each client. Three are like no
+ * other, and three are equal to a page of the same client nine pages on.
  */
 static void fill(uint8_t *page, uint32_t n) {
     uint32_t number = n / 9;

@@ -1,6 +1,6 @@
 /*
- * Two guests' pages, a third of them equal, are lent to a machine whose frames are in a memory file, read through a second mapping
- * of it, and half of them taken back; what is free is given back to the system. Prints what the file holds at each step.
+ * Two guests' pages, a third of them equal, are lent to a machine whose frames are in a memory file. They are read through a second
+ * mapping of it, and half of them taken back. What is free is given back to the system. Prints what the file holds at each step.
  *
  * `make embed` builds and runs it. By hand, on Linux: cc lend.c $(pkg-config --cflags --libs pageshare)
  */

@@ -1,6 +1,6 @@
 /*
- * What may write to a process's pages by their physical addresses, so that no guard in its page tables holds it up: files opened with
- * O_DIRECT, buffers registered with io_uring, and devices that are given to a guest (VFIO, vDPA).
+ * What may write to a process's pages by their physical addresses: files opened with O_DIRECT, buffers registered with io_uring, and
+ * devices that are given to a guest (VFIO, vDPA). No guard in the process's page tables holds that up.
  */
 #ifndef HOST_DEVICES_H
 #define HOST_DEVICES_H

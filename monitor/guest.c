@@ -2,11 +2,11 @@
  * A guest without an operating system: a program in user mode of 64-bit mode, on each of its processors (or, with init.c, the
  * first process of a Linux guest). It fills memory by a
  * generator, and then checks each word of it in each round while it changes some. Of its memory some pages are as in all guests,
- * at another place in each; some are its own; some are zeros; some it writes seldom, and some in each round; the rest it touches
+ * at another place in each; some are its own; some are zeros. It writes some seldom, and some in each round. The rest it touches
  * page by page as time goes on.
  *
- * A processor prints "ok", the cycles that a write to a seldom written page took and the thousands of cycles of the round; or
- * "WRONG", and which page of which region.
+ * A processor prints "ok", the cycles that a write to a seldom written page took and the thousands of cycles of the round. Or it
+ * prints "WRONG", and which page of which region.
  */
 #include "guest.h"
 

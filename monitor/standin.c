@@ -1,6 +1,6 @@
 /*
- * A stand-in for a kernel, for machines that Linux doesn't boot on: it checks what the boot protocol owes a kernel at its 64-bit
- * beginning, prints a line to the serial port, and then reports a round of checks again and again as guest.c does.
+ * A stand-in for a kernel, for computers that Linux doesn't boot on. It checks what the boot protocol owes a kernel at its 64-bit
+ * beginning, and prints a line to the serial port. Then it reports a round of checks again and again as guest.c does.
  */
 #include "guest.h"
 #include <asm/bootparam.h>

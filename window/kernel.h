@@ -31,7 +31,7 @@ int faults_wake(const struct faults *faults, void *at, size_t pages);
 int faults_protect(const struct faults *faults, void *at, size_t pages);
 
 /*
- * Moves pages out of their place, and notes of each whether it was moved: it isn't if it is missing, or the system has it in other
+ * Moves pages out of their place, and notes of each whether it was moved. It isn't if it is missing, or if the system has it in other
  * uses too, as that of a device that has pinned it. Nobody is woken.
  */
 void faults_move(const struct faults *faults, void *to, void *from, size_t pages, bool *moved);
@@ -111,7 +111,7 @@ int advice_say(void *at, size_t pages, int advice);
 bool locked_any(bool (*is_it)(void *opaque, const uint8_t *begin, const uint8_t *end), void *opaque);
 
 /*
- * Puts a copy of a mapping that nobody has written to in the place of pages, in one step also for a fork of another thread: what was said
+ * Puts a copy of a mapping that nobody has written to in the place of pages, in one step also for a fork of another thread. What was said
  * of the mapping, such as MADV_DONTFORK, holds of the copy from the beginning. The mapping stays.
  */
 int mapping_copy(void *at, const void *from, size_t pages);

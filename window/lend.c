@@ -30,8 +30,8 @@ static uint8_t *place_of(const struct hold *hold, size_t i) {
 static uint32_t number_of(const struct hold *hold, size_t i) { return hold->window->base + (uint32_t)(hold->first + i); }
 
 /*
- * Guards pages against writes. What a device may have pinned isn't held by that: where pages may be pinned, only those are that show a
- * frame still, now that nobody can make a copy any more. Devices are looked for only now, since who pins a page from now on waits.
+ * Guards pages against writes. What a device may have pinned isn't held by that. So where pages may be pinned, only those are held that
+ * show a frame still, now that nobody can make a copy any more. Devices are looked for only now, since who pins a page from now on waits.
  */
 static void guard(struct hold *hold) {
     struct windows *windows = hold->window->windows;
@@ -346,7 +346,7 @@ static bool has_mappings(struct window *window, size_t number, size_t *more) {
 
 /*
  * Whether others mustn't find a page by the question about it. Those of a whole part are found at their first question, so that guests with
- * the same pages meet, and seldom later: otherwise others would lend what may stay where it is here.
+ * the same pages meet, and seldom later. Otherwise others would lend what may stay where it is here.
  */
 static bool asks_in_passing(const struct window *window, size_t number) {
     enum { EACH = 1 << ASKS_APART_MOST, NOTED = 4 };

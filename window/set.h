@@ -27,7 +27,7 @@ static const uint32_t ZEROS = WINDOW_NO_FRAME - 1;
  * A page. It is lent if it shows a frame that is not of the past. A slot that it holds otherwise is to be released: the page was copied
  * or given up, or shows a frame of the past still.
  *
- * A page that has left its window is the caller's alone, unless a frame is mapped at its place still: then its own copy, which a device
+ * A page that has left its window is the caller's alone, unless a frame is mapped at its place still. Then its own copy, which a device
  * may have pinned, stays where it is. Nothing is lent of it any more, but a discard must not uncover the frame.
  */
 struct __attribute__((packed)) page {

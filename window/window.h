@@ -59,8 +59,8 @@ struct windows;
 struct window;
 
 /*
- * Whether a device, or the kernel for one, may write to pages by their physical addresses: io_uring's buffers, io_submit on files that
- * were opened with O_DIRECT, VFIO, vhost with pinned pages. Where it may, only pages are lent that UFFDIO_MOVE takes (Linux 6.8), which
+ * Whether a device, or the kernel for one, may write to pages by their physical addresses: by io_uring's buffers, io_submit on files
+ * opened with O_DIRECT, VFIO, vhost with pinned pages. Where it may, only pages are lent that UFFDIO_MOVE takes (Linux 6.8), which
  * refuses pinned pages, and pages that show a frame. A page that was lent once and copied can't be moved, and so stays private from
  * then on; and it is never copied to other memory. Transfers of windows_transfer_begin aren't counted as such.
  */
@@ -144,8 +144,8 @@ void windows_transfer_end(struct windows *windows, size_t transfer);
 void windows_end(struct windows *windows);
 
 /*
- * Between these two calls nothing is held, mapped or taken home, so that the caller may unmap pages of windows, or map something else in
- * their place: by one call of the system and window_forget for each part of a window, by the same thread. Returns 0, or an errno where
+ * Between these two calls nothing is held, mapped or taken home. So the caller may unmap pages of windows, or map something else in
+ * their place, by one call of the system and by the same thread. It calls window_forget for each part of a window. Returns 0, or an errno where
  * pages are stuck: then windows_resume isn't called.
  */
 int windows_pause(struct windows *windows);
@@ -215,7 +215,7 @@ void window_forget(struct window *window, size_t first, size_t count);
  *   find     copies, whose slots are released; pages of zeros, which the system gets back;
  *   settle   which parts are whole, and which are split;
  *   idle     pages with the same fingerprint at three looks;
- *   ask      which of them the lender has seen elsewhere, too. The others stay where they are;
+ *   ask      which of them the lender has seen elsewhere, too; the others stay where they are;
  *   lend     those, from copies of their bytes, with nothing guarded;
  *   hold     each, by UFFDIO_MOVE or by write protection; compare it with its frame; map the frame; and let who waited go on.
  * Returns the first thing that went wrong, having done what could be done all the same.

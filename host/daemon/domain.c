@@ -16,7 +16,7 @@
 
 /*
  * How a domain's numbers follow from its memory. Lent pages are those that another page is equal to, so a frame is shared by some
- * slots: SLOTS_OF_FRAME of them, on average, can be lent before slots run out, unless an option says how much may be lent. Questions
+ * slots. On average SLOTS_OF_FRAME of them can be lent before slots run out, unless an option says how much may be lent. Questions
  * concern pages that nobody else has: for every SLOTS_OF_QUESTION slots one is remembered.
  */
 enum {

@@ -1,6 +1,6 @@
 /*
- * What a domain reports of itself, for operators: on a socket of its own beside the domain's (SOCKET.status), which only the host's
- * user and root may open, since totals show a client what others have.
+ * What a domain reports of itself, for operators: on a socket of its own beside the domain's (SOCKET.status). Only the host's user
+ * and root may open it, since totals show a client what others have.
  *
  * Each connection gets one message: a struct status_totals and its clients, and then the connection ends. Host and reader are the
  * same program; a version keeps different builds apart.

@@ -70,7 +70,7 @@ static size_t give_block_back(struct head *head) {
 
 /*
  * Gives zeros of the blocks back that weren't looked at, with the lock. The library fills one table after the other, and asks for the
- * next block when the one before is filled: so the tables of zeros never take memory all at once. A block that isn't filled yet stays
+ * next block when the one before is filled. So the tables of zeros never take memory all at once. A block that isn't filled yet stays
  * right, too.
  */
 static void give_new_back(void) {

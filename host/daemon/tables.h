@@ -1,6 +1,6 @@
 /*
  * Memory of the library's tables. They are written once when a domain is made, most of them with zeros. A page of zeros needs no memory
- * until something else is written to it: so a domain takes memory for the pages that it lends, not for those that it may lend.
+ * until something else is written to it. So a domain takes memory for the pages that it lends, not for those that it may lend.
  *
  * tables.c defines the functions that the library gets its memory by.
  */

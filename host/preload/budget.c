@@ -2,8 +2,8 @@
 #include "budget.h"
 #include "trouble.h"
 
-/* What is saved up at most while the thread has nothing to do; what it may owe until it sleeps, and at most: what a single long step takes
- * above that is let off, so that the others don't come too late. And a credit at most: that of the first look at a guest of 256 GiB. */
+/* What is saved up at most while the thread has nothing to do; what it may owe until it sleeps, and at most. What a single long step
+ * takes above that is let off, so that the others don't come too late. And the greatest credit, of a first look at a guest of 256 GiB. */
 static const int64_t saved_most_ns = 2000000, owed_ns = 200000, owed_most_ns = 40000000, credit_most_ns = INT64_C(60000000000);
 
 void budget_set(struct budget *budget, unsigned percent, unsigned burst) {

@@ -34,8 +34,8 @@ enum {
     TURNS_MOST = 512,
     AGAIN_NS = 250, /* processor time that asking about a page again takes, about */
     REST_MOST = 7,  /* looks that leave out a part of a window where nothing changes */
-    /* processor time that may be used at the burst's rate: for each page of a new window or beside a new host, for one that is new in its
-     * window, and for one that was lent or given back */
+    /* processor time that may be used at the burst's rate. FIRST_NS: for each page of a new window, or beside a new host; FRESH_NS: for
+     * one that is new in its window; SHARED_NS: for one that was lent or given back */
     FIRST_NS = 2000,
     FRESH_NS = 6000,
     SHARED_NS = 15000,

@@ -1,6 +1,6 @@
 /*
- * Guest memory that the monitor doesn't offer by advice: with PAGESHARE_OFFER=kvm the memory that it gives to a guest by
- * KVM_SET_USER_MEMORY_REGION is offered as by MADV_MERGEABLE, and leaves when the guest has it no longer.
+ * Guest memory that the monitor doesn't offer by advice. With PAGESHARE_OFFER=kvm the memory that it gives to a guest by
+ * KVM_SET_USER_MEMORY_REGION is offered as by MADV_MERGEABLE. It leaves when the guest has it no longer.
  */
 #ifndef HOST_KVM_OFFER_H
 #define HOST_KVM_OFFER_H

@@ -4,9 +4,11 @@
  * read and write files (transfers.c), and nothing else.
  * sharing.c has what they do. Where a call has nothing to do with a window it goes to the system as it is.
  *
- * Interposed are calls that would show what lies under a window (madvise, munmap, mmap, mremap), that a window's mappings can't follow
- * (mprotect, mlock, a userfaultfd of the monitor's own), that let devices write to memory (open with O_DIRECT, VFIO), and that
- * close descriptors of which the monitor doesn't know.
+ * Interposed are calls
+ * - that would show what lies under a window: madvise, munmap, mmap, mremap;
+ * - that a window's mappings can't follow: mprotect, mlock, a userfaultfd of the monitor's own;
+ * - that let devices write to memory: open with O_DIRECT, VFIO;
+ * - that close descriptors of which the monitor doesn't know.
  */
 #include "kvm_offer.h"
 #include "sharing.h"

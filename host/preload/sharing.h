@@ -1,6 +1,6 @@
 /*
- * Sharing in a process of a virtual machine monitor: which of its ranges are windows, a thread that connects to the host and looks at
- * them, and what becomes of them when the monitor does something that a window can't bear.
+ * Sharing in a process of a virtual machine monitor: which of its ranges are windows, and what becomes of these when the monitor does
+ * something that a window can't bear. A thread connects to the host and looks at them.
  *
  * All calls are right on any thread at any time, and in a process that shares nothing. None ends the process.
  */

@@ -26,14 +26,14 @@
  *   call runs, but is not copied: one of two copies would free the other's machine. It is freed by pageshare_free.
  * - One call at a time works on a handle. It may go to another thread, or be used by several in turn, where a lock, a thread's
  *   start or end, or the like orders their calls. Different handles have nothing to do with each other.
- * - Each pointer is not null, also where its count is 0, is aligned for its type, and points to as many elements as are named
+ * - Each pointer is not null, also where its count is 0, and is aligned for its type. It points to as many elements as are named
  *   beside it, for as long as the call runs. What a call writes to (the handle, room, totals, mpn, at, answers) overlaps no
- *   other argument of it, and nobody else reads or writes it meanwhile; what it only reads, nobody writes meanwhile.
+ *   other argument of it. Nobody else reads or writes it meanwhile. What a call only reads, nobody writes meanwhile.
  * - A count of elements makes less than 2^63 bytes.
  * - malloc, realloc and free are one allocator's, may be called on any thread, and align a block to 16 bytes. No call is made
  *   from a signal handler, nor in the child of a fork of a process with threads.
  *
- * - A region (region of struct pageshare_config) is the library's until the machine is freed: nobody else writes to it, but that the
+ * - A region (region of struct pageshare_config) is the library's until the machine is freed: nobody else writes to it. But the
  *   memory of free frames may be given back to the system while no call runs. No page that is stored or lent lies in it.
  *
  * Making a machine takes all memory that it needs; no other call asks for any.
@@ -206,7 +206,7 @@ PAGESHARE_DEPRECATED uint32_t pageshare_make_in(struct pageshare *machine, uint3
  *
  * From then on, and until it is freed, the library alone writes to the region's frames. Frame n is the 4,096 bytes at 4096 n of the
  * region. The caller reads only those that pages have (it may map them for guests to read). The library never reads a free frame
- * before it has written it whole, so the caller may give a free frame's memory back to the system, as by MADV_REMOVE, while no call
+ * before it has written it whole. So the caller may give a free frame's memory back to the system, as by MADV_REMOVE, while no call
  * runs. After pageshare_free, and after a status above 0, the library doesn't touch the region again.
  */
 static inline uint32_t pageshare_make_of(struct pageshare *machine, const struct pageshare_config *config) {
@@ -259,10 +259,10 @@ uint32_t pageshare_free(struct pageshare *machine);
  * a page from 0. Each returns a status: PAGESHARE_OK, and then a verdict, or PAGESHARE_ERROR_NO_MACHINE, _NO_GUEST, _FULL, _LENGTH
  * or _CROSSES.
  *
- * A page changes its frame at five verdicts alone: MAPPED and COPIED (a frame that was free), JOINED and PAIRED (the frame of
- * the pages with which it is now shared), and RELEASED (none). Every other page keeps its frame. A monitor that maps pages to
- * frames maps the named page anew after each of these, and maps shared frames for reading alone: at PAIRED also the page that
- * was the hint, which keeps its frame and was private until then. Every store is a request, to private pages as well.
+ * A page changes its frame at five verdicts alone. At MAPPED and COPIED it gets a frame that was free, at JOINED and PAIRED that
+ * of the pages with which it is now shared, and at RELEASED none. Every other page keeps its frame. A monitor that maps pages to
+ * frames maps the named page anew after each of these, and maps shared frames for reading alone. At PAIRED that goes for the page
+ * that was the hint, too: it keeps its frame and was private until then. Every store is a request, to private pages as well.
  */
 
 /* Proposes a page for sharing. */
@@ -408,8 +408,8 @@ uint32_t pageshare_page(struct pageshare *machine, uint32_t guest, uint32_t ppn,
  *
  * A client lends pages, as many as there are slots. A page that was lent has a slot, which is the client's until the client releases
  * it or leaves, and a frame that holds the page's bytes. Pages with the same bytes come to share one frame, whose clients they are.
- * What the host maps for its clients is the region of the frames: frame n is the 4,096 bytes at 4096 n of it, and machine m's
- * frames are those from m times the frames of one machine on.
+ * What the host maps for its clients is the region of the frames. Frame n is the 4,096 bytes at 4096 n of it. Machine m's frames
+ * are those from m times the frames of one machine on.
  *
  *     struct pageshare_domain domain = PAGESHARE_DOMAIN_NONE;
  *     struct pageshare_domain_config config = {.size = sizeof config, .machines = 1, .slots = 100000, .frames = 50000, ..};
@@ -423,8 +423,8 @@ uint32_t pageshare_page(struct pageshare *machine, uint32_t guest, uint32_t ppn,
  * A call with a status above 0 has changed nothing, neither the domain nor the caller's memory. Callers must ensure for a domain's
  * handle and its region what they must for a machine's. They must also ensure:
  *
- * - While a slot is a client's, the client may read its frame. A host releases a slot only when nothing shows its frame any more
- *   for this slot: after the client has mapped something else in its place, or when its process has ended.
+ * - While a slot is a client's, the client may read its frame. A host releases a slot only when nothing shows its frame for it any
+ *   more. That is after the client has mapped something else in its place, or when its process has ended.
  * - A frame that a call returns as freed is free, and the host may give its memory back to the system while no call runs. Nobody
  *   may still read it by then, since a later lend fills it with another page.
  * - A client's calls name that client alone: the library can't see who calls.
@@ -482,7 +482,7 @@ uint32_t pageshare_domain_begin(struct pageshare_domain *domain, const struct pa
 /*
  * Gives a domain that was begun the frames of its next machine: a region with room for exactly as many pages. With those of the last
  * machine the domain is made. Returns PAGESHARE_OK, _NO_MACHINE (no domain was begun, or it is made), _REGION (it has room for
- * another number of pages) or _MEMORY (the handle holds nothing then, and the library doesn't touch the regions again).
+ * another number of pages) or _MEMORY. At _MEMORY the handle holds nothing, and the library doesn't touch the regions again.
  */
 uint32_t pageshare_domain_add(struct pageshare_domain *domain, struct pageshare_region region);
 

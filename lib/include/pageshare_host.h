@@ -21,13 +21,13 @@
  *
  * - A handle begins as PAGESHARE_HOST_NONE or as zeros, and these calls alone read and write its members. It isn't copied. One call
  *   at a time works on it.
- * - Each pointer is not null, also where its count is 0, is aligned for its type, and points to as many elements as are named
+ * - Each pointer is not null, also where its count is 0, and is aligned for its type. It points to as many elements as are named
  *   beside it, for as long as the call runs. What a call writes to overlaps no other argument of it. Nobody writes meanwhile to what
  *   it reads: a client can write to a buffer that it shares with the host, so copy the pages out of it first.
  * - A count of elements makes less than 2^63 bytes.
- * - The region is the library's until the host is freed: nobody else writes to it, but that the memory of free frames may be given
- *   back to the system. That is right also while a call runs, unless it is pageshare_host_receive with a LEND: only a lend takes a
- *   frame that is free, and the other calls touch no frames but those that slots have.
+ * - The region is the library's until the host is freed: nobody else writes to it. But the memory of free frames may be given back
+ *   to the system, also while a call runs, unless it is pageshare_host_receive with a LEND. Only a lend takes a frame that is free.
+ *   The other calls touch no frames but those that slots have.
  * - A name is drawn at random for each connection, and given to nobody else.
  * - pageshare_host_end is called only when nothing shows the session's frames any more: its process has ended, and no other process
  *   has its mappings.
@@ -196,8 +196,8 @@ uint32_t pageshare_host_begin(struct pageshare_host *host, const struct pageshar
 
 /*
  * Gives a host that was begun the frames of its next machine. With those of the last machine the host is made. Returns
- * PAGESHARE_HOST_OK, _NO_HOST (no host was begun, or it is made), _REGION (it has room for another number of frames) or _MEMORY (the
- * handle holds nothing then, and the library doesn't touch the regions again).
+ * PAGESHARE_HOST_OK, _NO_HOST (no host was begun, or it is made), _REGION (it has room for another number of frames) or _MEMORY.
+ * At _MEMORY the handle holds nothing, and the library doesn't touch the regions again.
  */
 uint32_t pageshare_host_add(struct pageshare_host *host, struct pageshare_host_region region);
 

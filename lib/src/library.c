@@ -1,6 +1,6 @@
 /*
- * The part of libpageshare that runs on every x86-64 processor, whatever level the rest was built for: its version and level, the
- * names of statuses and verdicts, and the doors of the calls that make a machine. It is compiled with -march=x86-64 and
+ * The part of libpageshare that runs on every x86-64 processor, whatever level the rest was built for. It has the version and level,
+ * the names of statuses and verdicts, and the doors of the calls that make a machine. It is compiled with -march=x86-64 and
  * -DPAGESHARE_BUILT_LEVEL=2 or 3, the level of the rest.
  *
  * Each proved maker is renamed as it is put into the library, from pageshare_X to proved_pageshare_X (lib/src/doors.syms). The door of
