@@ -165,7 +165,7 @@ def longest_below(held: Sequence[int], part: float) -> int:
 
 
 def case_holds() -> None:
-    """How long pages are held: on this machine as it is, and beside a busy loop, two and four of them for each processor."""
+    """How long pages are held: on this computer as it is, and beside a busy loop, two and four of them for each processor."""
     program, seconds = compile_c("stress"), "5" if HERE.is_short else "20"
     for loops in (0, 1, 2, 4):
         host = Host(memory="256M")
@@ -210,8 +210,9 @@ def case_price() -> None:
 
 
 def case_figure() -> None:
-    """1 to 8 equal guests of 128 MiB, idle and at work: how much of their memory is shared and reclaimed, pages of
-    zeros that were given back among both. A table and a picture."""
+    """1 to 8 equal guests of 128 MiB, idle and at work: how much of their memory is shared and reclaimed. A table and a picture.
+
+    Pages of zeros that were given back are among both."""
     most = int(os.environ.get("GUESTS", "8"))
     rows: list[figures.Row] = []
     HERE.place.guests_possible()

@@ -181,7 +181,7 @@ def case_backends() -> None:
         HERE.place.clean()
 
 
-def case_kvm() -> None:
+def case_guests_of_kvm() -> None:
     """Guests under KVM, as root, since only root may use /dev/kvm everywhere."""
     host = Host("--trust-peers")
     if not os.access("/dev/kvm", os.R_OK | os.W_OK):

@@ -22,11 +22,11 @@ SECONDS_OF_CASE = 1800
 
 
 def cases_in(modules: Iterable[types.ModuleType]) -> Cases:
-    """The cases of modules: their functions case_NAME."""
-    return {
-        name.removeprefix("case_").replace("_", "-"): run
-        for module in modules for name, run in vars(module).items() if name.startswith("case_")
-    }
+    """The cases of modules: their functions case_NAME, each of another name."""
+    named = [(name, run) for module in modules for name, run in vars(module).items() if name.startswith("case_")]
+    cases = {name.removeprefix("case_").replace("_", "-"): run for name, run in named}
+    assert len(cases) == len(named), "two modules have a case of one name"
+    return cases
 
 
 def too_late(*_: object) -> None:
