@@ -68,25 +68,27 @@ demo:
 	@cd crates/pageshare && rt try --cases $(CURDIR)/$(CASES) > $(CURDIR)/out/demo/log 2>&1 || { cat $(CURDIR)/out/demo/log; exit 1; }
 	@sed -n -f examples/demo.sed out/demo/log
 
-# Outside the gate: status, standard output and standard error of each command, on texts, ends and words of each kind.
+# What follows is run by itself. docs/TESTING.md says which of it the gate runs as well, shortened or whole.
+
+# Status, standard output and standard error of each command, on texts, ends and words of each kind.
 commands: out/pageshare
 	checks/commands.py
 
-# Outside the gate, and in it: small traces of windows, right and wrong ones, played by the proved program.
+# Small traces of windows, right and wrong ones, played by the proved program.
 traces: out/window_trace
 	checks/traces.py
 
-# Outside the gate: what `estimate` prints of 1,000 random images, beside a count by hashes in Python (COUNT and SEED may be given).
+# What `estimate` prints of 1,000 random images, beside a count by hashes in Python (COUNT and SEED may be given).
 estimate: out/pageshare
 	checks/estimate.py $(or $(COUNT),1000) $(SEED)
 
-# Outside the gate: the numbers of fleets by `fleet`, by Dask's distributed engine and by SQL, beside a plain count in Python, and the
+# The numbers of fleets by `fleet`, by Dask's distributed engine and by SQL, beside a plain count in Python, and the
 # memory of a live process by `digest` (SEED may be given). What this computer has no packages for is skipped, and reported.
 fleet: out/pageshare
 	checks/fleet.py $(SEED)
 	checks/live.py
 
-# Outside the gate: where the system refuses to start a thread, a run, a script and a hashing of many pages answer so and end.
+# Where the system refuses to start a thread, a run, a script and a hashing of many pages answer so and end.
 no-thread: out/page_bench out/pageshare
 	checks/no_thread.sh out
 
@@ -96,23 +98,23 @@ out/page_bench: $(SOURCES)
 out/page_bench-v3: $(SOURCES)
 	tools/build.py page_bench $@ --cpu x86-64-v3
 
-# Outside the gate: 100,000 broken texts, each of which must get its output or one fault line (COUNT and SEED may be given).
+# 100,000 broken texts, each of which must get its output or one fault line (COUNT and SEED may be given).
 fuzz: out/pageshare
 	checks/fuzz.py $(or $(COUNT),100000) $(SEED)
 
-# Outside the gate: 1,000 random journals of two tenants, with and without the second one's entries (COUNT and SEED may be given).
+# 1,000 random journals of two tenants, with and without the second one's entries (COUNT and SEED may be given).
 tenants: out/pageshare
 	checks/tenants.py $(or $(COUNT),1000) $(SEED)
 
-# Outside the gate: random scripts through threads, their journals replayed, for ten minutes (SECONDS and SEED may be given).
+# Random scripts through threads, their journals replayed, for ten minutes (SECONDS and SEED may be given).
 soak: out/pageshare
 	checks/soak.py $(or $(SECONDS),600) $(SEED)
 
-# Outside the gate: a replay's time grows with the number of its hints and no faster. Nothing else may run meanwhile.
+# A replay's time grows with the number of its hints and no faster. Nothing else may run meanwhile.
 hints: out/pageshare
 	benches/hints.py
 
-# Outside the gate: the proved programs beside plain Rust, in one table; status 1 where a ratio is above its goal. CRATES may name
+# The proved programs beside plain Rust, in one table; status 1 where a ratio is above its goal. CRATES may name
 # a folder with the sources of the opponents' crates. Builds for x86-64-v3 that are in out/ (`make bench-v3` makes them) are timed
 # as well, beside opponents built for it. Nothing else may run meanwhile.
 bench: out/pageshare out/page_bench
@@ -121,17 +123,17 @@ bench: out/pageshare out/page_bench
 
 bench-v3: out/pageshare-v3 out/page_bench-v3 bench
 
-# Outside the gate: the library for C and Rust, left at out/libpageshare.a, or for x86-64-v3 at out/v3/libpageshare.a, with its
+# The library for C and Rust, left at out/libpageshare.a, or for x86-64-v3 at out/v3/libpageshare.a, with its
 # examples and tests. What this computer has no program for is skipped, and reported.
 embed: out/$(FOLDER)libpageshare.a
 	checks/embed.sh $<
 
-# Outside the gate: windows, through which guests' idle pages are lent (docs/MONITOR.md), by programs of threads, each stress for SECONDS
+# Windows, through which guests' idle pages are lent (docs/MONITOR.md), by programs of threads, each stress for SECONDS
 # (10) at most. What this computer has no userfaultfd, sanitizer or right for is skipped, and reported.
 windows: out/libpageshare.a out/window_trace
 	checks/windows.py out/libpageshare.a $(or $(SECONDS),10)
 
-# Outside the gate: guests under KVM whose memory the library shares (docs/MONITOR.md), for SECONDS (30) each, with KSM=1 under the
+# Guests under KVM whose memory the library shares (docs/MONITOR.md), for SECONDS (30) each, with KSM=1 under the
 # kernel's KSM as well, and with KERNEL=bzImage Linux as well. What this computer has no KVM or userfaultfd for is skipped, and reported.
 guests: out/libpageshare.a out/pageshare out/window_trace
 	checks/guests.py out/libpageshare.a $(or $(SECONDS),30)
@@ -148,7 +150,7 @@ out/proved.a: $(SOURCES)
 out/v3/proved.a: $(SOURCES)
 	tools/build.py pageshare_c $@ --cpu x86-64-v3
 
-# Outside the gate: a host for processes of virtual machine monitors (docs/HOST.md), and the library that is preloaded into them.
+# A host for processes of virtual machine monitors (docs/HOST.md), and the library that is preloaded into them.
 # `make host CHECK=1` (root) runs checks/host.py and benches/host.py over them, and FIGURE=1 draws what 1 to 8 guests share.
 host: $(HOST_PRODUCTS)
 	$(if $(CHECK),checks/host.py && benches/host.py)
