@@ -130,8 +130,8 @@ static int begin_home(struct home *home) {
 }
 
 /*
- * Finds which pages have to stay. They are guarded, so a copy that isn't pinned by now won't be: who pins a page to write to it waits as
- * other writers do. Where nobody pins pages all can go; else only those that show their frame.
+ * Finds which pages have to stay. They are guarded, so a copy that isn't pinned by now won't be: a device that pins a page to write to
+ * it waits as other writers do. Where nobody pins pages all can go; else only those that show their frame.
  */
 static int find_staying(struct home *home) {
     struct windows *windows = home->window->windows;

@@ -97,8 +97,8 @@ int faults_end_watch(const struct faults *faults, void *at, size_t pages) {
         if (i > 0) sched_yield();
         cause = error_of(ioctl(faults->fd, UFFDIO_UNREGISTER, &range));
     }
-    if (cause == EBADF || cause == ENOTTY) return 0; /* (who closed the descriptor ended all its watches, and woke everyone) */
-    /* (who waited for what is mapped anew by now is woken here) */
+    if (cause == EBADF || cause == ENOTTY) return 0; /* (its close ended all its watches, and woke everyone) */
+    /* (threads that waited for what is mapped anew by now are woken here) */
     int woken = faults_wake(faults, at, pages);
     return cause != 0 ? cause : woken;
 }

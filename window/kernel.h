@@ -23,9 +23,9 @@ int faults_open(struct faults *faults, int device, bool never_move);
 /* Makes threads wait that touch a missing page (FAULTS_OF_MISSING) or write to a protected one (FAULTS_OF_WRITES). */
 enum faults_of { FAULTS_OF_MISSING, FAULTS_OF_WRITES };
 int faults_watch(const struct faults *faults, void *at, size_t pages, enum faults_of of);
-/* Ends that, lifts write protection, and wakes who waits. The range may have been mapped anew in between. */
+/* Ends that, lifts write protection, and wakes threads that wait. The range may have been mapped anew in between. */
 int faults_end_watch(const struct faults *faults, void *at, size_t pages);
-/* Wakes who waits for pages that have been mapped anew meanwhile. Waits for nobody itself. */
+/* Wakes threads that wait for pages that have been mapped anew meanwhile. Waits for nobody itself. */
 int faults_wake(const struct faults *faults, void *at, size_t pages);
 /* Where it fails a part of the pages may be protected. */
 int faults_protect(const struct faults *faults, void *at, size_t pages);

@@ -31,7 +31,8 @@ static uint32_t number_of(const struct hold *hold, size_t i) { return hold->wind
 
 /*
  * Guards pages against writes. What a device may have pinned isn't held by that. So where pages may be pinned, only those are held that
- * show a frame still, now that nobody can make a copy any more. Devices are looked for only now, since who pins a page from now on waits.
+ * show a frame still, now that nobody can make a copy any more. Devices are looked for only now, since one that pins a page from now
+ * on waits.
  */
 static void guard(struct hold *hold) {
     struct windows *windows = hold->window->windows;

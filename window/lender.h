@@ -1,8 +1,8 @@
 /*
- * Who lends frames to windows (window.h): a domain in the same process, or a host in another one.
+ * What lends frames to windows (window.h): a domain in the same process, or a host in another one.
  *
  * Frame n is the 4,096 bytes at 4096 n of the frames' file. Windows map frames for reading and writing, privately, so no window
- * ever changes the file. Who lends gives the memory of free frames back to the system (trims) by itself.
+ * ever changes the file. The lender gives the memory of free frames back to the system (trims) by itself.
  */
 #ifndef PAGESHARE_WINDOW_LENDER_H
 #define PAGESHARE_WINDOW_LENDER_H
@@ -21,7 +21,7 @@
 /* One more than the greatest number of a frame. */
 #define WINDOW_FRAMES_MOST (1u << 26)
 
-/* What became of a page that was to be lent. The slot names the page to who lends, and means nothing to a window. */
+/* What became of a page that was to be lent. The slot names the page to the lender, and means nothing to a window. */
 struct window_loan {
     uint32_t frame;
     uint64_t slot;

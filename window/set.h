@@ -231,7 +231,7 @@ int map_pages(struct window *window, size_t first, size_t count, uint32_t frame,
 /* Says of pages that were mapped anew what was said of the window; frames are among them, or only memory of their own. With the lock. */
 void say_again(struct window *window, size_t first, size_t count, bool is_file);
 
-/* Ends the watch over pages, and wakes who waits. Returns 0, or an errno: then the pages are among those that are stuck. With the lock. */
+/* Ends the watch over pages, and wakes threads that wait. Returns 0, or an errno: then the pages are among the stuck ones. With the lock. */
 int let_waiters_go(struct window *window, size_t first, size_t count);
 
 /* Puts pages back that a look could not. Returns 0, or an errno while some are left. With the lock. */

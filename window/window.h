@@ -145,8 +145,8 @@ void windows_end(struct windows *windows);
 
 /*
  * Between these two calls nothing is held, mapped or taken home. So the caller may unmap pages of windows, or map something else in
- * their place, by one call of the system and by the same thread. It calls window_forget for each part of a window. Returns 0, or an errno where
- * pages are stuck: then windows_resume isn't called.
+ * their place, by one call of the system and by the same thread. It calls window_forget for each part of a window. Returns 0, or an errno
+ * where pages are stuck: then windows_resume isn't called.
  */
 int windows_pause(struct windows *windows);
 void windows_resume(struct windows *windows);
@@ -217,7 +217,7 @@ void window_forget(struct window *window, size_t first, size_t count);
  *   idle     pages with the same fingerprint at three looks;
  *   ask      which of them the lender has seen elsewhere, too; the others stay where they are;
  *   lend     those, from copies of their bytes, with nothing guarded;
- *   hold     each, by UFFDIO_MOVE or by write protection; compare it with its frame; map the frame; and let who waited go on.
+ *   hold     each, by UFFDIO_MOVE or by write protection; compare it with its frame; map the frame; and let threads that waited go on.
  * Returns the first thing that went wrong, having done what could be done all the same.
  */
 struct window_result windows_look(struct windows *windows);

@@ -137,7 +137,7 @@ void windows_free(struct windows *windows) {
     free(windows);
 }
 
-/* Whether the lender's file has all frames, and can't be cut short: who reads a frame behind its end would be killed. */
+/* Whether the lender's file has all frames, and can't be cut short: a thread that reads a frame behind its end would be killed. */
 static bool is_whole(const struct window_lender *lender) {
     struct stat stat;
     int seals = fcntl(lender->frames, F_GET_SEALS);

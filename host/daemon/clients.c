@@ -26,7 +26,7 @@ enum {
     BUFFER_BYTES = PAGESHARE_HOST_MAX_PAGES * PAGE
 };
 static const uint64_t connecting_most_ns = 25000000; /* what connections that come and go may take of a tick: a quarter of it */
-static const uint64_t silence_ns = UINT64_C(10000000000); /* who connects says hello within 10 seconds */
+static const uint64_t silence_ns = UINT64_C(10000000000); /* a peer says hello within 10 seconds */
 
 bool poll_add(const struct domain *domain, int descriptor, union event_key key) {
     struct epoll_event event = {.events = EPOLLIN, .data.u64 = key.key};
@@ -85,7 +85,7 @@ static void part(struct domain *domain, struct client *client) {
     domain->connecting_ns += now_ns() - begin;
 }
 
-/* ---- who connects ---- */
+/* ---- connections ---- */
 
 /* A descriptor of the process at the other end, whatever becomes of its number. */
 static int process_of(int socket, pid_t pid) {
@@ -105,7 +105,7 @@ static bool is_same_process(const struct client *one, const struct client *other
     return one->pid == other->pid && !has_ended(one->process) && !has_ended(other->process);
 }
 
-/* Who could write frames, by opening their file again, isn't taken. */
+/* A peer that could write frames, by opening their file again, isn't taken. */
 static bool is_trusted(const struct domain *domain, const struct ucred *peer) {
     if (peer->pid <= 0) return false; /* its process can't be seen from here, so its end couldn't */
     return domain->settings.trust_peers || (peer->uid != 0 && peer->uid != geteuid());
@@ -187,7 +187,7 @@ void clients_defer_status(struct domain *domain) {
     domain->is_status_deaf = hear(domain, domain->status_listener, EVENT_STATUS, false);
 }
 
-/* Counts a connection of somebody, and returns how many there are in this second. Who finds no room is counted together with others. */
+/* Counts a connection of somebody, and returns how many there are in this second. Those that find no room are counted together. */
 static uint32_t connects_of(struct connects *counted, size_t most, uint32_t who) {
     size_t i = 0;
     while (i + 1 < most && counted[i].times != 0 && counted[i].who != who) i++;

@@ -31,7 +31,7 @@ struct frames {
      * So a frame whose bit is clear under the lock stays free, and nobody else touches it, until the lock is given back.
      */
     pthread_mutex_t lending;
-    atomic_bool is_wanted; /* a lend waits for the lock: who gives memory back calls frames_free_again afterwards */
+    atomic_bool is_wanted; /* a lend waits for the lock: the thread that gives memory back calls frames_free_again */
     int free_again;        /* an eventfd, which is readable then */
 };
 

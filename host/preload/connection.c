@@ -433,7 +433,7 @@ void *connection_thread(void *unused) {
     pthread_setname_np(pthread_self(), "pageshare");
     sharing_stay_inside();
     report_denied();
-    /* Who touches a page that is held waits for this thread. (Where a higher priority isn't allowed it has the monitor's.) */
+    /* Threads that touch a page that is held wait for this one. (Where a higher priority isn't allowed it has the monitor's.) */
     if (getpriority(PRIO_PROCESS, 0) > FIRST_NICE) setpriority(PRIO_PROCESS, 0, FIRST_NICE);
     ask_for_short_slices();
     set_budget();

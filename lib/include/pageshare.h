@@ -160,7 +160,7 @@ struct pageshare_totals {
 /* The hash by which a machine finds equal pages. They are compared in full before they share a frame, whatever the hash. */
 enum pageshare_hash_kind {
     PAGESHARE_SHA256 = 0,     /* the first eight bytes of SHA-256 */
-    PAGESHARE_FOLD = 1,       /* some 20 times as fast; who knows the salt can make a page of any hash, so draw salts at random */
+    PAGESHARE_FOLD = 1,       /* some 20 times as fast; with the salt one can make a page of any hash, so draw salts at random */
     PAGESHARE_SHA256_WIDE = 2 /* PAGESHARE_SHA256 of eight pages at once: for libraries built for x86-64-v3 */
 };
 
@@ -451,8 +451,8 @@ struct pageshare_domain_config {
     uint32_t clients;    /* how many may be in at a time: 1 to 65,536 */
     uint32_t recent;     /* how many questions pageshare_domain_seen remembers: 1 to 16,777,216 */
     uint32_t hash;       /* an enum pageshare_hash_kind */
-    uint32_t salt;       /* drawn at random, and kept secret from clients too: who knows it may keep pages from being shared */
-    uint64_t seed;       /* the same of pageshare_domain_seen: who knows it can make questions take long */
+    uint32_t salt;       /* drawn at random, and kept secret from clients too: with it one may keep pages from being shared */
+    uint64_t seed;       /* the same of pageshare_domain_seen: with it one can make questions take long */
     void *region;        /* memory for the frames, aligned to 4,096 bytes, or NULL: the library takes it itself */
     size_t region_bytes; /* at least 4,096 for each frame of each machine; the library uses no more than that */
 };

@@ -176,7 +176,7 @@ struct pageshare_host_shape {
     uint32_t quota;    /* the most slots of one session */
     uint32_t salt;     /* of the pages' hash. Drawn at random, and kept secret from clients */
     uint32_t fingerprints; /* the salt of fingerprints, which clients get: another one */
-    uint64_t seed;     /* drawn at random and kept secret: who knows it can make questions take long */
+    uint64_t seed;     /* drawn at random and kept secret: with it one can make questions take long */
     uint32_t client_cpu; /* the percentage of one processor that clients are told to use at most, or 0 */
     uint32_t reserved;   /* isn't read */
 };
