@@ -236,7 +236,7 @@ struct pageshare_host_received {
     uint32_t status;      /* an enum pageshare_host_status. Unless it is 0, reply and freed stay as they are */
     uint32_t reply_bytes; /* the bytes of the reply, or 0: there is none */
     uint32_t freed;       /* how many numbers are in `freed` */
-    uint32_t resumed;     /* HELLO took up the session with this number, which is free now; else PAGESHARE_HOST_NO_FRAME */
+    uint32_t resumed;     /* the number of the session that HELLO took up, which is free now; PAGESHARE_HOST_NO_FRAME: none */
 };
 
 /*
@@ -297,7 +297,7 @@ struct pageshare_host_totals {
 /* Writes the host's totals. It looks at each slot. Returns PAGESHARE_HOST_OK or _NO_HOST. */
 uint32_t pageshare_host_report(struct pageshare_host *host, struct pageshare_host_totals *totals);
 
-/* A page's fingerprint under a salt, as a client computes it. docs/FORMATS.md defines it. */
+/* A page's fingerprint under a salt, as clients compute it. docs/FORMATS.md defines it. */
 uint64_t pageshare_host_fingerprint(uint32_t salt, const uint8_t page[4096]);
 
 #ifdef __cplusplus
