@@ -3,6 +3,7 @@
 
     tools/build.py CRATE FILE [--cpu LEVEL]
     tools/build.py --products
+    tools/build.py --libraries
 
 First the crates below are proved, many side by side, but for what was proved of the same files: by an earlier run on this computer
 where the kit keeps that, and else in this tree, for example by `make test`. A program for x86-64-v2 is then put to FILE as it was
@@ -10,8 +11,8 @@ built when it was proved. A program for another processor LEVEL, such as x86-64-
 built, over the same libraries: the kit keeps what it checked of neither. A note, FILE.of, says of which files FILE was built, and
 nothing is done where these are as they were.
 
---products builds all that is installed and all that `make check` needs, side by side, and ends with 'N passed, M failed'. Status 0
-where each FILE was written, else 1.
+--products builds all that is installed and all that `make check` needs, side by side, and ends with 'N passed, M failed'. --libraries
+does the same for the static libraries of x86-64-v2, out/proved.a and out/proved_host.a. Status 0 where each FILE was written, else 1.
 """
 from __future__ import annotations
 
@@ -60,6 +61,7 @@ PRODUCTS = [
     Product("pageshare", OUT / "pageshare"),
     Product("window_trace", OUT / "window_trace"),
 ]
+LIBRARIES = [it for it in PRODUCTS if it.file in (OUT / "proved.a", OUT / "proved_host.a")]
 
 
 def note_of(product: Product) -> pathlib.Path:
@@ -175,17 +177,19 @@ def build(kit: Any, products: Sequence[Product]) -> list[Product]:
 def main() -> int:
     options = argparse.ArgumentParser(description=__doc__.splitlines()[0])
     options.add_argument("--products", action="store_true", help="build all that is installed and that `make check` needs")
+    options.add_argument("--libraries", action="store_true", help="build the static libraries for x86-64-v2")
     options.add_argument("crate", nargs="?")
     options.add_argument("file", nargs="?", type=pathlib.Path)
     options.add_argument("--cpu", default=DEFAULT)
     given = options.parse_args()
-    if given.products == (given.file is not None):
-        options.error("give a crate and a file, or --products")
-    products = PRODUCTS if given.products else [Product(given.crate, given.file, given.cpu)]
+    if given.products + given.libraries + (given.file is not None) != 1:
+        options.error("give a crate and a file, --products or --libraries")
+    several = PRODUCTS if given.products else LIBRARIES if given.libraries else []
+    products = several or [Product(given.crate, given.file, given.cpu)]
     kit = load_kit()
     os.environ["RT_JOBS"] = str(lanes())
     built = build(kit, products)
-    if given.products:
+    if several:
         return close(len(built), len(products) - len(built))
     return 0 if len(built) == len(products) else 1
 

@@ -14,8 +14,9 @@ shows how far it is; elsewhere it prints a line for each crate. What failed is p
 repeats it alone. The last line is 'N passed, M failed'. All that the steps print is kept in out/gate-test.log, out/gate-edits.log or
 out/gate-check.log.
 
-`check` leaves out what the computer lacks. It names that before the last line, which is 'N passed, M failed, K skipped'. With
-NOTHING_LEFT_OUT=1 in the environment, what was left out for want of a package that Debian has counts as failed.
+`check` leaves out what the computer lacks, and `test` the step that needs a C compiler. They name that before the last line, which is
+then 'N passed, M failed, K skipped'. With NOTHING_LEFT_OUT=1 in the environment, what was left out for want of a package that Debian has
+counts as failed.
 
 On a computer that has run none of it all is done from nothing. What an earlier run there has proved or seen refused, of the same
 files, is taken from it if the kit keeps that, but with --anew.
@@ -68,6 +69,8 @@ COMMANDS = {
     "test": [
         Work("rt ci", ["rt", "ci"], takes_anew=True),
         Work("runs", ["checks/quick.py", PROGRAM]),
+        Work("libraries of C", ["tools/build.py", "--libraries"]),
+        Work("frames of C", ["checks/frames.py"]),
         Work("harness", ["checks/harness_test.py"]),
         Work("documents", ["checks/names.py"]),
         Work("limits", ["checks/limits.py"]),
@@ -91,7 +94,7 @@ COMMANDS = {
 }
 # What each command takes from nothing, in processor minutes, on processors of 2.5 GHz; `check` after `make test`. Those of `edits` and `check` were
 # measured; of `test` it is known that it takes an hour on four processors.
-MINUTES = {"test": 220, "edits": 190, "check": 38}
+MINUTES = {"test": 225, "edits": 190, "check": 38}
 TICKS = os.sysconf("SC_CLK_TCK")
 # The steps of which it is counted how far they are; of the others the last line is shown.
 COUNTED = ("rt ci", "edits")
