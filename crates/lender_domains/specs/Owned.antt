@@ -15,7 +15,7 @@ use Rattle.page_lender.specs.Decisions.{account}
 use Rattle.page_lender.specs.Events.{Believes}
 use Rattle.page_lender.specs.Slots.{IsRightOf}
 use Rattle.page_lender.specs.declared.belief.Belief.{Belief}
-use Rattle.page_lender.specs.declared.belief.Belief.TheVariants.{Private, Chosen, Copied, Unanswered, Loaned, Held, Equal, LettingGo, Shown, Homing, Leaving, Unreleased}
+use Rattle.page_lender.specs.declared.belief.Belief.TheVariants.{Private, Chosen, Copied, Unanswered, Loaned, Held, Equal, LettingGo, Shown, Homing, Leaving, Unreleased, Zeros, HeldZeros, EqualZeros, PuttingBack}
 
 -- `given` says which slot the domain has for each page, if any, and `slots` by which slot a page holds a frame, if by any. Each slot that the
 -- domain has for a page is held by the page's client. No two pages have one. A page holds a frame only by its own.
@@ -38,6 +38,10 @@ HoldsBy (Shown slot n) given held = held ≡ given
 HoldsBy (Homing slot n in_place) given held = held ≡ given
 HoldsBy (Leaving slot) given held = (held ≡ None) ⊎ (held ≡ given)
 HoldsBy (Unreleased slot) given held = (held ≡ None) ⊎ (held ≡ given)
+HoldsBy Zeros given held = held ≡ None
+HoldsBy HeldZeros given held = held ≡ None
+HoldsBy EqualZeros given held = held ≡ None
+HoldsBy PuttingBack given held = held ≡ None
 
 -- In every domain and mappings that agree, where what is believed of a page is right.
 abbrev pub SlotsByBelief : Type 0
@@ -59,6 +63,10 @@ HasBy name (Shown slot n) own = option_map name own ≡ Some slot
 HasBy name (Homing slot n in_place) own = option_map name own ≡ Some slot
 HasBy name (Leaving slot) own = option_map name own ≡ Some slot
 HasBy name (Unreleased slot) own = (other : Slot) → own ≡ Some other → name other ≡ slot
+HasBy name Zeros own = own ≡ None
+HasBy name HeldZeros own = own ≡ None
+HasBy name EqualZeros own = own ≡ None
+HasBy name PuttingBack own = own ≡ None
 
 -- Slots have numbers, by any numbering. Where the account is right of the number of the page's slot, so is this.
 abbrev pub AccountsByBelief : Type 0

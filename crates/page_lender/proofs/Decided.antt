@@ -3,10 +3,10 @@ use Rattle.std.proofs.Common.{◌≡◌, ℕ, Bool, true, false, cond, not, ◌&
 use Rattle.std.specs.Prelude.{slice_get, slice_set, nat_eq, option_map, option_and_then, is_none}
 use Rattle.std.specs.Option.{option_map_or}
 use Rattle.std.proofs.lemmas.Bool.{eq-eqb}
-use Rattle.window_events.specs.Windows.{Mappings, shown_in, overwritten, is_bare, is_held, written, guarded, lifted, unguarded, copied, mapped, released, with_page, holding, lent, step}
+use Rattle.window_events.specs.Windows.{Mappings, shown_in, overwritten, is_bare, is_held, written, guarded, lifted, unguarded, copied, mapped, released, discarded, with_page, holding, lent, step}
 use Rattle.window_events.specs.Played.{refused_from, played}
 use Rattle.window_events.specs.declared.event.Event.{Event}
-use Rattle.window_events.specs.declared.event.Event.TheVariants.{Write, Guard, Unguard, Copy, Lend, Map, Release}
+use Rattle.window_events.specs.declared.event.Event.TheVariants.{Write, Guard, Unguard, Copy, Lend, Map, Release, Discard}
 use Rattle.window_events.specs.declared.page.Page.{Page}
 use Rattle.window_events.specs.declared.page.View.{View}
 use Rattle.window_events.specs.declared.page.View.TheVariants.{Own, Over}
@@ -15,7 +15,7 @@ use Rattle.page_lender.specs.Lender.{obeyed, given, refused, doubted, done_of}
 use Rattle.page_lender.specs.Events.{Fits, Believes, done_events, Done_is_true, Follows, DoneByEvents, StaysRight}
 use Rattle.page_lender.specs.declared.bars.Bars.{Bars}
 use Rattle.page_lender.specs.declared.belief.Belief.{Belief}
-use Rattle.page_lender.specs.declared.belief.Belief.TheVariants.{Private, Chosen, Copied, Unanswered, Loaned, Held, Equal, LettingGo, Shown, Homing, Leaving, Unreleased}
+use Rattle.page_lender.specs.declared.belief.Belief.TheVariants.{Private, Chosen, Copied, Unanswered, Loaned, Held, Equal, LettingGo, Shown, Homing, Leaving, Unreleased, Zeros, HeldZeros, EqualZeros, PuttingBack}
 use Rattle.page_lender.specs.declared.order.Outcome.{Outcome}
 use Rattle.page_lender.specs.declared.order.Outcome.TheVariants.{Done, Lent, Refused, Unknown}
 use Rattle.page_lender.proofs.Kept.{set_own, stepped, over_seen}
@@ -118,8 +118,22 @@ compare_follows slot n w p page there f g same =
     record {
       possible = two_possible w a b (Copy p) (Lend p n) s t;
       right = subst (λ v. Believes (Equal slot n) v p) (sym (two_played w a b (Copy p) (Lend p n) s t))
-          (record { page = second; there = in_b; fits = record { holds = refl; view = f.view; waits = λ h. cc } });
+          (record { page = second; there = in_b; fits = record { holds = refl; view = f.view; waits = λ h. cc; copy = refl } });
     }
+
+-- the page was compared with zeros
+zeros_follow : (w : Mappings) (p : ℕ) (page : Page) → slice_get w.pages p ≡ Some page → Fits HeldZeros page → page.guarded ≡ true → shown_in w.frames page.view ≡ 0 →
+    Follows (Copy p ∷ []) EqualZeros w p
+zeros_follow w p page there f g same =
+    let new : Page = record page { copy = Some (shown_in w.frames page.view); copy_fresh = true } in
+    one_follows EqualZeros w p (Copy p) page new there (stepped w p page new (copied w.frames) there (copy_step w.frames page g))
+    (record { holds = f.holds; view = f.view; waits = λ h. cc; copy = ap (λ x. Some x) same })
+
+-- its memory is given back
+discard_follows : (w : Mappings) (p : ℕ) (page : Page) → slice_get w.pages p ≡ Some page → page.held ≡ None → Follows (Discard p ∷ []) Private w p
+discard_follows w p page there h =
+    let new : Page = record (lifted page) { view = Own 0; last = 0 } in
+    one_follows Private w p (Discard p) page new there (stepped w p page new discarded there refl) (record { holds = h; view = refl; waits = λ k. refl; copy = refl })
 
 -- a view that isn't bare
 clear : (view : View) → not (is_bare view) ≡ true → is_bare view ≡ false
@@ -131,43 +145,51 @@ clear (Over n None) h = cc
 obeyed_follows : (belief : Belief) (w : Mappings) (p : ℕ) (b : Believes belief w p) → is_outcome (due belief) Done ≡ true → Done_is_true (due belief) w b.page →
     Follows (done_events p (shown_in w.frames b.page.view) (due belief)) (obeyed belief) w p
 obeyed_follows Private w p b o t = cc
-obeyed_follows Chosen w p b o t = none_follows Copied w p b.page b.there (record { holds = b.fits.holds; view = b.fits.view; waits = b.fits.waits })
+obeyed_follows Chosen w p b o t = none_follows Copied w p b.page b.there (record { holds = b.fits.holds; view = b.fits.view; waits = b.fits.waits; copy = refl })
 obeyed_follows Copied w p b o t = cc
 obeyed_follows Unanswered w p b o t = cc
-obeyed_follows (Loaned slot n) w p b o t = guard_follows (Held slot n) w p b.page b.there (record { holds = b.fits.holds; view = b.fits.view; waits = λ h. cc })
+obeyed_follows (Loaned slot n) w p b o t = guard_follows (Held slot n) w p b.page b.there (record { holds = b.fits.holds; view = b.fits.view; waits = λ h. cc; copy = refl })
 obeyed_follows (Held slot n) w p b o t = compare_follows slot n w p b.page b.there b.fits t.0 t.1
 obeyed_follows (Equal slot n) w p b o t =
-    map_follows (Shown slot n) n w p b.page b.there b.fits.holds t (record { holds = b.fits.holds; view = eq-eqb n n refl; waits = λ h. refl })
-obeyed_follows (LettingGo slot) w p b o t = unguard_follows (Leaving slot) w p b.page b.there (record { holds = refl; view = b.fits.view; waits = λ h. refl })
+    map_follows (Shown slot n) n w p b.page b.there b.fits.holds t (record { holds = b.fits.holds; view = eq-eqb n n refl; waits = λ h. refl; copy = refl })
+obeyed_follows (LettingGo slot) w p b o t = unguard_follows (Leaving slot) w p b.page b.there (record { holds = refl; view = b.fits.view; waits = λ h. refl; copy = refl })
 obeyed_follows (Shown slot n) w p b o t = cc
 obeyed_follows (Homing slot n true) w p b o t =
-    write_follows (Leaving slot) w p (shown_in w.frames b.page.view) b.page b.there (b.fits.waits refl) (record { holds = refl; view = over_seen (Leaving slot) b.page.view (shown_in w.frames b.page.view); waits = b.fits.waits })
+    write_follows (Leaving slot) w p (shown_in w.frames b.page.view) b.page b.there (b.fits.waits refl) (record { holds = refl; view = over_seen (Leaving slot) b.page.view (shown_in w.frames b.page.view); waits = b.fits.waits; copy = refl })
 obeyed_follows (Homing slot n false) w p b o t =
-    write_follows (Leaving slot) w p (shown_in w.frames b.page.view) b.page b.there (b.fits.waits refl) (record { holds = refl; view = over_seen (Leaving slot) b.page.view (shown_in w.frames b.page.view); waits = b.fits.waits })
+    write_follows (Leaving slot) w p (shown_in w.frames b.page.view) b.page b.there (b.fits.waits refl) (record { holds = refl; view = over_seen (Leaving slot) b.page.view (shown_in w.frames b.page.view); waits = b.fits.waits; copy = refl })
 obeyed_follows (Leaving slot) w p b o t =
-    release_follows Private w p b.page b.there (clear b.page.view b.fits.view) (record { holds = refl; view = b.fits.view; waits = b.fits.waits })
+    release_follows Private w p b.page b.there (clear b.page.view b.fits.view) (record { holds = refl; view = b.fits.view; waits = b.fits.waits; copy = refl })
 obeyed_follows (Unreleased slot) w p b o t =
-    release_follows Private w p b.page b.there (clear b.page.view b.fits.view) (record { holds = refl; view = b.fits.view; waits = b.fits.waits })
+    release_follows Private w p b.page b.there (clear b.page.view b.fits.view) (record { holds = refl; view = b.fits.view; waits = b.fits.waits; copy = refl })
+obeyed_follows Zeros w p b o t = guard_follows HeldZeros w p b.page b.there (record { holds = b.fits.holds; view = b.fits.view; waits = λ h. cc; copy = refl })
+obeyed_follows HeldZeros w p b o t = zeros_follow w p b.page b.there b.fits t.0 t.1
+obeyed_follows EqualZeros w p b o t = discard_follows w p b.page b.there b.fits.holds
+obeyed_follows PuttingBack w p b o t = unguard_follows Private w p b.page b.there (record { holds = b.fits.holds; view = b.fits.view; waits = λ h. refl; copy = refl })
 
 refused_fits : (belief : Belief) (page : Page) → Fits belief page → Fits (refused belief) page
 refused_fits Private page f = f
-refused_fits Chosen page f = record { holds = f.holds; view = f.view; waits = f.waits }
-refused_fits Copied page f = record { holds = f.holds; view = f.view; waits = f.waits }
-refused_fits Unanswered page f = record { holds = f.holds; view = f.view; waits = f.waits }
-refused_fits (Loaned slot n) page f = record { holds = refl; view = f.view; waits = f.waits }
-refused_fits (Held slot n) page f = record { holds = refl; view = f.view; waits = λ h. cc }
-refused_fits (Equal slot n) page f = record { holds = refl; view = f.view; waits = λ h. cc }
+refused_fits Chosen page f = record { holds = f.holds; view = f.view; waits = f.waits; copy = refl }
+refused_fits Copied page f = record { holds = f.holds; view = f.view; waits = f.waits; copy = refl }
+refused_fits Unanswered page f = record { holds = f.holds; view = f.view; waits = f.waits; copy = refl }
+refused_fits (Loaned slot n) page f = record { holds = refl; view = f.view; waits = f.waits; copy = refl }
+refused_fits (Held slot n) page f = record { holds = refl; view = f.view; waits = λ h. cc; copy = refl }
+refused_fits (Equal slot n) page f = record { holds = refl; view = f.view; waits = λ h. cc; copy = refl }
 refused_fits (LettingGo slot) page f = f
 refused_fits (Shown slot n) page f = f
-refused_fits (Homing slot n in_place) page f = record { holds = f.holds; view = f.view; waits = f.waits }
+refused_fits (Homing slot n in_place) page f = record { holds = f.holds; view = f.view; waits = f.waits; copy = refl }
 refused_fits (Leaving slot) page f = f
-refused_fits (Unreleased slot) page f = record { holds = refl; view = f.view; waits = f.waits }
+refused_fits (Unreleased slot) page f = record { holds = refl; view = f.view; waits = f.waits; copy = refl }
+refused_fits Zeros page f = record { holds = f.holds; view = f.view; waits = f.waits; copy = refl }
+refused_fits HeldZeros page f = record { holds = f.holds; view = f.view; waits = λ h. cc; copy = refl }
+refused_fits EqualZeros page f = record { holds = f.holds; view = f.view; waits = λ h. cc; copy = refl }
+refused_fits PuttingBack page f = f
 
 given_fits : (belief : Belief) (slot n : ℕ) (page : Page) → Fits belief page → Fits (given belief slot n) page
 given_fits Private slot n page f = f
 given_fits Chosen slot n page f = f
-given_fits Copied slot n page f = record { holds = f.holds; view = f.view; waits = f.waits }
-given_fits Unanswered slot n page f = record { holds = f.holds; view = f.view; waits = f.waits }
+given_fits Copied slot n page f = record { holds = f.holds; view = f.view; waits = f.waits; copy = refl }
+given_fits Unanswered slot n page f = record { holds = f.holds; view = f.view; waits = f.waits; copy = refl }
 given_fits (Loaned old m) slot n page f = f
 given_fits (Held old m) slot n page f = f
 given_fits (Equal old m) slot n page f = f
@@ -176,42 +198,54 @@ given_fits (Shown old m) slot n page f = f
 given_fits (Homing old m in_place) slot n page f = f
 given_fits (Leaving old) slot n page f = f
 given_fits (Unreleased old) slot n page f = f
+given_fits Zeros slot n page f = f
+given_fits HeldZeros slot n page f = f
+given_fits EqualZeros slot n page f = f
+given_fits PuttingBack slot n page f = f
 
 -- nothing is known, and it wasn't done
 doubted_fits : (belief : Belief) (page : Page) → Fits belief page → Fits (doubted belief) page
 doubted_fits Private page f = f
 doubted_fits Chosen page f = f
-doubted_fits Copied page f = record { holds = f.holds; view = f.view; waits = f.waits }
+doubted_fits Copied page f = record { holds = f.holds; view = f.view; waits = f.waits; copy = refl }
 doubted_fits Unanswered page f = f
-doubted_fits (Loaned slot n) page f = record { holds = refl; view = f.view; waits = λ h. cc }
+doubted_fits (Loaned slot n) page f = record { holds = refl; view = f.view; waits = λ h. cc; copy = refl }
 doubted_fits (Held slot n) page f = f
 doubted_fits (Equal slot n) page f = f
 doubted_fits (LettingGo slot) page f = f
 doubted_fits (Shown slot n) page f = f
-doubted_fits (Homing slot n in_place) page f = record { holds = f.holds; view = f.view; waits = f.waits }
-doubted_fits (Leaving slot) page f = record { holds = refl; view = f.view; waits = f.waits }
+doubted_fits (Homing slot n in_place) page f = record { holds = f.holds; view = f.view; waits = f.waits; copy = refl }
+doubted_fits (Leaving slot) page f = record { holds = refl; view = f.view; waits = f.waits; copy = refl }
 doubted_fits (Unreleased slot) page f = f
+doubted_fits Zeros page f = record { holds = f.holds; view = f.view; waits = λ h. cc; copy = refl }
+doubted_fits HeldZeros page f = f
+doubted_fits EqualZeros page f = f
+doubted_fits PuttingBack page f = f
 
 -- nothing is known, and it was done
 doubted_follows : (belief : Belief) (w : Mappings) (p : ℕ) (b : Believes belief w p) → is_outcome (due belief) Unknown ≡ true →
     Follows (done_events p (shown_in w.frames b.page.view) (due belief)) (doubted belief) w p
 doubted_follows Private w p b o = cc
 doubted_follows Chosen w p b o = cc
-doubted_follows Copied w p b o = none_follows Unanswered w p b.page b.there (record { holds = b.fits.holds; view = b.fits.view; waits = b.fits.waits })
+doubted_follows Copied w p b o = none_follows Unanswered w p b.page b.there (record { holds = b.fits.holds; view = b.fits.view; waits = b.fits.waits; copy = refl })
 doubted_follows Unanswered w p b o = none_follows Unanswered w p b.page b.there b.fits
-doubted_follows (Loaned slot n) w p b o = guard_follows (LettingGo slot) w p b.page b.there (record { holds = refl; view = b.fits.view; waits = λ h. cc })
+doubted_follows (Loaned slot n) w p b o = guard_follows (LettingGo slot) w p b.page b.there (record { holds = refl; view = b.fits.view; waits = λ h. cc; copy = refl })
 doubted_follows (Held slot n) w p b o = cc
 doubted_follows (Equal slot n) w p b o = cc
-doubted_follows (LettingGo slot) w p b o = unguard_follows (LettingGo slot) w p b.page b.there (record { holds = refl; view = b.fits.view; waits = λ h. refl })
+doubted_follows (LettingGo slot) w p b o = unguard_follows (LettingGo slot) w p b.page b.there (record { holds = refl; view = b.fits.view; waits = λ h. refl; copy = refl })
 doubted_follows (Shown slot n) w p b o = cc
 doubted_follows (Homing slot n true) w p b o =
-    write_follows (Shown slot n) w p (shown_in w.frames b.page.view) b.page b.there (b.fits.waits refl) (record { holds = b.fits.holds; view = over_seen (Shown slot n) b.page.view (shown_in w.frames b.page.view); waits = b.fits.waits })
+    write_follows (Shown slot n) w p (shown_in w.frames b.page.view) b.page b.there (b.fits.waits refl) (record { holds = b.fits.holds; view = over_seen (Shown slot n) b.page.view (shown_in w.frames b.page.view); waits = b.fits.waits; copy = refl })
 doubted_follows (Homing slot n false) w p b o =
-    write_follows (Shown slot n) w p (shown_in w.frames b.page.view) b.page b.there (b.fits.waits refl) (record { holds = b.fits.holds; view = over_seen (Shown slot n) b.page.view (shown_in w.frames b.page.view); waits = b.fits.waits })
+    write_follows (Shown slot n) w p (shown_in w.frames b.page.view) b.page b.there (b.fits.waits refl) (record { holds = b.fits.holds; view = over_seen (Shown slot n) b.page.view (shown_in w.frames b.page.view); waits = b.fits.waits; copy = refl })
 doubted_follows (Leaving slot) w p b o =
-    release_follows (Unreleased slot) w p b.page b.there (clear b.page.view b.fits.view) (record { holds = refl; view = b.fits.view; waits = b.fits.waits })
+    release_follows (Unreleased slot) w p b.page b.there (clear b.page.view b.fits.view) (record { holds = refl; view = b.fits.view; waits = b.fits.waits; copy = refl })
 doubted_follows (Unreleased slot) w p b o =
-    release_follows (Unreleased slot) w p b.page b.there (clear b.page.view b.fits.view) (record { holds = refl; view = b.fits.view; waits = b.fits.waits })
+    release_follows (Unreleased slot) w p b.page b.there (clear b.page.view b.fits.view) (record { holds = refl; view = b.fits.view; waits = b.fits.waits; copy = refl })
+doubted_follows Zeros w p b o = guard_follows PuttingBack w p b.page b.there (record { holds = b.fits.holds; view = b.fits.view; waits = λ h. cc; copy = refl })
+doubted_follows HeldZeros w p b o = cc
+doubted_follows EqualZeros w p b o = cc
+doubted_follows PuttingBack w p b o = unguard_follows PuttingBack w p b.page b.there (record { holds = b.fits.holds; view = b.fits.view; waits = λ h. refl; copy = refl })
 
 pub done_by_events : (belief : Belief) (outcome : Outcome) → is_outcome (due belief) outcome ≡ true → DoneByEvents belief (due belief) outcome (done_of belief outcome)
 done_by_events belief Done o w p was_done b t = obeyed_follows belief w p b o t
@@ -227,34 +261,47 @@ prepared_fits bars Unanswered page f = f
 prepared_fits bars (LettingGo slot) page f = f
 prepared_fits bars (Leaving slot) page f = f
 prepared_fits bars (Unreleased slot) page f = f
+prepared_fits bars PuttingBack page f = f
 prepared_fits bars Chosen page f = pick (is_barred bars) where
   pick : (b : Bool) → Fits (cond b Private Chosen) page
-  pick true = record { holds = f.holds; view = f.view; waits = f.waits }
+  pick true = record { holds = f.holds; view = f.view; waits = f.waits; copy = refl }
   pick false = f
 prepared_fits bars Copied page f = pick (is_barred bars) where
   pick : (b : Bool) → Fits (cond b Private Copied) page
-  pick true = record { holds = f.holds; view = f.view; waits = f.waits }
+  pick true = record { holds = f.holds; view = f.view; waits = f.waits; copy = refl }
   pick false = f
 prepared_fits bars (Loaned slot n) page f = pick (is_barred bars) where
   pick : (b : Bool) → Fits (cond b (Leaving slot) (Loaned slot n)) page
-  pick true = record { holds = refl; view = f.view; waits = f.waits }
+  pick true = record { holds = refl; view = f.view; waits = f.waits; copy = refl }
   pick false = f
 prepared_fits bars (Held slot n) page f = pick (is_barred bars) where
   pick : (b : Bool) → Fits (cond b (LettingGo slot) (Held slot n)) page
-  pick true = record { holds = refl; view = f.view; waits = λ h. cc }
+  pick true = record { holds = refl; view = f.view; waits = λ h. cc; copy = refl }
   pick false = f
 prepared_fits bars (Equal slot n) page f = pick (is_barred bars) where
   pick : (b : Bool) → Fits (cond b (LettingGo slot) (Equal slot n)) page
-  pick true = record { holds = refl; view = f.view; waits = λ h. cc }
+  pick true = record { holds = refl; view = f.view; waits = λ h. cc; copy = refl }
   pick false = f
 prepared_fits bars (Shown slot n) page f = pick (must_own bars) where
   pick : (b : Bool) → Fits (cond b (Homing slot n bars.pinned) (Shown slot n)) page
-  pick true = record { holds = f.holds; view = f.view; waits = f.waits }
+  pick true = record { holds = f.holds; view = f.view; waits = f.waits; copy = refl }
   pick false = f
 prepared_fits bars (Homing slot n in_place) page f = pick (must_own bars) where
   pick : (b : Bool) → Fits (cond b (Homing slot n bars.pinned) (Shown slot n)) page
-  pick true = record { holds = f.holds; view = f.view; waits = f.waits }
-  pick false = record { holds = f.holds; view = f.view; waits = f.waits }
+  pick true = record { holds = f.holds; view = f.view; waits = f.waits; copy = refl }
+  pick false = record { holds = f.holds; view = f.view; waits = f.waits; copy = refl }
+prepared_fits bars Zeros page f = pick (is_barred bars) where
+  pick : (b : Bool) → Fits (cond b Private Zeros) page
+  pick true = record { holds = f.holds; view = f.view; waits = f.waits; copy = refl }
+  pick false = f
+prepared_fits bars HeldZeros page f = pick (is_barred bars) where
+  pick : (b : Bool) → Fits (cond b PuttingBack HeldZeros) page
+  pick true = record { holds = f.holds; view = f.view; waits = λ h. cc; copy = refl }
+  pick false = f
+prepared_fits bars EqualZeros page f = pick (is_barred bars) where
+  pick : (b : Bool) → Fits (cond b PuttingBack EqualZeros) page
+  pick true = record { holds = f.holds; view = f.view; waits = λ h. cc; copy = refl }
+  pick false = f
 
 pub prepared_right : (bars : Bars) (belief : Belief) → StaysRight belief (prepared bars belief)
 prepared_right bars belief w p b = record { page = b.page; there = b.there; fits = prepared_fits bars belief b.page b.fits }

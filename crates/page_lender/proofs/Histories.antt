@@ -50,4 +50,4 @@ fresh_at (x ∷ contents) (suc p) page e = fresh_at contents p page e
 pub begins_private : BeginsPrivate
 begins_private contents frames p page e =
     let found = fresh_at contents p page e in
-    record { page = page; there = e; fits = subst (Fits Private) found.1 (record { holds = refl; view = refl; waits = λ h. refl }) }
+    record { page = page; there = e; fits = subst (Fits Private) found.1 (record { holds = refl; view = refl; waits = λ h. refl; copy = refl }) }

@@ -10,7 +10,7 @@ use Rattle.window_events.specs.declared.page.View.{View}
 use Rattle.window_events.specs.declared.page.View.TheVariants.{Own, Over}
 use Rattle.page_lender.specs.Events.{seen, Fits, Believes, is_guests, is_of, KeptBy}
 use Rattle.page_lender.specs.declared.belief.Belief.{Belief}
-use Rattle.page_lender.specs.declared.belief.Belief.TheVariants.{Private, Chosen, Copied, Unanswered, Loaned, Held, Equal, LettingGo, Shown, Homing, Leaving, Unreleased}
+use Rattle.page_lender.specs.declared.belief.Belief.TheVariants.{Private, Chosen, Copied, Unanswered, Loaned, Held, Equal, LettingGo, Shown, Homing, Leaving, Unreleased, Zeros, HeldZeros, EqualZeros, PuttingBack}
 
 set_other : (pages : List Page) (p q : ℕ) (new : Page) → (p ≡ q → ⊥) → slice_get (slice_set pages p new) q ≡ slice_get pages q
 set_other [] p q new ne = refl
@@ -43,6 +43,10 @@ own_seen (Shown slot n) x = refl
 own_seen (Homing slot n in_place) x = refl
 own_seen (Leaving slot) x = refl
 own_seen (Unreleased slot) x = refl
+own_seen Zeros x = refl
+own_seen HeldZeros x = refl
+own_seen EqualZeros x = refl
+own_seen PuttingBack x = refl
 
 -- so does a copy over a frame
 copy_seen : (belief : Belief) (m x : ℕ) → seen belief (Over m (Some x)) ≡ true
@@ -58,6 +62,10 @@ copy_seen (Shown slot n) m x = refl
 copy_seen (Homing slot n in_place) m x = refl
 copy_seen (Leaving slot) m x = refl
 copy_seen (Unreleased slot) m x = refl
+copy_seen Zeros m x = refl
+copy_seen HeldZeros m x = refl
+copy_seen EqualZeros m x = refl
+copy_seen PuttingBack m x = refl
 
 pub over_seen : (belief : Belief) (view : View) (x : ℕ) → seen belief (overwritten view x) ≡ true
 over_seen belief (Own y) x = own_seen belief x
@@ -68,7 +76,7 @@ own_discard : (belief : Belief) (w : Mappings) (p : ℕ) → Believes belief w p
 own_discard belief w p b =
     let new : Page = record (lifted b.page) { view = Own 0; last = 0 } in
     let s : step w (Discard p) ≡ Some (with_page w p new) = stepped w p b.page new discarded b.there refl in
-    let fits : Fits belief new = record { holds = b.fits.holds; view = own_seen belief 0; waits = λ h. refl } in
+    let fits : Fits belief new = record { holds = b.fits.holds; view = own_seen belief 0; waits = λ h. refl; copy = b.fits.copy } in
     subst (λ o. Believes belief (unwrap_or o w) p) (sym s) (record { page = new; there = set_own w.pages p b.page new b.there; fits = fits })
 
 -- the guest writes its page
@@ -83,7 +91,7 @@ own_write belief w p x b = pick b.page.guarded refl where
       let new : Page = record b.page { view = overwritten b.page.view x; last = x } in
       let writes : written x b.page ≡ Some new = ap (λ c. cond c None (Some new)) g in
       let s : step w (Write p x) ≡ Some (with_page w p new) = stepped w p b.page new (written x) b.there writes in
-      let fits : Fits belief new = record { holds = b.fits.holds; view = over_seen belief b.page.view x; waits = b.fits.waits } in
+      let fits : Fits belief new = record { holds = b.fits.holds; view = over_seen belief b.page.view x; waits = b.fits.waits; copy = b.fits.copy } in
       subst (λ o. Believes belief (unwrap_or o w) p) (sym s) (record { page = new; there = set_own w.pages p b.page new b.there; fits = fits })
 
 pub kept_by_guest : KeptBy is_guests true

@@ -4,7 +4,7 @@ use Rattle.page_lender.specs.Decisions.{due, is_outcome, prepared, is_barred, mu
 use Rattle.page_lender.specs.Lender.{done_of}
 use Rattle.page_lender.specs.declared.bars.Bars.{Bars}
 use Rattle.page_lender.specs.declared.belief.Belief.{Belief}
-use Rattle.page_lender.specs.declared.belief.Belief.TheVariants.{Private, Chosen, Copied, Unanswered, Loaned, Held, Equal, LettingGo, Shown, Homing, Leaving, Unreleased}
+use Rattle.page_lender.specs.declared.belief.Belief.TheVariants.{Private, Chosen, Copied, Unanswered, Loaned, Held, Equal, LettingGo, Shown, Homing, Leaving, Unreleased, Zeros, HeldZeros, EqualZeros, PuttingBack}
 use Rattle.page_lender.specs.declared.order.Outcome.{Outcome}
 use Rattle.page_lender.specs.declared.order.Outcome.TheVariants.{Done, Lent, Refused, Unknown}
 
@@ -14,6 +14,7 @@ prepared_account bars Unanswered = refl
 prepared_account bars (LettingGo slot) = refl
 prepared_account bars (Leaving slot) = refl
 prepared_account bars (Unreleased slot) = refl
+prepared_account bars PuttingBack = refl
 prepared_account bars Chosen = pick (is_barred bars) where
   pick : (b : Bool) → account (cond b Private Chosen) ≡ account Chosen
   pick true = refl
@@ -40,6 +41,18 @@ prepared_account bars (Shown slot n) = pick (must_own bars) where
   pick false = refl
 prepared_account bars (Homing slot n in_place) = pick (must_own bars) where
   pick : (b : Bool) → account (cond b (Homing slot n bars.pinned) (Shown slot n)) ≡ account (Homing slot n in_place)
+  pick true = refl
+  pick false = refl
+prepared_account bars Zeros = pick (is_barred bars) where
+  pick : (b : Bool) → account (cond b Private Zeros) ≡ account Zeros
+  pick true = refl
+  pick false = refl
+prepared_account bars HeldZeros = pick (is_barred bars) where
+  pick : (b : Bool) → account (cond b PuttingBack HeldZeros) ≡ account HeldZeros
+  pick true = refl
+  pick false = refl
+prepared_account bars EqualZeros = pick (is_barred bars) where
+  pick : (b : Bool) → account (cond b PuttingBack EqualZeros) ≡ account EqualZeros
   pick true = refl
   pick false = refl
 
@@ -96,6 +109,22 @@ done_stage (Unreleased slot) Done o = refl
 done_stage (Unreleased slot) (Lent other m) o = cc
 done_stage (Unreleased slot) Refused o = refl
 done_stage (Unreleased slot) Unknown o = refl
+done_stage Zeros Done o = refl
+done_stage Zeros (Lent other m) o = cc
+done_stage Zeros Refused o = refl
+done_stage Zeros Unknown o = refl
+done_stage HeldZeros Done o = refl
+done_stage HeldZeros (Lent other m) o = cc
+done_stage HeldZeros Refused o = refl
+done_stage HeldZeros Unknown o = cc
+done_stage EqualZeros Done o = refl
+done_stage EqualZeros (Lent other m) o = cc
+done_stage EqualZeros Refused o = refl
+done_stage EqualZeros Unknown o = cc
+done_stage PuttingBack Done o = refl
+done_stage PuttingBack (Lent other m) o = cc
+done_stage PuttingBack Refused o = refl
+done_stage PuttingBack Unknown o = refl
 
 pub done_account : (belief : Belief) (outcome : Outcome) → is_outcome (due belief) outcome ≡ true → account (done_of belief outcome) ≡ account_then (due belief) outcome (account belief)
 done_account Private Done o = cc
@@ -150,3 +179,19 @@ done_account (Unreleased slot) Done o = refl
 done_account (Unreleased slot) (Lent other m) o = cc
 done_account (Unreleased slot) Refused o = refl
 done_account (Unreleased slot) Unknown o = refl
+done_account Zeros Done o = refl
+done_account Zeros (Lent other m) o = cc
+done_account Zeros Refused o = refl
+done_account Zeros Unknown o = refl
+done_account HeldZeros Done o = refl
+done_account HeldZeros (Lent other m) o = cc
+done_account HeldZeros Refused o = refl
+done_account HeldZeros Unknown o = cc
+done_account EqualZeros Done o = refl
+done_account EqualZeros (Lent other m) o = cc
+done_account EqualZeros Refused o = refl
+done_account EqualZeros Unknown o = cc
+done_account PuttingBack Done o = refl
+done_account PuttingBack (Lent other m) o = cc
+done_account PuttingBack Refused o = refl
+done_account PuttingBack Unknown o = refl

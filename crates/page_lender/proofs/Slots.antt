@@ -3,8 +3,8 @@ use Rattle.std.proofs.Common.{◌≡◌, ◌∙◌, ℕ, true, false, Option, So
 use Rattle.page_lender.specs.Decisions.{Account, Nothing, Has, Maybe, account, due}
 use Rattle.page_lender.specs.Slots.{NamesOwn, IsRightOf, KeepsAccount}
 use Rattle.page_lender.specs.declared.belief.Belief.{Belief}
-use Rattle.page_lender.specs.declared.belief.Belief.TheVariants.{Private, Chosen, Copied, Unanswered, Loaned, Held, Equal, LettingGo, Shown, Homing, Leaving, Unreleased}
-use Rattle.page_lender.specs.declared.order.Order.TheVariants.{Wait, Copy, Lend, FindLoan, Hold, Compare, Map, LetGo, CopyInPlace, TakeHome, Release, FindSlot}
+use Rattle.page_lender.specs.declared.belief.Belief.TheVariants.{Private, Chosen, Copied, Unanswered, Loaned, Held, Equal, LettingGo, Shown, Homing, Leaving, Unreleased, Zeros, HeldZeros, EqualZeros, PuttingBack}
+use Rattle.page_lender.specs.declared.order.Order.TheVariants.{Wait, Copy, Lend, FindLoan, Hold, Compare, Map, LetGo, CopyInPlace, TakeHome, Release, FindSlot, HoldZeros, CompareZeros, GiveBack, PutBack}
 use Rattle.page_lender.specs.declared.order.Outcome.TheVariants.{Done, Lent, Refused, Unknown}
 
 pub due_names : (belief : Belief) → NamesOwn (due belief) belief
@@ -21,6 +21,10 @@ due_names (Homing slot n true) = tt
 due_names (Homing slot n false) = tt
 due_names (Leaving slot) = refl
 due_names (Unreleased slot) = refl
+due_names Zeros = tt
+due_names HeldZeros = tt
+due_names EqualZeros = refl
+due_names PuttingBack = tt
 
 -- what the host has stays, and so does the account
 stays : (a : Account) (before after : Option ℕ) → IsRightOf a before → after ≡ before → IsRightOf a after
@@ -42,6 +46,10 @@ keeps_account belief (Map m) outcome before after n o r h = stays (account belie
 keeps_account belief LetGo outcome before after n o r h = stays (account belief) before after r h
 keeps_account belief CopyInPlace outcome before after n o r h = stays (account belief) before after r h
 keeps_account belief TakeHome outcome before after n o r h = stays (account belief) before after r h
+keeps_account belief HoldZeros outcome before after n o r h = stays (account belief) before after r h
+keeps_account belief CompareZeros outcome before after n o r h = stays (account belief) before after r h
+keeps_account belief GiveBack outcome before after n o r h = stays (account belief) before after r h
+keeps_account belief PutBack outcome before after n o r h = stays (account belief) before after r h
 keeps_account belief Lend Done before after n o r h = cc
 keeps_account belief Lend (Lent slot m) before after n o r h = h
 keeps_account belief Lend Refused before after n o r h = h ∙ is_this (account belief) Nothing before n r

@@ -5,7 +5,7 @@ use Rattle.window_events.specs.declared.page.Page.{Page}
 use Rattle.window_events.specs.declared.page.View.TheVariants.{Own, Over}
 use Rattle.page_lender.specs.Events.{Fits, Believes, DoneByEvents, StaysRight, HeardRightly}
 use Rattle.page_lender.specs.declared.belief.Belief.{Belief}
-use Rattle.page_lender.specs.declared.belief.Belief.TheVariants.{Private, Loaned, Held, Shown, Leaving}
+use Rattle.page_lender.specs.declared.belief.Belief.TheVariants.{Private, Loaned, Held, Shown, Leaving, Zeros, EqualZeros}
 use Rattle.page_lender.specs.declared.order.Order.TheVariants as Order
 use Rattle.page_lender.specs.declared.order.Outcome.TheVariants.{Done, Refused, Unknown}
 
@@ -37,40 +37,50 @@ of_one belief page b =
 
 pub releases_shown : DoneByEvents (Shown 7 0) (Order.Release 7) Done Private → ⊥
 releases_shown h =
-    let refused = (h (one bare) 0 false (believes (Shown 7 0) bare (record { holds = refl; view = refl; waits = λ e. refl })) tt).possible in
+    let refused = (h (one bare) 0 false (believes (Shown 7 0) bare (record { holds = refl; view = refl; waits = λ e. refl; copy = refl })) tt).possible in
     cc
 
 pub maps_uncompared : DoneByEvents (Held 7 0) (Order.Map 0) Done (Shown 7 0) → ⊥
 maps_uncompared h =
-    let refused = (h (one (own None true)) 0 false (believes (Held 7 0) (own None true) (record { holds = refl; view = refl; waits = λ e. cc })) refl).possible in
+    let refused = (h (one (own None true)) 0 false (believes (Held 7 0) (own None true) (record { holds = refl; view = refl; waits = λ e. cc; copy = refl })) refl).possible in
     cc
 
 pub leaves_held : DoneByEvents (Held 7 0) (Order.Compare 0) Refused (Leaving 7) → ⊥
 leaves_held h =
-    let right = (h (one (own None true)) 0 false (believes (Held 7 0) (own None true) (record { holds = refl; view = refl; waits = λ e. cc })) tt).right in
+    let right = (h (one (own None true)) 0 false (believes (Held 7 0) (own None true) (record { holds = refl; view = refl; waits = λ e. cc; copy = refl })) tt).right in
     let free : true ≡ false = (of_one (Leaving 7) (own None true) right).waits refl in
     cc
 
 pub doubts_no_hold : DoneByEvents (Loaned 7 0) Order.Hold Unknown (Leaving 7) → ⊥
 doubts_no_hold h =
-    let right = (h (one (own None false)) 0 true (believes (Loaned 7 0) (own None false) (record { holds = refl; view = refl; waits = λ e. refl })) tt).right in
+    let right = (h (one (own None false)) 0 true (believes (Loaned 7 0) (own None false) (record { holds = refl; view = refl; waits = λ e. refl; copy = refl })) tt).right in
     let free : true ≡ false = (of_one (Leaving 7) (own None true) right).waits refl in
     cc
 
 pub trusts_release : DoneByEvents (Leaving 7) (Order.Release 7) Unknown Private → ⊥
 trusts_release h =
-    let right = (h (one (own (Some 0) false)) 0 false (believes (Leaving 7) (own (Some 0) false) (record { holds = refl; view = refl; waits = λ e. refl })) tt).right in
+    let right = (h (one (own (Some 0) false)) 0 false (believes (Leaving 7) (own (Some 0) false) (record { holds = refl; view = refl; waits = λ e. refl; copy = refl })) tt).right in
     let held : frame_0 ≡ None = (of_one Private (own (Some 0) false) right).holds in
     cc
 
 pub sees_no_write : StaysRight (Shown 7 0) (Leaving 7) → ⊥
 sees_no_write h =
-    let right = h (one bare) 0 (believes (Shown 7 0) bare (record { holds = refl; view = refl; waits = λ e. refl })) in
+    let right = h (one bare) 0 (believes (Shown 7 0) bare (record { holds = refl; view = refl; waits = λ e. refl; copy = refl })) in
     let clear : false ≡ true = (of_one (Leaving 7) bare right).view in
     cc
 
 pub forgets_slot : HeardRightly (Shown 7 0) Private → ⊥
 forgets_slot h =
-    let right = h (one (own (Some 0) false)) 0 (believes (Shown 7 0) (own (Some 0) false) (record { holds = refl; view = refl; waits = λ e. refl })) refl in
+    let right = h (one (own (Some 0) false)) 0 (believes (Shown 7 0) (own (Some 0) false) (record { holds = refl; view = refl; waits = λ e. refl; copy = refl })) refl in
     let held : frame_0 ≡ None = (of_one Private (own (Some 0) false) right).holds in
+    cc
+
+-- no copy
+abbrev no_copy : Option ℕ
+no_copy = None
+
+pub takes_for_zeros : DoneByEvents Zeros Order.HoldZeros Done EqualZeros → ⊥
+takes_for_zeros h =
+    let right = (h (one (own None false)) 0 false (believes Zeros (own None false) (record { holds = refl; view = refl; waits = λ e. refl; copy = refl })) tt).right in
+    let copy : no_copy ≡ Some 0 = (of_one EqualZeros (own None true) right).copy in
     cc

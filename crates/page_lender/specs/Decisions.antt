@@ -2,9 +2,9 @@
 use Rattle.std.specs.Prelude.{◌≡◌, ℕ, Bool, true, false, not, ◌&&◌, ◌||◌, if◌then◌else◌, Option, Some, None}
 use Rattle.page_lender.specs.declared.bars.Bars.{Bars}
 use Rattle.page_lender.specs.declared.belief.Belief.{Belief}
-use Rattle.page_lender.specs.declared.belief.Belief.TheVariants.{Private, Chosen, Copied, Unanswered, Loaned, Held, Equal, LettingGo, Shown, Homing, Leaving, Unreleased}
+use Rattle.page_lender.specs.declared.belief.Belief.TheVariants.{Private, Chosen, Copied, Unanswered, Loaned, Held, Equal, LettingGo, Shown, Homing, Leaving, Unreleased, Zeros, HeldZeros, EqualZeros, PuttingBack}
 use Rattle.page_lender.specs.declared.order.Order.{Order}
-use Rattle.page_lender.specs.declared.order.Order.TheVariants.{Wait, Copy, Lend, FindLoan, Hold, Compare, Map, LetGo, CopyInPlace, TakeHome, Release, FindSlot}
+use Rattle.page_lender.specs.declared.order.Order.TheVariants.{Wait, Copy, Lend, FindLoan, Hold, Compare, Map, LetGo, CopyInPlace, TakeHome, Release, FindSlot, HoldZeros, CompareZeros, GiveBack, PutBack}
 use Rattle.page_lender.specs.declared.order.Outcome.{Outcome}
 use Rattle.page_lender.specs.declared.order.Outcome.TheVariants.{Done, Lent, Refused, Unknown}
 use Rattle.page_lender.specs.declared.page.PageLender.{PageLender}
@@ -24,6 +24,10 @@ due (Homing slot n true) = CopyInPlace
 due (Homing slot n false) = TakeHome
 due (Leaving slot) = Release slot
 due (Unreleased slot) = FindSlot slot
+due Zeros = HoldZeros
+due HeldZeros = CompareZeros
+due EqualZeros = GiveBack
+due PuttingBack = PutBack
 
 -- nothing is lent, and nothing is asked
 abbrev pub is_private : Belief → Bool
@@ -39,6 +43,10 @@ is_private (Shown slot n) = false
 is_private (Homing slot n in_place) = false
 is_private (Leaving slot) = false
 is_private (Unreleased slot) = false
+is_private Zeros = false
+is_private HeldZeros = false
+is_private EqualZeros = false
+is_private PuttingBack = false
 
 -- writes to the page may wait
 abbrev pub waiting : Belief → Bool
@@ -54,6 +62,10 @@ waiting (Shown slot n) = false
 waiting (Homing slot n in_place) = false
 waiting (Leaving slot) = false
 waiting (Unreleased slot) = false
+waiting Zeros = false
+waiting HeldZeros = true
+waiting EqualZeros = true
+waiting PuttingBack = true
 
 -- the page may show a frame itself
 abbrev pub shows : Belief → Bool
@@ -69,6 +81,10 @@ shows (Shown slot n) = true
 shows (Homing slot n in_place) = true
 shows (Leaving slot) = false
 shows (Unreleased slot) = false
+shows Zeros = false
+shows HeldZeros = false
+shows EqualZeros = false
+shows PuttingBack = false
 
 -- the order is carried out at the page, and not at the host alone
 abbrev pub touches : Order → Bool
@@ -84,8 +100,12 @@ touches CopyInPlace = true
 touches TakeHome = true
 touches (Release slot) = false
 touches (FindSlot slot) = false
+touches HoldZeros = true
+touches CompareZeros = true
+touches GiveBack = true
+touches PutBack = true
 
--- the order leads on to showing a frame
+-- the order leads on to showing a frame, or to giving memory back
 abbrev pub leads : Order → Bool
 leads Wait = false
 leads Copy = true
@@ -99,6 +119,10 @@ leads CopyInPlace = false
 leads TakeHome = false
 leads (Release slot) = false
 leads (FindSlot slot) = false
+leads HoldZeros = true
+leads CompareZeros = true
+leads GiveBack = true
+leads PutBack = false
 
 -- an order that was given
 abbrev pub is_given : Order → Bool
@@ -114,6 +138,10 @@ is_given CopyInPlace = true
 is_given TakeHome = true
 is_given (Release slot) = true
 is_given (FindSlot slot) = true
+is_given HoldZeros = true
+is_given CompareZeros = true
+is_given GiveBack = true
+is_given PutBack = true
 
 -- the order gives a page other memory
 abbrev pub moves : Order → Bool
@@ -129,6 +157,10 @@ moves CopyInPlace = false
 moves TakeHome = true
 moves (Release slot) = false
 moves (FindSlot slot) = false
+moves HoldZeros = false
+moves CompareZeros = false
+moves GiveBack = true
+moves PutBack = false
 
 -- something keeps the page from being lent
 abbrev pub is_barred : Bars → Bool
@@ -152,6 +184,10 @@ prepared bars (Shown slot n) = if must_own bars then Homing slot n bars.pinned e
 prepared bars (Homing slot n in_place) = if must_own bars then Homing slot n bars.pinned else Shown slot n
 prepared bars (Leaving slot) = Leaving slot
 prepared bars (Unreleased slot) = Unreleased slot
+prepared bars Zeros = if is_barred bars then Private else Zeros
+prepared bars HeldZeros = if is_barred bars then PuttingBack else HeldZeros
+prepared bars EqualZeros = if is_barred bars then PuttingBack else EqualZeros
+prepared bars PuttingBack = PuttingBack
 
 -- an order that touches the page is open
 abbrev pub is_busy : PageLender → Bool
@@ -179,6 +215,10 @@ can_be_done CopyInPlace = true
 can_be_done TakeHome = true
 can_be_done (Release slot) = true
 can_be_done (FindSlot slot) = true
+can_be_done HoldZeros = true
+can_be_done CompareZeros = true
+can_be_done GiveBack = true
+can_be_done PutBack = true
 
 -- the order may bring a loan
 abbrev pub can_bring : Order → Bool
@@ -194,6 +234,10 @@ can_bring CopyInPlace = false
 can_bring TakeHome = false
 can_bring (Release slot) = false
 can_bring (FindSlot slot) = false
+can_bring HoldZeros = false
+can_bring CompareZeros = false
+can_bring GiveBack = false
+can_bring PutBack = false
 
 -- what came of the order may be unknown: a copy to the buffer, a comparison and a mapping are done or not
 abbrev pub can_be_unknown : Order → Bool
@@ -209,6 +253,10 @@ can_be_unknown CopyInPlace = true
 can_be_unknown TakeHome = true
 can_be_unknown (Release slot) = true
 can_be_unknown (FindSlot slot) = true
+can_be_unknown HoldZeros = true
+can_be_unknown CompareZeros = false
+can_be_unknown GiveBack = false
+can_be_unknown PutBack = true
 
 -- the outcome is one of the order's
 abbrev pub is_outcome : Order → Outcome → Bool
@@ -231,6 +279,10 @@ pub data Stage : Type 0 where
   AtHoming : Stage
   AtLeaving : Stage
   AtUnreleased : Stage
+  AtZeros : Stage
+  AtHeldZeros : Stage
+  AtEqualZeros : Stage
+  AtPuttingBack : Stage
 
 abbrev pub stage_of : Belief → Stage
 stage_of Private = AtPrivate
@@ -245,6 +297,10 @@ stage_of (Shown slot n) = AtShown
 stage_of (Homing slot n in_place) = AtHoming
 stage_of (Leaving slot) = AtLeaving
 stage_of (Unreleased slot) = AtUnreleased
+stage_of Zeros = AtZeros
+stage_of HeldZeros = AtHeldZeros
+stage_of EqualZeros = AtEqualZeros
+stage_of PuttingBack = AtPuttingBack
 
 -- where a page is once the order was done
 abbrev pub aim : Order → Stage
@@ -260,6 +316,10 @@ aim CopyInPlace = AtLeaving
 aim TakeHome = AtLeaving
 aim (Release slot) = AtPrivate
 aim (FindSlot slot) = AtPrivate
+aim HoldZeros = AtHeldZeros
+aim CompareZeros = AtEqualZeros
+aim GiveBack = AtPrivate
+aim PutBack = AtPrivate
 
 -- where it is if the order was refused
 abbrev pub fallback : Order → Stage
@@ -275,6 +335,10 @@ fallback CopyInPlace = AtShown
 fallback TakeHome = AtShown
 fallback (Release slot) = AtLeaving
 fallback (FindSlot slot) = AtLeaving
+fallback HoldZeros = AtPrivate
+fallback CompareZeros = AtPuttingBack
+fallback GiveBack = AtPuttingBack
+fallback PutBack = AtPuttingBack
 
 -- where it is if nothing is known of the order
 abbrev pub doubt : Order → Stage
@@ -290,6 +354,10 @@ doubt CopyInPlace = AtShown
 doubt TakeHome = AtShown
 doubt (Release slot) = AtUnreleased
 doubt (FindSlot slot) = AtUnreleased
+doubt HoldZeros = AtPuttingBack
+doubt CompareZeros = AtPuttingBack
+doubt GiveBack = AtPuttingBack
+doubt PutBack = AtPuttingBack
 
 -- where an outcome of an order leads to
 abbrev pub led_to : Order → Outcome → Stage
@@ -318,6 +386,10 @@ account (Shown slot n) = Has slot
 account (Homing slot n in_place) = Has slot
 account (Leaving slot) = Has slot
 account (Unreleased slot) = Maybe slot
+account Zeros = Nothing
+account HeldZeros = Nothing
+account EqualZeros = Nothing
+account PuttingBack = Nothing
 
 -- what the host has once a loan that was asked for has this outcome
 abbrev pub lent_then : Outcome → Account → Account
@@ -347,6 +419,10 @@ account_then CopyInPlace outcome old = old
 account_then TakeHome outcome old = old
 account_then (Release slot) outcome old = released_then slot outcome old
 account_then (FindSlot slot) outcome old = released_then slot outcome old
+account_then HoldZeros outcome old = old
+account_then CompareZeros outcome old = old
+account_then GiveBack outcome old = old
+account_then PutBack outcome old = old
 
 -- the slot and the frame of a loan that is used, or is to be
 abbrev pub loan_of : Belief → Option (ℕ × ℕ)
@@ -362,6 +438,10 @@ loan_of (Shown slot n) = Some (slot, n)
 loan_of (Homing slot n in_place) = Some (slot, n)
 loan_of (Leaving slot) = None
 loan_of (Unreleased slot) = None
+loan_of Zeros = None
+loan_of HeldZeros = None
+loan_of EqualZeros = None
+loan_of PuttingBack = None
 
 -- the loan that is known after this outcome
 abbrev pub granted : Outcome → Option (ℕ × ℕ) → Option (ℕ × ℕ)

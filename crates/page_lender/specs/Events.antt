@@ -2,7 +2,7 @@
 use Rattle.std.specs.Prelude.{◌≡◌, ℕ, ◌==◌, Bool, true, false, not, List, [], ◌∷◌, Option, Some, None, unwrap_or, slice_get}
 use Rattle.page_lender.specs.Decisions.{waiting}
 use Rattle.page_lender.specs.declared.belief.Belief.{Belief}
-use Rattle.page_lender.specs.declared.belief.Belief.TheVariants.{Private, Chosen, Copied, Unanswered, Loaned, Held, Equal, LettingGo, Shown, Homing, Leaving, Unreleased}
+use Rattle.page_lender.specs.declared.belief.Belief.TheVariants.{Private, Chosen, Copied, Unanswered, Loaned, Held, Equal, LettingGo, Shown, Homing, Leaving, Unreleased, Zeros, HeldZeros, EqualZeros, PuttingBack}
 use Rattle.page_lender.specs.declared.order.Order.{Order}
 use Rattle.page_lender.specs.declared.order.Outcome.{Outcome}
 use Rattle.page_lender.specs.declared.order.Outcome.TheVariants.{Done, Lent, Refused, Unknown}
@@ -28,6 +28,10 @@ kept (Shown slot n) held = Some n
 kept (Homing slot n in_place) held = Some n
 kept (Leaving slot) held = held
 kept (Unreleased slot) held = held
+kept Zeros held = None
+kept HeldZeros held = None
+kept EqualZeros held = None
+kept PuttingBack held = None
 
 -- no frame itself is shown but this one
 abbrev pub only_frame : ℕ → View → Bool
@@ -49,12 +53,36 @@ seen (Shown slot n) view = only_frame n view
 seen (Homing slot n in_place) view = only_frame n view
 seen (Leaving slot) view = not (is_bare view)
 seen (Unreleased slot) view = not (is_bare view)
+seen Zeros view = not (is_bare view)
+seen HeldZeros view = not (is_bare view)
+seen EqualZeros view = not (is_bare view)
+seen PuttingBack view = not (is_bare view)
+
+-- the copy that the page has, where it was found to be zeros
+abbrev pub kept_copy : Belief → Option ℕ → Option ℕ
+kept_copy Private copy = copy
+kept_copy Chosen copy = copy
+kept_copy Copied copy = copy
+kept_copy Unanswered copy = copy
+kept_copy (Loaned slot n) copy = copy
+kept_copy (Held slot n) copy = copy
+kept_copy (Equal slot n) copy = copy
+kept_copy (LettingGo slot) copy = copy
+kept_copy (Shown slot n) copy = copy
+kept_copy (Homing slot n in_place) copy = copy
+kept_copy (Leaving slot) copy = copy
+kept_copy (Unreleased slot) copy = copy
+kept_copy Zeros copy = copy
+kept_copy HeldZeros copy = copy
+kept_copy EqualZeros copy = Some 0
+kept_copy PuttingBack copy = copy
 
 -- What is believed is right of the page. A guard may have gone where writes are believed to wait, since a page may be given up at any time.
 pub record Fits (belief : Belief) (page : Page) : Type 0 where
   pub holds : page.held ≡ kept belief page.held
   pub view : seen belief page.view ≡ true
   pub waits : waiting belief ≡ false → page.guarded ≡ false
+  pub copy : page.copy ≡ kept_copy belief page.copy
 
 -- what is believed is right of page p
 pub record Believes (belief : Belief) (w : Mappings) (p : ℕ) : Type 0 where
@@ -76,6 +104,10 @@ done_events p x Order.CopyInPlace = Write p x ∷ []
 done_events p x Order.TakeHome = Write p x ∷ []
 done_events p x (Order.Release slot) = Release p ∷ []
 done_events p x (Order.FindSlot slot) = Release p ∷ []
+done_events p x Order.HoldZeros = Guard p ∷ []
+done_events p x Order.CompareZeros = Copy p ∷ []
+done_events p x Order.GiveBack = Discard p ∷ []
+done_events p x Order.PutBack = Unguard p ∷ []
 
 -- the same if it was done
 abbrev pub events_if : Bool → ℕ → ℕ → Order → List Event
@@ -89,8 +121,8 @@ events_of p x order (Lent slot n) was_done = []
 events_of p x order Refused was_done = []
 events_of p x order Unknown was_done = events_if was_done p x order
 
--- what is known where an order was done: a page that was compared was guarded, and equal to its frame; the guard of one that was mapped
--- stood since
+-- what is known where an order was done: a page that was compared was guarded, and equal to its frame or to zeros; the guard of one that was
+-- mapped or given back stood since
 abbrev pub Done_is_true : Order → Mappings → Page → Type 0
 Done_is_true Order.Wait w page = Unit {0}
 Done_is_true Order.Copy w page = Unit {0}
@@ -104,6 +136,10 @@ Done_is_true Order.CopyInPlace w page = Unit {0}
 Done_is_true Order.TakeHome w page = Unit {0}
 Done_is_true (Order.Release slot) w page = Unit {0}
 Done_is_true (Order.FindSlot slot) w page = Unit {0}
+Done_is_true Order.HoldZeros w page = Unit {0}
+Done_is_true Order.CompareZeros w page = (page.guarded ≡ true) × (shown_in w.frames page.view ≡ 0)
+Done_is_true Order.GiveBack w page = page.copy_fresh ≡ true
+Done_is_true Order.PutBack w page = Unit {0}
 
 abbrev pub IsTold : Order → Outcome → Mappings → Page → Type 0
 IsTold order Done w page = Done_is_true order w page

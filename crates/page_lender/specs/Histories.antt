@@ -2,7 +2,7 @@
 use Rattle.std.specs.Prelude.{◌≡◌, ℕ, Bool, true, false, List, [], ◌∷◌, Some, None, unwrap_or, slice_get}
 use Rattle.page_lender.specs.Events.{Believes, IsTold, events_of, DoneByEvents, StaysRight, HeardRightly, is_of, is_guests}
 use Rattle.page_lender.specs.declared.belief.Belief.{Belief}
-use Rattle.page_lender.specs.declared.belief.Belief.TheVariants.{Private}
+use Rattle.page_lender.specs.declared.belief.Belief.TheVariants.{Private, EqualZeros}
 use Rattle.page_lender.specs.declared.order.Order.{Order}
 use Rattle.page_lender.specs.declared.order.Outcome.{Outcome}
 use Rattle.window_events.specs.Windows.{Mappings, shown_in, is_bare, start, step, run, shown}
@@ -70,9 +70,28 @@ EveryHistoryIsPossible =
 abbrev pub BeginsPrivate : Type 0
 BeginsPrivate = (contents frames : List ℕ) (p : ℕ) (page : Page) → slice_get (start contents frames).pages p ≡ Some page → Believes Private (start contents frames) p
 
+-- what is known of a page whose memory is given back: it was rightly believed to be zeros, and its guard stood since
+abbrev pub IsKnown : Order → Mappings → ℕ → Page → Type 0
+IsKnown Order.Wait w p page = Unit {0}
+IsKnown Order.Copy w p page = Unit {0}
+IsKnown Order.Lend w p page = Unit {0}
+IsKnown Order.FindLoan w p page = Unit {0}
+IsKnown Order.Hold w p page = Unit {0}
+IsKnown (Order.Compare n) w p page = Unit {0}
+IsKnown (Order.Map n) w p page = Unit {0}
+IsKnown Order.LetGo w p page = Unit {0}
+IsKnown Order.CopyInPlace w p page = Unit {0}
+IsKnown Order.TakeHome w p page = Unit {0}
+IsKnown (Order.Release slot) w p page = Unit {0}
+IsKnown (Order.FindSlot slot) w p page = Unit {0}
+IsKnown Order.HoldZeros w p page = Unit {0}
+IsKnown Order.CompareZeros w p page = Unit {0}
+IsKnown Order.GiveBack w p page = Believes EqualZeros w p × (page.copy_fresh ≡ true)
+IsKnown Order.PutBack w p page = Unit {0}
+
 -- After any events from the start on: no outcome's events change what the page shows.
 abbrev pub NeverSeen : Type 0
 NeverSeen =
     (es : List Event) (contents frames : List ℕ) (p : ℕ) (page : Page) (order : Order) (outcome : Outcome) (was_done : Bool) →
     let w : Mappings = run step (start contents frames) es in
-    slice_get w.pages p ≡ Some page → shown (played w (events_of p (shown_in w.frames page.view) order outcome was_done)) p ≡ shown w p
+    slice_get w.pages p ≡ Some page → IsKnown order w p page → shown (played w (events_of p (shown_in w.frames page.view) order outcome was_done)) p ≡ shown w p

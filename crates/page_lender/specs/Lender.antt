@@ -1,7 +1,7 @@
 -- What is believed of a page after each outcome and notice.
 use Rattle.std.specs.Prelude.{ℕ}
 use Rattle.page_lender.specs.declared.belief.Belief.{Belief}
-use Rattle.page_lender.specs.declared.belief.Belief.TheVariants.{Private, Chosen, Copied, Unanswered, Loaned, Held, Equal, LettingGo, Shown, Homing, Leaving, Unreleased}
+use Rattle.page_lender.specs.declared.belief.Belief.TheVariants.{Private, Chosen, Copied, Unanswered, Loaned, Held, Equal, LettingGo, Shown, Homing, Leaving, Unreleased, Zeros, HeldZeros, EqualZeros, PuttingBack}
 use Rattle.page_lender.specs.declared.order.Outcome.{Outcome}
 use Rattle.page_lender.specs.declared.order.Outcome.TheVariants.{Done, Lent, Refused, Unknown}
 use Rattle.page_lender.specs.declared.order.Notice.{Notice}
@@ -21,6 +21,10 @@ obeyed (Shown slot n) = Shown slot n
 obeyed (Homing slot n in_place) = Leaving slot
 obeyed (Leaving slot) = Private
 obeyed (Unreleased slot) = Private
+obeyed Zeros = HeldZeros
+obeyed HeldZeros = EqualZeros
+obeyed EqualZeros = Private
+obeyed PuttingBack = Private
 
 -- the host gave a slot with a frame
 abbrev pub given : Belief → ℕ → ℕ → Belief
@@ -36,6 +40,10 @@ given (Shown old m) slot n = Shown old m
 given (Homing old m in_place) slot n = Homing old m in_place
 given (Leaving old) slot n = Leaving old
 given (Unreleased old) slot n = Unreleased old
+given Zeros slot n = Zeros
+given HeldZeros slot n = HeldZeros
+given EqualZeros slot n = EqualZeros
+given PuttingBack slot n = PuttingBack
 
 -- the order wasn't done
 abbrev pub refused : Belief → Belief
@@ -51,6 +59,10 @@ refused (Shown slot n) = Shown slot n
 refused (Homing slot n in_place) = Shown slot n
 refused (Leaving slot) = Leaving slot
 refused (Unreleased slot) = Leaving slot
+refused Zeros = Private
+refused HeldZeros = PuttingBack
+refused EqualZeros = PuttingBack
+refused PuttingBack = PuttingBack
 
 -- nothing is known of the order
 abbrev pub doubted : Belief → Belief
@@ -66,6 +78,10 @@ doubted (Shown slot n) = Shown slot n
 doubted (Homing slot n in_place) = Shown slot n
 doubted (Leaving slot) = Unreleased slot
 doubted (Unreleased slot) = Unreleased slot
+doubted Zeros = PuttingBack
+doubted HeldZeros = HeldZeros
+doubted EqualZeros = EqualZeros
+doubted PuttingBack = PuttingBack
 
 -- a copy over the frame was found
 abbrev pub written_of : Belief → Belief
@@ -81,6 +97,10 @@ written_of (Shown slot n) = Leaving slot
 written_of (Homing slot n in_place) = Leaving slot
 written_of (Leaving slot) = Leaving slot
 written_of (Unreleased slot) = Unreleased slot
+written_of Zeros = Zeros
+written_of HeldZeros = HeldZeros
+written_of EqualZeros = EqualZeros
+written_of PuttingBack = PuttingBack
 
 -- the page was given up
 abbrev pub discarded_of : Belief → Belief
@@ -96,6 +116,10 @@ discarded_of (Shown slot n) = Leaving slot
 discarded_of (Homing slot n in_place) = Leaving slot
 discarded_of (Leaving slot) = Leaving slot
 discarded_of (Unreleased slot) = Unreleased slot
+discarded_of Zeros = Private
+discarded_of HeldZeros = PuttingBack
+discarded_of EqualZeros = PuttingBack
+discarded_of PuttingBack = PuttingBack
 
 -- after an outcome of the order that was due
 abbrev pub done_of : Belief → Outcome → Belief

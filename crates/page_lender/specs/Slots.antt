@@ -2,9 +2,9 @@
 use Rattle.std.specs.Prelude.{◌≡◌, ℕ, true, Option, Some, None}
 use Rattle.page_lender.specs.Decisions.{Account, Nothing, Perhaps, Has, Maybe, account, account_then, is_outcome}
 use Rattle.page_lender.specs.declared.belief.Belief.{Belief}
-use Rattle.page_lender.specs.declared.belief.Belief.TheVariants.{Private, Chosen, Copied, Unanswered, Loaned, Held, Equal, LettingGo, Shown, Homing, Leaving, Unreleased}
+use Rattle.page_lender.specs.declared.belief.Belief.TheVariants.{Private, Chosen, Copied, Unanswered, Loaned, Held, Equal, LettingGo, Shown, Homing, Leaving, Unreleased, Zeros, HeldZeros, EqualZeros, PuttingBack}
 use Rattle.page_lender.specs.declared.order.Order.{Order}
-use Rattle.page_lender.specs.declared.order.Order.TheVariants.{Wait, Copy, Lend, FindLoan, Hold, Compare, Map, LetGo, CopyInPlace, TakeHome, Release, FindSlot}
+use Rattle.page_lender.specs.declared.order.Order.TheVariants.{Wait, Copy, Lend, FindLoan, Hold, Compare, Map, LetGo, CopyInPlace, TakeHome, Release, FindSlot, HoldZeros, CompareZeros, GiveBack, PutBack}
 use Rattle.page_lender.specs.declared.order.Outcome.{Outcome}
 use Rattle.page_lender.specs.declared.order.Outcome.TheVariants.{Done, Lent, Refused, Unknown}
 
@@ -22,8 +22,13 @@ frame_of (Shown slot n) = Some n
 frame_of (Homing slot n in_place) = Some n
 frame_of (Leaving slot) = None
 frame_of (Unreleased slot) = None
+frame_of Zeros = None
+frame_of HeldZeros = None
+frame_of EqualZeros = None
+frame_of PuttingBack = None
 
--- An order names what is the page's own: a loan is asked for where the host has nothing, and a slot is released that the host has.
+-- An order names what is the page's own: a loan is asked for where the host has nothing, and a slot is released that the host has. Memory is
+-- given back only of a page that was compared with zeros.
 abbrev pub NamesOwn : Order → Belief → Type 0
 NamesOwn Wait belief = Unit {0}
 NamesOwn Copy belief = Unit {0}
@@ -37,6 +42,10 @@ NamesOwn CopyInPlace belief = Unit {0}
 NamesOwn TakeHome belief = Unit {0}
 NamesOwn (Release slot) belief = account belief ≡ Has slot
 NamesOwn (FindSlot slot) belief = account belief ≡ Maybe slot
+NamesOwn HoldZeros belief = Unit {0}
+NamesOwn CompareZeros belief = Unit {0}
+NamesOwn GiveBack belief = belief ≡ EqualZeros
+NamesOwn PutBack belief = Unit {0}
 
 -- the account is right of the slot that the host has for the page, if it has one
 abbrev pub IsRightOf : Account → Option ℕ → Type 0
@@ -87,6 +96,10 @@ HostDoes CopyInPlace outcome before after = after ≡ before
 HostDoes TakeHome outcome before after = after ≡ before
 HostDoes (Release slot) outcome before after = ReleasesSlot outcome before after
 HostDoes (FindSlot slot) outcome before after = FindsSlot slot outcome before after
+HostDoes HoldZeros outcome before after = after ≡ before
+HostDoes CompareZeros outcome before after = after ≡ before
+HostDoes GiveBack outcome before after = after ≡ before
+HostDoes PutBack outcome before after = after ≡ before
 
 -- Where an order named the page's own, the account stays right of what the host has.
 abbrev pub KeepsAccount : Type 0

@@ -22,6 +22,10 @@ impl Order {
             Order::TakeHome => true,
             Order::Release(_) => false,
             Order::FindSlot(_) => false,
+            Order::HoldZeros => true,
+            Order::CompareZeros => true,
+            Order::GiveBack => true,
+            Order::PutBack => true,
         }
     }
 
@@ -42,6 +46,10 @@ impl Order {
             Order::TakeHome => true,
             Order::Release(_) => true,
             Order::FindSlot(_) => true,
+            Order::HoldZeros => true,
+            Order::CompareZeros => true,
+            Order::GiveBack => true,
+            Order::PutBack => true,
         }
     }
 
@@ -62,6 +70,10 @@ impl Order {
             Order::TakeHome => false,
             Order::Release(_) => false,
             Order::FindSlot(_) => false,
+            Order::HoldZeros => false,
+            Order::CompareZeros => false,
+            Order::GiveBack => false,
+            Order::PutBack => false,
         }
     }
 
@@ -82,6 +94,10 @@ impl Order {
             Order::TakeHome => true,
             Order::Release(_) => true,
             Order::FindSlot(_) => true,
+            Order::HoldZeros => true,
+            Order::CompareZeros => false,
+            Order::GiveBack => false,
+            Order::PutBack => true,
         }
     }
 
@@ -114,6 +130,10 @@ impl Order {
             Order::TakeHome => true,
             Order::Release(_) => true,
             Order::FindSlot(_) => true,
+            Order::HoldZeros => true,
+            Order::CompareZeros => true,
+            Order::GiveBack => true,
+            Order::PutBack => true,
         }
     }
 }

@@ -27,4 +27,12 @@ pub enum Belief {
     Leaving(u32),
     /// A release of this slot was sent, and no answer came: the host may have it still.
     Unreleased(u32),
+    /// Its memory is to be given back, if it is zeros.
+    Zeros,
+    /// The same, and writes wait.
+    HeldZeros,
+    /// It was zeros, and writes wait still.
+    EqualZeros,
+    /// It isn't to be given back, and writes may wait still.
+    PuttingBack,
 }

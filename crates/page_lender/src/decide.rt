@@ -38,6 +38,10 @@ impl Belief {
             Belief::Homing(_, _, _) => false,
             Belief::Leaving(_) => false,
             Belief::Unreleased(_) => false,
+            Belief::Zeros => false,
+            Belief::HeldZeros => false,
+            Belief::EqualZeros => false,
+            Belief::PuttingBack => false,
         }
     }
 
@@ -59,6 +63,10 @@ impl Belief {
             Belief::Homing(_, _, false) => Order::TakeHome,
             Belief::Leaving(slot) => Order::Release(slot),
             Belief::Unreleased(slot) => Order::FindSlot(slot),
+            Belief::Zeros => Order::HoldZeros,
+            Belief::HeldZeros => Order::CompareZeros,
+            Belief::EqualZeros => Order::GiveBack,
+            Belief::PuttingBack => Order::PutBack,
         }
     }
 
@@ -79,6 +87,10 @@ impl Belief {
             Belief::Homing(_, _, _) => false,
             Belief::Leaving(_) => false,
             Belief::Unreleased(_) => false,
+            Belief::Zeros => false,
+            Belief::HeldZeros => true,
+            Belief::EqualZeros => true,
+            Belief::PuttingBack => true,
         }
     }
 
@@ -99,6 +111,10 @@ impl Belief {
             Belief::Homing(_, _, _) => true,
             Belief::Leaving(_) => false,
             Belief::Unreleased(_) => false,
+            Belief::Zeros => false,
+            Belief::HeldZeros => false,
+            Belief::EqualZeros => false,
+            Belief::PuttingBack => false,
         }
     }
 
@@ -141,6 +157,18 @@ impl Belief {
             },
             Belief::Leaving(slot) => Belief::Leaving(slot),
             Belief::Unreleased(slot) => Belief::Unreleased(slot),
+            Belief::Zeros => if any { Belief::Private } else { Belief::Zeros },
+            Belief::HeldZeros => if any {
+                Belief::PuttingBack
+            } else {
+                Belief::HeldZeros
+            },
+            Belief::EqualZeros => if any {
+                Belief::PuttingBack
+            } else {
+                Belief::EqualZeros
+            },
+            Belief::PuttingBack => Belief::PuttingBack,
         }
     }
 }

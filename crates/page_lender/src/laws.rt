@@ -22,7 +22,8 @@ pub fn history_law()
     ensures possible { EveryHistoryIsPossible }
 {}
 
-/// Whatever came before, and whatever comes of an order: what the page shows stays as it is. So no guest sees what its lender does.
+/// Whatever came before, and whatever comes of an order: what the page shows stays as it is. So no guest sees what its lender does. Of
+/// memory that is given back it is taken for granted that the page was rightly believed to be zeros, and that its guard stood since.
 pub fn unseen_law()
     ensures { NeverSeen }
 {}
@@ -35,7 +36,7 @@ pub fn slots_law()
 
 /// Lenders that the clauses on events refuse: one that releases a page that shows its frame; that maps a page it didn't compare; that
 /// forgets to let go of a page that differs, or that may be held; that takes a release for done of which it knows nothing; that takes a
-/// shown page for written; and that forgets the slot of a page that was given up.
+/// shown page for written; that takes a page for zeros that it didn't compare; and that forgets the slot of a page that was given up.
 pub fn wrong_lenders()
     ensures releases_shown { DoneByEvents (Belief.Shown 7 0) (Order.Release 7) Outcome.Done Belief.Private → ⊥ }
     ensures maps_uncompared { DoneByEvents (Belief.Held 7 0) (Order.Map 0) Outcome.Done (Belief.Shown 7 0) → ⊥ }
@@ -43,5 +44,6 @@ pub fn wrong_lenders()
     ensures doubts_no_hold { DoneByEvents (Belief.Loaned 7 0) Order.Hold Outcome.Unknown (Belief.Leaving 7) → ⊥ }
     ensures trusts_release { DoneByEvents (Belief.Leaving 7) (Order.Release 7) Outcome.Unknown Belief.Private → ⊥ }
     ensures sees_no_write { StaysRight (Belief.Shown 7 0) (Belief.Leaving 7) → ⊥ }
+    ensures takes_for_zeros { DoneByEvents Belief.Zeros Order.HoldZeros Outcome.Done Belief.EqualZeros → ⊥ }
     ensures forgets_slot { HeardRightly (Belief.Shown 7 0) Belief.Private → ⊥ }
 {}

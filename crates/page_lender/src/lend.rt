@@ -32,6 +32,13 @@ impl PageLender {
         }
     }
 
+    // Returns whether the page can be chosen: it is private, and nothing keeps it from being lent.
+    fn is_free(&self) -> bool
+        ensures { result ≡ (is_private self.now.belief && not (is_barred self.now.bars)) }
+    {
+        self.belief.is_private() && !self.bars.any()
+    }
+
     /// Chooses the page to be lent, and returns whether it can be: it is private, and nothing keeps it from being lent.
     pub fn choose(&mut self) -> bool
         ensures chosen { result ≡ (is_private self.old.belief && not (is_barred self.old.bars)) }
@@ -40,15 +47,31 @@ impl PageLender {
         ensures bars { self.new.bars ≡ self.old.bars }
         ensures right { StaysRight self.old.belief self.new.belief }
     {
-        if !self.belief.is_private() || self.bars.any() {
+        if !self.is_free() {
             return false;
         }
         self.belief = Belief::Chosen;
         true
     }
 
-    /// Returns what to do next with the page: one order at a time, and none that leads to showing a frame while something keeps the
-    /// page from being lent.
+    /// Chooses the page's memory to be given back if it is zeros, and returns whether it can be: it is private, and nothing keeps it
+    /// from being lent.
+    pub fn choose_zeros(&mut self) -> bool
+        ensures chosen { result ≡ (is_private self.old.belief && not (is_barred self.old.bars)) }
+        ensures belief { self.new.belief ≡ (if result then Belief.Zeros else self.old.belief) }
+        ensures ordered { self.new.ordered ≡ self.old.ordered }
+        ensures bars { self.new.bars ≡ self.old.bars }
+        ensures right { StaysRight self.old.belief self.new.belief }
+    {
+        if !self.is_free() {
+            return false;
+        }
+        self.belief = Belief::Zeros;
+        true
+    }
+
+    /// Returns what to do next with the page: one order at a time, and none that leads to showing a frame or to giving memory back
+    /// while something keeps the page from being lent.
     pub fn next(&mut self) -> Order
         ensures one { self.old.ordered ≡ true → (result ≡ Order.Wait) × (self.new ≡ self.old) }
         ensures belief { self.old.ordered ≡ false → self.new.belief ≡ prepared self.old.bars self.old.belief }

@@ -22,6 +22,10 @@ impl Belief {
             Belief::Homing(slot, _, _) => Belief::Leaving(slot),
             Belief::Leaving(slot) => Belief::Leaving(slot),
             Belief::Unreleased(slot) => Belief::Unreleased(slot),
+            Belief::Zeros => Belief::Zeros,
+            Belief::HeldZeros => Belief::HeldZeros,
+            Belief::EqualZeros => Belief::EqualZeros,
+            Belief::PuttingBack => Belief::PuttingBack,
         }
     }
 
@@ -42,6 +46,10 @@ impl Belief {
             Belief::Homing(slot, _, _) => Belief::Leaving(slot),
             Belief::Leaving(slot) => Belief::Leaving(slot),
             Belief::Unreleased(slot) => Belief::Unreleased(slot),
+            Belief::Zeros => Belief::Private,
+            Belief::HeldZeros => Belief::PuttingBack,
+            Belief::EqualZeros => Belief::PuttingBack,
+            Belief::PuttingBack => Belief::PuttingBack,
         }
     }
 }

@@ -27,6 +27,14 @@ pub enum Order {
     Release(u32),
     /// Find out whether the host still has this slot.
     FindSlot(u32),
+    /// Let writes wait, since it may be zeros.
+    HoldZeros,
+    /// Compare it with zeros.
+    CompareZeros,
+    /// Give its memory back to the system, which leaves zeros, and let writes wait no longer.
+    GiveBack,
+    /// Let writes wait no longer: it keeps its memory.
+    PutBack,
 }
 
 /// What came of an order.

@@ -34,6 +34,10 @@ impl Belief {
             Belief::Homing(slot, _, _) => Belief::Leaving(slot),
             Belief::Leaving(_) => Belief::Private,
             Belief::Unreleased(_) => Belief::Private,
+            Belief::Zeros => Belief::HeldZeros,
+            Belief::HeldZeros => Belief::EqualZeros,
+            Belief::EqualZeros => Belief::Private,
+            Belief::PuttingBack => Belief::Private,
         }
     }
 
@@ -54,6 +58,10 @@ impl Belief {
             Belief::Homing(old, place, stays) => Belief::Homing(old, place, stays),
             Belief::Leaving(old) => Belief::Leaving(old),
             Belief::Unreleased(old) => Belief::Unreleased(old),
+            Belief::Zeros => Belief::Zeros,
+            Belief::HeldZeros => Belief::HeldZeros,
+            Belief::EqualZeros => Belief::EqualZeros,
+            Belief::PuttingBack => Belief::PuttingBack,
         }
     }
 
@@ -74,6 +82,10 @@ impl Belief {
             Belief::Homing(slot, frame, _) => Belief::Shown(slot, frame),
             Belief::Leaving(slot) => Belief::Leaving(slot),
             Belief::Unreleased(slot) => Belief::Leaving(slot),
+            Belief::Zeros => Belief::Private,
+            Belief::HeldZeros => Belief::PuttingBack,
+            Belief::EqualZeros => Belief::PuttingBack,
+            Belief::PuttingBack => Belief::PuttingBack,
         }
     }
 
@@ -94,6 +106,10 @@ impl Belief {
             Belief::Homing(slot, frame, _) => Belief::Shown(slot, frame),
             Belief::Leaving(slot) => Belief::Unreleased(slot),
             Belief::Unreleased(slot) => Belief::Unreleased(slot),
+            Belief::Zeros => Belief::PuttingBack,
+            Belief::HeldZeros => Belief::HeldZeros,
+            Belief::EqualZeros => Belief::EqualZeros,
+            Belief::PuttingBack => Belief::PuttingBack,
         }
     }
 }

@@ -12,7 +12,7 @@ use Rattle.window_events.specs.declared.page.Page.{Page}
 use Rattle.window_events.specs.declared.page.View.{View}
 use Rattle.window_events.specs.declared.page.View.TheVariants.{Own, Over}
 
-right_at : (frames : List ℕ) (pages : List Page) (p : ℕ) (page : Page) → AllRight frames pages → slice_get pages p ≡ Some page → IsRight frames page
+pub right_at : (frames : List ℕ) (pages : List Page) (p : ℕ) (page : Page) → AllRight frames pages → slice_get pages p ≡ Some page → IsRight frames page
 right_at frames [] p page h e = cc
 right_at frames (first ∷ pages) zero page h e = let same : first ≡ page = cc in subst (IsRight frames) same h.0
 right_at frames (first ∷ pages) (suc p) page h e = right_at frames pages p page h.1 e

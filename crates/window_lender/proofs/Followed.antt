@@ -51,6 +51,10 @@ done_apart p q x Order.CopyInPlace d = (d, tt)
 done_apart p q x Order.TakeHome d = (d, tt)
 done_apart p q x (Order.Release slot) d = (d, tt)
 done_apart p q x (Order.FindSlot slot) d = (d, tt)
+done_apart p q x Order.HoldZeros d = (d, tt)
+done_apart p q x Order.CompareZeros d = (d, tt)
+done_apart p q x Order.GiveBack d = (d, tt)
+done_apart p q x Order.PutBack d = (d, tt)
 
 -- the events of one page's outcome are events of that page
 events_apart : (p q x : ℕ) (order : Order) (outcome : Outcome) (was_done : Bool) → nat_eq p q ≡ false → Apart q (events_of p x order outcome was_done)

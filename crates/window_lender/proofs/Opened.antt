@@ -4,7 +4,7 @@ use Rattle.std.specs.Prelude.{slice_get}
 use Rattle.page_lender.specs.Decisions.{due}
 use Rattle.page_lender.specs.Decisions as decisions
 use Rattle.page_lender.specs.declared.order.Order.{Order}
-use Rattle.page_lender.specs.declared.order.Order.TheVariants.{Wait, Copy, Lend, FindLoan, Hold, Compare, Map, LetGo, CopyInPlace, TakeHome, Release, FindSlot}
+use Rattle.page_lender.specs.declared.order.Order.TheVariants.{Wait, Copy, Lend, FindLoan, Hold, Compare, Map, LetGo, CopyInPlace, TakeHome, Release, FindSlot, HoldZeros, CompareZeros, GiveBack, PutBack}
 use Rattle.page_lender.specs.declared.page.PageLender.{PageLender}
 use Rattle.window_lender.specs.Works.{work_of, is_given}
 use Rattle.window_lender.specs.declared.run.Run.{Run}
@@ -24,6 +24,10 @@ given_of_work CopyInPlace = refl
 given_of_work TakeHome = refl
 given_of_work (Release slot) = refl
 given_of_work (FindSlot slot) = refl
+given_of_work HoldZeros = refl
+given_of_work CompareZeros = refl
+given_of_work GiveBack = refl
+given_of_work PutBack = refl
 
 second : (a b : Bool) → b ≡ true → (a || b) ≡ true
 second true b h = refl

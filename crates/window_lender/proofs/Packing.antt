@@ -3,7 +3,7 @@ use Rattle.std.proofs.Common.{◌≡◌, ◌∙◌, ℕ, ◌+◌, ◌*◌, ◌/�
 use Rattle.std.specs.Prelude.{nat_eq}
 use Rattle.page_lender.specs.declared.bars.Bars.{Bars}
 use Rattle.page_lender.specs.declared.belief.Belief.{Belief}
-use Rattle.page_lender.specs.declared.belief.Belief.TheVariants.{Private, Chosen, Copied, Unanswered, Loaned, Held, Equal, LettingGo, Shown, Homing, Leaving, Unreleased}
+use Rattle.page_lender.specs.declared.belief.Belief.TheVariants.{Private, Chosen, Copied, Unanswered, Loaned, Held, Equal, LettingGo, Shown, Homing, Leaving, Unreleased, Zeros, HeldZeros, EqualZeros, PuttingBack}
 use Rattle.page_lender.specs.declared.page.PageLender.{PageLender}
 use Rattle.window_lender.specs.Packing.{kind_of, slot_in, frame_in, belief_in, digit, flags_of, bit, page_in}
 
@@ -21,6 +21,10 @@ belief_is (Homing slot n true) = refl
 belief_is (Homing slot n false) = refl
 belief_is (Leaving slot) = refl
 belief_is (Unreleased slot) = refl
+belief_is Zeros = refl
+belief_is HeldZeros = refl
+belief_is EqualZeros = refl
+belief_is PuttingBack = refl
 
 -- seven digits of a number
 abbrev sum : ℕ → ℕ → ℕ → ℕ → ℕ → ℕ → ℕ → ℕ

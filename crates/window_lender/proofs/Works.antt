@@ -2,7 +2,7 @@
 use Rattle.std.proofs.Common.{◌≡◌, refl}
 use Rattle.page_lender.specs.Decisions.{is_outcome}
 use Rattle.page_lender.specs.declared.order.Order.{Order}
-use Rattle.page_lender.specs.declared.order.Order.TheVariants.{Wait, Copy, Lend, FindLoan, Hold, Compare, Map, LetGo, CopyInPlace, TakeHome, Release, FindSlot}
+use Rattle.page_lender.specs.declared.order.Order.TheVariants.{Wait, Copy, Lend, FindLoan, Hold, Compare, Map, LetGo, CopyInPlace, TakeHome, Release, FindSlot, HoldZeros, CompareZeros, GiveBack, PutBack}
 use Rattle.page_lender.specs.declared.order.Outcome.{Outcome}
 use Rattle.page_lender.specs.declared.order.Outcome.TheVariants.{Done, Lent, Refused, Unknown}
 use Rattle.window_lender.specs.Works.{work_of, has}
@@ -56,3 +56,19 @@ outcome_of_work (FindSlot slot) Done = refl
 outcome_of_work (FindSlot slot) (Lent other m) = refl
 outcome_of_work (FindSlot slot) Refused = refl
 outcome_of_work (FindSlot slot) Unknown = refl
+outcome_of_work HoldZeros Done = refl
+outcome_of_work HoldZeros (Lent other m) = refl
+outcome_of_work HoldZeros Refused = refl
+outcome_of_work HoldZeros Unknown = refl
+outcome_of_work CompareZeros Done = refl
+outcome_of_work CompareZeros (Lent other m) = refl
+outcome_of_work CompareZeros Refused = refl
+outcome_of_work CompareZeros Unknown = refl
+outcome_of_work GiveBack Done = refl
+outcome_of_work GiveBack (Lent other m) = refl
+outcome_of_work GiveBack Refused = refl
+outcome_of_work GiveBack Unknown = refl
+outcome_of_work PutBack Done = refl
+outcome_of_work PutBack (Lent other m) = refl
+outcome_of_work PutBack Refused = refl
+outcome_of_work PutBack Unknown = refl

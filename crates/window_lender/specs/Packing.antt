@@ -20,6 +20,10 @@ kind_of (Belief.Homing slot n true) = Kind.HomingInPlace
 kind_of (Belief.Homing slot n false) = Kind.Homing
 kind_of (Belief.Leaving slot) = Kind.Leaving
 kind_of (Belief.Unreleased slot) = Kind.Unreleased
+kind_of Belief.Zeros = Kind.Zeros
+kind_of Belief.HeldZeros = Kind.HeldZeros
+kind_of Belief.EqualZeros = Kind.EqualZeros
+kind_of Belief.PuttingBack = Kind.PuttingBack
 
 -- its slot, or 0
 abbrev pub slot_in : Belief → ℕ
@@ -35,6 +39,10 @@ slot_in (Belief.Shown slot n) = slot
 slot_in (Belief.Homing slot n in_place) = slot
 slot_in (Belief.Leaving slot) = slot
 slot_in (Belief.Unreleased slot) = slot
+slot_in Belief.Zeros = 0
+slot_in Belief.HeldZeros = 0
+slot_in Belief.EqualZeros = 0
+slot_in Belief.PuttingBack = 0
 
 -- its frame, or 0
 abbrev pub frame_in : Belief → ℕ
@@ -50,6 +58,10 @@ frame_in (Belief.Shown slot n) = n
 frame_in (Belief.Homing slot n in_place) = n
 frame_in (Belief.Leaving slot) = 0
 frame_in (Belief.Unreleased slot) = 0
+frame_in Belief.Zeros = 0
+frame_in Belief.HeldZeros = 0
+frame_in Belief.EqualZeros = 0
+frame_in Belief.PuttingBack = 0
 
 -- the belief of this kind
 abbrev pub belief_in : Kind → ℕ → ℕ → Belief
@@ -66,6 +78,10 @@ belief_in Kind.HomingInPlace slot n = Belief.Homing slot n true
 belief_in Kind.Homing slot n = Belief.Homing slot n false
 belief_in Kind.Leaving slot n = Belief.Leaving slot
 belief_in Kind.Unreleased slot n = Belief.Unreleased slot
+belief_in Kind.Zeros slot n = Belief.Zeros
+belief_in Kind.HeldZeros slot n = Belief.HeldZeros
+belief_in Kind.EqualZeros slot n = Belief.EqualZeros
+belief_in Kind.PuttingBack slot n = Belief.PuttingBack
 
 abbrev pub digit : Bool → ℕ
 digit true = 1

@@ -7,7 +7,8 @@ use Rattle.page_lender.specs.Decisions.{must_own}
 use Rattle.page_lender.specs.Lender.{heard_of}
 use Rattle.page_lender.specs.Slots.{NamesOwn}
 use Rattle.page_lender.specs.declared.bars.Bars.{Bars}
-use Rattle.page_lender.specs.declared.belief.Belief.TheVariants.{Private, Chosen}
+use Rattle.page_lender.specs.declared.belief.Belief.{Belief}
+use Rattle.page_lender.specs.declared.belief.Belief.TheVariants.{Private}
 use Rattle.page_lender.specs.declared.order.Notice.{Notice}
 use Rattle.page_lender.specs.declared.order.Order.{Order}
 use Rattle.page_lender.specs.declared.order.Order.TheVariants.{Wait}
@@ -78,13 +79,13 @@ pub record IsDone (outcome : Outcome) (x y : PageLender) : Type 0 where
 abbrev pub lent_at : ℕ → List Loan → ℕ → Outcome
 lent_at first loans i = option_map_or (λ loan. Lent loan.slot loan.frame) (slice_get loans (i - first)) Refused
 
--- the page can be chosen to be lent
+-- the page can be chosen to be lent, or to be given back
 abbrev pub is_free : PageLender → Bool
 is_free page = is_private page.belief && not (is_barred page.bars)
 
--- The page is chosen, if it can be.
-pub record IsChosen (x y : PageLender) : Type 0 where
-  pub belief : y.belief ≡ (if is_free x then Chosen else x.belief)
+-- The page is chosen, if it can be, and then this is believed of it.
+pub record IsChosen (chosen : Belief) (x y : PageLender) : Type 0 where
+  pub belief : y.belief ≡ (if is_free x then chosen else x.belief)
   pub ordered : y.ordered ≡ x.ordered
   pub bars : y.bars ≡ x.bars
   pub right : StaysRight x.belief y.belief

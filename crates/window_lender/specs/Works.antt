@@ -19,6 +19,10 @@ work_of Order.CopyInPlace = Work.CopyInPlace
 work_of Order.TakeHome = Work.TakeHome
 work_of (Order.Release slot) = Work.Release
 work_of (Order.FindSlot slot) = Work.FindSlot
+work_of Order.HoldZeros = Work.HoldZeros
+work_of Order.CompareZeros = Work.CompareZeros
+work_of Order.GiveBack = Work.GiveBack
+work_of Order.PutBack = Work.PutBack
 
 -- there is something to be done
 abbrev pub is_given : Work → Bool
@@ -34,6 +38,10 @@ is_given Work.CopyInPlace = true
 is_given Work.TakeHome = true
 is_given Work.Release = true
 is_given Work.FindSlot = true
+is_given Work.HoldZeros = true
+is_given Work.CompareZeros = true
+is_given Work.GiveBack = true
+is_given Work.PutBack = true
 
 -- the work may be done
 abbrev pub can_be_done : Work → Bool
@@ -49,6 +57,10 @@ can_be_done Work.CopyInPlace = true
 can_be_done Work.TakeHome = true
 can_be_done Work.Release = true
 can_be_done Work.FindSlot = true
+can_be_done Work.HoldZeros = true
+can_be_done Work.CompareZeros = true
+can_be_done Work.GiveBack = true
+can_be_done Work.PutBack = true
 
 -- it may bring a loan
 abbrev pub can_bring : Work → Bool
@@ -64,6 +76,10 @@ can_bring Work.CopyInPlace = false
 can_bring Work.TakeHome = false
 can_bring Work.Release = false
 can_bring Work.FindSlot = false
+can_bring Work.HoldZeros = false
+can_bring Work.CompareZeros = false
+can_bring Work.GiveBack = false
+can_bring Work.PutBack = false
 
 -- what came of it may be unknown
 abbrev pub can_be_unknown : Work → Bool
@@ -79,6 +95,10 @@ can_be_unknown Work.CopyInPlace = true
 can_be_unknown Work.TakeHome = true
 can_be_unknown Work.Release = true
 can_be_unknown Work.FindSlot = true
+can_be_unknown Work.HoldZeros = true
+can_be_unknown Work.CompareZeros = false
+can_be_unknown Work.GiveBack = false
+can_be_unknown Work.PutBack = true
 
 -- the outcome is one of the work's
 abbrev pub has : Work → Outcome → Bool

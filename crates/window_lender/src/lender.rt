@@ -1,6 +1,7 @@
 //! The lender of a window.
 ghost use Rattle.std.specs.Prelude.{◌≡◌, ◌+◌, ◌<◌, ◌≤◌, ◌^◌, true, false, IfOk, Some, length, replicate, slice_get};
 ghost use Rattle.std.specs.Option.{option_map_or};
+ghost use Rattle.page_lender.specs.declared.belief.Belief.TheVariants as Belief;
 ghost use Rattle.window_lender.specs.Works.{work_of, has, can_bring, is_given};
 ghost use Rattle.window_lender.specs.Runs.{Changed, Each, order_due, end_of, rest_of, lent_at, new_page, is_free, IsOpen};
 ghost use Rattle.window_lender.specs.Runs.{IsNext, IsDone, IsWithdrawn, IsHeard, IsBarred, IsChosen, GoesOn, MayGoOn, IsQuiet};
@@ -70,12 +71,27 @@ impl<A: Allocator> WindowLender<A> {
     pub fn choose(&mut self, place: u32) -> bool
         requires { place < length self.old.pages }
         ensures chosen { result ≡ option_map_or is_free (slice_get self.old.pages place) false }
-        ensures pages { Changed (λ i. IsChosen) place (place + 1) self.old.pages self.new.pages }
+        ensures pages { Changed (λ i. IsChosen Belief.Chosen) place (place + 1) self.old.pages self.new.pages }
         ensures right { StayRight self.new.first self.old.pages self.new.pages }
         ensures first { self.new.first ≡ self.old.first }
     {
         let mut page = self.pages.get(place);
         let is_chosen = page.choose();
+        self.pages.put(place, page);
+        is_chosen
+    }
+
+    /// Chooses a page's memory to be given back if it is zeros, and returns whether it can be: it is private, and nothing keeps it from
+    /// being lent.
+    pub fn choose_zeros(&mut self, place: u32) -> bool
+        requires { place < length self.old.pages }
+        ensures chosen { result ≡ option_map_or is_free (slice_get self.old.pages place) false }
+        ensures pages { Changed (λ i. IsChosen Belief.Zeros) place (place + 1) self.old.pages self.new.pages }
+        ensures right { StayRight self.new.first self.old.pages self.new.pages }
+        ensures first { self.new.first ≡ self.old.first }
+    {
+        let mut page = self.pages.get(place);
+        let is_chosen = page.choose_zeros();
         self.pages.put(place, page);
         is_chosen
     }

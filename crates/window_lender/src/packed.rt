@@ -22,6 +22,10 @@ pub(crate) enum Kind {
     Homing,
     Leaving,
     Unreleased,
+    Zeros,
+    HeldZeros,
+    EqualZeros,
+    PuttingBack,
 }
 
 // A page's lender: its slot and its frame, or 0, which belief it is, and a bit for each fact of its order and its bars.
@@ -85,6 +89,10 @@ fn kind_of(belief: Belief) -> Kind
         Belief::Homing(_, _, false) => Kind::Homing,
         Belief::Leaving(_) => Kind::Leaving,
         Belief::Unreleased(_) => Kind::Unreleased,
+        Belief::Zeros => Kind::Zeros,
+        Belief::HeldZeros => Kind::HeldZeros,
+        Belief::EqualZeros => Kind::EqualZeros,
+        Belief::PuttingBack => Kind::PuttingBack,
     }
 }
 
@@ -105,6 +113,10 @@ fn slot_of(belief: Belief) -> u32
         Belief::Homing(slot, _, _) => slot,
         Belief::Leaving(slot) => slot,
         Belief::Unreleased(slot) => slot,
+        Belief::Zeros => 0,
+        Belief::HeldZeros => 0,
+        Belief::EqualZeros => 0,
+        Belief::PuttingBack => 0,
     }
 }
 
@@ -125,6 +137,10 @@ fn frame_of(belief: Belief) -> u32
         Belief::Homing(_, frame, _) => frame,
         Belief::Leaving(_) => 0,
         Belief::Unreleased(_) => 0,
+        Belief::Zeros => 0,
+        Belief::HeldZeros => 0,
+        Belief::EqualZeros => 0,
+        Belief::PuttingBack => 0,
     }
 }
 
@@ -146,6 +162,10 @@ fn belief_of(kind: Kind, slot: u32, frame: u32) -> Belief
         Kind::Homing => Belief::Homing(slot, frame, false),
         Kind::Leaving => Belief::Leaving(slot),
         Kind::Unreleased => Belief::Unreleased(slot),
+        Kind::Zeros => Belief::Zeros,
+        Kind::HeldZeros => Belief::HeldZeros,
+        Kind::EqualZeros => Belief::EqualZeros,
+        Kind::PuttingBack => Belief::PuttingBack,
     }
 }
 

@@ -31,6 +31,14 @@ pub enum Work {
     Release,
     /// Find out whether the host still has its slot.
     FindSlot,
+    /// Let writes wait, since the page may be zeros.
+    HoldZeros,
+    /// Compare it with zeros.
+    CompareZeros,
+    /// Give its memory back to the system.
+    GiveBack,
+    /// Let writes wait no longer: it keeps its memory.
+    PutBack,
 }
 
 /// Consecutive pages of a window with the same work.
@@ -71,6 +79,10 @@ impl Work {
             Order::TakeHome => Work::TakeHome,
             Order::Release(_) => Work::Release,
             Order::FindSlot(_) => Work::FindSlot,
+            Order::HoldZeros => Work::HoldZeros,
+            Order::CompareZeros => Work::CompareZeros,
+            Order::GiveBack => Work::GiveBack,
+            Order::PutBack => Work::PutBack,
         }
     }
 
@@ -105,6 +117,10 @@ impl Work {
             Work::TakeHome => true,
             Work::Release => true,
             Work::FindSlot => true,
+            Work::HoldZeros => true,
+            Work::CompareZeros => true,
+            Work::GiveBack => true,
+            Work::PutBack => true,
         }
     }
 
@@ -125,6 +141,10 @@ impl Work {
             Work::TakeHome => true,
             Work::Release => true,
             Work::FindSlot => true,
+            Work::HoldZeros => true,
+            Work::CompareZeros => true,
+            Work::GiveBack => true,
+            Work::PutBack => true,
         }
     }
 
@@ -145,6 +165,10 @@ impl Work {
             Work::TakeHome => false,
             Work::Release => false,
             Work::FindSlot => false,
+            Work::HoldZeros => false,
+            Work::CompareZeros => false,
+            Work::GiveBack => false,
+            Work::PutBack => false,
         }
     }
 
@@ -165,6 +189,10 @@ impl Work {
             Work::TakeHome => true,
             Work::Release => true,
             Work::FindSlot => true,
+            Work::HoldZeros => true,
+            Work::CompareZeros => false,
+            Work::GiveBack => false,
+            Work::PutBack => true,
         }
     }
 }

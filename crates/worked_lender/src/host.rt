@@ -90,6 +90,9 @@ impl Host {
     pub fn agrees(&self, belief: Belief) -> bool {
         match belief {
             Belief::Private | Belief::Chosen | Belief::Copied => self.given.is_none(),
+            Belief::Zeros | Belief::HeldZeros | Belief::EqualZeros | Belief::PuttingBack => {
+                self.given.is_none()
+            }
             Belief::Unanswered => true,
             Belief::Loaned(slot, frame)
             | Belief::Held(slot, frame)

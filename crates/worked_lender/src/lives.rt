@@ -8,13 +8,14 @@ use std::process::Abort;
 use std::test::Fail;
 use window_events::{Mappings, Page};
 
-/// What came of a page so far: how often it was mapped, held in vain, brought home, and released.
+/// What came of a page so far: how often it was mapped, held in vain, brought home, released, and given back.
 #[derive(Clone, Copy)]
 struct Counts {
     mapped: u32,
     vain: u32,
     home: u32,
     released: u32,
+    given_back: u32,
 }
 
 /// One page's lender, its host, and whether an order is open.
@@ -42,6 +43,9 @@ pub fn is_right(belief: Belief, page: &Page) -> bool {
             page.held == Some(frame) && !page.guarded
         }
         Belief::Leaving(_) | Belief::Unreleased(_) => !bare && !page.guarded,
+        Belief::Zeros => page.held.is_none() && !bare && !page.guarded,
+        Belief::HeldZeros | Belief::PuttingBack => page.held.is_none() && !bare,
+        Belief::EqualZeros => page.held.is_none() && !bare && page.copy == Some(0),
     }
 }
 
@@ -54,6 +58,7 @@ fn count(counts: &mut Counts, order: Order, outcome: Outcome) {
             counts.home = counts.home.wrapping_add(1);
         }
         (Order::Release(_), Outcome::Done) => counts.released = counts.released.wrapping_add(1),
+        (Order::GiveBack, Outcome::Done) => counts.given_back = counts.given_back.wrapping_add(1),
         _ => {}
     }
 }
@@ -104,8 +109,11 @@ fn go_on<A: Allocator>(rt: &impl Abort, life: &mut Life, mappings: &mut Mappings
             let bars = some_bars(&mut life.numbers);
             set_bars(rt, life, mappings, bars);
         }
-        2 | 3 => {
+        2 => {
             life.lender.choose();
+        }
+        3 => {
+            life.lender.choose_zeros();
         }
         4 | 5 => {
             mappings.apply(&others_event(&mut life.numbers));
@@ -134,6 +142,7 @@ fn live<A: Allocator>(rt: &impl Abort, mappings: &mut Mappings<A>, seed: u64, mo
             vain: 0,
             home: 0,
             released: 0,
+            given_back: 0,
         },
     };
     for _ in 0..moves {
@@ -153,6 +162,7 @@ fn whatever_comes_is_possible(rt: HostRuntime) -> Result<(), Fail> {
         let counts = life.counts;
         assert!(rt; counts.mapped > 50 && counts.vain > 100);
         assert!(rt; counts.home > 10 && counts.released > 100);
+        assert!(rt; counts.given_back > 50);
     }
     Ok(())
 }

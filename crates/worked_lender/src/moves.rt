@@ -25,6 +25,13 @@ pub fn is_bare(page: &Page) -> bool {
     }
 }
 
+/// Gives a page's memory back. Its guest sees nothing of that.
+fn give_back<A: Allocator>(rt: &impl Abort, mappings: &mut Mappings<A>, page: u32) {
+    let shown = mappings.shown(page);
+    must(rt, mappings, Event::Discard(page));
+    assert!(rt; mappings.shown(page) == shown);
+}
+
 /// Carries out an order on a page: the events that it stands for, each of which must be possible.
 pub fn carry_out<A: Allocator>(
     rt: &impl Abort,
@@ -46,11 +53,15 @@ pub fn carry_out<A: Allocator>(
             must(rt, mappings, Event::Write(page, shown));
         }
         Order::Release(_) | Order::FindSlot(_) => must(rt, mappings, Event::Release(page)),
+        Order::HoldZeros => must(rt, mappings, Event::Guard(page)),
+        Order::CompareZeros => must(rt, mappings, Event::Copy(page)),
+        Order::GiveBack => give_back(rt, mappings, page),
+        Order::PutBack => must(rt, mappings, Event::Unguard(page)),
     }
 }
 
-/// Returns whether a page may be done with as the order says: a comparison finds a guarded page equal to the frame, and a page is mapped
-/// whose guard stood since.
+/// Returns whether a page may be done with as the order says: a comparison finds a guarded page equal to the frame or to zeros, and a page
+/// is mapped, or its memory given back, whose guard stood since.
 pub fn can_be_done<A: Allocator>(
     rt: &impl Abort,
     mappings: &Mappings<A>,
@@ -64,6 +75,8 @@ pub fn can_be_done<A: Allocator>(
             known.guarded && bytes.is_some() && bytes == mappings.shown(page)
         }
         Order::Map(_) => known.frame_fresh,
+        Order::CompareZeros => known.guarded && mappings.shown(page) == Some(0),
+        Order::GiveBack => known.copy_fresh,
         _ => true,
     }
 }

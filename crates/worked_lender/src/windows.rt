@@ -24,6 +24,7 @@ struct Counts {
     released: u32,
     longest: u32,
     withdrawn: u32,
+    given_back: u32,
 }
 
 /// What is outside of the lender: a host's account of each page, and chance.
@@ -70,6 +71,7 @@ fn count(counts: &mut Counts, work: Work, done: u32) {
     match work {
         Work::Map => counts.mapped = counts.mapped.wrapping_add(done),
         Work::Release => counts.released = counts.released.wrapping_add(done),
+        Work::GiveBack => counts.given_back = counts.given_back.wrapping_add(done),
         _ => {}
     }
     counts.longest = counts.longest.max(done);
@@ -193,13 +195,18 @@ fn others_event(numbers: &mut Numbers) -> Event {
     }
 }
 
-/// Chooses pages to be lent.
+/// Chooses pages to be lent, or to be given back.
 fn choose<A: Allocator>(rt: &impl Abort, outside: &mut Outside, lender: &mut WindowLender<A>) {
     assert!(rt; lender.len() == PAGES);
     let from = outside.numbers.next() % PAGES;
+    let are_zeros = outside.numbers.next() % 4 == 0;
     for place in from..PAGES {
         assert!(rt; place < lender.len());
-        lender.choose(place);
+        if are_zeros {
+            lender.choose_zeros(place);
+        } else {
+            lender.choose(place);
+        }
     }
 }
 
@@ -278,6 +285,7 @@ fn live<A: Allocator, B: Allocator>(
         released: 0,
         longest: 0,
         withdrawn: 0,
+        given_back: 0,
     };
     let mut outside = Outside {
         hosts: [host; 4],
@@ -294,12 +302,15 @@ fn live<A: Allocator, B: Allocator>(
 
 #[test]
 fn whatever_comes_to_a_window_is_possible(rt: HostRuntime) -> Result<(), Fail> {
+    let mut longest = 0;
     for seed in 0..4u64 {
         let mut mappings = Mappings::new(rt.alloc(), &[1, 1, 1, 1, 1], &[0, 1, 1])?;
         let mut lender = WindowLender::new(rt.alloc(), FIRST, PAGES)?;
         let counts = live(&rt, &mut lender, &mut mappings, seed, 50_000);
         assert!(rt; counts.mapped > 50 && counts.released > 100);
-        assert!(rt; counts.longest == PAGES && counts.withdrawn > 100);
+        assert!(rt; counts.withdrawn > 100 && counts.given_back > 50);
+        longest = longest.max(counts.longest);
     }
+    assert_eq!(rt; longest, PAGES);
     Ok(())
 }

@@ -1,4 +1,4 @@
-use Rattle.page_lender.proofs.Wrong.{releases_shown, maps_uncompared, leaves_held, doubts_no_hold, trusts_release, sees_no_write, forgets_slot}
+use Rattle.page_lender.proofs.Wrong.{releases_shown, maps_uncompared, leaves_held, doubts_no_hold, trusts_release, sees_no_write, forgets_slot, takes_for_zeros}
 use Rattle.page_lender.proofs.laws.wrong_lenders.Goals as goal
 
 pub returns-clause-releases_shown : goal.returns-clause-releases_shown
@@ -21,3 +21,6 @@ returns-clause-sees_no_write c = sees_no_write
 
 pub returns-clause-forgets_slot : goal.returns-clause-forgets_slot
 returns-clause-forgets_slot c = forgets_slot
+
+pub returns-clause-takes_for_zeros : goal.returns-clause-takes_for_zeros
+returns-clause-takes_for_zeros c = takes_for_zeros

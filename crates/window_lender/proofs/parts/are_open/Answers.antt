@@ -1,4 +1,4 @@
-use Rattle.std.proofs.Common.{rules, ◌≡◌, refl, arith, subst}
+use Rattle.std.proofs.Common.{rules, ◌≡◌, true, refl, arith, subst}
 use Rattle.window_lender.specs.Runs.{Each, HasOpen}
 use Rattle.window_lender.proofs.Ranges.{each_more, none}
 use Rattle.window_lender.proofs.parts.are_open.Goals as goal
@@ -16,3 +16,9 @@ returns g c =
       yes = λ h. subst (λ t. Each (HasOpen c.args.work) c.args.from t c.args.pages.now) e c.loop-place.invariant;
       no = λ h. refl;
     }
+
+pub returns-then-not-has_open-clause-no : goal.returns-then-not-has_open-clause-no
+returns-then-not-has_open-clause-no g c h =
+    let o : HasOpen c.args.work c.get-page.result = h.at c.loop-place.place c.get-page.result (omega arith) (omega arith) c.get-page.ensures in
+    let yes : c.has_open.result ≡ true = c.has_open.ensures.no o in
+    cc
