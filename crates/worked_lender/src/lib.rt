@@ -1,6 +1,9 @@
-//! Lenders of one page and of a window beside the protocol of windows, by the public calls of `page_lender`, `window_lender` and `window_events`. This crate has only tests.
+//! Lenders of one page and of a window beside the protocol of windows, and the budget of their thread, by the public calls of `page_lender`,
+//! `window_lender`, `window_events` and `work_budget`. This crate has only tests.
 #![tactic(auto)]
 
+#[cfg(test)]
+mod budgets;
 #[cfg(test)]
 mod host;
 #[cfg(test)]

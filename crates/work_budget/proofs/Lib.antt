@@ -1,0 +1,3 @@
+pub mod Paid
+pub mod Stretched
+pub mod Waited

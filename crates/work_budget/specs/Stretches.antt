@@ -1,0 +1,39 @@
+-- What a thread uses over a stretch of calls.
+use Rattle.std.specs.Prelude.{◌≡◌, ℕ, ◌+◌, ◌-◌, ◌*◌, ◌≤◌, true, List, [], ◌∷◌}
+use Rattle.work_budget.specs.Budgets.{Ledger, Call, settles, credits, settled, called, may_work, wait_of}
+
+-- after these calls, each of which does this
+abbrev pub after : (Ledger → Call → Ledger) → Ledger → List Call → Ledger
+after calls b [] = b
+after calls b (c ∷ cs) = after calls (calls b c) cs
+
+-- the credit that these calls give
+abbrev pub given : List Call → ℕ
+given [] = 0
+given (settles now spent ∷ cs) = given cs
+given (credits ns ∷ cs) = ns + given cs
+
+-- From one moment to another: what was used is at most the share of the time that passed, what was saved, the credit that there was and was
+-- given, and what is owed. It is at most the burst's share, what was saved, and what is owed.
+pub record IsWithin (from to : Ledger) (credit : ℕ) : Type 0 where
+  pub share : 100 * (to.spent - from.spent) ≤ from.percent * (to.time - from.time) + 100 * (from.saved + from.credit + credit + to.owed)
+  pub burst : 100 * (to.spent - from.spent) ≤ from.burst * (to.time - from.time) + 100 * (from.saved + to.owed)
+
+-- So it is over every stretch of calls.
+abbrev pub EveryStretch : (Ledger → Call → Ledger) → Type 0
+EveryStretch calls = (b : Ledger) (cs : List Call) → b.percent ≤ b.burst → IsWithin b (after calls b cs) (given cs)
+
+-- Where the thread may work after a stretch of calls, and works until it has used `spent`: what it has used since the stretch began is within
+-- what it may owe, beside the same and what it used for that work.
+abbrev pub OneOrderMore : Type 0
+OneOrderMore =
+    (b : Ledger) (cs : List Call) (spent : ℕ) → b.percent ≤ b.burst → let to : Ledger = after called b cs in may_work to ≡ true → to.spent ≤ spent →
+    100 * (spent - b.spent) ≤ b.percent * (to.time - b.time) + 100 * (b.saved + b.credit + given cs + b.owed_most + (spent - to.spent))
+
+-- Whoever does nothing for as long as it was told, and has no credit, may work then.
+abbrev pub WaitsEnough : Type 0
+WaitsEnough = (b : Ledger) → 1 ≤ b.percent → b.credit ≡ 0 → b.owed ≤ 10000000000 → may_work (settled b (b.time + wait_of b) b.spent) ≡ true
+
+-- a budget that counts each order by itself: what is owed is forgotten
+abbrev pub by_order_only : Ledger → Call → Ledger
+by_order_only b c = called (record b { owed = 0 }) c

@@ -1,0 +1,9 @@
+//! How much processor time a thread may use: a part of one processor, and more while a credit lasts.
+#![tactic(auto)]
+
+mod budget;
+mod config;
+pub mod laws;
+
+pub use budget::Budget;
+pub use config::Config;
