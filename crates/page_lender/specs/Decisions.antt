@@ -193,6 +193,14 @@ prepared bars PuttingBack = PuttingBack
 abbrev pub is_busy : PageLender → Bool
 is_busy page = page.ordered && touches (due page.belief)
 
+-- an order that touches the page is open, or writes to it may wait
+abbrev pub is_held : PageLender → Bool
+is_held page = is_busy page || waiting page.belief
+
+-- its memory may be exchanged for other memory: it isn't held, and nothing keeps it from being lent
+abbrev pub is_movable : PageLender → Bool
+is_movable page = not (is_held page) && not (is_barred page.bars)
+
 -- a call of the monitor may go on that these bars are for
 abbrev pub may_go_on : PageLender → Bool
 may_go_on page = not (is_busy page) && not (waiting page.belief) && not (must_own page.bars && shows page.belief)

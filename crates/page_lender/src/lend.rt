@@ -1,6 +1,6 @@
 //! The lender of one page.
 ghost use Rattle.std.specs.Prelude.{◌≡◌, true, false, not, ◌&&◌, if◌then◌else◌};
-ghost use Rattle.page_lender.specs.Decisions.{due, waiting, shows, touches, leads, moves, is_given, is_barred, must_own, prepared, is_busy, may_go_on, joined, is_private};
+ghost use Rattle.page_lender.specs.Decisions.{due, waiting, shows, touches, leads, moves, is_given, is_barred, must_own, prepared, is_busy, is_held, is_movable, may_go_on, joined, is_private};
 ghost use Rattle.page_lender.specs.Decisions.{is_outcome, stage_of, led_to, account, account_then, KeepsLoan};
 ghost use Rattle.page_lender.specs.Lender.{heard_of};
 ghost use Rattle.page_lender.specs.Slots.{NamesOwn};
@@ -126,6 +126,22 @@ impl PageLender {
         ensures { result ≡ is_busy self.now }
     {
         self.ordered && self.belief.due().touches()
+    }
+
+    /// Returns whether an order that touches the page is open, or writes to it may wait.
+    pub fn is_held(&self) -> bool
+        ensures held { result ≡ is_held self.now }
+        ensures free { result ≡ false → IsFree self.now.belief }
+    {
+        self.is_busy() || self.belief.waits()
+    }
+
+    /// Returns whether the page's memory may be exchanged for other memory: it isn't held, and nothing keeps it from being lent.
+    pub fn is_movable(&self) -> bool
+        ensures movable { result ≡ is_movable self.now }
+        ensures free { result ≡ true → IsFree self.now.belief }
+    {
+        !self.is_held() && !self.bars.any()
     }
 
     /// Hears of the page what `notice` says. No order that touches it is open.

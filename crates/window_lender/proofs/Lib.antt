@@ -5,5 +5,6 @@ mod Made
 mod Opened
 mod Ordered
 mod Packing
+mod Paused
 mod Ranges
 mod Works

@@ -1,7 +1,7 @@
 -- The pages of a window, and what a call does to a run of them.
 use Rattle.std.specs.Prelude.{◌≡◌, ℕ, ◌+◌, ◌-◌, ◌<◌, ◌≤◌, Bool, true, false, not, ◌||◌, ◌&&◌, if◌then◌else◌, List, length, Some, slice_get, ◌⊎◌}
 use Rattle.std.specs.Option.{option_map_or}
-use Rattle.page_lender.specs.Decisions.{due, prepared, touches, leads, moves, is_given, is_barred, is_busy, is_private, may_go_on, joined, account, account_then, stage_of, led_to, KeepsLoan}
+use Rattle.page_lender.specs.Decisions.{due, prepared, touches, leads, moves, is_given, is_barred, is_busy, is_held, is_movable, is_private, may_go_on, joined, account, account_then, stage_of, led_to, KeepsLoan}
 use Rattle.page_lender.specs.Events.{DoneByEvents, StaysRight, HeardRightly, IsFree, ShowsNone}
 use Rattle.page_lender.specs.Decisions.{must_own}
 use Rattle.page_lender.specs.Lender.{heard_of}
@@ -119,6 +119,16 @@ pub record GoesOn (page : PageLender) : Type 0 where
 -- No order that touches the page is open.
 pub record IsQuiet (page : PageLender) : Type 0 where
   pub busy : is_busy page ≡ false
+
+-- No write to the page waits, and no order that touches it is open.
+pub record IsLoose (page : PageLender) : Type 0 where
+  pub held : is_held page ≡ false
+  pub free : IsFree page.belief
+
+-- So it is, and nothing keeps the page from being lent: its memory may be exchanged for other memory.
+pub record IsMovable (page : PageLender) : Type 0 where
+  pub movable : is_movable page ≡ true
+  pub free : IsFree page.belief
 
 -- An order of this work is open.
 pub record HasOpen (work : Work) (page : PageLender) : Type 0 where

@@ -4,12 +4,16 @@ ghost use Rattle.std.specs.Option.{option_map_or};
 ghost use Rattle.page_lender.specs.declared.belief.Belief.TheVariants as Belief;
 ghost use Rattle.window_lender.specs.Works.{work_of, has, can_bring, is_given};
 ghost use Rattle.window_lender.specs.Runs.{Changed, Each, order_due, end_of, rest_of, lent_at, new_page, is_free, IsOpen};
-ghost use Rattle.window_lender.specs.Runs.{IsNext, IsDone, IsWithdrawn, IsHeard, IsBarred, IsChosen, GoesOn, MayGoOn, IsQuiet};
+ghost use Rattle.window_lender.specs.Runs.{IsNext, IsDone, IsWithdrawn, IsHeard, IsBarred, IsChosen, GoesOn, MayGoOn, IsQuiet, IsLoose, IsMovable};
+ghost use Rattle.window_lender.specs.Huge.{order_of, part_then};
+ghost use Rattle.window_lender.specs.declared.huge.PartOrder.TheVariants as PartOrder;
 ghost use Rattle.window_lender.specs.Events.{RunByEvents, StayRight, HearRight};
 
 use crate::pages::Pages;
-use crate::parts::{are_open, are_quiet, bar, give, take, take_back, take_loans, tell};
-use crate::{Loan, Run};
+use crate::parts::{
+    are_loose, are_movable, are_open, are_quiet, bar, give, take, take_back, take_loans, tell,
+};
+use crate::{Loan, Part, PartConfig, PartLook, PartOrder, Run};
 use page_lender::{Bars, Notice, Outcome, PageLender};
 use std::alloc::{AllocError, Allocator, Global};
 use std::marker::Model;
@@ -211,5 +215,31 @@ impl<A: Allocator> WindowLender<A> {
         ensures first { self.new.first ≡ self.old.first }
     {
         bar(&mut self.pages, from, from + count, bars)
+    }
+
+    /// Returns what is to be done after a look with a part of the window that has these pages. It is split only while none of them is held.
+    /// It is made whole only while besides nothing keeps one of them from being lent, and no device may have pinned one.
+    pub fn next_of_part(
+        &self,
+        from: u32,
+        count: u32,
+        part: &mut Part,
+        config: &PartConfig,
+        look: &PartLook,
+    ) -> PartOrder
+        requires { from + count ≤ length self.now.pages }
+        ensures split { result ≡ PartOrder.Split → Each IsLoose from (from + count) self.now.pages }
+        ensures whole { result ≡ PartOrder.MakeWhole → Each IsMovable from (from + count) self.now.pages }
+        ensures pins { result ≡ PartOrder.MakeWhole → look.now.may_pin ≡ false }
+        ensures order { Each IsLoose from (from + count) self.now.pages → Each IsMovable from (from + count) self.now.pages → result ≡ order_of config.now part.old look.now true true }
+        ensures part { part.new ≡ part_then config.now part.old look.now result }
+    {
+        let wanted = part.order(config, look, true, true);
+        if wanted == PartOrder::Stay {
+            return part.next(config, look, true, true);
+        }
+        let loose = are_loose(&self.pages, from, from + count);
+        let movable = are_movable(&self.pages, from, from + count);
+        part.next(config, look, loose, movable)
     }
 }

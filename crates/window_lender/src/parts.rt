@@ -3,7 +3,7 @@ ghost use Rattle.std.specs.Prelude.{◌≡◌, ◌+◌, ◌<◌, ◌≤◌, ◌&
 ghost use Rattle.page_lender.specs.Decisions.{due, is_busy};
 ghost use Rattle.window_lender.specs.Works.{work_of, has, can_bring};
 ghost use Rattle.window_lender.specs.Runs.{Changed, Each, order_due, end_of, lent_at};
-ghost use Rattle.window_lender.specs.Runs.{IsOrdered, IsNext, IsDone, IsWithdrawn, IsHeard, IsBarred, GoesOn, MayGoOn, IsQuiet, HasOpen};
+ghost use Rattle.window_lender.specs.Runs.{IsOrdered, IsNext, IsDone, IsWithdrawn, IsHeard, IsBarred, GoesOn, MayGoOn, IsQuiet, IsLoose, IsMovable, HasOpen};
 
 use crate::pages::Pages;
 use crate::{Loan, Run, Work};
@@ -235,6 +235,54 @@ pub(crate) fn are_quiet<A: Allocator>(pages: &Pages<A>, from: u32, to: u32) -> b
     for place in from..to {
         let page = pages.get(place);
         if page.is_busy() {
+            return false;
+        }
+    }
+    true
+}
+
+// Returns whether a page isn't held.
+fn is_loose(page: &PageLender) -> bool
+    ensures yes { result ≡ true → IsLoose page.now }
+    ensures no { IsLoose page.now → result ≡ true }
+{
+    !page.is_held()
+}
+
+// Returns whether each of the pages isn't held.
+pub(crate) fn are_loose<A: Allocator>(pages: &Pages<A>, from: u32, to: u32) -> bool
+    requires ordered { from ≤ to }
+    requires within { to ≤ length pages.now }
+    ensures yes { result ≡ true → Each IsLoose from to pages.now }
+    ensures no { Each IsLoose from to pages.now → result ≡ true }
+{
+    for place in from..to {
+        let page = pages.get(place);
+        if !is_loose(&page) {
+            return false;
+        }
+    }
+    true
+}
+
+// Returns whether a page may be exchanged for other memory.
+fn is_movable(page: &PageLender) -> bool
+    ensures yes { result ≡ true → IsMovable page.now }
+    ensures no { IsMovable page.now → result ≡ true }
+{
+    page.is_movable()
+}
+
+// Returns whether each of the pages may be exchanged for other memory.
+pub(crate) fn are_movable<A: Allocator>(pages: &Pages<A>, from: u32, to: u32) -> bool
+    requires ordered { from ≤ to }
+    requires within { to ≤ length pages.now }
+    ensures yes { result ≡ true → Each IsMovable from to pages.now }
+    ensures no { Each IsMovable from to pages.now → result ≡ true }
+{
+    for place in from..to {
+        let page = pages.get(place);
+        if !is_movable(&page) {
             return false;
         }
     }

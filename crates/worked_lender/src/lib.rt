@@ -13,4 +13,6 @@ mod moves;
 #[cfg(test)]
 mod numbers;
 #[cfg(test)]
+mod parts;
+#[cfg(test)]
 mod windows;

@@ -7,7 +7,7 @@ use std::process::Abort;
 use window_events::{Event, Mappings, Page, View};
 
 /// Plays an event that must be possible.
-fn must<A: Allocator>(rt: &impl Abort, mappings: &mut Mappings<A>, event: Event) {
+pub fn must<A: Allocator>(rt: &impl Abort, mappings: &mut Mappings<A>, event: Event) {
     let is_possible = mappings.apply(&event);
     assert!(rt; is_possible);
 }

@@ -4,6 +4,7 @@ use crate::host::Host;
 use crate::lives::is_right;
 use crate::moves::{carry_out, is_bare, outcome_of, page_of, some_bars};
 use crate::numbers::Numbers;
+use crate::parts::{PartLife, look_at};
 use page_lender::{Order, Outcome, PageLender};
 use std::alloc::Allocator;
 use std::process::Abort;
@@ -27,10 +28,11 @@ struct Counts {
     given_back: u32,
 }
 
-/// What is outside of the lender: a host's account of each page, and chance.
+/// What is outside of the lender: a host's account of each page, the part that the pages are, and chance.
 #[derive(Clone, Copy)]
 struct Outside {
     hosts: [Host; 4],
+    part: PartLife,
     numbers: Numbers,
     counts: Counts,
 }
@@ -224,6 +226,14 @@ fn go_on<A: Allocator, B: Allocator>(
         4 | 5 => {
             mappings.apply(&others_event(&mut outside.numbers));
         }
+        6 => look_at(
+            rt,
+            &mut outside.part,
+            &mut outside.numbers,
+            lender,
+            mappings,
+            FIRST,
+        ),
         _ => {
             return match open {
                 Some(run) => {
@@ -289,6 +299,7 @@ fn live<A: Allocator, B: Allocator>(
     };
     let mut outside = Outside {
         hosts: [host; 4],
+        part: PartLife::new(),
         numbers: Numbers { state: seed },
         counts,
     };
@@ -297,6 +308,7 @@ fn live<A: Allocator, B: Allocator>(
         open = go_on(rt, &mut outside, lender, mappings, open);
         check(rt, &outside, lender, mappings);
     }
+    assert!(rt; outside.part.splits > 10 && outside.part.wholes > 10);
     outside.counts
 }
 
