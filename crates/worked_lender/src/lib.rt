@@ -1,11 +1,13 @@
-//! Lenders of one page and of a window beside the protocol of windows, and the budget of their thread, by the public calls of `page_lender`,
-//! `window_lender`, `window_events` and `work_budget`. This crate has only tests.
+//! Lenders of one page and of a window beside the protocol of windows, the budget of their thread, and its looks, by the public calls of
+//! `page_lender`, `window_lender`, `window_events`, `work_budget` and `idle_pages`. This crate has only tests.
 #![tactic(auto)]
 
 #[cfg(test)]
 mod budgets;
 #[cfg(test)]
 mod host;
+#[cfg(test)]
+mod idle;
 #[cfg(test)]
 mod lives;
 #[cfg(test)]

@@ -1,0 +1,91 @@
+//! Reads, turns and rests, beside counts of the test's own.
+use crate::numbers::Numbers;
+use idle_pages::{LookConfig, PageLooks, PartRest};
+use std::process::Abort;
+
+const CONFIG: LookConfig = LookConfig {
+    turns: 16,
+    whole_turns: 2,
+    together: 64,
+    calm_part: 64,
+    rest_most: 7,
+};
+
+#[test]
+fn three_reads_that_are_alike_make_a_page_idle(rt: HostRuntime) {
+    let mut numbers = Numbers { state: 3 };
+    let mut page = PageLooks::new();
+    let mut last = [9u64, 8, 7];
+    let mut idle = 0u32;
+    for _ in 0..10_000 {
+        let fingerprint = u64::from(numbers.next() % 2);
+        page.read(fingerprint);
+        last = [fingerprint, last[0], last[1]];
+        assert_eq!(rt; page.is_idle(), last[0] == last[1] && last[1] == last[2]);
+        if page.is_idle() {
+            idle = idle.wrapping_add(1);
+            page.asked();
+        }
+        if numbers.next() % 16 == 0 {
+            page.forget();
+            last = [9, 8, 7];
+        }
+    }
+    assert!(rt; idle > 1_000);
+}
+
+/// Returns how many of 64 looks are the turn of a page.
+fn turns(page: &PageLooks, rest: u8, is_whole: bool) -> u32 {
+    let mut count = 0u32;
+    for look in 0..64u64 {
+        if page.has_turn(&CONFIG, rest, is_whole, look, 100) {
+            count = count.wrapping_add(1);
+        }
+    }
+    count
+}
+
+#[test]
+fn a_page_that_was_asked_about_in_vain_is_read_seldom(rt: HostRuntime) {
+    let mut page = PageLooks::new();
+    assert_eq!(rt; turns(&page, 0, false), 64);
+    for _ in 0..3 {
+        page.read(5);
+    }
+    assert_eq!(rt; turns(&page, 0, false), 64);
+    page.asked();
+    assert_eq!(rt; turns(&page, 0, false), 32);
+    page.asked();
+    page.asked();
+    assert_eq!(rt; turns(&page, 0, false), 4);
+    assert_eq!(rt; turns(&page, 0, true), 2);
+    assert_eq!(rt; page.looks_apart(&CONFIG, 7, false), 2);
+}
+
+/// Returns how many looks leave a part out that has just been looked at.
+fn rests(part: &mut PartRest) -> u32 {
+    let mut count = 0u32;
+    for _ in 0..100u32 {
+        if part.is_left_out() {
+            count = count.wrapping_add(1);
+        }
+    }
+    count
+}
+
+#[test]
+fn a_calm_part_rests(rt: HostRuntime) {
+    let mut part = PartRest {
+        rest: 0,
+        left: 0,
+        own: 0,
+    };
+    part.looked(&CONFIG, 0, 512);
+    assert_eq!(rt; rests(&mut part), 0);
+    for expected in [1u32, 3, 7, 7] {
+        part.looked(&CONFIG, 8, 512);
+        assert_eq!(rt; rests(&mut part), expected);
+    }
+    part.looked(&CONFIG, 9, 512);
+    assert_eq!(rt; rests(&mut part), 0);
+}
