@@ -1,3 +1,4 @@
 mod Alike
 mod Rested
 mod Turned
+mod Went

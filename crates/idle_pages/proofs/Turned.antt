@@ -14,7 +14,7 @@ whole q a h =
     let is : q * a + a ≡ 0 + (q + 1) * a = omega (arith, add-mul q 1 a) in
     ap (λ n. n % a) is ∙ add-mul-mod_self_right 0 (q + 1) a ∙ mod-eq_of_lt {n = 0} {m = a} (omega (arith, h))
 
-found : (at a : ℕ) → 1 ≤ a → (k : ℕ) × ((k < a) × ((at + k) % a ≡ 0))
+pub found : (at a : ℕ) → 1 ≤ a → (k : ℕ) × ((k < a) × ((at + k) % a ≡ 0))
 found at a h = pick (at % a) refl where
   pick : (r : ℕ) → at % a ≡ r → (k : ℕ) × ((k < a) × ((at + k) % a ≡ 0))
   pick zero e = (0, (omega (arith, h), ap (λ n. n % a) (add-zero at) ∙ e)) where
@@ -27,13 +27,13 @@ found at a h = pick (at % a) refl where
       let sum : at + (a - suc r) ≡ at / a * a + a = omega (arith, below, rest, under, e) in
       (a - suc r, (omega (arith, h), ap (λ n. n % a) sum ∙ whole (at / a) a h))
 
-apart_some : (config : LookConfig) (p : PageLooks) (rest : ℕ) (whole : Bool) → 1 ≤ looks_apart config p rest whole
+pub apart_some : (config : LookConfig) (p : PageLooks) (rest : ℕ) (whole : Bool) → 1 ≤ looks_apart config p rest whole
 apart_some config p rest whole = pick (nat_eq p.looks 0) where
   pick : (b : Bool) → 1 ≤ cond b 1 (max ((cond (nat_le STILL p.looks && nat_le ASKS_MOST p.asks) (longest_apart config whole) (power p.asks)) / (rest + 1)) 1)
   pick true = omega arith
   pick false = omega arith
 
-later : (look k rest row : ℕ) → (look + k * (rest + 1)) / (rest + 1) + row ≡ look / (rest + 1) + row + k
+pub later : (look k rest row : ℕ) → (look + k * (rest + 1)) / (rest + 1) + row ≡ look / (rest + 1) + row + k
 later look k rest row =
     let moved : (look + k * (rest + 1)) / (rest + 1) ≡ look / (rest + 1) + k = add-mul-div_right look k {z = rest + 1} (omega arith) in
     omega (arith, moved)

@@ -1,3 +1,4 @@
 pub mod Idle
 pub mod Rests
 pub mod Turns
+pub mod Ways

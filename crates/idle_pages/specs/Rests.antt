@@ -24,7 +24,7 @@ abbrev pub rest_then : LookConfig → PartRest → ℕ → ℕ → ℕ
 rest_then config p changes own = if is_calm config p changes own then min (p.rest * 2 + 1) config.rest_most else 0
 
 abbrev pub looked : LookConfig → PartRest → ℕ → ℕ → PartRest
-looked config p changes own = record { rest = rest_then config p changes own; left = rest_then config p changes own; own = own }
+looked config p changes own = record { rest = rest_then config p changes own; left = rest_then config p changes own; own = own; is_still = nat_eq (changes_of p changes own) 0 }
 
 -- after so many looks that left it out
 abbrev pub after_looks : ℕ → PartRest → PartRest

@@ -6,5 +6,6 @@ mod look;
 mod page;
 mod part;
 mod turn;
+mod way;
 
-pub use look::{ASKS_MOST, LookConfig, PageLooks, PartRest, STILL};
+pub use look::{ASKS_MOST, Glance, LookConfig, PageLooks, PartRest, STILL, Way};

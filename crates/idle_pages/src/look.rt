@@ -30,6 +30,32 @@ pub struct LookConfig {
     pub calm_part: u32,
     /// So many looks in a row leave a calm part out at most.
     pub rest_most: u8,
+    /// Of so many turns of a page that was asked about in vain most often one reads it, where glances find most changes; 0 counts as 1.
+    pub read_each: u32,
+    /// And where they can't, since its memory lies over a frame, in a part where nothing has changed.
+    pub read_each_over: u32,
+}
+
+/// What is known of a page without reading it.
+#[derive(Clone, Copy, Debug, PartialEq, Eq)]
+pub struct Glance {
+    /// Its memory lies over a frame, so that no glance says whether it has changed.
+    pub is_over: bool,
+    /// Nothing has changed in its part.
+    pub is_still: bool,
+    /// A few of its bytes are others than when it was read last.
+    pub differs: bool,
+}
+
+/// What a look does with a page.
+#[derive(Clone, Copy, Debug, PartialEq, Eq)]
+pub enum Way {
+    /// Nothing.
+    Pass,
+    /// It takes the fingerprint of the last read.
+    Keep,
+    /// It reads the page.
+    Read,
 }
 
 /// When a part is looked at.
@@ -41,4 +67,6 @@ pub struct PartRest {
     pub left: u8,
     /// Pages that had memory of their own when it was looked at last.
     pub own: u32,
+    /// Nothing at all had changed there then.
+    pub is_still: bool,
 }

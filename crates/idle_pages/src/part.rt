@@ -58,6 +58,7 @@ impl PartRest {
             rest,
             left: rest,
             own,
+            is_still: self.changes(changes, own) == 0,
         };
     }
 }

@@ -65,7 +65,7 @@ impl PageLooks {
 }
 
 // Returns which turn a look is for a page.
-fn turn_at(config: &LookConfig, rest: u8, look: u64, number: u32) -> u128
+pub(crate) fn turn_at(config: &LookConfig, rest: u8, look: u64, number: u32) -> u128
     ensures { result ≡ turn_at config.now rest look number }
 {
     let row = number / config.together.max(1);

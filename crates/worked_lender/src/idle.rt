@@ -1,6 +1,6 @@
 //! Reads, turns and rests, beside counts of the test's own.
 use crate::numbers::Numbers;
-use idle_pages::{LookConfig, PageLooks, PartRest};
+use idle_pages::{Glance, LookConfig, PageLooks, PartRest, Way};
 use std::process::Abort;
 
 const CONFIG: LookConfig = LookConfig {
@@ -9,6 +9,8 @@ const CONFIG: LookConfig = LookConfig {
     together: 64,
     calm_part: 64,
     rest_most: 7,
+    read_each: 16,
+    read_each_over: 2,
 };
 
 #[test]
@@ -62,6 +64,46 @@ fn a_page_that_was_asked_about_in_vain_is_read_seldom(rt: HostRuntime) {
     assert_eq!(rt; page.looks_apart(&CONFIG, 7, false), 2);
 }
 
+/// Returns how many of 256 looks read a page, and how many take its last fingerprint.
+fn ways(page: &PageLooks, glance: Glance) -> (u32, u32) {
+    let mut read = 0u32;
+    let mut kept = 0u32;
+    for look in 0..256u64 {
+        match page.way(&CONFIG, 0, false, &glance, look, 100) {
+            Way::Pass => {}
+            Way::Keep => kept = kept.wrapping_add(1),
+            Way::Read => read = read.wrapping_add(1),
+        }
+    }
+    (read, kept)
+}
+
+#[test]
+fn a_page_is_read_where_a_glance_differs(rt: HostRuntime) {
+    let mut page = PageLooks::new();
+    let mut glance = Glance {
+        is_over: false,
+        is_still: false,
+        differs: false,
+    };
+    assert_eq!(rt; ways(&page, glance), (256, 0));
+    for _ in 0..3 {
+        page.read(5);
+        page.asked();
+    }
+    for _ in 0..3 {
+        page.asked();
+    }
+    assert_eq!(rt; ways(&page, glance), (1, 15));
+    glance.is_over = true;
+    assert_eq!(rt; ways(&page, glance), (16, 0));
+    glance.is_still = true;
+    assert_eq!(rt; ways(&page, glance), (8, 8));
+    glance.is_over = false;
+    glance.differs = true;
+    assert_eq!(rt; ways(&page, glance), (256, 0));
+}
+
 /// Returns how many looks leave a part out that has just been looked at.
 fn rests(part: &mut PartRest) -> u32 {
     let mut count = 0u32;
@@ -79,6 +121,7 @@ fn a_calm_part_rests(rt: HostRuntime) {
         rest: 0,
         left: 0,
         own: 0,
+        is_still: false,
     };
     part.looked(&CONFIG, 0, 512);
     assert_eq!(rt; rests(&mut part), 0);
