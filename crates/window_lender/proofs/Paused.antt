@@ -8,6 +8,9 @@ use Rattle.window_lender.specs.declared.huge.PartOrder.{PartOrder}
 use Rattle.window_lender.specs.declared.huge.PartOrder.TheVariants.{Stay, Split, MakeWhole}
 use Rattle.window_lender.specs.Huge.{is_worth, alone_then, order_of, part_then, done_then, changes, Moment, order_at, part_at, StaysAt, NoToAndFro}
 use Rattle.std.proofs.lemmas.Bool.{lt-ltb}
+use Rattle.page_lender.specs.Decisions.{is_held, is_barred}
+use Rattle.page_lender.specs.declared.page.PageLender.{PageLender}
+use Rattle.window_lender.specs.Runs.{Each, IsLoose, IsMovable}
 
 -- what is to be done where a part doesn't pause
 abbrev unpaused : PartConfig → Part → PartLook → Bool → Bool → PartOrder
@@ -66,8 +69,20 @@ whole_is_movable config part look loose movable e =
       pick false false s true true false false long h = cc
       pick false false s true true false true long h = (refl, refl)
 
--- where nothing is to be done with a part whose pages are movable, nothing is in any case
-pub stays_anyway : (config : PartConfig) (part : Part) (look : PartLook) → order_of config part look true true ≡ Stay → (o : PartOrder) → order_of config part look true true ≡ o → changes o ≡ false
-stays_anyway config part look e Stay f = refl
-stays_anyway config part look e Split f = cc
-stays_anyway config part look e MakeWhole f = cc
+-- whether pages of a whole part are movable makes no difference
+pub whole_needs_loose : (config : PartConfig) (part : Part) (look : PartLook) (loose movable : Bool) → loose ≡ true → part.whole ≡ true →
+    order_of config part look loose movable ≡ order_of config part look true true
+whole_needs_loose config part look loose movable l w =
+    ap (λ b. order_of config part look b movable) l
+    ∙ ap (λ b. cond (nat_lt 0 part.pause) Stay (cond b (cond (true && is_worth config look) Split Stay) (cond ((look.may_be_huge && look.may_lend && not look.may_pin && movable) && nat_le config.alone (alone_then config part look)) MakeWhole Stay))) w
+    ∙ sym (ap (λ b. cond (nat_lt 0 part.pause) Stay (cond b (cond (true && is_worth config look) Split Stay) (cond ((look.may_be_huge && look.may_lend && not look.may_pin && true) && nat_le config.alone (alone_then config part look)) MakeWhole Stay))) w)
+
+-- a page that is movable is loose
+loose_page : (x : PageLender) → IsMovable x → IsLoose x
+loose_page x m = record { held = pick (is_held x) (is_barred x.bars) m.movable; free = m.free } where
+  pick : (h b : Bool) → (not h && not b) ≡ true → h ≡ false
+  pick true b e = cc
+  pick false b e = refl
+
+pub loose_pages : (from to : ℕ) (pages : List PageLender) → Each IsMovable from to pages → Each IsLoose from to pages
+loose_pages from to pages e = record { at = λ i x l h f. loose_page x (e.at i x l h f) }

@@ -231,7 +231,8 @@ impl<A: Allocator> WindowLender<A> {
         ensures split { result ≡ PartOrder.Split → Each IsLoose from (from + count) self.now.pages }
         ensures whole { result ≡ PartOrder.MakeWhole → Each IsMovable from (from + count) self.now.pages }
         ensures pins { result ≡ PartOrder.MakeWhole → look.now.may_pin ≡ false }
-        ensures order { Each IsLoose from (from + count) self.now.pages → Each IsMovable from (from + count) self.now.pages → result ≡ order_of config.now part.old look.now true true }
+        ensures movable { Each IsMovable from (from + count) self.now.pages → result ≡ order_of config.now part.old look.now true true }
+        ensures loose { Each IsLoose from (from + count) self.now.pages → part.old.whole ≡ true → result ≡ order_of config.now part.old look.now true true }
         ensures part { part.new ≡ part_then config.now part.old look.now result }
     {
         let wanted = part.order(config, look, true, true);

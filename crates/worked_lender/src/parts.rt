@@ -1,11 +1,12 @@
 //! A part of a window is split and made whole, as looks find it.
 use crate::moves::{is_bare, must, page_of};
 use crate::numbers::Numbers;
-use page_lender::Notice;
+use page_lender::{Bars, Notice};
 use std::alloc::Allocator;
 use std::process::Abort;
+use std::test::Fail;
 use window_events::{Event, Mappings};
-use window_lender::{Part, PartConfig, PartLook, PartOrder, WindowLender};
+use window_lender::{Part, PartConfig, PartLook, PartOrder, Run, WindowLender};
 
 const CONFIG: PartConfig = PartConfig {
     pause: 3,
@@ -127,21 +128,51 @@ const SHAREABLE: PartLook = PartLook {
     may_pin: false,
 };
 
+/// Returns what is to be done with a part of four pages after such a look.
+fn asked<A: Allocator>(lender: &WindowLender<A>, part: &mut Part) -> PartOrder {
+    lender.next_of_part(0, lender.len(), part, &CONFIG, &SHAREABLE)
+}
+
+/// Orders a copy of a page, so that the page is held.
+fn hold<A: Allocator>(rt: &impl Abort, lender: &mut WindowLender<A>) -> Run {
+    assert!(rt; lender.len() == 4);
+    assert!(rt; lender.choose(2));
+    assert!(rt; lender.len() == 4);
+    lender.next(2, 1)
+}
+
+/// Bars all pages by a call of the monitor, or ends that.
+fn bar<A: Allocator>(lender: &mut WindowLender<A>, called: bool) {
+    let bars = Bars {
+        called,
+        pinned: false,
+        inherited: false,
+        locked: false,
+        left: false,
+        ended: false,
+    };
+    let pages = lender.len();
+    lender.bar(0, pages, bars);
+}
+
 #[test]
-fn a_part_is_split_and_made_whole(rt: HostRuntime) {
+fn a_part_is_split_and_made_whole(rt: HostRuntime) -> Result<(), Fail> {
+    let mut lender = WindowLender::new(rt.alloc(), 0, 4)?;
     let mut part = PartLife::new().part;
-    let held = part.next(&CONFIG, &SHAREABLE, false, false);
-    assert_eq!(rt; held, PartOrder::Stay);
-    let order = part.next(&CONFIG, &SHAREABLE, true, false);
+    let run = hold(&rt, &mut lender);
+    assert_eq!(rt; asked(&lender, &mut part), PartOrder::Stay);
+    assert!(rt; lender.is_open(run));
+    lender.withdraw(run);
+    let order = asked(&lender, &mut part);
     assert_eq!(rt; order, PartOrder::Split);
     part.done(order);
     for _ in 0..4 {
-        let order = part.next(&CONFIG, &SHAREABLE, true, true);
-        assert_eq!(rt; order, PartOrder::Stay);
+        assert_eq!(rt; asked(&lender, &mut part), PartOrder::Stay);
     }
-    let held = part.next(&CONFIG, &SHAREABLE, true, false);
-    assert_eq!(rt; held, PartOrder::Stay);
-    let order = part.next(&CONFIG, &SHAREABLE, true, true);
+    bar(&mut lender, true);
+    assert_eq!(rt; asked(&lender, &mut part), PartOrder::Stay);
+    bar(&mut lender, false);
+    let order = asked(&lender, &mut part);
     assert_eq!(rt; order, PartOrder::MakeWhole);
     part.done(order);
     assert_eq!(rt;
@@ -152,4 +183,5 @@ fn a_part_is_split_and_made_whole(rt: HostRuntime) {
             alone: 0
         }
     );
+    Ok(())
 }
