@@ -27,7 +27,8 @@ STRUCTS = {
     "Answer": "pageshare_answer", "Totals": "pageshare_totals", "PageName": "pageshare_page_name", "Lending": "pageshare_lending",
     "Region": "pageshare_region", "DomainShape": "pageshare_domain_shape", "DomainLoan": "pageshare_loan",
     "DomainTotals": "pageshare_domain_totals pageshare_host_totals", "HostShape": "pageshare_host_shape",
-    "SessionTold": "pageshare_host_session", "ReceivedPacket": "pageshare_host_received",
+    "KnownSession": "pageshare_host_session", "ReceivedPacket": "pageshare_host_received",
+    "ServedPacket": "pageshare_host_served", "PacketHead": "pageshare_host_packet",
 }
 # A handle has a pointer and a flag; what is in it is private, and so are its names.
 HANDLES = {"Machine", "Slot", "DomainHandle", "DomainSlot", "HostHandle", "HostSlot", "Handle"}

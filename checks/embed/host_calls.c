@@ -1,6 +1,7 @@
 /*
  * A host over the library, as a program calls it: its statuses, a dialogue of two clients, each fault of a packet, a session that is
- * taken up, sessions that end, a client that comes after the pages were lent, and fingerprints beside those that window/ computes.
+ * taken up, sessions that end, a client that comes after the pages were lent, what packets and replies say, and fingerprints beside
+ * those that window/ computes.
  * What each call must give was worked out by hand. Prints "ok", or what failed.
  */
 #include "../../window/bytes.h"
@@ -388,6 +389,70 @@ static void check_machines(void) {
     CHECK(pageshare_host_free(&host) == PAGESHARE_HOST_OK);
 }
 
+/* ---- what packets and replies say */
+
+/* Whether a packet is read so. Its name is the first of `names` if it has one. */
+static bool is_read(const void *bytes, size_t length, uint32_t kind, uint32_t count, uint32_t has_name) {
+    static const uint8_t before[PAGESHARE_HOST_NAME_BYTES] = {0xcc};
+    uint8_t name[PAGESHARE_HOST_NAME_BYTES] = {0xcc};
+    struct pageshare_host_packet packet = pageshare_host_read(bytes, length, name);
+    return packet.kind == kind && packet.count == count && packet.names == has_name && memcmp(name, has_name ? names[0] : before, sizeof name) == 0;
+}
+
+static void check_read(void) {
+    struct pageshare_host_hello greeting = {.kind = PAGESHARE_HOST_HELLO, .version = PAGESHARE_HOST_VERSION, .loans = 3};
+    struct pageshare_host_ask ask = {.kind = PAGESHARE_HOST_ASK, .count = 2};
+    struct pageshare_host_lend lending = {.kind = PAGESHARE_HOST_LEND, .count = 128};
+    struct pageshare_host_release releasing = {.kind = PAGESHARE_HOST_RELEASE, .count = 1};
+    memcpy(greeting.name, names[0], sizeof greeting.name);
+    CHECK(is_read(&greeting, 8, PAGESHARE_HOST_HELLO, 0, 0) && is_read(&greeting, sizeof greeting, PAGESHARE_HOST_HELLO, 0, 1));
+    CHECK(is_read(&ask, 8 + 2 * 16, PAGESHARE_HOST_ASK, 2, 0) && is_read(&ask, 8 + 16, 0, 0, 0));
+    CHECK(is_read(&lending, 8, PAGESHARE_HOST_LEND, 128, 0) && is_read(&releasing, 16, PAGESHARE_HOST_RELEASE, 1, 0));
+    lending.count++;
+    greeting.version++;
+    CHECK(is_read(&lending, 8, 0, 0, 0) && is_read(&greeting, sizeof greeting, 0, 0, 0) && is_read(&ask, 7, 0, 0, 0));
+}
+
+/* Whether a packet of session 0, with two pages in the buffer, came to this. */
+static bool is_served(struct pageshare_host *host, const void *bytes, size_t length, struct pageshare_host_served due) {
+    memset(reply, 0xaa, sizeof reply);
+    memset(freed, 0xbb, sizeof freed);
+    struct pageshare_host_served served =
+        pageshare_host_serve(host, 0, bytes, length, (const uint8_t(*)[PAGE])pages, 2, reply, sizeof reply, freed, FREED);
+    return memcmp(&served, &due, sizeof due) == 0;
+}
+
+/* A page that is lent and one that isn't, since the session may have one slot. */
+static void check_served(void *region) {
+    struct pageshare_host host = PAGESHARE_HOST_NONE;
+    struct pageshare_host_shape small = shape;
+    const uint32_t none = PAGESHARE_HOST_NO_FRAME, greeting[2] = {PAGESHARE_HOST_HELLO, PAGESHARE_HOST_VERSION};
+    struct pageshare_host_ask ask = {.kind = PAGESHARE_HOST_ASK, .count = 2, .questions = {{1, 50}, {2, 50}}};
+    struct pageshare_host_lend lending = {.kind = PAGESHARE_HOST_LEND, .count = 2};
+    struct pageshare_host_release releasing = {.kind = PAGESHARE_HOST_RELEASE, .count = 2};
+    uint32_t number = 77;
+    small.quota = 1;
+    CHECK(is_served(&host, greeting, 8, (struct pageshare_host_served){.status = PAGESHARE_HOST_ERROR_NO_HOST, .resumed = none}));
+    CHECK(pageshare_host_make(&host, &small, region, FRAMES * PAGE) == PAGESHARE_HOST_OK);
+    CHECK(is_served(&host, greeting, 8, (struct pageshare_host_served){.status = PAGESHARE_HOST_ERROR_NO_SESSION, .resumed = none}));
+    CHECK(pageshare_host_connect(&host, names[0], &number) == PAGESHARE_HOST_OK && number == 0);
+    CHECK(is_served(&host, greeting, 8, (struct pageshare_host_served){0, 40, 0, none, PAGESHARE_HOST_WELCOME, 0, 0}));
+    CHECK(is_served(&host, &ask, 8 + 2 * 16, (struct pageshare_host_served){0, 10, 0, none, PAGESHARE_HOST_SEEN, 2, 0}));
+    memset(pages[0], 1, PAGE);
+    memset(pages[1], 2, PAGE);
+    CHECK(is_served(&host, &lending, 8, (struct pageshare_host_served){0, 40, 0, none, PAGESHARE_HOST_LOANS, 0, 2}));
+    uint32_t frame = freed[0];
+    CHECK(frame < FRAMES && frame == loan(0).frame && freed[1] == none && loan(1).frame == none && freed[2] == 0xbbbbbbbb);
+    releasing.slots[0] = loan(0).slot;
+    releasing.slots[1] = 99;
+    CHECK(is_served(&host, &releasing, 24, (struct pageshare_host_served){0, 0, 2, none, 0, 0, 0}));
+    CHECK(freed[0] == frame && freed[1] == none && freed[2] == 0xbbbbbbbb && reply[0] == 0xaa);
+    CHECK(is_served(&host, greeting, 8, (struct pageshare_host_served){.status = PAGESHARE_HOST_FAULT_AGAIN, .resumed = none}));
+    struct pageshare_host_served tight = pageshare_host_serve(&host, 0, (const uint8_t *)greeting, 8, (const uint8_t(*)[PAGE])pages, 2, reply, sizeof reply, freed, FREED - 1);
+    CHECK(tight.status == PAGESHARE_HOST_ERROR_SHORT && tight.kind == 0);
+    CHECK(pageshare_host_free(&host) == PAGESHARE_HOST_OK);
+}
+
 /* ---- fingerprints */
 
 static uint64_t drawn(uint64_t *state) {
@@ -431,6 +496,8 @@ int main(void) {
     check_none(&host);
     check_later(region);
     check_lost(region);
+    check_read();
+    check_served(region);
     check_machines();
     free(region);
     if (failures == 0) puts("ok");

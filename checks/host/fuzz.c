@@ -134,11 +134,17 @@ static void receive(struct pageshare_host *host, uint32_t session, const uint8_t
     static uint8_t reply[PAGESHARE_HOST_MAX_MESSAGE];
     static uint32_t freed[PAGESHARE_HOST_MAX_PAGES];
     uint32_t head[2] = {0, 0};
-    struct pageshare_host_received got = pageshare_host_receive(host, session, packet, length, (const uint8_t(*)[PAGE])pages, buffer,
-                                                                reply, sizeof reply, freed, PAGESHARE_HOST_MAX_PAGES);
+    uint8_t name[PAGESHARE_HOST_NAME_BYTES];
+    struct pageshare_host_packet says = pageshare_host_read(packet, length, name);
+    struct pageshare_host_served got = pageshare_host_serve(host, session, packet, length, (const uint8_t(*)[PAGE])pages, buffer, reply,
+                                                            sizeof reply, freed, PAGESHARE_HOST_MAX_PAGES);
     if (got.status != PAGESHARE_HOST_OK) return;
     must(length >= 8 && got.reply_bytes <= sizeof reply && got.freed <= PAGESHARE_HOST_MAX_PAGES, "an answer out of range");
     memcpy(head, packet, sizeof head);
+    must(says.kind == head[0] && (head[0] == PAGESHARE_HOST_HELLO || says.count == head[1]), "a packet that is read as another");
+    must(got.loans == (head[0] == PAGESHARE_HOST_LEND ? head[1] : 0), "loans of other pages than those that were lent");
+    for (uint32_t i = 0; i < got.loans; i++)
+        must(freed[i] == PAGESHARE_HOST_NO_FRAME || freed[i] < MACHINES * FRAMES, "a loan's frame that isn't there");
     if (head[0] == PAGESHARE_HOST_HELLO && got.resumed == PAGESHARE_HOST_NO_FRAME) replies[session] = 0;
     if (got.resumed != PAGESHARE_HOST_NO_FRAME) note_resumed(got.resumed, session, packet);
     if (head[0] == PAGESHARE_HOST_RELEASE) note_releases(session, packet, head[1]);

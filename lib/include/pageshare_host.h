@@ -26,8 +26,8 @@
  *   it reads: a client can write to a buffer that it shares with the host, so copy the pages out of it first.
  * - A count of elements makes less than 2^63 bytes.
  * - The region is the library's until the host is freed: nobody else writes to it. But the memory of free frames may be given back
- *   to the system, also while a call runs, unless it is pageshare_host_receive with a LEND. Only a lend takes a frame that is free.
- *   The other calls touch no frames but those that slots have.
+ *   to the system, also while a call runs, unless it is pageshare_host_receive or pageshare_host_serve with a LEND. Only a lend takes
+ *   a frame that is free. The other calls touch no frames but those that slots have.
  * - A name is drawn at random for each connection, and given to nobody else.
  * - pageshare_host_end is called only when nothing shows the session's frames any more: its process has ended, and no other process
  *   has its mappings.
@@ -250,6 +250,38 @@ struct pageshare_host_received {
 struct pageshare_host_received pageshare_host_receive(struct pageshare_host *host, uint32_t session, const uint8_t *bytes,
                                                       size_t length, const uint8_t (*pages)[4096], size_t page_count,
                                                       uint8_t *reply, size_t reply_room, uint32_t *freed, size_t freed_room);
+
+/* What a packet says, before a session receives it. */
+struct pageshare_host_packet {
+    uint32_t kind;  /* an enum pageshare_host_kind, or 0: it is no message of a client */
+    uint32_t count; /* how many questions, pages or slots it lists */
+    uint32_t names; /* 1: it is a HELLO that names the session to take up; else 0 */
+};
+
+/*
+ * Reads a packet of `length` bytes. If it names a session to take up, that goes to `name`, and else `name` stays as it is. A caller can so
+ * prepare what the packet needs: pages of the buffer for a LEND, or a look at who may take the session up.
+ */
+struct pageshare_host_packet pageshare_host_read(const uint8_t *bytes, size_t length, uint8_t name[PAGESHARE_HOST_NAME_BYTES]);
+
+struct pageshare_host_served {
+    uint32_t status;      /* these four as in struct pageshare_host_received */
+    uint32_t reply_bytes;
+    uint32_t freed;
+    uint32_t resumed;
+    uint32_t kind;    /* the reply's: PAGESHARE_HOST_WELCOME, _SEEN or _LOANS, or 0: there is none */
+    uint32_t answers; /* how many questions SEEN answers, or 0 */
+    uint32_t loans;   /* how many pages LOANS is of, or 0 */
+};
+
+/*
+ * Receives one packet as pageshare_host_receive does, and returns what the reply says, too. Where `loans` is above 0, frames[i] is the
+ * frame that page i has now, or PAGESHARE_HOST_NO_FRAME if it isn't lent. Otherwise `frames` is what `freed` is there: at most one of
+ * the two numbers isn't 0.
+ */
+struct pageshare_host_served pageshare_host_serve(struct pageshare_host *host, uint32_t session, const uint8_t *bytes, size_t length,
+                                                  const uint8_t (*pages)[4096], size_t page_count, uint8_t *reply, size_t reply_room,
+                                                  uint32_t *frames, size_t frames_room);
 
 /*
  * A session's connection has ended. A session that has slots, or may have some, keeps its number and its slots until

@@ -1,4 +1,3 @@
-pub mod Frames
 pub mod Handles
 pub mod Held
 pub mod Shapes

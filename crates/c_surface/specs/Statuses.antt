@@ -2,6 +2,8 @@
 use Rattle.std.specs.Prelude.{ℕ, Option, Some, None}
 use Rattle.share_domain.specs.declared.fault.LendFault.{LendFault}
 use Rattle.share_domain.specs.declared.fault.LendFault.TheVariants as fault
+use Rattle.share_domain.specs.declared.fault.DomainFault.{DomainFault}
+use Rattle.share_domain.specs.declared.fault.DomainFault.TheVariants as of_domain
 use Rattle.c_surface.specs.declared.status.TheConstants as status
 
 -- a call that needs what a handle holds, and nothing else
@@ -20,7 +22,15 @@ number_or old None = old
 number_or old (Some n) = n
 
 -- a page that wasn't lent
-abbrev pub status_of : LendFault → ℕ
-status_of fault.NoClient = status.NO_CLIENT
-status_of fault.NoSlot = status.NO_SLOT
-status_of fault.NoFrame = status.NO_FRAME
+abbrev pub lend_status : LendFault → ℕ
+lend_status fault.NoClient = status.NO_CLIENT
+lend_status fault.NoSlot = status.NO_SLOT
+lend_status fault.NoFrame = status.NO_FRAME
+
+-- a domain that wasn't made
+abbrev pub domain_status : DomainFault → ℕ
+domain_status of_domain.Machines = status.MACHINES
+domain_status of_domain.Slots = status.SLOTS
+domain_status of_domain.Frames = status.FRAMES
+domain_status of_domain.Clients = status.CLIENTS
+domain_status of_domain.OutOfMemory = status.MEMORY

@@ -4,7 +4,6 @@
 #![tactic(auto)]
 
 mod faults;
-mod frame;
 mod handle;
 mod laws;
 mod limits;
@@ -12,8 +11,7 @@ mod parcel;
 pub mod status;
 mod totals;
 
-pub use faults::status_of;
-pub use frame::frame_number;
+pub use faults::{domain_status, lend_status};
 pub use handle::{Handle, free};
 pub use laws::numbers_law;
 pub use limits::shape_status;

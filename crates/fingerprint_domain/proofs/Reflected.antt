@@ -11,12 +11,13 @@ use Rattle.page_digest.specs.Hashes.{fold_hash}
 use Rattle.machine_frames.specs.FrameMap.{FrameMap, frame}
 use Rattle.lent_slots.specs.declared.holding.Holding.{Holding}
 use Rattle.lent_slots.specs.Slots.{MachineView, holding, is_of, sharers, lent_slots, left_free, with_free, without, released_by, released, freed}
-use Rattle.share_domain.specs.declared.client.TheConstants.{NO_FRAME}
+use Rattle.share_domain.specs.declared.number.TheConstants.{NO_FRAME}
 use Rattle.share_domain.specs.declared.holding.Slot.{Slot}
 use Rattle.share_domain.specs.declared.holding.Loan.{Loan}
 use Rattle.share_domain.specs.declared.fault.NoSuchSlot.{NoSuchSlot}
 use Rattle.share_domain.specs.Domains.{DomainView, with_machines, no_machine, machine_at, held_in, region_frame, LendsIn, with_released, freed_in, release_answer, after_release}
-use Rattle.share_domain.specs.Leaving.{told, first_slot, Left, at_first, left_by, Leaves}
+use Rattle.share_domain.specs.Leaving.{first_slot, Left, at_first, left_by, Leaves}
+use Rattle.share_domain.specs.Numbers.{frame_number}
 use Rattle.share_domain.specs.declared.config.DomainConfig.{DomainConfig}
 use Rattle.share_domain.specs.Made.{AreLimits, empty_domain}
 use Rattle.lent_slots.specs.Totals.{empty_machine}
@@ -196,7 +197,7 @@ released_has frames ppn v (Some x) h = record {
 module _ (salt frames : ℕ) (ms : List MachineView) (m ppn : ℕ) (each : EachHas frames ms) (few : length (fingerprints_in salt ms) ≤ NO_FRAME) where
   freed_by_count : (h : Holding) → holding (machine_at ms m).slots ppn ≡ Some h → (b : Bool)
       → fingerprints_in salt (slice_set ms m (record { slots = slice_set (machine_at ms m).slots ppn None; frames = with_free (machine_at ms m).frames (cond b (Some h.frame) None) }))
-      ≡ slice_set (fingerprints_in salt ms) (told (option_map (λ mpn. region_frame frames m mpn) (cond b (Some h.frame) None))) None
+      ≡ slice_set (fingerprints_in salt ms) (frame_number (option_map (λ mpn. region_frame frames m mpn) (cond b (Some h.frame) None))) None
   freed_by_count h e true =
       let lt = held_there ms m ppn h e in
       frame_set salt frames ms m h.frame None (slice_set (machine_at ms m).slots ppn None) each lt ((machine_has frames ms m each lt).within ppn h e)
@@ -204,12 +205,12 @@ module _ (salt frames : ℕ) (ms : List MachineView) (m ppn : ℕ) (each : EachH
 
   freed_by_held : (held : Option Holding) → holding (machine_at ms m).slots ppn ≡ held
       → fingerprints_in salt (slice_set ms m (released_by (machine_at ms m) ppn held))
-      ≡ slice_set (fingerprints_in salt ms) (told (option_map (λ mpn. region_frame frames m mpn) (option_and_then (λ h. left_free (slice_set (machine_at ms m).slots ppn None) h.frame) held))) None
+      ≡ slice_set (fingerprints_in salt ms) (frame_number (option_map (λ mpn. region_frame frames m mpn) (option_and_then (λ h. left_free (slice_set (machine_at ms m).slots ppn None) h.frame) held))) None
   freed_by_held None e = ap (fingerprints_in salt) (set-get_or ms m no_machine) ∙ sym (set_past (fingerprints_in salt ms) NO_FRAME None few)
   freed_by_held (Some h) e = freed_by_count h e (sharers h.frame (slice_set (machine_at ms m).slots ppn None) == 0)
 
 pub freed_set : (salt frames : ℕ) (ms : List MachineView) (slot : Slot) → EachHas frames ms → length (fingerprints_in salt ms) ≤ NO_FRAME
-    → fingerprints_in salt (with_released slot ms) ≡ slice_set (fingerprints_in salt ms) (told (freed_in frames slot ms)) None
+    → fingerprints_in salt (with_released slot ms) ≡ slice_set (fingerprints_in salt ms) (frame_number (freed_in frames slot ms)) None
 freed_set salt frames ms slot each few = freed_by_held salt frames ms slot.machine slot.ppn each few (holding (machine_at ms slot.machine).slots slot.ppn) refl
 
 pub freed_each : (frames : ℕ) (ms : List MachineView) (slot : Slot) → EachHas frames ms → EachHas frames (with_released slot ms)
@@ -220,26 +221,26 @@ freed_each frames ms slot each =
     ]
 
 -- the number of what a release frees, or NO_FRAME where it is refused
-abbrev pub told_in : Result (Option ℕ) NoSuchSlot → ℕ
-told_in (Ok frame) = told frame
-told_in (Err fault) = NO_FRAME
+abbrev pub number_in : Result (Option ℕ) NoSuchSlot → ℕ
+number_in (Ok frame) = frame_number frame
+number_in (Err fault) = NO_FRAME
 
 release_by : (salt : ℕ) (slot : Slot) (d : DomainView) (f f' : Fingerprints) (b : Bool) → Reflects salt d f
-    → f'.held ≡ slice_set f.held (told_in (cond b (Ok (freed_in d.frames slot d.machines)) (Err (record {})))) None
+    → f'.held ≡ slice_set f.held (number_in (cond b (Ok (freed_in d.frames slot d.machines)) (Err (record {})))) None
     → Reflects salt (cond b (with_machines d (with_released slot d.machines)) d) f'
 release_by salt slot d f f' true r e =
     let few : length (fingerprints_in salt d.machines) ≤ NO_FRAME = let n = r.few in let len : length f.held ≡ length (fingerprints_in salt d.machines) = ap (λ (x : List (Option ℕ)). length x) r.held in omega (arith, n, len) in
     record {
-      held = e ∙ ap (λ (x : List (Option ℕ)). slice_set x (told (freed_in d.frames slot d.machines)) None) r.held ∙ sym (freed_set salt d.frames d.machines slot r.each few);
+      held = e ∙ ap (λ (x : List (Option ℕ)). slice_set x (frame_number (freed_in d.frames slot d.machines)) None) r.held ∙ sym (freed_set salt d.frames d.machines slot r.each few);
       each = freed_each d.frames d.machines slot r.each;
-      few = let n = r.few in let len : length f'.held ≡ length f.held = ap (λ (x : List (Option ℕ)). length x) e ∙ length-set f.held (told (freed_in d.frames slot d.machines)) None in omega (arith, n, len);
+      few = let n = r.few in let len : length f'.held ≡ length f.held = ap (λ (x : List (Option ℕ)). length x) e ∙ length-set f.held (frame_number (freed_in d.frames slot d.machines)) None in omega (arith, n, len);
     }
 release_by salt slot d f f' false r e =
     let same : f'.held ≡ f.held = e ∙ set_past f.held NO_FRAME None r.few in
     record { held = same ∙ r.held; each = r.each; few = let n = r.few in let len : length f'.held ≡ length f.held = ap (λ (x : List (Option ℕ)). length x) same in omega (arith, n, len) }
 
 pub release_reflects : (salt client : ℕ) (slot : Slot) (d : DomainView) (f f' : Fingerprints) → Reflects salt d f
-    → f'.held ≡ slice_set f.held (told_in (release_answer client slot d)) None → Reflects salt (after_release client slot d) f'
+    → f'.held ≡ slice_set f.held (number_in (release_answer client slot d)) None → Reflects salt (after_release client slot d) f'
 release_reflects salt client slot d f f' r e = release_by salt slot d f f' (is_of client (held_in d.machines slot)) r e
 
 -- ---- a leave
@@ -250,12 +251,12 @@ freed_length [] held = refl
 freed_length (t ∷ ts) held = freed_length ts (slice_set held t None) ∙ length-set held t None
 
 pub record LeftSo (salt frames : ℕ) (ms : List MachineView) (left : Left) : Type 0 where
-  pub held : fingerprints_in salt left.machines ≡ after_freed left.told (fingerprints_in salt ms)
+  pub held : fingerprints_in salt left.machines ≡ after_freed left.numbers (fingerprints_in salt ms)
   pub each : EachHas frames left.machines
 
 -- what is left after one slot more
 abbrev pub left_one : ℕ → ℕ → ℕ → List MachineView → Slot → Left
-left_one frames client n ms slot = let rest = left_by frames client n (with_released slot ms) in record { told = told (freed_in frames slot ms) ∷ rest.told; machines = rest.machines }
+left_one frames client n ms slot = let rest = left_by frames client n (with_released slot ms) in record { numbers = frame_number (freed_in frames slot ms) ∷ rest.numbers; machines = rest.machines }
 
 left_step : (salt frames client n : ℕ) (ms : List MachineView) → ((xs : List MachineView) → EachHas frames xs → length (fingerprints_in salt xs) ≤ NO_FRAME → LeftSo salt frames xs (left_by frames client n xs))
     → EachHas frames ms → length (fingerprints_in salt ms) ≤ NO_FRAME → (first : Option Slot) → LeftSo salt frames ms (at_first first ms (left_one frames client n ms))
@@ -263,9 +264,9 @@ unfolding after_freed
 left_step salt frames client n ms ih each few None = record { held = refl; each = each }
 left_step salt frames client n ms ih each few (Some slot) =
     let set = freed_set salt frames ms slot each few in
-    let len : length (fingerprints_in salt (with_released slot ms)) ≡ length (fingerprints_in salt ms) = ap (λ (x : List (Option ℕ)). length x) set ∙ length-set (fingerprints_in salt ms) (told (freed_in frames slot ms)) None in
+    let len : length (fingerprints_in salt (with_released slot ms)) ≡ length (fingerprints_in salt ms) = ap (λ (x : List (Option ℕ)). length x) set ∙ length-set (fingerprints_in salt ms) (frame_number (freed_in frames slot ms)) None in
     let rest = ih (with_released slot ms) (freed_each frames ms slot each) (omega (arith, few, len)) in
-    record { held = rest.held ∙ ap (after_freed (left_by frames client n (with_released slot ms)).told) set; each = rest.each }
+    record { held = rest.held ∙ ap (after_freed (left_by frames client n (with_released slot ms)).numbers) set; each = rest.each }
 
 pub left_so : (salt frames client n : ℕ) (ms : List MachineView) → EachHas frames ms → length (fingerprints_in salt ms) ≤ NO_FRAME → LeftSo salt frames ms (left_by frames client n ms)
 unfolding left_by after_freed
@@ -277,20 +278,20 @@ pub leave_reflects : (salt client count : ℕ) (room after : List ℕ) (old new 
     → f' ≡ with_held (after_freed (take count after) f.held) f → Reflects salt new f'
 leave_reflects salt client count room after old new f f' l r e =
     let left : Left = left_by old.frames client (length room) old.machines in
-    let fronts : take count after ≡ left.told = ap (λ (x : List ℕ). take count x) l.told ∙ ap (λ (k : ℕ). take k (left.told ++ drop count room)) l.counted ∙ take-append_seam left.told (drop count room) in
-    let held : f'.held ≡ after_freed left.told f.held = ap (λ (x : Fingerprints). x.held) e ∙ ap (λ (x : List ℕ). after_freed x f.held) fronts in
+    let fronts : take count after ≡ left.numbers = ap (λ (x : List ℕ). take count x) l.written ∙ ap (λ (k : ℕ). take k (left.numbers ++ drop count room)) l.counted ∙ take-append_seam left.numbers (drop count room) in
+    let held : f'.held ≡ after_freed left.numbers f.held = ap (λ (x : Fingerprints). x.held) e ∙ ap (λ (x : List ℕ). after_freed x f.held) fronts in
     let few : length (fingerprints_in salt old.machines) ≤ NO_FRAME = let n = r.few in let len : length f.held ≡ length (fingerprints_in salt old.machines) = ap (λ (x : List (Option ℕ)). length x) r.held in omega (arith, n, len) in
     let so = left_so salt old.frames client (length room) old.machines r.each few in
     let machines : new.machines ≡ left.machines = ap (λ (d : DomainView). d.machines) l.now in
     record {
-      held = held ∙ ap (after_freed left.told) r.held ∙ sym so.held ∙ ap (fingerprints_in salt) (sym machines);
+      held = held ∙ ap (after_freed left.numbers) r.held ∙ sym so.held ∙ ap (fingerprints_in salt) (sym machines);
       each = subst (λ (n : ℕ). EachHas n new.machines) (sym (ap (λ (d : DomainView). d.frames) l.now)) (subst (EachHas old.frames) (sym machines) so.each);
-      few = let n = r.few in let len : length f'.held ≡ length f.held = ap (λ (x : List (Option ℕ)). length x) held ∙ freed_length left.told f.held in omega (arith, n, len);
+      few = let n = r.few in let len : length f'.held ≡ length f.held = ap (λ (x : List (Option ℕ)). length x) held ∙ freed_length left.numbers f.held in omega (arith, n, len);
     }
 
 pub leave_within : (client count : ℕ) (room after : List ℕ) (old new : DomainView) → Leaves client count room after old new → count ≤ length after
 leave_within client count room after old new l =
-    let len : length after ≡ length (left_by old.frames client (length room) old.machines).told + length (drop count room) = ap (λ (x : List ℕ). length x) l.told ∙ length-append (left_by old.frames client (length room) old.machines).told (drop count room) in
+    let len : length after ≡ length (left_by old.frames client (length room) old.machines).numbers + length (drop count room) = ap (λ (x : List ℕ). length x) l.written ∙ length-append (left_by old.frames client (length room) old.machines).numbers (drop count room) in
     let counted = l.counted in
     omega (arith, len, counted)
 

@@ -2,7 +2,7 @@
 use Rattle.std.specs.Prelude.{◌≡◌, ℕ, ◌<◌, ◌≤◌, List, [], ◌∷◌, length, Option, Some, None, slice_set}
 use Rattle.lent_slots.specs.declared.holding.Holding.{Holding}
 use Rattle.lent_slots.specs.Slots.{MachineView, holding}
-use Rattle.share_domain.specs.declared.client.TheConstants.{NO_FRAME}
+use Rattle.share_domain.specs.declared.number.TheConstants.{NO_FRAME}
 use Rattle.share_domain.specs.Domains.{DomainView}
 use Rattle.frame_fingerprints.specs.Held.{Fingerprints}
 use Rattle.fingerprint_domain.specs.Known.{fingerprints_in}

@@ -10,12 +10,14 @@ ghost use Rattle.page_model.specs.declared.limits.TheConstants.{MAX_FRAMES};
 ghost use Rattle.frame_fingerprints.specs.Held.{is_held};
 ghost use Rattle.fingerprint_domain.specs.Known.{fingerprints_in, with_domain};
 
-use crate::frames::{forget_each, told};
+use crate::frames::forget_each;
 use frame_fingerprints::FrameFingerprints;
 use machine_frames::Frames;
 use page_digest::{FoldHash, PageHash};
 use page_model::Page;
-use share_domain::{Domain, DomainConfig, DomainReport, LendFault, Loan, NoSuchSlot, Slot};
+use share_domain::{
+    Domain, DomainConfig, DomainReport, LendFault, Loan, NoSuchSlot, Slot, frame_number,
+};
 use std::alloc::{AllocError, Allocator, Global};
 use std::marker::Model;
 
@@ -133,13 +135,13 @@ impl<H: PageHash, A: Allocator> FingerprintDomain<H, A> {
         match self.domain.release(client, slot) {
             Err(fault) => Err(fault),
             Ok(freed) => {
-                self.fingerprints.remove(told(freed));
+                self.fingerprints.remove(frame_number(freed));
                 Ok(freed)
             }
         }
     }
 
-    /// Releases as many of a client's slots as there is room to tell of, as [`Domain::leave`] does.
+    /// Releases as many of a client's slots as `freed` has places, as [`Domain::leave`] does.
     pub fn leave(&mut self, client: u32, freed: &mut [u32]) -> Option<usize>
         requires room { 1 ≤ length freed.old }
         ensures leaves { MatchOption result (StaysOut client freed.old freed.new self.old.domain self.new.domain)

@@ -24,7 +24,7 @@ pub struct Question {
 pub struct Lent {
     /// The page's slot, or 0 where it isn't lent.
     pub slot: u64,
-    /// The frame that holds its bytes, or [`NO_FRAME`](crate::NO_FRAME) where it isn't lent.
+    /// The frame that holds its bytes, or 4,294,967,295 where it isn't lent.
     pub frame: u32,
     /// How many slots have the frame, with this one, or 0 where it isn't lent.
     pub sharers: u32,

@@ -16,7 +16,7 @@ pub use fault::MessageFault;
 pub use host::{HostMessage, Welcome};
 pub use item::{Lent, Packet, Question};
 pub use limits::{
-    ASK, HEAD_BYTES, HELLO, LEND, LOANS, MAX_IN_MESSAGE, MAX_MESSAGE_BYTES, NAME_BYTES, NO_FRAME,
-    PASSING, RELEASE, SEEN, VERSION, WANTED_BYTES, WELCOME,
+    ASK, HEAD_BYTES, HELLO, LEND, LOANS, MAX_IN_MESSAGE, MAX_MESSAGE_BYTES, NAME_BYTES, PASSING,
+    RELEASE, SEEN, VERSION, WANTED_BYTES, WELCOME,
 };
 pub use numbers::limits_law;

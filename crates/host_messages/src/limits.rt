@@ -18,9 +18,6 @@ pub const NAME_BYTES: usize = 16;
 /// The bytes of a session to take up: its name, and how many replies to `Lend` the client has got in it.
 pub const WANTED_BYTES: usize = 24;
 
-/// What stands for a frame where a page isn't lent: no frame has this number.
-pub const NO_FRAME: u32 = u32::MAX;
-
 /// What is added to a page's number in a question that the host isn't to note. A page's number is below it.
 pub const PASSING: u64 = 1 << 63;
 

@@ -6,7 +6,7 @@ use Rattle.host_messages.specs.declared.item.Lent.{Lent}
 use Rattle.recent_fingerprints.specs.Notes.{Recent}
 use Rattle.share_domain.specs.Domains.{DomainView, release_answer, after_release}
 use Rattle.share_domain.specs.Numbers.{slot_by}
-use Rattle.host_sessions.specs.Turns.{after_question, answer_to, answers_to, asked, told_of, freed_by, after_releases, is_lent, slots_in, LendsOne, LendsInTurn}
+use Rattle.host_sessions.specs.Turns.{after_question, answer_to, answers_to, asked, number_freed, freed_by, after_releases, is_lent, slots_in, LendsOne, LendsInTurn}
 
 -- what is left at an item
 pub left_at : {X : Type 0} (xs : List X) (i : ℕ) (x d : X) → i < length xs → x ≡ get_or xs i d → drop i xs ≡ x ∷ drop (i + 1) xs
@@ -42,14 +42,14 @@ module _ (frames : List (Option ℕ)) (client : ℕ) (qs : List Question) (i : �
 -- ---- releases
 
 module _ (client : ℕ) (ss : List ℕ) (i : ℕ) where
-  pub freed_more : (s e : ℕ) (front : List ℕ) (told : ℕ) (d after : DomainView) (total : List ℕ) → i < length ss → s ≡ get_or ss i e
-      → told ≡ told_of (release_answer client (slot_by s) d) → after ≡ after_release client (slot_by s) d
-      → front ++ freed_by client (drop i ss) d ≡ total → (front ++ told ∷ []) ++ freed_by client (drop (i + 1) ss) after ≡ total
+  pub freed_more : (s e : ℕ) (front : List ℕ) (one : ℕ) (d after : DomainView) (total : List ℕ) → i < length ss → s ≡ get_or ss i e
+      → one ≡ number_freed (release_answer client (slot_by s) d) → after ≡ after_release client (slot_by s) d
+      → front ++ freed_by client (drop i ss) d ≡ total → (front ++ one ∷ []) ++ freed_by client (drop (i + 1) ss) after ≡ total
   unfolding freed_by
-  freed_more s e front told d after total lt is told-is after-is so_far =
-      append_assoc front (told ∷ []) (freed_by client (drop (i + 1) ss) after)
-      ∙ ap (λ (x : ℕ). front ++ x ∷ freed_by client (drop (i + 1) ss) after) told-is
-      ∙ ap (λ (x : DomainView). front ++ told_of (release_answer client (slot_by s) d) ∷ freed_by client (drop (i + 1) ss) x) after-is
+  freed_more s e front one d after total lt is one-is after-is so_far =
+      append_assoc front (one ∷ []) (freed_by client (drop (i + 1) ss) after)
+      ∙ ap (λ (x : ℕ). front ++ x ∷ freed_by client (drop (i + 1) ss) after) one-is
+      ∙ ap (λ (x : DomainView). front ++ number_freed (release_answer client (slot_by s) d) ∷ freed_by client (drop (i + 1) ss) x) after-is
       ∙ sym (ap (λ (l : List ℕ). front ++ freed_by client l d) (left_at ss i s e lt is)) ∙ so_far
 
   pub released_more : (s e : ℕ) (d after total : DomainView) → i < length ss → s ≡ get_or ss i e → after ≡ after_release client (slot_by s) d

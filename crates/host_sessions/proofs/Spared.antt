@@ -14,7 +14,8 @@ use Rattle.share_domain.specs.declared.holding.Loan.{Loan}
 use Rattle.share_domain.specs.declared.fault.LendFault.{LendFault}
 use Rattle.share_domain.specs.Domains.{DomainView, with_machines, machine_at, no_machine, held_in, with_released, freed_in, after_release, page_machine, LendsIn}
 use Rattle.host_sessions.specs.Others.{IsAnothers, Spares}
-use Rattle.share_domain.specs.Leaving.{Leaves, at_first, first_slot, slot_from, or_later, left_by, told}
+use Rattle.share_domain.specs.Leaving.{Leaves, at_first, first_slot, slot_from, or_later, left_by}
+use Rattle.share_domain.specs.Numbers.{frame_number}
 use Rattle.share_domain.specs.Numbers.{slot_by}
 use Rattle.share_domain.specs.Totals.{slots_of}
 use Rattle.host_sessions.specs.Turns.{after_releases, Answers, LendsOne, LendsInTurn}
@@ -146,7 +147,7 @@ unfolding left_by
 left_spares frames client zero machines slot is = refl
 left_spares frames client (suc n) machines slot is =
     elim (first_slot client machines) as (λ (o : Option Slot). first_slot client machines ≡ o → held_in (at_first o machines
-    (λ first. let rest = left_by frames client n (with_released first machines) in record { told = told (freed_in frames first machines) ∷ rest.told; machines = rest.machines })).machines slot ≡ held_in machines slot) [
+    (λ first. let rest = left_by frames client n (with_released first machines) in record { numbers = frame_number (freed_in frames first machines) ∷ rest.numbers; machines = rest.machines })).machines slot ≡ held_in machines slot) [
       | None ↦ λ e. refl
       | Some first ↦ λ e.
           let d : DomainView = record { salt = 0; frames = frames; machines = machines; clients = [] } in

@@ -2,7 +2,7 @@
 use Rattle.std.specs.Prelude.{◌≡◌, ℕ, Bool, ◌||◌, ◌==◌, not, if◌then◌else◌, ◌<◌, ◌≤◌, List, [], ◌∷◌, Option, Result, Ok, Err, MatchResult}
 use Rattle.host_messages.specs.declared.item.Question.{Question}
 use Rattle.host_messages.specs.declared.item.Lent.{Lent}
-use Rattle.host_messages.specs.declared.limits.TheConstants.{NO_FRAME}
+use Rattle.share_domain.specs.declared.number.TheConstants.{NO_FRAME}
 use Rattle.frame_fingerprints.specs.Held.{is_held}
 use Rattle.recent_fingerprints.specs.declared.note.PageName.{PageName}
 use Rattle.recent_fingerprints.specs.Notes.{Recent, was_noted, with_note}
@@ -10,9 +10,8 @@ use Rattle.share_domain.specs.declared.holding.Loan.{Loan}
 use Rattle.share_domain.specs.declared.fault.LendFault.{LendFault}
 use Rattle.share_domain.specs.declared.fault.NoSuchSlot.{NoSuchSlot}
 use Rattle.share_domain.specs.Domains.{DomainView, page_machine, LendsIn, RefusesIn, release_answer, after_release}
-use Rattle.share_domain.specs.Leaving.{told}
 use Rattle.share_domain.specs.Totals.{slots_of}
-use Rattle.share_domain.specs.Numbers.{slot_by, slot_number}
+use Rattle.share_domain.specs.Numbers.{frame_number, slot_by, slot_number}
 
 -- ---- questions
 
@@ -38,15 +37,15 @@ asked client (q ∷ qs) recent = asked client qs (after_question client q recent
 
 -- ---- releases
 
--- what is told of a release: the frame that is free since. A slot that isn't the client's frees none
-abbrev pub told_of : Result (Option ℕ) NoSuchSlot → ℕ
-told_of (Ok frame) = told frame
-told_of (Err fault) = NO_FRAME
+-- the number of the frame that a release freed. A slot that isn't the client's frees none
+abbrev pub number_freed : Result (Option ℕ) NoSuchSlot → ℕ
+number_freed (Ok frame) = frame_number frame
+number_freed (Err fault) = NO_FRAME
 
--- what is told of a client's releases, and the domain after them
+-- the numbers of the frames that a client's releases freed, and the domain after them
 unfoldable pub freed_by : ℕ → List ℕ → DomainView → List ℕ
 freed_by client [] d = []
-freed_by client (s ∷ ss) d = told_of (release_answer client (slot_by s) d) ∷ freed_by client ss (after_release client (slot_by s) d)
+freed_by client (s ∷ ss) d = number_freed (release_answer client (slot_by s) d) ∷ freed_by client ss (after_release client (slot_by s) d)
 
 unfoldable pub after_releases : ℕ → List ℕ → DomainView → DomainView
 after_releases client [] d = d
@@ -54,7 +53,7 @@ after_releases client (s ∷ ss) d = after_releases client ss (after_release cli
 
 -- ---- lends
 
--- what a client is told of a page
+-- what a client learns of a page
 abbrev pub not_lent : Lent
 not_lent = record { slot = 0; frame = NO_FRAME; sharers = 0 }
 
@@ -77,7 +76,7 @@ Answers hash client page answer old new = MatchResult answer
     (λ loan. LendsIn (page_machine hash old page) client page loan old new)
     (λ fault. RefusesIn (page_machine hash old page) client fault old × (new ≡ old))
 
--- a page of a client: what it is told, and the domain then
+-- a page of a client: what it learns of it, and the domain then
 pub record Lends (hash : ℕ → List ℕ → ℕ) (client : ℕ) (page : List ℕ) (lent : Lent) (old new : DomainView) : Type 0 where
   pub answer : Result Loan LendFault
   pub answers : Answers hash client page answer old new

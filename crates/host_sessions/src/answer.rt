@@ -16,7 +16,7 @@ pub enum Received {
     /// The session began.
     Welcome(Welcome),
     /// The session with this number was taken up, and the number is free now. For each slot of its last reply to `Lend`, if that
-    /// didn't arrive, the frame that its release freed, or `NO_FRAME`.
+    /// didn't arrive, the frame that its release freed, or [`NO_FRAME`](share_domain::NO_FRAME).
     Resumed(Welcome, u32, ArrayVec<u32, MAX_IN_MESSAGE>),
     /// For each page, whether another one was asked about with its fingerprint lately, or a frame in use has it.
     Seen(ArrayVec<bool, MAX_IN_MESSAGE>),

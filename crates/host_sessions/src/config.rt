@@ -10,10 +10,10 @@ pub struct HostConfig {
     pub recent: u32,
     /// What spreads the questions and the fingerprints of frames. Draw it at random and keep it secret.
     pub seed: u64,
-    /// The salt of fingerprints, which clients are told: another one than the domain's.
+    /// The salt of fingerprints, which clients learn: another one than the domain's.
     pub salt: u32,
     /// The most slots of one session.
     pub quota: u32,
-    /// The percentage of one processor that clients are told to use at most, or 0.
+    /// The percentage of one processor that clients are asked to use at most, or 0.
     pub client_cpu: u32,
 }

@@ -210,7 +210,7 @@ impl<H: PageHash, A: Allocator> Host<H, A> {
         true
     }
 
-    /// A session's process has ended. Releases as many of its slots as there is room to tell of, and returns how many, as
+    /// A session's process has ended. Releases as many of its slots as `freed` has places, and returns how many, as
     /// [`FingerprintDomain::leave`] does. Call it until it returns 0: then no session has the number. Returns `None` if none has it.
     pub fn end(&mut self, number: u32, freed: &mut [u32]) -> Option<usize>
         requires room { 1 ≤ length freed.old }
@@ -411,7 +411,7 @@ impl<H: PageHash, A: Allocator> Host<H, A> {
         }
     }
 
-    /// Returns what a session with this name is told first.
+    /// Returns the first message to a session with this name.
     fn welcome_to(&self, name: Name) -> Welcome
         ensures { result ≡ welcome_to self.now name }
     {

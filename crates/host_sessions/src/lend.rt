@@ -7,10 +7,10 @@ ghost use Rattle.host_messages.specs.declared.limits.TheConstants.{MAX_IN_MESSAG
 
 use arrayvec::ArrayVec;
 use fingerprint_domain::FingerprintDomain;
-use host_messages::{Lent, MAX_IN_MESSAGE, NO_FRAME};
+use host_messages::{Lent, MAX_IN_MESSAGE};
 use page_digest::PageHash;
 use page_model::Page;
-use share_domain::{LendFault, Loan, slot_number};
+use share_domain::{LendFault, Loan, NO_FRAME, slot_number};
 use std::alloc::Allocator;
 
 /// Lends pages of a client, one after the other.
@@ -64,7 +64,7 @@ fn lend_within<H: PageHash, A: Allocator>(
     lent_by(&answer)
 }
 
-/// Returns what a client is told of a page.
+/// Returns what a client learns of a page.
 fn lent_by(answer: &Result<Loan, LendFault>) -> Lent
     ensures { result ≡ lent_by answer.now }
 {
@@ -102,7 +102,7 @@ fn push_lent(slots: &mut ArrayVec<u64, MAX_IN_MESSAGE>, lent: &Lent)
     }
 }
 
-/// Returns what a client is told of a page that isn't lent.
+/// Returns what a client learns of a page that isn't lent.
 fn not_lent() -> Lent
     ensures { result ≡ not_lent }
 {

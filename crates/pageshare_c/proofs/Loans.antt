@@ -5,7 +5,7 @@ use Rattle.share_domain.specs.declared.holding.Loan.{Loan}
 use Rattle.share_domain.specs.declared.fault.LendFault.{LendFault}
 use Rattle.share_domain.specs.Domains.{LendsIn, RefusesIn, page_machine}
 use Rattle.pageshare_c.specs.Domains.{hash_of, view_of, with_view}
-use Rattle.pageshare_c.specs.Leases.{Becomes, LendsAt, loan_told}
+use Rattle.pageshare_c.specs.Leases.{Becomes, LendsAt, loan_of}
 use Rattle.pageshare_c.specs.declared.hashed_domain.HashedDomain.{HashedDomain}
 use Rattle.pageshare_c.specs.declared.hosted.Hosted.{Hosted}
 use Rattle.pageshare_c.specs.declared.hosted.Hosted.TheVariants.{Made}
@@ -13,7 +13,7 @@ use Rattle.pageshare_c.specs.declared.hosted.MadeDomain.{MadeDomain}
 use Rattle.pageshare_c.specs.declared.loan.DomainLoan.{DomainLoan}
 
 -- the domain lent the page or refused it, and is by the same hash as before
-pub lent_at : (client : ℕ) (page : List ℕ) (told : DomainLoan) (result : Result Loan LendFault) (old : Hosted) (m : MadeDomain) (d : HashedDomain) → old ≡ Made m → told ≡ loan_told (Some result)
+pub lent_at : (client : ℕ) (page : List ℕ) (told : DomainLoan) (result : Result Loan LendFault) (old : Hosted) (m : MadeDomain) (d : HashedDomain) → old ≡ Made m → told ≡ loan_of (Some result)
     → MatchResult result (λ loan. LendsIn (page_machine (hash_of m.domain) (view_of m.domain) page) client page loan (view_of m.domain) (view_of d))
     (λ fault. RefusesIn (page_machine (hash_of m.domain) (view_of m.domain) page) client fault (view_of m.domain) × (d ≡ m.domain))
     → d ≡ with_view (view_of d) m.domain → LendsAt client page told (Some old) (Some (Made (record { domain = d; recent = m.recent })))

@@ -17,9 +17,9 @@ status_of r.NoPage = status.NO_PAGE
 status_of r.Unmapped = status.UNMAPPED
 
 -- OK, or the refusal's status
-abbrev pub status_told : {X : Type 0} → Result X Refusal → ℕ
-status_told (Ok x) = status.OK
-status_told (Err refusal) = status_of refusal
+abbrev pub status_in : {X : Type 0} → Result X Refusal → ℕ
+status_in (Ok x) = status.OK
+status_in (Err refusal) = status_of refusal
 
 -- the verdict's number
 abbrev pub code_of : Verdict → ℕ

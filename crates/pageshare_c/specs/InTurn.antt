@@ -6,7 +6,7 @@ use Rattle.pageshare_c.specs.declared.hashed_core.HashedCore.{HashedCore}
 use Rattle.pageshare_c.specs.Framed.{frame_left, LeftFree}
 use Rattle.pageshare_c.specs.Kept.{LendKept}
 use Rattle.pageshare_c.specs.Outcomes.{lend_outcome, state_lent, seen}
-use Rattle.pageshare_c.specs.Told.{lend_answer}
+use Rattle.pageshare_c.specs.Gets.{lend_answer}
 
 -- A page was lent to the machine behind a handle, and C got this answer.
 pub record LendsOne (guest ppn : ℕ) (page : List ℕ) (told : Answer) (old new : Option HashedCore) : Type 0 where

@@ -1,19 +1,18 @@
 -- Clients and their slots, as C names them: what each call answers, and what the handle holds afterwards.
 use Rattle.std.specs.Prelude.{◌≡◌, ◌≢◌, ℕ, ◌==◌, if◌then◌else◌, List, length, slice_get, Option, Some, None, Result, Ok, Err, MatchResult}
-use Rattle.c_surface.specs.Frames.{frame_number}
-use Rattle.c_surface.specs.Statuses.{number_or, room_status, status_of}
+use Rattle.c_surface.specs.Statuses.{number_or, room_status, lend_status}
 use Rattle.c_surface.specs.Totals.{totals_of}
 use Rattle.c_surface.specs.declared.status.TheConstants as status
 use Rattle.c_surface.specs.declared.totals.DomainTotals.{DomainTotals}
 use Rattle.recent_fingerprints.specs.Notes.{forgotten}
-use Rattle.share_domain.specs.declared.client.TheConstants.{NO_FRAME}
+use Rattle.share_domain.specs.declared.number.TheConstants.{NO_FRAME}
 use Rattle.share_domain.specs.declared.holding.Loan.{Loan}
 use Rattle.share_domain.specs.declared.holding.Slot.{Slot}
 use Rattle.share_domain.specs.declared.fault.LendFault.{LendFault}
 use Rattle.share_domain.specs.declared.fault.NoSuchSlot.{NoSuchSlot}
 use Rattle.share_domain.specs.Domains.{DomainView, next_client, entered, page_machine, LendsIn, RefusesIn, release_answer, after_release}
 use Rattle.share_domain.specs.Leaving.{Leaves, is_here}
-use Rattle.share_domain.specs.Numbers.{slot_number}
+use Rattle.share_domain.specs.Numbers.{frame_number, slot_number}
 use Rattle.share_domain.specs.Totals.{domain_totals}
 use Rattle.pageshare_c.specs.Domains.{hash_of}
 use Rattle.pageshare_c.specs.Hosts.{changed, made_status, of_made, showing, shows}
@@ -37,10 +36,10 @@ abbrev pub not_lent : ℕ → DomainLoan
 not_lent why = record { status = why; frame = NO_FRAME; slot = 0; sharers = 0 }
 
 -- what C gets of a page, by what became of it; nothing becomes of it without a domain
-abbrev pub loan_told : Option (Result Loan LendFault) → DomainLoan
-loan_told None = not_lent status.NO_MACHINE
-loan_told (Some (Err fault)) = not_lent (status_of fault)
-loan_told (Some (Ok loan)) = record { status = status.OK; frame = loan.frame; slot = slot_number loan.slot; sharers = loan.sharers }
+abbrev pub loan_of : Option (Result Loan LendFault) → DomainLoan
+loan_of None = not_lent status.NO_MACHINE
+loan_of (Some (Err fault)) = not_lent (lend_status fault)
+loan_of (Some (Ok loan)) = record { status = status.OK; frame = loan.frame; slot = slot_number loan.slot; sharers = loan.sharers }
 
 -- what became of a client's page at a domain
 abbrev pub Becomes : ℕ → List ℕ → Result Loan LendFault → MadeDomain → MadeDomain → Type 0
@@ -62,7 +61,7 @@ BecomesAt client page (Some result) (Some (Made m)) (Some (Made n)) = Becomes cl
 -- a client's page was to be lent, and the answer is what became of it
 pub record LendsAt (client : ℕ) (page : List ℕ) (answer : DomainLoan) (old new : Option Hosted) : Type 0 where
   pub became : Option (Result Loan LendFault)
-  pub says : answer ≡ loan_told became
+  pub says : answer ≡ loan_of became
   pub lends : BecomesAt client page became old new
 
 -- a client's slot is released, if it is the client's

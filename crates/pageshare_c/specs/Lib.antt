@@ -14,4 +14,4 @@ pub mod Leases
 pub mod Made
 pub mod Outcomes
 pub mod Shapes
-pub mod Told
+pub mod Gets

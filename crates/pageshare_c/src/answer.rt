@@ -1,11 +1,11 @@
 //! What C gets in answer.
 ghost use Rattle.std.specs.Prelude.{◌≡◌, None, Ok, Err};
 ghost use Rattle.pageshare_c.specs.Codes.{code_of, count_of, status_of as status_number};
-ghost use Rattle.pageshare_c.specs.Told.{told, numbers};
+ghost use Rattle.pageshare_c.specs.Gets.{answer_of, numbers};
 
-use c_surface::{frame_number, status};
+use c_surface::status;
 use page_model::{Report, Verdict};
-use share_domain::NO_FRAME;
+use share_domain::{NO_FRAME, frame_number};
 
 /// The answer to one request.
 #[repr(C)]
@@ -108,7 +108,7 @@ fn count_in(verdict: &Verdict) -> u32
 
 /// Answers a request that was not served.
 pub(crate) fn refuse(refusal: Refusal) -> Answer
-    ensures { result ≡ told (Err refusal) None None }
+    ensures { result ≡ answer_of (Err refusal) None None }
 {
     Answer {
         status: status_of(refusal),
@@ -121,7 +121,7 @@ pub(crate) fn refuse(refusal: Refusal) -> Answer
 
 /// Answers a request that was served, with its verdict and the frames that the answer names.
 pub(crate) fn answer_of(verdict: &Verdict, frame: Option<u32>, freed: Option<u32>) -> Answer
-    ensures { result ≡ told (Ok verdict.now) frame freed }
+    ensures { result ≡ answer_of (Ok verdict.now) frame freed }
 {
     Answer {
         status: status::OK,

@@ -5,7 +5,7 @@ ghost use Rattle.page_model.specs.Stored.{text_at};
 ghost use Rattle.machine_frames.specs.FrameMap.{frame};
 ghost use Rattle.merge_core.specs.Shown.{state_of};
 ghost use Rattle.pageshare_c.specs.Found.{found_in, text_in};
-ghost use Rattle.pageshare_c.specs.Told.{value_or};
+ghost use Rattle.pageshare_c.specs.Gets.{value_or};
 
 use crate::answer::Refusal;
 use merge_core::Core;

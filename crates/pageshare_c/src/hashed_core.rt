@@ -12,7 +12,7 @@ ghost use Rattle.pageshare_c.specs.Hashed.{shown_in, hash_in};
 ghost use Rattle.pageshare_c.specs.InTurn.{LendInTurn};
 ghost use Rattle.pageshare_c.specs.Kept.{FramesKept, StoreKept, LendKept, restarted_core};
 ghost use Rattle.pageshare_c.specs.Outcomes.{outcome, state_after, store_outcome, state_stored, lend_outcome, state_lent, seen};
-ghost use Rattle.pageshare_c.specs.Told.{answer_to, store_answer, lend_answer, loaded, counted, counts, taken, value_or};
+ghost use Rattle.pageshare_c.specs.Gets.{answer_to, store_answer, lend_answer, loaded, counted, counts, taken, value_or};
 
 use crate::ahead::{PageName, note_hashes};
 use crate::answer::{Answer, Refusal, Totals, totals_of};

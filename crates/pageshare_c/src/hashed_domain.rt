@@ -86,7 +86,7 @@ impl HashedDomain {
         }
     }
 
-    /// Releases slots of a client that leaves, as many as there is room to tell of, and returns how many.
+    /// Releases slots of a client that leaves, as many as `freed` has places, and returns how many.
     pub(crate) fn leave(&mut self, client: u32, freed: &mut [u32]) -> Option<usize>
         requires room { 1 ≤ length freed.old }
         ensures leaves { MatchOption result (StaysOut client freed.old freed.new (view_of self.old) (view_of self.new))

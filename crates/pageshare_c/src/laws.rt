@@ -1,7 +1,6 @@
 //! The numbers that C reads, as lib/include/pageshare.h has them. Those of statuses are in c_surface.
 ghost use Rattle.std.specs.Prelude.{◌≡◌};
-ghost use Rattle.share_domain.specs.declared.client.TheConstants.{NO_FRAME};
-ghost use Rattle.share_domain.specs.declared.number.TheConstants.{SLOTS_APART};
+ghost use Rattle.share_domain.specs.declared.number.TheConstants.{NO_FRAME, SLOTS_APART};
 ghost use Rattle.pageshare_c.specs.declared.make.TheConstants.{SHA256, FOLD, WIDE_SHA256};
 
 /// Each constant is this number.

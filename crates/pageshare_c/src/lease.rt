@@ -3,8 +3,8 @@ ghost use Rattle.std.specs.Prelude.{◌≡◌, Some};
 ghost use Rattle.pageshare_c.specs.Leases.{after_enter, after_release_at, client_after, enter_status, freed_after, release_status, LeavesAt};
 
 use crate::hosted::Hosted;
-use c_surface::{frame_number, status};
-use share_domain::Slot;
+use c_surface::status;
+use share_domain::{Slot, frame_number};
 
 /// Lets a client in, writes its number to `client`, and returns the status.
 pub(crate) fn enter(hosted: &mut Hosted, client: &mut u32) -> u32

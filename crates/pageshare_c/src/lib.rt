@@ -17,7 +17,7 @@ ghost use Rattle.c_surface.specs.declared.status.TheConstants as status;
 ghost use Rattle.pageshare_c.specs.Access.{store_of, load_of};
 ghost use Rattle.page_digest.specs.Hashes.{fold_hash};
 ghost use Rattle.pageshare_c.specs.Asked.{asked, seen_after};
-ghost use Rattle.pageshare_c.specs.Codes.{status_told};
+ghost use Rattle.pageshare_c.specs.Codes.{status_in};
 ghost use Rattle.pageshare_c.specs.Found.{text_of, frame_found, HoldsText};
 ghost use Rattle.pageshare_c.specs.Framed.{frame_freed, frame_left, LeftFree};
 ghost use Rattle.pageshare_c.specs.Hashed.{hash_number};
@@ -29,7 +29,7 @@ ghost use Rattle.pageshare_c.specs.Made.{Makes};
 ghost use Rattle.share_domain.specs.Numbers.{slot_by};
 ghost use Rattle.pageshare_c.specs.declared.make.TheConstants.{SHA256};
 ghost use Rattle.pageshare_c.specs.Outcomes.{outcome, state_after, store_outcome, state_stored, lend_outcome, state_lent, seen};
-ghost use Rattle.pageshare_c.specs.Told.{answer_to, store_answer, lend_answer, counted, loaded, taken, counts, value_or};
+ghost use Rattle.pageshare_c.specs.Gets.{answer_to, store_answer, lend_answer, counted, loaded, taken, counts, value_or};
 
 mod ahead;
 mod answer;
@@ -409,7 +409,7 @@ pub extern "C" fn pageshare_hash(alloc: Global, machine: &mut Machine, pages: &[
 #[unsafe(no_mangle)]
 pub extern "C" fn pageshare_report(alloc: Global, machine: &mut Machine, totals: &mut Totals) -> u32
     ensures same { machine.new.slot.core ≡ machine.old.slot.core }
-    ensures status { result ≡ status_told (counts (seen machine.old.slot.core)) }
+    ensures status { result ≡ status_in (counts (seen machine.old.slot.core)) }
     ensures totals { totals.new ≡ value_or totals.old (counts (seen machine.old.slot.core)) }
 {
     match machine.take(alloc) {
@@ -433,7 +433,7 @@ pub extern "C" fn pageshare_read(
     room: &mut [u8; 4096],
 ) -> u32
     ensures same { machine.new.slot.core ≡ machine.old.slot.core }
-    ensures status { result ≡ status_told (text_of (seen machine.old.slot.core) guest ppn) }
+    ensures status { result ≡ status_in (text_of (seen machine.old.slot.core) guest ppn) }
     ensures bytes { room.new ≡ value_or room.old (text_of (seen machine.old.slot.core) guest ppn) }
 {
     match machine.take(alloc) {
@@ -457,7 +457,7 @@ pub extern "C" fn pageshare_frame(
     mpn: &mut u32,
 ) -> u32
     ensures same { machine.new.slot.core ≡ machine.old.slot.core }
-    ensures status { result ≡ status_told (frame_found machine.old.slot.core guest ppn) }
+    ensures status { result ≡ status_in (frame_found machine.old.slot.core guest ppn) }
     ensures frame { mpn.new ≡ value_or mpn.old (frame_found machine.old.slot.core guest ppn) }
     ensures bytes { result ≡ status.OK → HoldsText machine.old.slot.core guest ppn mpn.new }
 {
@@ -492,7 +492,7 @@ pub extern "C" fn pageshare_page(
     at: &mut *const u8,
 ) -> u32
     ensures same { machine.new.slot.core ≡ machine.old.slot.core }
-    ensures status { result ≡ status_told (frame_found machine.old.slot.core guest ppn) }
+    ensures status { result ≡ status_in (frame_found machine.old.slot.core guest ppn) }
     ensures room { result ≢ status.OK → at.new ≡ at.old }
 {
     match machine.take(alloc) {

@@ -1,9 +1,9 @@
 //! Pages that clients lend, as C gets them.
 ghost use Rattle.std.specs.Prelude.{◌≡◌, Some};
-ghost use Rattle.pageshare_c.specs.Leases.{loan_told, not_lent, LendsAt};
+ghost use Rattle.pageshare_c.specs.Leases.{loan_of, not_lent, LendsAt};
 
 use crate::hosted::Hosted;
-use c_surface::{status, status_of};
+use c_surface::{lend_status, status};
 use page_model::Page;
 use share_domain::{LendFault, Loan, NO_FRAME, slot_number};
 
@@ -27,16 +27,16 @@ pub(crate) fn lend(hosted: &mut Hosted, client: u32, page: &Page) -> DomainLoan
 {
     match hosted {
         Hosted::Begun(_) => not_lent(status::NO_MACHINE),
-        Hosted::Made(made) => loan_told(made.domain.lend(client, page)),
+        Hosted::Made(made) => loan_of(made.domain.lend(client, page)),
     }
 }
 
 /// Returns what C gets of a page that was lent, or wasn't.
-fn loan_told(became: Result<Loan, LendFault>) -> DomainLoan
-    ensures { result ≡ loan_told (Some became) }
+fn loan_of(became: Result<Loan, LendFault>) -> DomainLoan
+    ensures { result ≡ loan_of (Some became) }
 {
     match became {
-        Err(fault) => not_lent(status_of(fault)),
+        Err(fault) => not_lent(lend_status(fault)),
         Ok(loan) => DomainLoan {
             status: status::OK,
             frame: loan.frame,

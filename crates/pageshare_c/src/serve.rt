@@ -7,7 +7,7 @@ ghost use Rattle.pageshare_c.specs.Access.{store_of, load_of};
 ghost use Rattle.pageshare_c.specs.Framed.{named_frame, own_frame, asked_frame, freed_at, freed_by};
 ghost use Rattle.pageshare_c.specs.Kept.{CoreKeeps, FramesKept};
 ghost use Rattle.pageshare_c.specs.Outcomes.{refusal_for, accepted, answered, answered_state, outcome, state_after, seen};
-ghost use Rattle.pageshare_c.specs.Told.{told, answer_to, counted, loaded, overlaid};
+ghost use Rattle.pageshare_c.specs.Gets.{answer_of, answer_to, counted, loaded, overlaid};
 
 use crate::answer::{Answer, Refusal, Totals, answer_of, refuse, totals_of};
 use crate::framed::{find_named, find_own, freed_at};
@@ -59,7 +59,7 @@ fn accept<'a, H: PageHash>(
     guest: u32,
     asked: &'a Result<Request, RequestFault>,
 ) -> Result<&'a Request, Refusal>
-    ensures told { MatchResult result (λ request. accepted (state_of core.now) guest asked.now ≡ Ok request.now)
+    ensures request { MatchResult result (λ request. accepted (state_of core.now) guest asked.now ≡ Ok request.now)
         (λ refusal. accepted (state_of core.now) guest asked.now ≡ Err refusal) }
     ensures asked { IfOk result (λ request. asked.now ≡ Ok request.now) }
     ensures guest { IfOk result (λ _. guest < length (state_of core.now).guests) }
@@ -82,7 +82,7 @@ fn apply<H: PageHash>(core: &mut Core<H>, guest: u32, request: &Request) -> (Ver
     requires few { guest < 256 }
     requires room { core.old.entries < MAX_REQUESTS }
     ensures applies { Applies H.hash_of guest request.now result.0 core.old core.new }
-    ensures answer { result.1 ≡ told (Ok result.0) (named_frame core.new.pmap guest request.now)
+    ensures answer { result.1 ≡ answer_of (Ok result.0) (named_frame core.new.pmap guest request.now)
         (freed_at result.0 (own_frame core.old.pmap guest request.now)) }
 {
     let own = find_own(core, guest, request);
@@ -99,7 +99,7 @@ pub(crate) fn answer<H: PageHash>(
     guest: u32,
     asked: &Result<Request, RequestFault>,
 ) -> Answer
-    ensures answer { result ≡ told (answered H.hash_of (state_of core.old) guest asked.now) (asked_frame core.new.pmap guest asked.now)
+    ensures answer { result ≡ answer_of (answered H.hash_of (state_of core.old) guest asked.now) (asked_frame core.new.pmap guest asked.now)
         (freed_by (answered H.hash_of (state_of core.old) guest asked.now) core.old.pmap guest asked.now) }
     ensures state { state_of core.new ≡ answered_state H.hash_of (state_of core.old) guest asked.now }
     ensures frames { CoreKeeps guest asked.now (answered H.hash_of (state_of core.old) guest asked.now) core.old core.new }
@@ -118,7 +118,7 @@ pub(crate) fn answer_load<H: PageHash>(
     asked: &Result<Request, RequestFault>,
     room: &mut [u8],
 ) -> Answer
-    ensures answer { result ≡ told (answered H.hash_of (state_of core.old) guest asked.now) (asked_frame core.new.pmap guest asked.now)
+    ensures answer { result ≡ answer_of (answered H.hash_of (state_of core.old) guest asked.now) (asked_frame core.new.pmap guest asked.now)
         (freed_by (answered H.hash_of (state_of core.old) guest asked.now) core.old.pmap guest asked.now) }
     ensures state { state_of core.new ≡ answered_state H.hash_of (state_of core.old) guest asked.now }
     ensures frames { CoreKeeps guest asked.now (answered H.hash_of (state_of core.old) guest asked.now) core.old core.new }
@@ -142,7 +142,7 @@ pub(crate) fn answer_count<H: PageHash>(
     asked: &Result<Request, RequestFault>,
     totals: &mut Totals,
 ) -> Answer
-    ensures answer { result ≡ told (answered H.hash_of (state_of core.old) guest asked.now) (asked_frame core.new.pmap guest asked.now)
+    ensures answer { result ≡ answer_of (answered H.hash_of (state_of core.old) guest asked.now) (asked_frame core.new.pmap guest asked.now)
         (freed_by (answered H.hash_of (state_of core.old) guest asked.now) core.old.pmap guest asked.now) }
     ensures state { state_of core.new ≡ answered_state H.hash_of (state_of core.old) guest asked.now }
     ensures frames { CoreKeeps guest asked.now (answered H.hash_of (state_of core.old) guest asked.now) core.old core.new }

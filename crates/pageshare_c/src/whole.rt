@@ -9,7 +9,7 @@ ghost use Rattle.pageshare_c.specs.Found.{text_in};
 ghost use Rattle.pageshare_c.specs.Framed.{freed_by, freed_in, left_in, IsFree};
 ghost use Rattle.pageshare_c.specs.Kept.{CoreKeeps, CoreStores, CoreLends};
 ghost use Rattle.pageshare_c.specs.Outcomes.{answered, answered_state, store_steps, lend_steps, verdict_in, state_in};
-ghost use Rattle.pageshare_c.specs.Told.{told, taken};
+ghost use Rattle.pageshare_c.specs.Gets.{answer_of, taken};
 
 use crate::answer::{Answer, answer_of, refuse};
 use crate::framed::frame_of;
@@ -27,7 +27,7 @@ pub(crate) fn store_page<H: PageHash>(
     ppn: u32,
     page: &Page,
 ) -> Answer
-    ensures answer { result ≡ told (verdict_in (store_steps H.hash_of (state_of core.old) guest ppn page.now))
+    ensures answer { result ≡ answer_of (verdict_in (store_steps H.hash_of (state_of core.old) guest ppn page.now))
         (frame_at core.new.pmap guest ppn) None }
     ensures state { state_of core.new ≡ state_in (state_of core.old) (store_steps H.hash_of (state_of core.old) guest ppn page.now) }
     ensures frames { CoreStores guest ppn (verdict_in (store_steps H.hash_of (state_of core.old) guest ppn page.now)) core.old core.new }
@@ -49,7 +49,7 @@ pub(crate) fn lend<H: PageHash>(
     known: Option<SaltedHash>,
 ) -> Answer
     requires known { IfSome known (λ k. k.hash ≡ H.hash_of k.salt page.now) }
-    ensures answer { result ≡ told (verdict_in (lend_steps H.hash_of (state_of core.old) guest ppn page.now))
+    ensures answer { result ≡ answer_of (verdict_in (lend_steps H.hash_of (state_of core.old) guest ppn page.now))
         (frame_at core.new.pmap guest ppn) (left_in H.hash_of core.old guest ppn page.now) }
     ensures state { state_of core.new ≡ state_in (state_of core.old) (lend_steps H.hash_of (state_of core.old) guest ppn page.now) }
     ensures frames { CoreLends H.hash_of guest ppn page.now
@@ -71,7 +71,7 @@ pub(crate) fn take_back<H: PageHash>(
     ppn: u32,
     room: &mut Page,
 ) -> Answer
-    ensures answer { result ≡ told (answered H.hash_of (state_of core.old) guest (Ok (Release ppn))) (frame_at core.new.pmap guest ppn)
+    ensures answer { result ≡ answer_of (answered H.hash_of (state_of core.old) guest (Ok (Release ppn))) (frame_at core.new.pmap guest ppn)
         (freed_by (answered H.hash_of (state_of core.old) guest (Ok (Release ppn))) core.old.pmap guest (Ok (Release ppn))) }
     ensures state { state_of core.new ≡ answered_state H.hash_of (state_of core.old) guest (Ok (Release ppn)) }
     ensures frames { CoreKeeps guest (Ok (Release ppn))

@@ -17,7 +17,7 @@ use Rattle.host_sessions.specs.Steps.{HostView, with_sessions, with_session}
 use Rattle.host_sessions.specs.Ends.{Ends}
 use Rattle.pageshare_host_c.specs.Hosts.{AtHost, of_made, made_status}
 use Rattle.pageshare_host_c.specs.Packets.{fault_status}
-use Rattle.pageshare_host_c.specs.declared.calls.SessionTold.{SessionTold}
+use Rattle.pageshare_host_c.specs.declared.calls.KnownSession.{KnownSession}
 use Rattle.pageshare_host_c.specs.declared.hosted.Hosted.{Hosted}
 
 -- a connection gets the first number that no session has
@@ -60,7 +60,7 @@ abbrev pub EndsAt : ℕ → ℕ → List ℕ → List ℕ → ℕ → ℕ → Op
 EndsAt number result room after count count' old new =
     AtHost ((result ≡ status.NO_MACHINE) × (after ≡ room) × (count' ≡ count)) (λ h n. EndsWith number result room after count count' h n) old new
 
--- what C is told of a session
+-- what C gets of a session
 abbrev pub state_of_link : Link → ℕ
 state_of_link link.Talking = 2
 state_of_link link.Gone = 3
@@ -85,24 +85,24 @@ link_fault link.Gone = status.OK
 link_fault (link.Broken fault) = fault_status fault
 link_fault link.Ended = status.OK
 
-abbrev pub fault_told : Session → ℕ
-fault_told session.Free = status.OK
-fault_told (session.Silent name) = status.OK
-fault_told (session.Refused fault) = fault_status fault
-fault_told (session.Begun b) = link_fault b.link
+abbrev pub fault_known : Session → ℕ
+fault_known session.Free = status.OK
+fault_known (session.Silent name) = status.OK
+fault_known (session.Refused fault) = fault_status fault
+fault_known (session.Begun b) = link_fault b.link
 
 -- a session that has so many slots
-abbrev pub session_told : ℕ → Session → SessionTold
-session_told slots s = record { state = state_of s; slots = slots; fault = fault_told s; reserved = 0; messages = messages_of s }
+abbrev pub known_session : ℕ → Session → KnownSession
+known_session slots s = record { state = state_of s; slots = slots; fault = fault_known s; reserved = 0; messages = messages_of s }
 
 abbrev pub session_status : ℕ → Option Hosted → ℕ
 session_status number old = made_status (λ h. there_status (session_at h.sessions number)) old
 
-abbrev pub told_or : SessionTold → ℕ → Session → SessionTold
-told_or told slots s = if is_free s then told else session_told slots s
+abbrev pub known_or : KnownSession → ℕ → Session → KnownSession
+known_or known slots s = if is_free s then known else known_session slots s
 
-abbrev pub session_after : ℕ → SessionTold → Option Hosted → SessionTold
-session_after number told old = of_made told (λ h. told_or told (session_slots h.domain.machines (session_at h.sessions number)) (session_at h.sessions number)) old
+abbrev pub session_after : ℕ → KnownSession → Option Hosted → KnownSession
+session_after number known old = of_made known (λ h. known_or known (session_slots h.domain.machines (session_at h.sessions number)) (session_at h.sessions number)) old
 
 -- what a host counts
 abbrev pub totals_after : DomainTotals → Option Hosted → DomainTotals

@@ -1,15 +1,16 @@
--- What C is told of a packet.
+-- What C gets of a packet.
 use Rattle.std.specs.Prelude.{◌≡◌, ℕ, ◌||◌, nat_lt, MatchBool, List, [], ◌++◌, length, drop, Option, Some, None}
 use Rattle.c_surface.specs.declared.status.TheConstants as status
 use Rattle.page_digest.specs.Hashes.{fold_hash}
 use Rattle.host_messages.specs.declared.fault.MessageFault.{MessageFault}
 use Rattle.host_messages.specs.declared.fault.MessageFault.TheVariants as message
-use Rattle.host_messages.specs.declared.limits.TheConstants.{MAX_IN_MESSAGE, MAX_MESSAGE_BYTES, NO_FRAME}
+use Rattle.host_messages.specs.declared.limits.TheConstants.{MAX_IN_MESSAGE, MAX_MESSAGE_BYTES}
 use Rattle.host_sessions.specs.declared.answer.Received.{Received}
 use Rattle.host_sessions.specs.declared.answer.Received.TheVariants as got
 use Rattle.host_sessions.specs.declared.session.SessionFault.{SessionFault}
 use Rattle.host_sessions.specs.declared.session.SessionFault.TheVariants as fault
 use Rattle.share_domain.specs.Bytes.{BytesStay}
+use Rattle.share_domain.specs.declared.number.TheConstants.{NO_FRAME}
 use Rattle.host_sessions.specs.Others.{SparesOthers}
 use Rattle.host_sessions.specs.Replies.{reply_of}
 use Rattle.host_sessions.specs.Steps.{HostView, Receives}
@@ -69,8 +70,8 @@ put_front xs room = xs ++ drop (length xs) room
 abbrev pub refused : ℕ → ReceivedPacket
 refused why = record { status = why; reply_bytes = 0; freed = 0; resumed = NO_FRAME }
 
--- C is told what came of a packet: the reply's bytes, and the frames that are free since
-pub record Tells (received : Received) (told : ReceivedPacket) (reply reply' freed freed' : List ℕ) : Type 0 where
+-- C gets what came of a packet: the reply's bytes, and the frames that are free since
+pub record Gives (received : Received) (told : ReceivedPacket) (reply reply' freed freed' : List ℕ) : Type 0 where
   pub told-is : told ≡ record { status = status_of received; reply_bytes = length (reply_of received); freed = length (frees_of received); resumed = resumed_of received }
   pub reply-is : reply' ≡ put_front (reply_of received) reply
   pub freed-is : freed' ≡ put_front (frees_of received) freed
@@ -88,7 +89,7 @@ pub record ReceivesPacket (session : ℕ) (bytes : List ℕ) (pages : List (List
   pub receives : Receives fold_hash session bytes pages received old new
   pub others : SparesOthers (session_at new.sessions session) old.domain new.domain
   pub stay : BytesStay old.domain new.domain
-  pub tells : Tells received told reply reply' freed freed'
+  pub gives : Gives received told reply reply' freed freed'
 
 -- a packet for which there are buffers
 abbrev pub ReceivesWith : ℕ → List ℕ → List (List ℕ) → ReceivedPacket → List ℕ → List ℕ → List ℕ → List ℕ → HostView → HostView → Type 0

@@ -2,7 +2,7 @@
 ghost use Rattle.std.specs.Prelude.{◌≡◌, Some};
 ghost use Rattle.c_surface.specs.declared.status.TheConstants as status;
 ghost use Rattle.pageshare_host_c.specs.Hosts.{made_status};
-ghost use Rattle.pageshare_host_c.specs.Calls.{ConnectsAt, DisconnectsAt, EndsAt, session_status, session_after, session_told, state_of, fault_told, messages_of, link_fault, totals_after};
+ghost use Rattle.pageshare_host_c.specs.Calls.{ConnectsAt, DisconnectsAt, EndsAt, session_status, session_after, known_session, state_of, fault_known, messages_of, link_fault, totals_after};
 
 use crate::hosted::Hosted;
 use crate::receive::fault_status;
@@ -13,7 +13,7 @@ use host_sessions::{Link, Session};
 /// What is known of a session.
 #[repr(C)]
 #[derive(Clone, Copy)]
-pub struct SessionTold {
+pub struct KnownSession {
     /// 1: silent, 2: talking, 3: gone, 4: broken, 5: ended.
     pub state: u32,
     pub slots: u32,
@@ -76,9 +76,9 @@ pub(crate) fn end(hosted: &mut Hosted, session: u32, freed: &mut [u32], count: &
 }
 
 /// Writes what is known of a session, and returns the status.
-pub(crate) fn tell_session(hosted: &Hosted, session: u32, told: &mut SessionTold) -> u32
+pub(crate) fn write_session(hosted: &Hosted, session: u32, known: &mut KnownSession) -> u32
     ensures status { result ≡ session_status session (Some hosted.now) }
-    ensures told { told.new ≡ session_after session told.old (Some hosted.now) }
+    ensures known { known.new ≡ session_after session known.old (Some hosted.now) }
 {
     match hosted {
         Hosted::Waiting(_) => status::NO_MACHINE,
@@ -87,17 +87,17 @@ pub(crate) fn tell_session(hosted: &Hosted, session: u32, told: &mut SessionTold
             if found.is_free() {
                 return status::NO_SESSION;
             }
-            *told = session_told(host.slots_of(session), &found);
+            *known = known_session(host.slots_of(session), &found);
             status::OK
         }
     }
 }
 
-/// Returns what C is told of a session that has so many slots.
-fn session_told(slots: u32, session: &Session) -> SessionTold
-    ensures { result ≡ session_told slots session.now }
+/// Returns what C gets of a session that has so many slots.
+fn known_session(slots: u32, session: &Session) -> KnownSession
+    ensures { result ≡ known_session slots session.now }
 {
-    SessionTold {
+    KnownSession {
         state: state_of(session),
         slots,
         fault: fault_of(session),
@@ -137,7 +137,7 @@ fn messages_of(session: &Session) -> u64
 
 /// Returns the status of the fault that broke a session, or `OK`.
 fn fault_of(session: &Session) -> u32
-    ensures { result ≡ fault_told session.now }
+    ensures { result ≡ fault_known session.now }
 {
     match session {
         Session::Free => status::OK,

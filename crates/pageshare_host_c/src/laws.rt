@@ -1,6 +1,7 @@
 //! The numbers that C reads, as lib/include/pageshare_host.h has them.
 ghost use Rattle.std.specs.Prelude.{◌≡◌, ◌^◌};
-ghost use Rattle.host_messages.specs.declared.limits.TheConstants.{MAX_IN_MESSAGE, MAX_MESSAGE_BYTES, NO_FRAME, PASSING, VERSION};
+ghost use Rattle.host_messages.specs.declared.limits.TheConstants.{MAX_IN_MESSAGE, MAX_MESSAGE_BYTES, PASSING, VERSION};
+ghost use Rattle.share_domain.specs.declared.number.TheConstants.{NO_FRAME};
 
 /// Each constant is this number.
 pub fn numbers_law()

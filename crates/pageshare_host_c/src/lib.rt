@@ -12,13 +12,18 @@ ghost use Rattle.page_digest.specs.Hashes.{fold_hash};
 ghost use Rattle.pageshare_host_c.specs.Calls.{ConnectsAt, DisconnectsAt, EndsAt, session_status, session_after, totals_after};
 ghost use Rattle.pageshare_host_c.specs.Hosts.{made_status, AddsFrames, BeginsHost};
 ghost use Rattle.pageshare_host_c.specs.Packets.{ReceivesAt};
+ghost use Rattle.pageshare_host_c.specs.Serving.{ServesAt};
+ghost use Rattle.pageshare_host_c.specs.Heads.{head_of, name_after};
+ghost use Rattle.host_messages.specs.Reading.{client_at};
 
 mod begin;
 mod calls;
 mod handle;
 mod hosted;
 mod laws;
+mod read;
 mod receive;
+mod serve;
 mod shape;
 mod slot;
 mod waiting;
@@ -26,15 +31,19 @@ mod waiting;
 use begin::{add_frames, begin};
 pub use c_surface::DomainTotals;
 use c_surface::{Handle, free, status};
-pub use calls::SessionTold;
-use calls::{connect, disconnect, end, report, tell_session};
+pub use calls::KnownSession;
+use calls::{connect, disconnect, end, report, write_session};
 pub use handle::HostHandle;
 pub use hosted::Hosted;
 pub use laws::numbers_law;
 pub use machine_frames::Region;
 use page_digest::{FoldHash, PageHash};
+pub use read::PacketHead;
+use read::read;
 pub use receive::ReceivedPacket;
 use receive::{receive, refused};
+pub use serve::ServedPacket;
+use serve::{serve, unserved};
 pub use shape::HostShape;
 pub use slot::HostSlot;
 use std::alloc::Global;
@@ -117,11 +126,46 @@ pub extern "C" fn pageshare_host_receive(
     match host.take(alloc) {
         None => refused(status::NO_MACHINE),
         Some(mut hosted) => {
-            let told = receive(&mut hosted, session, bytes, pages, reply, freed);
+            let got = receive(&mut hosted, session, bytes, pages, reply, freed);
             host.put(hosted);
-            told
+            got
         }
     }
+}
+
+/// Receives a packet of a session, as [`pageshare_host_receive`] does, and returns what the reply says, too. `frames` then begins with the
+/// frames that are free since, or after a lend with those of its pages.
+///
+/// The status is that of [`pageshare_host_receive`].
+#[unsafe(no_mangle)]
+pub extern "C" fn pageshare_host_serve(
+    alloc: Global,
+    host: &mut HostHandle,
+    session: u32,
+    bytes: &[u8],
+    pages: &[[u8; 4096]],
+    reply: &mut [u8],
+    frames: &mut [u32],
+) -> ServedPacket
+    ensures { ServesAt session bytes.now pages.now result reply.old reply.new frames.old frames.new host.old.slot.host host.new.slot.host }
+{
+    match host.take(alloc) {
+        None => unserved(status::NO_MACHINE),
+        Some(mut hosted) => {
+            let served = serve(&mut hosted, session, bytes, pages, reply, frames);
+            host.put(hosted);
+            served
+        }
+    }
+}
+
+/// Returns what a packet says, before a session receives it, and writes the name of the session that it wants to take up.
+#[unsafe(no_mangle)]
+pub extern "C" fn pageshare_host_read(bytes: &[u8], name: &mut [u8; 16]) -> PacketHead
+    ensures head { result ≡ head_of (client_at bytes.now) }
+    ensures name { name.new ≡ name_after name.old (client_at bytes.now) }
+{
+    read(bytes, name)
 }
 
 /// A session's connection has ended. The status is `NO_MACHINE` without a host, and `NO_SESSION` if there is no such
@@ -169,22 +213,22 @@ pub extern "C" fn pageshare_host_end(
 }
 
 /// Gets what is known of a session. The status is `NO_MACHINE` without a host, and `NO_SESSION` if there is no such session; then
-/// `told` stays as it is.
+/// `known` stays as it is.
 #[unsafe(no_mangle)]
 pub extern "C" fn pageshare_host_session(
     alloc: Global,
     host: &mut HostHandle,
     session: u32,
-    told: &mut SessionTold,
+    known: &mut KnownSession,
 ) -> u32
     ensures same { host.new.slot.host ≡ host.old.slot.host }
     ensures status { result ≡ session_status session host.old.slot.host }
-    ensures told { told.new ≡ session_after session told.old host.old.slot.host }
+    ensures known { known.new ≡ session_after session known.old host.old.slot.host }
 {
     match host.take(alloc) {
         None => status::NO_MACHINE,
         Some(hosted) => {
-            let status = tell_session(&hosted, session, told);
+            let status = write_session(&hosted, session, known);
             host.put(hosted);
             status
         }

@@ -1,15 +1,16 @@
 //! Packets of sessions, as C hands them in.
 ghost use Rattle.std.specs.Prelude.{◌≡◌, ◌≤◌, length, Some};
 ghost use Rattle.host_messages.specs.declared.limits.TheConstants.{MAX_IN_MESSAGE, MAX_MESSAGE_BYTES};
-ghost use Rattle.pageshare_host_c.specs.Packets.{ReceivesAt, Tells, status_of, fault_status, message_status, resumed_of, frees_of, put_front, refused};
+ghost use Rattle.pageshare_host_c.specs.Packets.{ReceivesAt, Gives, status_of, fault_status, message_status, resumed_of, frees_of, put_front, refused};
 
 use crate::hosted::Hosted;
 use c_surface::status;
-use host_messages::{MAX_IN_MESSAGE, MAX_MESSAGE_BYTES, MessageFault, NO_FRAME};
+use host_messages::{MAX_IN_MESSAGE, MAX_MESSAGE_BYTES, MessageFault};
 use host_sessions::{Received, SessionFault};
 use page_model::Page;
+use share_domain::NO_FRAME;
 
-/// What C is told of a packet.
+/// What C gets of a packet.
 #[repr(C)]
 #[derive(Clone, Copy)]
 pub struct ReceivedPacket {
@@ -42,12 +43,12 @@ pub(crate) fn receive(
             if freed.len() < MAX_IN_MESSAGE {
                 return refused(status::SHORT);
             }
-            tell(host.receive(session, bytes, pages), reply, freed)
+            give(host.receive(session, bytes, pages), reply, freed)
         }
     }
 }
 
-/// Returns what C is told of a call that did nothing.
+/// Returns what C gets of a call that did nothing.
 pub(crate) fn refused(status: u32) -> ReceivedPacket
     ensures { result ≡ refused status }
 {
@@ -60,10 +61,10 @@ pub(crate) fn refused(status: u32) -> ReceivedPacket
 }
 
 /// Writes the reply and the frames that are free since.
-fn tell(received: Received, reply: &mut [u8], freed: &mut [u32]) -> ReceivedPacket
+pub(crate) fn give(received: Received, reply: &mut [u8], freed: &mut [u32]) -> ReceivedPacket
     requires reply { MAX_MESSAGE_BYTES ≤ length reply.old }
     requires freed { MAX_IN_MESSAGE ≤ length freed.old }
-    ensures { Tells received result reply.old reply.new freed.old freed.new }
+    ensures { Gives received result reply.old reply.new freed.old freed.new }
 {
     let status = status_of(&received);
     let resumed = resumed_of(&received);
@@ -87,7 +88,7 @@ fn put_bytes(bytes: &[u8], room: &mut [u8])
 }
 
 /// Writes frames to the front of a buffer, and returns how many they are.
-fn put_frames(frames: &[u32], room: &mut [u32]) -> u32
+pub(crate) fn put_frames(frames: &[u32], room: &mut [u32]) -> u32
     requires few { length frames.now ≤ MAX_IN_MESSAGE }
     requires room { length frames.now ≤ length room.old }
     ensures count { result ≡ length frames.now }

@@ -29,7 +29,7 @@ pub struct HostShape {
     pub fingerprints: u32,
     /// What spreads the questions.
     pub seed: u64,
-    /// The percentage of one processor that clients are told to use at most, or 0.
+    /// The percentage of one processor that clients are asked to use at most, or 0.
     pub client_cpu: u32,
     /// Not read.
     pub reserved: u32,

@@ -1,16 +1,17 @@
 -- The bytes of a domain's slots stay as others are lent and released.
-use Rattle.std.proofs.Common.{◌≡◌, ℕ, zero, suc, ◌<◌, ◌≤◌, Bool, true, false, cond, List, ◌∷◌, length, Option, Some, None, refl, ap, sym, subst, ◌∙◌, ◌⊎◌, inl, inr}
+use Rattle.std.proofs.Common.{◌≡◌, ℕ, zero, suc, ◌<◌, ◌≤◌, Bool, true, false, cond, List, ◌∷◌, length, Option, Some, None, ap, sym, subst, ◌∙◌, ◌⊎◌, inl, inr}
 use Rattle.std.specs.Prelude.{slice_set}
 use Rattle.std.proofs.lemmas.Bool.{cases_eq, cases_lt}
 use Rattle.std.proofs.lemmas.List.{get_or-set_same, get_or-set_other, set_past}
 use Rattle.machine_frames.specs.FrameMap.{frame}
 use Rattle.lent_slots.specs.declared.holding.Holding.{Holding}
-use Rattle.lent_slots.specs.Slots.{MachineView, holding, is_of, released}
+use Rattle.lent_slots.specs.Slots.{MachineView, is_of, released}
 use Rattle.lent_slots.specs.Bytes.{BytesStayIn}
 use Rattle.lent_slots.proofs.Bytes.{Keeps, keeps_same, keeps_released}
 use Rattle.share_domain.specs.declared.holding.Slot.{Slot}
-use Rattle.share_domain.specs.Domains.{DomainView, with_machines, with_released, freed_in, machine_at, no_machine, held_in, after_release, LendsIn}
-use Rattle.share_domain.specs.Leaving.{Leaves, StaysOut, at_first, first_slot, left_by, told}
+use Rattle.share_domain.specs.Domains.{DomainView, with_machines, with_released, freed_in, machine_at, no_machine, held_in, after_release}
+use Rattle.share_domain.specs.Leaving.{Leaves, at_first, first_slot, left_by}
+use Rattle.share_domain.specs.Numbers.{frame_number}
 use Rattle.share_domain.specs.Bytes.{BytesStay}
 
 -- each machine keeps its slots' bytes
@@ -64,7 +65,7 @@ unfolding left_by
 left_keep frames client zero machines = all_same machines
 left_keep frames client (suc n) machines =
     elim (first_slot client machines) as (λ (o : Option Slot). AllKeep machines (at_first o machines
-    (λ slot. let rest = left_by frames client n (with_released slot machines) in record { told = told (freed_in frames slot machines) ∷ rest.told; machines = rest.machines })).machines) [
+    (λ slot. let rest = left_by frames client n (with_released slot machines) in record { numbers = frame_number (freed_in frames slot machines) ∷ rest.numbers; machines = rest.machines })).machines) [
       | None ↦ all_same machines
       | Some slot ↦ further machines (with_released slot machines) (left_by frames client n (with_released slot machines)).machines (slot_released slot machines) (left_keep frames client n (with_released slot machines))
     ]

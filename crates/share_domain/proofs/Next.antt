@@ -1,5 +1,5 @@
 -- The next slot of a client, after its first one was released.
-use Rattle.std.proofs.Common.{◌≡◌, ℕ, zero, suc, ◌+◌, List, [], ◌∷◌, drop, Option, Some, None, refl, ap, sym, ◌∙◌, arith}
+use Rattle.std.proofs.Common.{◌≡◌, ℕ, zero, suc, ◌+◌, List, [], ◌∷◌, drop, Option, Some, None, ap, sym, ◌∙◌, arith}
 use Rattle.std.specs.Prelude.{slice_set, position}
 use Rattle.lent_slots.specs.Slots.{MachineView, is_of, released}
 use Rattle.share_domain.specs.declared.holding.Slot.{Slot}

@@ -1,5 +1,5 @@
 -- Which domains can be made, and a domain before its first call.
-use Rattle.std.specs.Prelude.{◌≡◌, ℕ, ◌≤◌, List, replicate}
+use Rattle.std.specs.Prelude.{◌≡◌, ℕ, ◌≤◌, Bool, ◌||◌, nat_lt, if◌then◌else◌, List, replicate, Option, Some, None}
 use Rattle.page_model.specs.declared.limits.TheConstants.{MAX_FRAMES, MAX_PAGES}
 use Rattle.machine_frames.specs.FrameMap.{FrameMap, no_frames}
 use Rattle.share_domain.specs.declared.client.Presence.TheVariants.{Out}
@@ -37,6 +37,18 @@ NoDomainFor config Slots = AreMachines config.machines × ¬ AreSlots config.slo
 NoDomainFor config Frames = AreMachines config.machines × AreSlots config.slots × ¬ AreFrames config.frames
 NoDomainFor config Clients = AreMachines config.machines × AreSlots config.slots × AreFrames config.frames × ¬ AreClients config.clients
 NoDomainFor config OutOfMemory = AreLimits config
+
+-- whether a number is below the first or above the second
+abbrev pub is_outside : ℕ → ℕ → ℕ → Bool
+is_outside low high n = nat_lt n low || nat_lt high n
+
+-- the fault of the first number that no domain has
+abbrev pub limit_fault : DomainConfig → Option DomainFault
+limit_fault config =
+    if is_outside 1 MAX_MACHINES config.machines then Some Machines
+    else if is_outside 1 MAX_PAGES config.slots then Some Slots
+    else if is_outside 2 MAX_FRAMES config.frames then Some Frames
+    else if is_outside 1 MAX_CLIENTS config.clients then Some Clients else None
 
 -- a domain with no client in
 abbrev pub empty_domain : DomainConfig → DomainView

@@ -1,8 +1,5 @@
 //! Clients.
 
-/// What stands for a frame where a released slot freed none: no frame has this number.
-pub const NO_FRAME: u32 = u32::MAX;
-
 /// Where a client's number is in its life.
 #[derive(Clone, Copy, Debug, PartialEq, Eq)]
 pub enum Presence {

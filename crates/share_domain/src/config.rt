@@ -1,6 +1,6 @@
 //! The sizes of a domain.
-ghost use Rattle.std.specs.Prelude.{OnOk, IfErr};
-ghost use Rattle.share_domain.specs.Made.{AreLimits, NoDomainFor};
+ghost use Rattle.std.specs.Prelude.{◌≡◌, MatchOption};
+ghost use Rattle.share_domain.specs.Made.{AreLimits, NoDomainFor, limit_fault};
 
 use crate::fault::DomainFault;
 use page_model::{MAX_FRAMES, MAX_PAGES};
@@ -27,22 +27,22 @@ pub struct DomainConfig {
     pub salt: u32,
 }
 
-/// Checks that there may be a domain with these numbers.
-pub(crate) fn check_limits(config: &DomainConfig) -> Result<(), DomainFault>
-    ensures ok { OnOk result (AreLimits config.now) }
-    ensures fault { IfErr result (λ fault. NoDomainFor config.now fault) }
+/// Returns the fault of the first number that no domain has, `None` if there may be a domain with these numbers.
+pub fn limit_fault(config: &DomainConfig) -> Option<DomainFault>
+    ensures fault { result ≡ limit_fault config.now }
+    ensures limits { MatchOption result (AreLimits config.now) (λ fault. NoDomainFor config.now fault) }
 {
     if config.machines == 0 || config.machines > MAX_MACHINES {
-        return Err(DomainFault::Machines);
+        return Some(DomainFault::Machines);
     }
     if config.slots == 0 || config.slots > MAX_PAGES {
-        return Err(DomainFault::Slots);
+        return Some(DomainFault::Slots);
     }
     if config.frames < 2 || config.frames > MAX_FRAMES {
-        return Err(DomainFault::Frames);
+        return Some(DomainFault::Frames);
     }
     if config.clients == 0 || config.clients > MAX_CLIENTS {
-        return Err(DomainFault::Clients);
+        return Some(DomainFault::Clients);
     }
-    Ok(())
+    None
 }

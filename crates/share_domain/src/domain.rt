@@ -12,12 +12,13 @@ ghost use Rattle.lent_slots.specs.Totals.{FramesOfSlots};
 
 use crate::client::Presence;
 use crate::clients::{find_out, is_here, is_in};
-use crate::config::{DomainConfig, check_limits};
+use crate::config::{DomainConfig, limit_fault};
 use crate::fault::{DomainFault, LendFault, NoSuchSlot};
 use crate::holding::{Loan, Slot};
-use crate::leave::{find_slot, told};
+use crate::leave::find_slot;
 use crate::lend::{holding_at, lend_at, machine_of, release_at};
 use crate::make::{new_clients, new_frames, new_machines};
+use crate::number::frame_number;
 use crate::report::{DomainReport, count_slots, report};
 use lent_slots::{Holding, LentSlots, SlotFault, is_of};
 use machine_frames::Frames;
@@ -54,9 +55,13 @@ impl<H: PageHash + Drop + Copy, A: Allocator + Clone> Domain<H, A> {
         ensures empty { IfOk result (λ domain. domain ≡ empty_domain config.now) }
         ensures fault { MatchResult result (λ _. AreLimits config.now) (λ fault. NoDomainFor config.now fault) }
     {
-        check_limits(config)?;
-        let frames = new_frames(alloc.clone()?, config)?;
-        Ok(Domain::with_frames(alloc, config, hash, frames)?)
+        match limit_fault(config) {
+            Some(fault) => Err(fault),
+            None => {
+                let frames = new_frames(alloc.clone()?, config)?;
+                Ok(Domain::with_frames(alloc, config, hash, frames)?)
+            }
+        }
     }
 
     /// Makes a domain with these frames, all of them free: those of machine 0 first. The caller may have made them in a region of
@@ -153,7 +158,7 @@ impl<H: PageHash, A: Allocator> Domain<H, A> {
         Ok(self.give_up(slot))
     }
 
-    /// Releases as many of a client's slots as there is room to tell of, or all that are left, and returns how many. For each of
+    /// Releases as many of a client's slots as `freed` has places, or all that are left, and returns how many. For each of
     /// them `freed` then holds the frame that is free since, or [`NO_FRAME`](crate::NO_FRAME).
     ///
     /// From the first call on the client lends no more pages. Call it until it returns 0: in that call the client had no slot left,
@@ -257,12 +262,12 @@ impl<H: PageHash, A: Allocator> Domain<H, A> {
         }
     }
 
-    /// Releases slots of a client, from its first one on, as many as there is room to tell of, and returns how many.
+    /// Releases slots of a client, from its first one on, as many as `freed` has places, and returns how many.
     fn release_from(&mut self, client: u32, first: Slot, freed: &mut [u32]) -> usize
         requires first { first_slot client self.old.machines ≡ Some first }
         requires within { first.machine < length self.old.machines }
-        ensures count { result ≡ length (left_by self.old.frames client (length freed.old) self.old.machines).told }
-        ensures told { freed.new ≡ (left_by self.old.frames client (length freed.old) self.old.machines).told ++ drop result freed.old }
+        ensures count { result ≡ length (left_by self.old.frames client (length freed.old) self.old.machines).numbers }
+        ensures written { freed.new ≡ (left_by self.old.frames client (length freed.old) self.old.machines).numbers ++ drop result freed.old }
         ensures now { self.new ≡ with_machines self.old (left_by self.old.frames client (length freed.old) self.old.machines).machines }
     {
         let mut found = Some(first);
@@ -270,7 +275,7 @@ impl<H: PageHash, A: Allocator> Domain<H, A> {
             match found {
                 None => return i,
                 Some(slot) => {
-                    freed[i] = told(self.give_up(slot));
+                    freed[i] = frame_number(self.give_up(slot));
                     found = self.first_slot(client, slot.machine);
                 }
             }

@@ -1,9 +1,8 @@
 //! Laws of domains, about the definitions alone. The functions' bodies are empty: the contract is all there is.
 ghost use Rattle.std.specs.Prelude.{◌≡◌};
 ghost use Rattle.share_domain.specs.Bytes.{LeaveKeepsBytes, ReleaseKeepsBytes};
-ghost use Rattle.share_domain.specs.declared.client.TheConstants.{NO_FRAME};
 ghost use Rattle.share_domain.specs.declared.config.TheConstants.{MAX_CLIENTS, MAX_MACHINES};
-ghost use Rattle.share_domain.specs.declared.number.TheConstants.{SLOTS_APART};
+ghost use Rattle.share_domain.specs.declared.number.TheConstants.{NO_FRAME, SLOTS_APART};
 
 /// Each limit is this number.
 pub fn limits_law()

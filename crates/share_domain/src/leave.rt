@@ -2,10 +2,9 @@
 ghost use Rattle.std.specs.Prelude.{◌≡◌, ◌<◌, ◌≤◌, drop, length, position, IfSome};
 ghost use Rattle.lent_slots.specs.Slots.{is_of};
 ghost use Rattle.share_domain.specs.Domains.{machine_at};
-ghost use Rattle.share_domain.specs.Leaving.{slot_from, told};
+ghost use Rattle.share_domain.specs.Leaving.{slot_from};
 ghost use Rattle.share_domain.specs.declared.config.TheConstants.{MAX_MACHINES};
 
-use crate::client::NO_FRAME;
 use crate::holding::Slot;
 use lent_slots::LentSlots;
 use page_digest::PageHash;
@@ -45,14 +44,4 @@ pub(crate) fn find_slot<H: PageHash, A: Allocator>(
         }
     }
     None
-}
-
-/// Returns what stands for a frame that a slot's release freed, or for none.
-pub(crate) fn told(frame: Option<u32>) -> u32
-    ensures { result ≡ told frame }
-{
-    match frame {
-        None => NO_FRAME,
-        Some(frame) => frame,
-    }
 }

@@ -19,8 +19,8 @@ mod make;
 mod number;
 mod report;
 
-pub use client::{NO_FRAME, Presence};
-pub use config::{DomainConfig, MAX_CLIENTS, MAX_MACHINES};
+pub use client::Presence;
+pub use config::{DomainConfig, MAX_CLIENTS, MAX_MACHINES, limit_fault};
 pub use domain::Domain;
 pub use fault::{DomainFault, LendFault, NoSuchSlot};
 pub use given::GivenFrames;
@@ -28,5 +28,5 @@ pub use holding::{Loan, Slot};
 pub use laws::{bytes_law, limits_law};
 pub use lent_slots::Holding;
 pub use make::new_frames;
-pub use number::{SLOTS_APART, slot_by, slot_number, slots_law};
+pub use number::{NO_FRAME, SLOTS_APART, frame_number, slot_by, slot_number, slots_law};
 pub use report::DomainReport;

@@ -1,6 +1,6 @@
-//! Slots as numbers.
+//! Slots and frames as numbers.
 ghost use Rattle.std.specs.Prelude.{◌≡◌, ◌<◌};
-ghost use Rattle.share_domain.specs.Numbers.{slot_by, slot_number};
+ghost use Rattle.share_domain.specs.Numbers.{frame_number, slot_by, slot_number};
 ghost use Rattle.share_domain.specs.declared.holding.Slot.{Slot};
 ghost use Rattle.share_domain.specs.declared.number.TheConstants.{SLOTS_APART};
 
@@ -8,6 +8,19 @@ use crate::holding::Slot;
 
 /// How far apart the numbers of slots of two machines are: a slot's number is its machine times this plus its page.
 pub const SLOTS_APART: u64 = 4_294_967_296;
+
+/// What stands for a frame where there is none: no frame has this number.
+pub const NO_FRAME: u32 = u32::MAX;
+
+/// Returns a frame's number, or [`NO_FRAME`] where there is none.
+pub fn frame_number(frame: Option<u32>) -> u32
+    ensures { result ≡ frame_number frame }
+{
+    match frame {
+        None => NO_FRAME,
+        Some(frame) => frame,
+    }
+}
 
 /// Returns the number of a slot.
 pub fn slot_number(slot: Slot) -> u64

@@ -10,7 +10,8 @@ use Rattle.lent_slots.specs.Slots.{MachineView, holding, is_of, sharers, left_fr
 use Rattle.lent_slots.proofs.SlotLists.{held_within, set_same, set_other, unshared}
 use Rattle.share_domain.specs.declared.holding.Slot.{Slot}
 use Rattle.share_domain.specs.Domains.{DomainView, with_machines, with_released, freed_in, machine_at, no_machine, held_in, after_release}
-use Rattle.share_domain.specs.Leaving.{at_first, first_slot, left_by, told}
+use Rattle.share_domain.specs.Leaving.{at_first, first_slot, left_by}
+use Rattle.share_domain.specs.Numbers.{frame_number}
 use Rattle.window_domains.proofs.Frames.{the, is_there}
 
 -- the frame of each slot that is held is in use
@@ -148,7 +149,7 @@ unfolding left_by
 leave_shrinks frames client zero machines = stays machines
 leave_shrinks frames client (suc n) machines =
     elim (first_slot client machines) as (λ (o : Option Slot). Shrinks machines (at_first o machines
-    (λ slot. let rest = left_by frames client n (with_released slot machines) in record { told = told (freed_in frames slot machines) ∷ rest.told; machines = rest.machines })).machines) [
+    (λ slot. let rest = left_by frames client n (with_released slot machines) in record { numbers = frame_number (freed_in frames slot machines) ∷ rest.numbers; machines = rest.machines })).machines) [
       | None ↦ stays machines
       | Some slot ↦ further machines (with_released slot machines) (left_by frames client n (with_released slot machines)).machines (slot_released slot machines) (leave_shrinks frames client n (with_released slot machines))
     ]

@@ -1,6 +1,6 @@
 //! Domains of the greatest sizes.
 use page_digest::FoldHash;
-use share_domain::{Domain, DomainConfig, NO_FRAME, Slot};
+use share_domain::{Domain, DomainConfig, DomainFault, NO_FRAME, Slot, frame_number, limit_fault};
 
 /// As many machines and clients as there may be, of which some hundred enter.
 #[test]
@@ -18,6 +18,29 @@ fn many_clients_enter(rt: HostRuntime) {
         assert!(rt; domain.enter() == Some(client));
     }
     assert!(rt; domain.held_by(299) == 0);
+}
+
+/// The first number that no domain has is found. A frame's number is told from none.
+#[test]
+fn numbers_out_of_range(rt: HostRuntime) {
+    let mut config = DomainConfig {
+        machines: 64,
+        slots: 1_048_576,
+        frames: 1_048_576,
+        clients: 65_536,
+        salt: 7,
+    };
+    assert!(rt; limit_fault(&config).is_none());
+    config.clients = 0;
+    assert!(rt; limit_fault(&config) == Some(DomainFault::Clients));
+    config.frames = 1;
+    assert!(rt; limit_fault(&config) == Some(DomainFault::Frames));
+    config.slots = 1_048_577;
+    assert!(rt; limit_fault(&config) == Some(DomainFault::Slots));
+    config.machines = 65;
+    assert!(rt; limit_fault(&config) == Some(DomainFault::Machines));
+    assert!(rt; frame_number(None) == NO_FRAME);
+    assert!(rt; frame_number(Some(7)) == 7);
 }
 
 /// As many slots and frames as a machine may have. The last slot is lent first.

@@ -1,11 +1,11 @@
 //! Dialogues of clients with a host of one machine of five slots and three frames. What is expected was worked out by hand.
 use arrayvec::ArrayVec;
-use host_messages::{ClientMessage, Lent, MessageFault, NO_FRAME, Name, Question, Wanted};
+use host_messages::{ClientMessage, Lent, MessageFault, Name, Question, Wanted};
 use host_sessions::{Host, HostConfig, Link, Received, Session, SessionFault};
 use machine_frames::Frames;
 use page_digest::FoldHash;
 use page_model::Page;
-use share_domain::DomainConfig;
+use share_domain::{DomainConfig, NO_FRAME};
 use std::alloc::Global;
 use std::process::Abort;
 

@@ -3,12 +3,12 @@ ghost use Rattle.std.specs.Prelude.{◌≡◌, ◌∷◌, [], None, Some, replic
 ghost use Rattle.machine_frames.specs.FrameMap.{no_frames};
 ghost use Rattle.page_model.specs.Pages.{blank};
 
-use host_messages::{ClientMessage, Lent, NO_FRAME};
+use host_messages::{ClientMessage, Lent};
 use host_sessions::{Host, HostConfig, Received};
 use machine_frames::Frames;
 use page_digest::FoldHash;
 use page_model::Page;
-use share_domain::{DomainConfig, slot_by};
+use share_domain::{DomainConfig, NO_FRAME, slot_by};
 use std::alloc::Global;
 use std::process::Abort;
 

@@ -49,8 +49,8 @@ fn name_of(number: u32) -> Name {
     name
 }
 
-/// Returns how many frames a new session is told of, or 0.
-fn frames_told(received: Received) -> u32 {
+/// Returns how many frames the host has by its welcome, or 0 where there is none.
+fn frames_welcomed(received: Received) -> u32 {
     match received {
         Received::Welcome(welcome) => welcome.frames,
         _ => 0,
@@ -64,7 +64,7 @@ fn many_sessions_begin(rt: HostRuntime) {
     let hello = ClientMessage::Hello(None).to_bytes();
     for number in 0..300 {
         assert!(rt; host.connect(name_of(number)) == Some(number));
-        assert!(rt; frames_told(host.receive(number, hello.as_slice(), &[])) == 128);
+        assert!(rt; frames_welcomed(host.receive(number, hello.as_slice(), &[])) == 128);
     }
     assert!(rt; host.report().clients == 300);
 }

@@ -10,7 +10,7 @@ loop-number-preserved g c =
     let client = c.args.client in
     let ss = c.args.numbers.now in
     record {
-      freed = rw c.push.ensures.items (freed_more client ss l.number-index _ _ l.freed.items one.result l.domain.domain one.new.domain.domain (freed_by client ss c.args.domain.now.domain) c.loop-number-test.true refl one.ensures.told one.ensures.domain l.invariant.freed);
+      freed = rw c.push.ensures.items (freed_more client ss l.number-index _ _ l.freed.items one.result l.domain.domain one.new.domain.domain (freed_by client ss c.args.domain.now.domain) c.loop-number-test.true refl one.ensures.freed one.ensures.domain l.invariant.freed);
       domain = released_more client ss l.number-index _ _ l.domain.domain one.new.domain.domain (after_releases client ss c.args.domain.now.domain) c.loop-number-test.true refl one.ensures.domain l.invariant.domain;
       salt = one.ensures.salt ∙ l.invariant.salt;
       len = omega (arith, c.push.ensures.len, l.invariant.len);

@@ -1,7 +1,7 @@
 use Rattle.std.proofs.Common.{ap, sym}
 use Rattle.merge_core.specs.Shown.{state_of}
 use Rattle.pageshare_c.proofs.Finds.{text_blank}
-use Rattle.pageshare_c.specs.Told.{value_or}
+use Rattle.pageshare_c.specs.Gets.{value_or}
 use Rattle.pageshare_c.proofs.find.copy_page.Goals as goal
 
 -- an unmapped page reads as zeros

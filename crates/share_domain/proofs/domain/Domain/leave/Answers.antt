@@ -3,7 +3,7 @@ use Rattle.std.specs.Prelude.{slice_get}
 use Rattle.share_domain.specs.declared.client.Presence.TheVariants.{Out, Leaving}
 use Rattle.share_domain.specs.Domains.{DomainView, with_client}
 use Rattle.share_domain.specs.Leaving.{first_slot, is_here}
-use Rattle.share_domain.proofs.Leaves.{here_within, leaves_out, leaves_some}
+use Rattle.share_domain.proofs.Leaves.{leaves_out, leaves_some}
 use Rattle.share_domain.proofs.domain.Domain.leave.Goals as goal
 
 pub returns-in-None : goal.returns-in-None
@@ -18,4 +18,4 @@ returns-in-Some g c =
     let some : first_slot c.args.client c.args.self.now.machines ≡ Some c.in-Some.first = sym c.first_slot.ensures.slot ∙ c.in-Some.is in
     leaves_some c.args.client c.release_from.result c.args.freed.now c.release_from.new.freed c.args.self.now c.note-in-Some.new.self c.release_from.new.self c.in-Some.first here
     some c.requires.room (c.note-in-Some.ensures ∙ ap (λ (d : DomainView). with_client d c.args.client Leaving) c.first_slot.ensures.same)
-    c.release_from.ensures.count c.release_from.ensures.told c.release_from.ensures.now
+    c.release_from.ensures.count c.release_from.ensures.written c.release_from.ensures.now

@@ -1,6 +1,5 @@
 -- What C gets: an answer, and what its room holds afterwards.
 use Rattle.std.specs.Prelude.{ℕ, nat_le, if◌then◌else◌, List, ◌++◌, length, drop, Option, Some, None, Result, Ok, Err}
-use Rattle.c_surface.specs.Frames.{frame_number}
 use Rattle.c_surface.specs.declared.status.TheConstants as status
 use Rattle.page_model.specs.Pages.{State, totals}
 use Rattle.page_model.specs.Parts.{Totals as Report}
@@ -8,7 +7,8 @@ use Rattle.page_model.specs.declared.request.Request.{Request}
 use Rattle.page_model.specs.declared.request.RequestFault.{RequestFault}
 use Rattle.page_model.specs.declared.verdict.Verdict.{Verdict}
 use Rattle.page_model.specs.declared.verdict.Verdict.TheVariants as v
-use Rattle.share_domain.specs.declared.client.TheConstants.{NO_FRAME}
+use Rattle.share_domain.specs.declared.number.TheConstants.{NO_FRAME}
+use Rattle.share_domain.specs.Numbers.{frame_number}
 use Rattle.pageshare_c.specs.declared.hashed_core.HashedCore.{HashedCore}
 use Rattle.pageshare_c.specs.declared.answer.Answer.{Answer}
 use Rattle.pageshare_c.specs.declared.answer.Refusal.{Refusal}
@@ -19,27 +19,27 @@ use Rattle.pageshare_c.specs.Framed.{frame_after, frame_freed, page_frame, frame
 use Rattle.pageshare_c.specs.Outcomes.{outcome, store_outcome, lend_outcome}
 
 -- the answer to a request: its verdict, the named page's frame afterwards, and a frame that is free since
-abbrev pub told : Result Verdict Refusal → Option ℕ → Option ℕ → Answer
-told (Ok verdict) frame freed = record {
+abbrev pub answer_of : Result Verdict Refusal → Option ℕ → Option ℕ → Answer
+answer_of (Ok verdict) frame freed = record {
   status = status.OK;
   verdict = code_of verdict;
   count = count_of verdict;
   frame = frame_number frame;
   freed = frame_number freed;
 }
-told (Err refusal) frame freed = record { status = status_of refusal; verdict = 0; count = 0; frame = NO_FRAME; freed = NO_FRAME }
+answer_of (Err refusal) frame freed = record { status = status_of refusal; verdict = 0; count = 0; frame = NO_FRAME; freed = NO_FRAME }
 
 -- the answer to a request of the machine behind a handle, which shows old and then new
 abbrev pub answer_to : Option HashedCore → Option HashedCore → ℕ → Result Request RequestFault → Answer
-answer_to old new guest asked = told (outcome old guest asked) (frame_after new guest asked) (frame_freed old guest asked)
+answer_to old new guest asked = answer_of (outcome old guest asked) (frame_after new guest asked) (frame_freed old guest asked)
 
 -- the same for a page that is stored whole
 abbrev pub store_answer : Option HashedCore → Option HashedCore → ℕ → ℕ → List ℕ → Answer
-store_answer old new guest ppn page = told (store_outcome old guest ppn page) (page_frame new guest ppn) None
+store_answer old new guest ppn page = answer_of (store_outcome old guest ppn page) (page_frame new guest ppn) None
 
 -- the same for a page that is lent
 abbrev pub lend_answer : Option HashedCore → Option HashedCore → ℕ → ℕ → List ℕ → Answer
-lend_answer old new guest ppn page = told (lend_outcome old guest ppn page) (page_frame new guest ppn) (frame_left old guest ppn page)
+lend_answer old new guest ppn page = answer_of (lend_outcome old guest ppn page) (page_frame new guest ppn) (frame_left old guest ppn page)
 
 -- the value, or if there is none, the old one
 abbrev pub value_or : {X : Type 0} → X → Result X Refusal → X
