@@ -253,37 +253,17 @@ void clients_accept(struct domain *domain) {
 
 /* ---- messages ---- */
 
-/* The pages that a packet names that lends; the library looks at everything else. */
-static uint32_t pages_lent(const uint8_t *bytes, size_t length) {
-    struct pageshare_host_lend lend;
-    if (length != sizeof lend) return 0;
-    memcpy(&lend, bytes, sizeof lend);
-    return lend.kind == PAGESHARE_HOST_LEND && lend.count <= PAGESHARE_HOST_MAX_PAGES ? lend.count : 0;
-}
-
-static uint32_t kind_of(const uint8_t *bytes, size_t length) {
-    uint32_t kind = 0;
-    if (length >= sizeof kind) memcpy(&kind, bytes, sizeof kind);
-    return kind;
-}
-
-/*
- * A hello that names a session. Only the process that began a session may take it up: in all other cases the name is made zeros, which
- * no session has. Where the session's old connection still stands, it ends now.
- */
-static void check_name(struct domain *domain, const struct client *client, uint8_t *bytes, size_t length) {
-    struct pageshare_host_hello hello;
-    if (length != sizeof hello || kind_of(bytes, length) != PAGESHARE_HOST_HELLO) return;
-    memcpy(&hello, bytes, sizeof hello);
+/* Whether a client may take up the session with this name: its process began it. If its old connection still stands, it ends now. */
+static bool may_take_up(struct domain *domain, const struct client *client, const uint8_t *name) {
     for (uint32_t i = 0; i < domain->client_most; i++) {
         struct client *older = &domain->clients[i];
         bool has_name = older != client && (older->state == CLIENT_CONNECTED || older->state == CLIENT_APART) &&
-                        memcmp(older->name, hello.name, sizeof hello.name) == 0;
+                        memcmp(older->name, name, sizeof older->name) == 0;
         if (!has_name || !is_same_process(older, client)) continue;
         if (older->state == CLIENT_CONNECTED) part(domain, older);
-        return;
+        return true;
     }
-    memset(bytes + offsetof(struct pageshare_host_hello, name), 0, sizeof hello.name);
+    return false;
 }
 
 /* The session that this client took up has this client's number now, and its name is the older one's. */
@@ -327,18 +307,14 @@ static bool reply_welcome(struct domain *domain, struct client *client, const ui
     return good;
 }
 
-/* Counts what a reply says, and which frames are in use since. */
-static void count_reply(struct domain *domain, struct client *client, const uint8_t *bytes, size_t length) {
-    struct pageshare_host_lent loan;
-    uint32_t head[2];
-    if (length < sizeof head) return;
-    memcpy(head, bytes, sizeof head);
-    if (head[0] == PAGESHARE_HOST_SEEN) domain->asked += head[1];
-    if (head[0] != PAGESHARE_HOST_LOANS) return;
-    for (uint32_t i = 0; i < head[1]; i++) {
-        memcpy(&loan, bytes + sizeof head + i * sizeof loan, sizeof loan);
-        bool is_lent = loan.frame != PAGESHARE_HOST_NO_FRAME;
-        if (is_lent) frames_lent(&domain->frames, loan.frame);
+/* Counts what came of a packet, and notes which frames are free or in use since. */
+static void count_served(struct domain *domain, struct client *client, struct pageshare_host_served got, const uint32_t *frames) {
+    domain->asked += got.answers;
+    domain->releases += got.freed;
+    frames_freed(&domain->frames, frames, got.freed);
+    for (uint32_t i = 0; i < got.loans; i++) {
+        bool is_lent = frames[i] != PAGESHARE_HOST_NO_FRAME;
+        if (is_lent) frames_lent(&domain->frames, frames[i]);
         client->lends += is_lent;
         domain->lends += is_lent;
         domain->refused += !is_lent;
@@ -354,14 +330,13 @@ static uint32_t within_quota(struct domain *domain, const struct client *client,
 }
 
 /* Makes the reply to a lend of the first pages one to a lend of `count` pages: the others aren't lent. Returns its length. */
-static size_t extend_loans(uint8_t *reply, size_t length, uint32_t count) {
+static size_t extend_loans(struct domain *domain, struct pageshare_host_served got, uint32_t count) {
     const struct pageshare_host_lent none = {.frame = PAGESHARE_HOST_NO_FRAME};
-    uint32_t head[2];
-    memcpy(head, reply, sizeof head);
-    if (length < sizeof head || head[0] != PAGESHARE_HOST_LOANS) return length;
-    for (; head[1] < count; head[1]++, length += sizeof none) memcpy(reply + length, &none, sizeof none);
-    memcpy(reply, head, sizeof head);
-    return length;
+    uint8_t *end = domain->serving->answer + got.reply_bytes;
+    memcpy(domain->serving->answer + offsetof(struct pageshare_host_loans, count), &count, sizeof count);
+    for (uint32_t i = got.loans; i < count; i++, end += sizeof none) memcpy(end, &none, sizeof none);
+    domain->refused += count - got.loans;
+    return (size_t)(end - domain->serving->answer);
 }
 
 /* A client of another version is told which one this host has: by the beginning of WELCOME, which all versions have. */
@@ -385,22 +360,18 @@ static bool is_fault(struct domain *domain, const struct client *client, uint32_
 static bool serve_packet(struct domain *domain, struct client *client, uint8_t *bytes, size_t length, uint32_t count) {
     struct serving *with = domain->serving;
     uint32_t served = count ? within_quota(domain, client, count) : 0;
-    check_name(domain, client, bytes, length);
     if (served < count) memcpy(bytes + offsetof(struct pageshare_host_lend, count), &served, sizeof served);
     if (served) memcpy(with->pages, client->buffer, (size_t)served * PAGE); /* the client may write to its buffer at any time */
-    struct pageshare_host_received got =
-        pageshare_host_receive(&domain->host, client->session, bytes, length, (const uint8_t(*)[PAGE])with->pages, served,
-                               with->answer, sizeof with->answer, with->freed, PAGESHARE_HOST_MAX_PAGES);
+    struct pageshare_host_served got =
+        pageshare_host_serve(&domain->host, client->session, bytes, length, (const uint8_t(*)[PAGE])with->pages, served,
+                             with->answer, sizeof with->answer, with->frames, PAGESHARE_HOST_MAX_PAGES);
     domain->messages++;
     if (is_fault(domain, client, got.status)) return false;
     if (got.resumed != PAGESHARE_HOST_NO_FRAME) take_up(domain, client, got.resumed);
-    domain->releases += got.freed;
-    frames_freed(&domain->frames, with->freed, got.freed);
-    size_t replied = served < count ? extend_loans(with->answer, got.reply_bytes, count) : got.reply_bytes;
-    count_reply(domain, client, with->answer, replied);
-    if (replied == 0) return true;
-    if (kind_of(with->answer, replied) == PAGESHARE_HOST_WELCOME) return reply_welcome(domain, client, with->answer, replied);
-    return reply(client, with->answer, replied, NULL, 0);
+    count_served(domain, client, got, with->frames);
+    if (got.kind == PAGESHARE_HOST_WELCOME) return reply_welcome(domain, client, with->answer, got.reply_bytes);
+    size_t replied = served < count ? extend_loans(domain, got, count) : got.reply_bytes;
+    return replied == 0 || reply(client, with->answer, replied, NULL, 0);
 }
 
 /* Reads what a client sends, or nothing. Where the system refuses, it is tried again at the next tick or event. */
@@ -412,10 +383,14 @@ static void listen_to(struct domain *domain, struct client *client, bool to_it) 
 
 /*
  * Takes one packet of a client. Returns false where the connection is to end. A lend may take any frame that is free, so it waits while
- * memory of free frames is given back (frames.h). Then nothing more is read of this client, and others are served.
+ * memory of free frames is given back (frames.h). Then nothing more is read of this client, and others are served. A hello whose session
+ * the client may not take up is cut short: it asks for a new one.
  */
 static bool take_packet(struct domain *domain, struct client *client, uint8_t *bytes, size_t length) {
-    uint32_t count = client->buffer ? pages_lent(bytes, length) : 0;
+    uint8_t name[PAGESHARE_HOST_NAME_BYTES];
+    struct pageshare_host_packet packet = pageshare_host_read(bytes, length, name);
+    if (packet.names && !may_take_up(domain, client, name)) length = offsetof(struct pageshare_host_hello, name);
+    uint32_t count = client->buffer && packet.kind == PAGESHARE_HOST_LEND ? packet.count : 0;
     if (count == 0) return serve_packet(domain, client, bytes, length, 0);
     client->waiting_pages = 0;
     if (domain->is_lend_waiting || !frames_begin_lend(&domain->frames)) {

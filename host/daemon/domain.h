@@ -44,7 +44,7 @@ struct client {
 struct serving {
     uint8_t pages[PAGESHARE_HOST_MAX_PAGES][PAGE]; /* copies of those that it lends */
     uint8_t answer[PAGESHARE_HOST_MAX_MESSAGE];
-    uint32_t freed[PAGESHARE_HOST_MAX_PAGES];
+    uint32_t frames[PAGESHARE_HOST_MAX_PAGES]; /* that are free since, or those of its pages */
 };
 
 /* How often somebody connected in this second: a user or a process. */
