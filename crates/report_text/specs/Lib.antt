@@ -1,6 +1,5 @@
 pub mod Amounts
 pub mod FleetParts
-pub mod Parts
 pub mod Reclaimed
 pub mod Shares
 pub mod HostSums

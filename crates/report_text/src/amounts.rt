@@ -2,7 +2,6 @@
 ghost use Rattle.std.specs.Prelude.{◌≡◌, ◌<◌, ◌≤◌, ◌*◌, ◌^◌};
 ghost use Rattle.report_text.specs.Amounts.{nearest, per_mille, scale_for};
 
-use std::alloc::{AllocError, Allocator};
 use std::fmt::{self, Display, Formatter};
 
 /// How many pages a MiB has.
@@ -30,29 +29,15 @@ impl Unit {
     }
 }
 
-/// A number of pages, shown with a unit: KiB below one MiB, and else tenths of a MiB.
+/// A number given in tenths, shown with one decimal.
 #[derive(Clone, Copy)]
-pub(crate) struct WithUnit(pub(crate) u32);
+pub struct Tenths(pub u64);
 
-impl Display for WithUnit {
+impl Display for Tenths {
     fn fmt<W: fmt::Write>(&self, f: &mut Formatter<W>) -> fmt::Result {
-        if self.0 < 256 {
-            let kibibytes = 4 * self.0;
-            return write!(f, "{kibibytes} KiB");
-        }
-        let tenths = in_units(10, u64::from(self.0));
-        let (whole, tenth) = (tenths / 10, tenths % 10);
-        write!(f, "{whole}.{tenth} MiB")
+        let (whole, tenth) = (self.0 / 10, self.0 % 10);
+        write!(f, "{whole}.{tenth}")
     }
-}
-
-/// Appends a number given in tenths, with one decimal.
-pub(crate) fn push_tenths<A: Allocator>(
-    text: &mut String<A>,
-    tenths: u64,
-) -> Result<(), AllocError> {
-    let (whole, tenth) = (tenths / 10, tenths % 10);
-    write!(text, "{whole}.{tenth}")
 }
 
 /// Returns these pages in units of which a MiB has `scale`, to the nearest; a half is rounded up.

@@ -1,10 +1,16 @@
 //! The sentence that sums up the numbers.
 ghost use Rattle.std.specs.Prelude.{◌≤◌};
 
-use crate::amounts::push_tenths;
 use crate::rows::TotalRow;
-use crate::{in_units, per_mille, scale_for, shares_of};
+use crate::{Estimate, Tenths, in_units, per_mille, scale_for, shares_of};
 use std::alloc::{AllocError, Allocator};
+
+impl Estimate<'_> {
+    /// Appends the sentence that sums up the estimate, without a line feed.
+    pub fn push_sentence<A: Allocator>(&self, text: &mut String<A>) -> Result<(), AllocError> {
+        push_sentence(text, &self.total_row(), "")
+    }
+}
 
 /// Appends the sentence, without a line feed: what could be reclaimed, and its parts, which add up to it. Below 10 MiB it has
 /// tenths of a MiB, and from there on whole MiB. Each estimate is followed by its standard error. `place` says where it could, if that has to be
@@ -50,7 +56,8 @@ fn push_known<A: Allocator>(
     units: u64,
 ) -> Result<(), AllocError> {
     if scale == 10 {
-        push_tenths(text, units)
+        let tenths = Tenths(units);
+        write!(text, "{tenths}")
     } else {
         write!(text, "{units}")
     }

@@ -1,5 +1,6 @@
 //! Amounts of memory, checked against a calculator.
-use report_text::{in_units, per_mille, scale_for};
+use report_text::{Tenths, in_units, per_mille, scale_for};
+use std::test::Fail;
 
 #[test]
 fn pages_in_mebibytes(rt: HostRuntime) {
@@ -47,4 +48,19 @@ fn tenths_below_10_mebibytes(rt: HostRuntime) {
     for (pages, scale) in [(0, 10), (2559, 10), (2560, 1), (u64::MAX, 1)] {
         assert_eq!(rt; scale_for(pages), scale, "{pages}");
     }
+}
+
+#[test]
+fn tenths_as_text(rt: HostRuntime) -> Result<(), Fail> {
+    for (tenths, text) in [
+        (0, "0.0"),
+        (9, "0.9"),
+        (10, "1.0"),
+        (u64::MAX, "1844674407370955161.5"),
+    ] {
+        let shown = Tenths(tenths);
+        let written = format!(in rt.alloc(); "{shown}")?;
+        assert_eq!(rt; written.as_str(), text, "{tenths}");
+    }
+    Ok(())
 }

@@ -1,6 +1,7 @@
 //! The parts of bars, found by hand.
 use page_census::GuestNumbers;
-use report_text::{GuestLine, Parts, parts_of};
+use report_picture::{Parts, parts_of};
+use report_text::GuestLine;
 use std::process::Abort;
 
 fn line(salt: u32, numbers: [u32; 6]) -> GuestLine<'static> {

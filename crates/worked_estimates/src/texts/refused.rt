@@ -1,7 +1,8 @@
 //! Memory that is refused.
 use crate::texts::numbers::{COPIES, GUESTS, TOTAL};
 use refusing::Refusing;
-use report_text::{Estimate, Unit, guest_lines, picture_text, table_text};
+use report_picture::picture_text;
+use report_text::{Estimate, Unit, guest_lines, table_text};
 use std::alloc::{AllocError, Allocator};
 use std::test::Fail;
 

@@ -1,7 +1,8 @@
 //! The table, the object and the picture. The expected values come from a few lines of Python.
 use crate::texts::numbers::{COPIES, GUESTS, NOTHING, TOTAL};
 use page_census::GuestNumbers;
-use report_text::{Estimate, GuestLine, Unit, guest_lines, json_text, picture_text, table_text};
+use report_picture::picture_text;
+use report_text::{Estimate, GuestLine, Unit, guest_lines, json_text, table_text};
 use std::alloc::{AllocError, Global};
 use std::process::Abort;
 use std::test::Fail;

@@ -1,7 +1,8 @@
 //! The picture's legend.
-use crate::amounts::WithUnit;
+use crate::parts_of;
 use crate::picture::{BETWEEN, UNSHARED, WITHIN, ZERO};
-use crate::{GuestLine, parts_of};
+use crate::with_unit::WithUnit;
+use report_text::GuestLine;
 use std::alloc::{AllocError, Allocator};
 
 /// The names of the bars' parts, and what the legend says about them.

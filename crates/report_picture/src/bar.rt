@@ -1,9 +1,9 @@
 //! The parts of a guest's bar.
 ghost use Rattle.std.specs.Prelude.{◌≡◌, ◌+◌, ◌<◌, ◌^◌, nat_lt};
-ghost use Rattle.report_text.specs.Parts.{parts_of, salt_zeros, zero_under};
+ghost use Rattle.report_picture.specs.Parts.{parts_of, salt_zeros, zero_under};
 
-use crate::GuestLine;
 use page_census::GuestNumbers;
+use report_text::GuestLine;
 
 /// The pages of a guest in four parts.
 #[derive(Clone, Copy, Debug, PartialEq, Eq)]

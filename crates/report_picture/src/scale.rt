@@ -1,5 +1,5 @@
 //! A panel of the picture: rows, one below the other, and an axis of memory below them.
-use crate::amounts::push_tenths;
+use report_text::Tenths;
 use std::alloc::{AllocError, Allocator};
 
 /// The pixels from the top to the first row, from one row to the next, and the height of a bar.
@@ -54,13 +54,10 @@ impl Scale {
         let start = self.place(from);
         let end = self.place(from.saturating_add(pages));
         let top = top_of(row);
-        text.push_str("<rect x=\"")?;
-        push_tenths(text, start)?;
-        write!(text, "\" y=\"{top}\" height=\"{BAR}\" width=\"")?;
-        push_tenths(text, end.saturating_sub(start))?;
+        let (left, width) = (Tenths(start), Tenths(end.saturating_sub(start)));
         writeln!(
             text,
-            "\" fill=\"{fill}\" stroke=\"#222\" stroke-width=\"0.6\"/>"
+            "<rect x=\"{left}\" y=\"{top}\" height=\"{BAR}\" width=\"{width}\" fill=\"{fill}\" stroke=\"#222\" stroke-width=\"0.6\"/>"
         )
     }
 
@@ -72,11 +69,11 @@ impl Scale {
         pages: u64,
     ) -> Result<(), AllocError> {
         let base = top_of(row).saturating_add(11);
-        text.push_str(
-            "<text font-family=\"monospace\" font-size=\"11\" stroke=\"#fff\" stroke-width=\"3\" paint-order=\"stroke\" x=\"",
-        )?;
-        push_tenths(text, self.place(pages).saturating_add(50))?;
-        write!(text, "\" y=\"{base}\">")
+        let left = Tenths(self.place(pages).saturating_add(50));
+        write!(
+            text,
+            "<text font-family=\"monospace\" font-size=\"11\" stroke=\"#fff\" stroke-width=\"3\" paint-order=\"stroke\" x=\"{left}\" y=\"{base}\">"
+        )
     }
 
     /// Appends the start of the text before a row's bar.
@@ -133,14 +130,11 @@ impl Scale {
         } else {
             pages / PAGES
         };
-        text.push_str("<path stroke=\"#aaa\" d=\"M")?;
-        push_tenths(text, self.place(pages))?;
-        write!(
+        let place = Tenths(self.place(pages));
+        writeln!(
             text,
-            " 186V{low}\"/><text font-size=\"11\" text-anchor=\"middle\" x=\""
-        )?;
-        push_tenths(text, self.place(pages))?;
-        writeln!(text, "\" y=\"{base}\">{number}</text>")
+            "<path stroke=\"#aaa\" d=\"M{place} 186V{low}\"/><text font-size=\"11\" text-anchor=\"middle\" x=\"{place}\" y=\"{base}\">{number}</text>"
+        )
     }
 }
 

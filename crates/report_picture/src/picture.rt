@@ -1,10 +1,9 @@
 //! The numbers as a picture.
-use crate::Estimate;
 use crate::guest_bars::push_guest_bars;
 use crate::histogram::push_histogram;
 use crate::legend::push_legend;
 use crate::scale::top_of;
-use crate::sentence::push_sentence;
+use report_text::Estimate;
 use std::alloc::{AllocError, Allocator};
 
 /// The fill of each part of a bar: the parts can be distinguished in black and white, too.
@@ -29,7 +28,7 @@ pub fn picture_text<A: Allocator>(
     let rows = estimate.guests.len().max(estimate.copies.len());
     push_head(&mut text, rows)?;
     text.push_str("<text x=\"16\" y=\"50\" font-size=\"14\">")?;
-    push_sentence(&mut text, &estimate.total_row(), "")?;
+    estimate.push_sentence(&mut text)?;
     text.push_str("</text>\n")?;
     push_legend(&mut text, estimate.guests)?;
     push_guest_bars(&mut text, estimate.guests)?;

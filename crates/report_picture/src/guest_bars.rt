@@ -1,8 +1,9 @@
 //! The picture's bars, one for each guest.
-use crate::amounts::WithUnit;
 use crate::picture::{BETWEEN, UNSHARED, WITHIN, ZERO};
 use crate::scale::Scale;
-use crate::{GuestLine, Parts, ShortName, XmlName, parts_of};
+use crate::with_unit::WithUnit;
+use crate::{Parts, parts_of};
+use report_text::{GuestLine, ShortName, XmlName};
 use std::alloc::{AllocError, Allocator};
 
 /// Appends the bars of all guests and their axis.

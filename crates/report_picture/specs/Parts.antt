@@ -2,7 +2,7 @@
 use Rattle.std.specs.Prelude.{ℕ, ◌-◌, ◌==◌, min, nat_lt, Bool, if◌then◌else◌, List, sum_by}
 use Rattle.page_census.specs.declared.numbers.GuestNumbers.{GuestNumbers}
 use Rattle.report_text.specs.declared.estimate.GuestLine.{GuestLine}
-use Rattle.report_text.specs.declared.bar.Parts.{Parts}
+use Rattle.report_picture.specs.declared.bar.Parts.{Parts}
 
 -- the guest's pages of zeros, if it has this salt
 abbrev pub zero_under : ℕ → GuestLine → ℕ

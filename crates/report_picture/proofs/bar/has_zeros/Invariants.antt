@@ -1,7 +1,7 @@
 use Rattle.std.proofs.Common.{◌≡◌, ◌≤◌, take}
 use Rattle.std.specs.Prelude.{sum_by}
-use Rattle.report_text.specs.Parts.{zero_under}
-use Rattle.report_text.proofs.bar.has_zeros.Given as goal
+use Rattle.report_picture.specs.Parts.{zero_under}
+use Rattle.report_picture.proofs.bar.has_zeros.Given as goal
 
 abbrev pub invariant-loop-guest : goal.invariant-loop-guest
 invariant-loop-guest l = record {
