@@ -13,25 +13,33 @@ again, but with --anew. Over a kit that keeps nothing, every edit is tried.
 
 A function is proved from the contracts of what it calls and never from their bodies. So edits of different functions can stand in
 one copy of the crate, which is checked once, and each edited function must be refused by itself: an error in its own proof, or a
-goal of its own that isn't proved. That it calls a function that isn't proved, or passes the impl of one, is no refusal. An edit that isn't refused so is
-tried once more among others, and then alone, and one that stands outside of all functions is tried alone. Where a function that
-nobody edited is refused by itself, the edits of that check are tried again in two halves, down to one. An edit that is known to
-bring that about has a line 'alone: WHY', and is tried alone. Of an edit that is tried alone it is enough that any function is
-refused by itself, as the kit's own gate has it. Its check is of the whole crate. Where the edit names a function that is
-to be refused, in a line 'refused: MODULE::FUNCTION', this function and what it calls are checked first, and the whole crate only if
-none of these is refused.
+goal of its own that isn't proved. That it calls a function that isn't proved, or passes the impl of one, is no refusal.
+
+For the same reason the other functions of such a copy need neither body nor proof, which are most of a check's work. So the copy is a
+bare one: each of them has an endless loop as its body, and a hole as its proof. Only methods of traits, const functions and cycles of
+calls stay as they are.
+
+An edit that isn't refused there is tried in copies where all else is whole: among others, once more among others, and then alone.
+Where a function that nobody edited is refused by itself, the edits of that check are tried again in two halves, down to one. An edit
+that is known to bring that about has a line 'alone: WHY', and is tried alone. So is one that stands outside of all functions. Of an
+edit that is tried alone it is enough that any function is refused by itself, as the kit's own gate has it. Its check is of the whole
+crate. Where the edit names a function that is to be refused, in a line 'refused: MODULE::FUNCTION', this function and what it calls
+are checked first, and the whole crate only if none of these is refused.
 
 A check is of the edited functions and what they call, over what earlier checks of the crate kept. Where the checker knows a function
 by none of the paths that this script guesses, it is of the whole crate. Only a check of the whole crate tells NOT REFUSED.
 """
+import contextlib
 import dataclasses
 import hashlib
 import importlib.machinery
 import importlib.util
+import itertools
 import os
 import re
 import resource
 import shutil
+import subprocess
 import sys
 import tempfile
 import threading
@@ -47,7 +55,16 @@ IMPL = re.compile(
 )
 TRAIT = re.compile(r"^(?:pub(?:\([a-z ]+\))? )?(?:unsafe )?trait (?P<type>\w+)")
 TYPE = re.compile(r"(?m)^(?:pub(?:\([a-z ]+\))? )?(?:struct|enum|trait) (\w+)")
+TYPE_ALONE = re.compile(r"(?m)^(?:pub(?:\([a-z ]+\))? )?(?:struct|enum) (\w+)")
+# How the lines above a function begin that belong to it, and what says that others need its body.
+ABOVE = ("#[", "///")
+NEEDED = re.compile(r"^\s*#\[(cycle|test)\b|\bconst fn\b|\bfn main\b")
 OF_A_CALL = re.compile(r"it (?:calls|passes the block) [^;]*, which (?:is|are) not proved")
+# How a reason begins that tells little of a contract.
+SAYS_LITTLE = "refused, as it must be (only"
+# The body of a function that nobody edited, in a bare copy, and the files of its own proof there.
+ENDLESS = "\nloop {}"
+OWN_PROOFS = ("Answers.antt", "Invariants.antt", "Proof.antt")
 # What a proof file says where an edit took away a name that the proof cites.
 NAMES = re.compile(r"(\./)?proofs/.*(has no field|is not in scope|has no `|was not admitted)")
 
@@ -110,14 +127,17 @@ def module_of(file):
     return tuple(words[:-1] if words[-1] in ("lib", "main", "mod") else words)
 
 
+def sources_of(crate):
+    """The files of a crate's src/."""
+    return [os.path.relpath(f"{at}/{it}", crate.folder) for at, _folders, files in os.walk(f"{crate.folder}/src") for it in files]
+
+
 def homes_of(crate):
     """The module of each type and each trait of a crate."""
     homes = {}
-    for folder, _folders, files in os.walk(f"{crate.folder}/src"):
-        for name in files:
-            with open(f"{folder}/{name}", encoding="utf-8") as it:
-                module = module_of(os.path.relpath(f"{folder}/{name}", crate.folder))
-                homes.update({found[1]: module for found in TYPE.finditer(it.read())})
+    for file in sources_of(crate):
+        with open(f"{crate.folder}/{file}", encoding="utf-8") as it:
+            homes.update({found[1]: module_of(file) for found in TYPE.finditer(it.read())})
     return homes
 
 
@@ -151,6 +171,30 @@ def functions_of(file, text, homes):
             owner, open_one = "", None
         at = after
     return found
+
+
+def hole_of(crate, function):
+    """The path and the text of a proof that is a hole."""
+    path = function.guesses()[0]
+    lines = [
+        f"use Rattle.{crate}.proofs.{'.'.join(path)}.Statement.{{statement}}", "",
+        f"pub {path[-1]}_spec : {{M : Type 1}} → statement M", f"{path[-1]}_spec = ?", "",
+    ]
+    return f"proofs/{'/'.join(path)}/Proof.antt", "\n".join(lines)
+
+
+def body_of(text, first, last):
+    """The places in a file between the braces of a function's body; None where it has none, or where it is needed."""
+    lines = text[first:last].rstrip("\n").split("\n")
+    indent = re.match(" *", lines[0])[0]
+    above = itertools.takewhile(lambda it: it.lstrip().startswith(ABOVE), reversed(text[:first].rstrip("\n").split("\n")))
+    if lines[-1] != indent + "}" or any(NEEDED.search(it) for it in [lines[0], *above]):
+        return None
+    # (below clauses the brace is on a line of its own)
+    opens = lines.index(indent + "{") if indent + "{" in lines else next((k for k, it in enumerate(lines) if it.endswith("{")), None)
+    if opens is None:
+        return None
+    return first + len("\n".join(lines[: opens + 1])), first + len("\n".join(lines[:-1]))
 
 
 def pairs_of(text):
@@ -233,6 +277,10 @@ class Trial:
         self.waiting, self.alone, self.homes = [], [], homes_of(crate)
         # the functions that checks have named, and paths that are no function's
         self.paths, self.unknown = set(), set()
+        for file in sources_of(crate):
+            with open(f"{crate.folder}/{file}", encoding="utf-8") as it:
+                self.plain[file] = it.read()
+        self.bodies = dict(self.find_bodies())
         for name in sorted(os.listdir(self.folder)):
             said = earlier.find(crate, f"{self.folder}/{name}") if name.endswith(".edit") else None
             if said:
@@ -265,6 +313,16 @@ class Trial:
         edit = Edit(name, texts, changes, frozenset(owners))
         (self.alone if named or None in owners or re.search(r"(?m)^alone: ", text) else self.waiting).append(edit)
 
+    def find_bodies(self):
+        """The functions and the types' own methods whose bodies a copy can lack, with the file and the places of each body."""
+        files = {it: text for it, text in self.plain.items() if it.startswith("src/")}
+        types = {name for text in files.values() for name in TYPE_ALONE.findall(text)}
+        for file, text in files.items():
+            for function, first, last in functions_of(file, text, self.homes):
+                places = body_of(text, first, last)
+                if places and (not function.owner or function.owner == function.spelled and function.owner in types):
+                    yield function, (file, *places)
+
     def owner_of(self, file, start, end):
         if not file.startswith("src/"):
             return None
@@ -273,25 +331,39 @@ class Trial:
 
     def run(self):
         with tempfile.TemporaryDirectory(prefix="edits-") as self.kept:
+            for name in ("bare", "whole"):
+                os.mkdir(f"{self.kept}/{name}")
+            waiting, self.waiting = self.waiting, []
+            while waiting:
+                batch, waiting = self.batch_of(waiting)
+                self.waiting += self.try_bare(batch)
+            self.alone = [it for edit in self.alone for it in (self.try_bare([edit]) if None not in edit.functions else [edit])]
             while self.waiting:
-                batch = []
-                for edit in self.waiting:
-                    if not any(edit.functions & other.functions for other in batch):
-                        batch.append(edit)
-                self.waiting = [it for it in self.waiting if it not in batch]
+                batch, self.waiting = self.batch_of(self.waiting)
                 self.try_batch(batch)
             for edit in self.alone:
                 self.try_alone(edit)
         return self
 
-    def check(self, texts, what, functions=()):
-        """What the prover says of the crate with these texts: of all of it, or of these functions and what they call."""
+    def batch_of(self, edits):
+        """Edits of different functions, and the rest."""
+        batch = []
+        for edit in edits:
+            if not any(edit.functions & other.functions for other in batch):
+                batch.append(edit)
+        return batch, [it for it in edits if it not in batch]
+
+    def check(self, texts, what, functions=(), proofs=None):
+        """What the prover says of the crate with these texts: of all of it, or of these functions and what they call.
+
+        In a bare copy some functions have these proofs in place of their own.
+        """
         begun, only = time.time(), self.paths_of(functions)
-        ran = self.run_check(texts, only)
+        ran = self.run_check(texts, only, proofs)
         while only and ran.returncode == 2:
             self.unknown.update([it for it in only if f"no function `{'::'.join(it)}`" in ran.stdout] or only)
             only = self.paths_of(functions)
-            ran = self.run_check(texts, only)
+            ran = self.run_check(texts, only, proofs)
         self.lines.append(f"{self.crate.name}: {what}, {time.time() - begun:.0f} s")
         if self.kit.rtlib.STALE.search(ran.stdout):
             raise RuntimeError(f"{self.crate.name}: the libraries in out/ can't be used: run make test first")
@@ -299,8 +371,29 @@ class Trial:
         self.paths.update(said.paths)
         return said
 
-    def run_check(self, texts, only):
-        return self.kit.checked(self.crate, texts, [*FLAGS, *(word for path in only for word in ("--only", "::".join(path)))], self.kept)
+    def run_check(self, texts, only, proofs):
+        flags = [*FLAGS, *(word for path in only for word in ("--only", "::".join(path)))]
+        if proofs is None:
+            return self.kit.checked(self.crate, texts, flags, f"{self.kept}/whole")
+        with tempfile.TemporaryDirectory(prefix=f"rt-edit-{os.getpid()}-") as room:
+            self.write_copy(room, texts, proofs)
+            words = self.crate.words([*flags, "--allow-holes", "--incremental", f"{self.kept}/bare"], keeps=False)
+            how = {"cwd": room, "stdin": subprocess.DEVNULL, "stdout": subprocess.PIPE, "stderr": subprocess.STDOUT, "errors": "replace"}
+            return subprocess.run([*self.kit.rtlib.guarded(), self.kit.rtlib.RATTLE, "check", *words], check=False, **how)
+
+    def write_copy(self, room, texts, proofs):
+        """A copy of the crate with these texts, and with these proofs in place of those functions' own files."""
+        for part in self.kit.rtlib.PARTS:
+            if os.path.isdir(f"{self.crate.folder}/{part}"):
+                shutil.copytree(f"{self.crate.folder}/{part}", f"{room}/{part}")
+        for path in proofs:
+            for own in OWN_PROOFS:
+                with contextlib.suppress(FileNotFoundError):
+                    os.remove(f"{room}/{os.path.dirname(path)}/{own}")
+        for path, text in [*texts.items(), *proofs.items()]:
+            os.makedirs(os.path.dirname(f"{room}/{path}"), exist_ok=True)
+            with open(f"{room}/{path}", "w", encoding="utf-8") as it:
+                it.write(text)
 
     def paths_of(self, functions):
         """These functions by their paths, which are guessed where no check has named them; none where one has no path."""
@@ -311,16 +404,37 @@ class Trial:
         named = sorted((it for it in self.paths if function.is_named(it)), key=lambda it: (len(it), it))
         return next((it for it in [*named, *function.guesses()] if it not in self.unknown), None)
 
-    def merged(self, batch):
-        """The texts with all changes of the batch, each put in at its place in the unedited text."""
-        texts = {}
-        for file in sorted({file for edit in batch for file in edit.texts}):
+    def merged(self, batch, others=()):
+        """The texts with all changes of the batch and these, each put in at its place in the unedited text."""
+        texts, changes = {}, [*others, *(it for edit in batch for it in edit.changes)]
+        for file in sorted({it[0] for it in changes}):
             last, parts = 0, []
-            for _file, start, end, new in sorted(it for edit in batch for it in edit.changes if it[0] == file):
+            for _file, start, end, new in sorted(it for it in changes if it[0] == file):
                 parts += [self.plain[file][last:start], new]
                 last = end
             texts[file] = "".join(parts) + self.plain[file][last:]
         return texts
+
+    def try_bare(self, batch):
+        """Tries edits in a copy that lacks the bodies and the proofs of all functions that none of them changes or names.
+
+        Returns those that aren't refused there. These are all of them where the copy tells of something else.
+        """
+        edited = {it for edit in batch for it in edit.functions}
+        bare = {function: places for function, places in self.bodies.items() if function not in edited}
+        texts = self.merged(batch, [(*places, ENDLESS) for places in bare.values()])
+        proofs = dict(hole_of(self.crate.name, it) for it in bare)
+        said = self.check(texts, f"{len(batch)} edits in one bare copy", edited, proofs)
+        strays = [it for it in said.refused if not any(function.is_named(it) for function in edited)]
+        left = []
+        for edit in batch:
+            own = [it for it in said.refused if any(function.is_named(it) for function in edit.functions)]
+            why = said.reason(own) if own and said.was_judged and not strays else None
+            if why and not why.startswith(SAYS_LITTLE):
+                self.tell(edit.name, True, why)
+            else:
+                left.append(edit)
+        return left
 
     def try_batch(self, batch):
         edited = {it for edit in batch for it in edit.functions}
@@ -373,10 +487,10 @@ class Said:
         self.was_judged = not self.unread and ran.returncode == 1 and self.lines[-1].startswith(("logic=not-proved", "only="))
         self.refused, self.paths = {}, []
         for line in self.lines:
-            found = re.match(r"fn (\S+?): (proved|not proved|no proof:)(.*)", line)
+            found = re.match(r"fn (\S+?): (proved|no holes|depends on a hole|not proved|no proof:)(.*)", line)
             if found:
                 self.paths.append(tuple(found[1].split("::")[1:]))
-            if found and found[2] != "proved":
+            if found and found[2] in ("not proved", "no proof:"):
                 path = tuple(found[1].split("::")[1:])
                 why = OF_A_CALL.sub("", found[3])
                 calls_one, has_more = why != found[3], bool(why.strip(" ;,"))
@@ -396,7 +510,7 @@ class Said:
         first = next((it for it in [*errors, *elsewhere] if not NAMES.match(it)), "")
         if not first:
             return (
-                "refused, as it must be (only because a proof file names what the edit took away, so this says little of the"
+                f"{SAYS_LITTLE} because a proof file names what the edit took away, so this says little of the"
                 f" contract: change a value and keep the names): {errors[0][:160]}"
             )
         return f"refused, as it must be: {first[:160]}"

@@ -140,7 +140,7 @@ def looked_at(text, edits, old, *words, checks=None):
     known = f"sums: {old} of {len(edits)} edits were refused by an earlier run of the same on this machine"
     if (known in lines) != (old > 0):
         wrong.append(f"{known!r} is {'not ' * (old > 0)}told")
-    made = [it for it in lines if re.match(r"sums: .* (in one check|alone|the whole crate), \d+ s$", it)]
+    made = [it for it in lines if re.match(r"sums: .* (in one check|in one bare copy|alone|the whole crate), \d+ s$", it)]
     if checks is not None and len(made) != checks:
         wrong.append(f"{len(made)} checks were made where {checks} suffice")
     if wrong:
