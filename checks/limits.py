@@ -57,7 +57,7 @@ page_model/src/limits.rt MAX_ENTRIES merge_machine/src/config.rt merge_run/src/r
     journal_text/README.md journal_text/src/journal.rt docs/MODEL.md docs/FORMATS.md checks/fuzz.py checks/common/random_texts.py
     share_text/src/fault.rt share_text/specs/Faults.antt
 page_model/src/limits.rt MAX_WORKERS merge_machine/src/round.rt page_digest/README.md docs/MODEL.md
-page_model/src/limits.rt MAX_WATCHES merge_reports/src/watch.rt merge_reports/README.md watched_machine/README.md docs/MODEL.md
+page_model/src/limits.rt MAX_WATCHES watched_machine/src/watch.rt watched_machine/README.md docs/MODEL.md
 page_model/src/limits.rt MAX_TEXT_BYTES text_words/src/fault.rt text_words/src/expect.rt text_words/specs/Expected.antt
     journal_text/README.md journal_text/specs/Texts.antt journal_replay/README.md script_text/specs/Texts.antt
     trace_text/specs/Texts.antt worked_texts/src/sentences.rt checks/command_cases/texts.py docs/MODEL.md docs/FORMATS.md

@@ -1,1 +1,5 @@
+pub mod Fronts
+pub mod Lists
+pub mod Adding
+pub mod Showing
 pub mod Publishing

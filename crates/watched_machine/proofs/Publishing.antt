@@ -15,12 +15,12 @@ use Rattle.merge_machine.specs.declared.merger.JournalFull.{JournalFull}
 use Rattle.merge_machine.specs.declared.merger.Merger.{Merger}
 use Rattle.merge_machine.specs.declared.merger.Step.{Step}
 use Rattle.merge_machine.specs.declared.merger.Step.TheVariants.{Ended, Blocked, Idle, Done}
-use Rattle.merge_reports.specs.Lists.{published}
-use Rattle.merge_reports.specs.Reports.{last_of}
-use Rattle.merge_reports.specs.Publishing.{Publishes}
-use Rattle.merge_reports.specs.declared.publisher.PublishFault.{PublishFault}
-use Rattle.merge_reports.specs.declared.publisher.Publisher.{Publisher}
-use Rattle.merge_reports.specs.declared.told.Told.{Told}
+use Rattle.watched_machine.specs.Lists.{published}
+use Rattle.watched_machine.specs.Reports.{last_of}
+use Rattle.watched_machine.specs.Published.{Publishes}
+use Rattle.watched_machine.specs.declared.publisher.PublishFault.{PublishFault}
+use Rattle.watched_machine.specs.declared.publisher.Publisher.{Publisher}
+use Rattle.watched_machine.specs.declared.told.Told.{Told}
 use Rattle.merge_run.specs.Fronts.{IsOfFront, AreOfFronts}
 use Rattle.merge_run.proofs.Fronts.{are_of_longer, counts_all, with_whole}
 

@@ -5,9 +5,9 @@ use Rattle.page_model.specs.Parts.{Totals}
 use Rattle.page_model.specs.declared.hashing.HashFunction.{Ghosts}
 use Rattle.page_model.specs.declared.request.Entry.{Entry}
 use Rattle.merge_machine.specs.View.{journal_of, machine_of}
-use Rattle.merge_reports.specs.Lists.{list_told}
-use Rattle.merge_reports.specs.Publishing.{Publishes}
-use Rattle.merge_reports.specs.declared.told.Told.{Told}
+use Rattle.watched_machine.specs.Lists.{list_told}
+use Rattle.watched_machine.specs.Published.{Publishes}
+use Rattle.watched_machine.specs.declared.told.Told.{Told}
 use Rattle.merge_run.specs.Fronts.{AreOfFronts, report_after}
 use Rattle.watched_machine.specs.View.{merger_in, publisher_in}
 use Rattle.watched_machine.specs.declared.merger.Merger.{Merger}

@@ -1,7 +1,7 @@
 -- What a contract sees of a merger that publishes its reports, and of a settled machine whose reports are published.
 use Rattle.page_model.specs.declared.hashing.HashFunction.{Ghosts}
 use Rattle.merge_machine.specs.declared.merger.Merger as machine
-use Rattle.merge_reports.specs.declared.publisher.Publisher.{Publisher}
+use Rattle.watched_machine.specs.declared.publisher.Publisher.{Publisher}
 use Rattle.merge_settle.specs.declared.settled.Settled as settle
 use Rattle.watched_machine.specs.declared.merger.Merger.{Merger}
 use Rattle.watched_machine.specs.declared.settled.Settled.{Settled}

@@ -1,5 +1,5 @@
 //! A publisher that is lent to a run.
-use merge_reports::Publisher;
+use crate::Publisher;
 use merge_run::Observer;
 use page_model::Report;
 use std::alloc::{Allocator, Global};
@@ -18,7 +18,7 @@ pub(crate) struct LentPublisher<'p, P: Allocator = Global> {
 
 impl<'p, P: Allocator> Observer for LentPublisher<'p, P> {
     ghost use Rattle.std.specs.Prelude.{◌≡◌};
-    ghost use Rattle.merge_reports.specs.Lists.{published};
+    ghost use Rattle.watched_machine.specs.Lists.{published};
 
     ghost name = { λ lent. lent.publisher.ghost_name };
 

@@ -2,12 +2,12 @@
 ghost use Rattle.std.specs.Prelude.{◌≡◌, [], IfOk, MatchResult};
 ghost use Rattle.merge_machine.specs.Limits.{IsMachine, NoMachineFor, numbers_of};
 ghost use Rattle.merge_machine.specs.Opened.{IsFreshMachine};
-ghost use Rattle.merge_reports.specs.Lists.{published};
+ghost use Rattle.watched_machine.specs.Lists.{published};
 ghost use Rattle.watched_machine.specs.View.{merger_in, publisher_in};
 
+use crate::Publisher;
 use crate::merger::Merger;
 use merge_machine::{Config, Fault, open_machine};
-use merge_reports::Publisher;
 use page_digest::PageHash;
 use share_rings::Port;
 use std::alloc::Allocator;

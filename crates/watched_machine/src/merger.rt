@@ -1,10 +1,10 @@
 //! A machine's merger, which publishes its reports.
 ghost use Rattle.merge_machine.specs.View.{journal_of, machine_of};
-ghost use Rattle.merge_reports.specs.Lists.{published};
+ghost use Rattle.watched_machine.specs.Lists.{published};
 ghost use Rattle.merge_run.specs.Fronts.{AreOfFronts};
 
+use crate::{NoWatch, PublishFault, Publisher, Told, Watch};
 use merge_machine::{JournalFull, Step};
-use merge_reports::{NoWatch, PublishFault, Publisher, Told, Watch};
 use page_digest::PageHash;
 use page_model::{Entry, Report};
 use std::alloc::{Allocator, Global};
@@ -31,8 +31,8 @@ impl<H: PageHash, A: Allocator> Merger<H, A> {
     ghost use Rattle.merge_machine.specs.Same.{SameMachine};
     ghost use Rattle.merge_machine.specs.Steps.{Steps, IsFull};
     ghost use Rattle.merge_machine.specs.View.{guest_count, journal_of, machine_of, memory_of};
-    ghost use Rattle.merge_reports.specs.Lists.{publisher_id, told_id};
-    ghost use Rattle.merge_reports.specs.Publishing.{Confirms, HasRoom, IsNewWatch, RefusedFor, TellsAll, Unchanged};
+    ghost use Rattle.watched_machine.specs.Lists.{publisher_id, told_id};
+    ghost use Rattle.watched_machine.specs.Published.{Confirms, HasRoom, IsNewWatch, RefusedFor, TellsAll, Unchanged};
     ghost use Rattle.watched_machine.specs.Publishing.{PublishesJournal};
     ghost use Rattle.watched_machine.specs.View.{merger_in, publisher_in};
 
@@ -108,7 +108,7 @@ impl<H: PageHash, A: Allocator> Merger<H, A> {
     }
 
     /// Returns whether a watch, or an earlier `Told`, has only what was published, as
-    /// [`Publisher::has_published`](merge_reports::Publisher::has_published) does.
+    /// [`Publisher::has_published`](crate::Publisher::has_published) does.
     pub fn has_published(&self, told: &Told) -> bool
         requires same_publisher { told_id told.now ≡ publisher_id (publisher_in self.now) }
         ensures { Confirms (publisher_in self.now) told.now result }
@@ -135,7 +135,7 @@ impl<H: PageHash, A: Allocator + Sync> Merger<H, A> {
     ghost use Rattle.merge_machine.specs.Rounds.{Rounds, IsFullForAll};
     ghost use Rattle.merge_machine.specs.Same.{SameMachine};
     ghost use Rattle.merge_machine.specs.declared.limits.TheConstants.{MAX_ROUND};
-    ghost use Rattle.merge_reports.specs.Publishing.{Unchanged};
+    ghost use Rattle.watched_machine.specs.Published.{Unchanged};
     ghost use Rattle.watched_machine.specs.View.{merger_in, publisher_in};
 
     /// Serves several requests, at most `limit`, as [`merge_machine::Merger::round`] does, and returns how many there were.

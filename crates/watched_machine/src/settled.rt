@@ -2,11 +2,11 @@
 ghost use Rattle.merge_core.specs.Shown.{state_of};
 ghost use Rattle.merge_machine.specs.Machines.{opening};
 ghost use Rattle.merge_settle.specs.View.{settled_core, settled_journal};
-ghost use Rattle.merge_reports.specs.Lists.{published};
+ghost use Rattle.watched_machine.specs.Lists.{published};
 ghost use Rattle.merge_run.specs.Fronts.{AreOfFronts};
 
+use crate::{NoWatch, Publisher, Told, Watch};
 use merge_core::Core;
-use merge_reports::{NoWatch, Publisher, Told, Watch};
 use page_digest::PageHash;
 use page_model::{Entry, Report};
 use share_rings::ClosedPort;
@@ -32,7 +32,7 @@ impl<H: PageHash, A: Allocator> Settled<H, A> {
     ghost use Rattle.merge_core.specs.Shown.{state_of};
     ghost use Rattle.merge_machine.specs.Machines.{opening};
     ghost use Rattle.merge_settle.specs.View.{settled_core, settled_journal, settled_ports};
-    ghost use Rattle.merge_reports.specs.Publishing.{IsNewWatch, TellsAll, Unchanged};
+    ghost use Rattle.watched_machine.specs.Published.{IsNewWatch, TellsAll, Unchanged};
     ghost use Rattle.watched_machine.specs.View.{settled_in, settled_publisher};
 
     /// Returns the whole journal, oldest entry first.

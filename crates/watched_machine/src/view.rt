@@ -1,6 +1,6 @@
 //! The thread of a viewer.
+use crate::Watch;
 use crate::viewer::Viewer;
-use merge_reports::Watch;
 use std::alloc::Allocator;
 use std::sync::Wait;
 use std::sync::atomic::{AtomicU64, Ordering};

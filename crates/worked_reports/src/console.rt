@@ -1,15 +1,15 @@
 //! Watches in their own threads.
 ghost use Rattle.std.specs.Prelude.{◌≡◌};
-ghost use Rattle.merge_reports.specs.Reports.{last_of};
-ghost use Rattle.merge_reports.specs.Lists.{published, told_id, watch_id};
+ghost use Rattle.watched_machine.specs.Reports.{last_of};
+ghost use Rattle.watched_machine.specs.Lists.{published, told_id, watch_id};
 
 use crate::makes::{mixed, one_page};
-use merge_reports::{Publisher, Told, Watch};
 use page_model::Report;
 use std::sync::Wait;
 use std::test::Fail;
 use std::thread;
 use std::thread::{Threads, join};
+use watched_machine::{Publisher, Told, Watch};
 
 const TRIES: u32 = 1 << 30;
 

@@ -1,8 +1,8 @@
 //! How many watches there are, and what they read in the end.
 use crate::makes::one_page;
-use merge_reports::{NoWatch, Publisher};
 use page_model::MAX_WATCHES;
 use std::test::Fail;
+use watched_machine::{NoWatch, Publisher};
 
 // There is no ninth watch; when one of the eight is dropped, its place is free again.
 #[test]

@@ -1,14 +1,14 @@
 //! What a watch reads was published.
 ghost use Rattle.std.specs.Prelude.{◌≡◌, ◌<◌, Contains, IfSome};
-ghost use Rattle.merge_reports.specs.Reports.{last_of};
-ghost use Rattle.merge_reports.specs.Lists.{published, publisher_id, told_id, watch_id};
+ghost use Rattle.watched_machine.specs.Reports.{last_of};
+ghost use Rattle.watched_machine.specs.Lists.{published, publisher_id, told_id, watch_id};
 
 use crate::makes::{mixed, one_page};
-use merge_reports::{Publisher, Told, Watch};
 use page_model::Report;
 use std::sync::Wait;
 use std::test::Fail;
 use std::thread::{Threads, join};
+use watched_machine::{Publisher, Told, Watch};
 
 const MANY: u32 = 1_100_000;
 

@@ -1,16 +1,16 @@
 //! Memory that is refused to a publisher.
 ghost use Rattle.std.specs.Prelude.{◌≡◌, ◌≤◌, ◌++◌, ◌∷◌, []};
-ghost use Rattle.merge_reports.specs.Reports.{last_of};
-ghost use Rattle.merge_reports.specs.Lists.{published, publisher_id, watch_id, told_id};
+ghost use Rattle.watched_machine.specs.Reports.{last_of};
+ghost use Rattle.watched_machine.specs.Lists.{published, publisher_id, watch_id, told_id};
 
 use crate::makes::{all_zeros, one_page};
-use merge_reports::{OutOfMemory, PublishFault, Publisher, Told, Watch};
 use page_model::Report;
 use refusing::Refusing;
 use std::alloc::Allocator;
 use std::process::Abort;
 use std::sync::Wait;
 use std::test::Fail;
+use watched_machine::{OutOfMemory, PublishFault, Publisher, Told, Watch};
 
 const MOST: u64 = 100;
 

@@ -1,7 +1,7 @@
 //! A watch sees at least what it was told of, and nothing older than what it saw.
 use crate::makes::{all_zeros, one_page};
-use merge_reports::Publisher;
 use std::test::Fail;
+use watched_machine::Publisher;
 
 #[test]
 fn a_watch_learns_and_reads(rt: HostRuntime) -> Result<(), Fail> {

@@ -4,7 +4,7 @@ ghost use Rattle.page_model.specs.Limits.{shapes};
 ghost use Rattle.page_model.specs.Replay.{empty_state};
 ghost use Rattle.share_rings.specs.Ends.{closed_name, port_name};
 ghost use Rattle.merge_run.specs.View.{closed_names, end_names, ends_of, guest_count, memory_of, port_names};
-ghost use Rattle.merge_reports.specs.Lists.{publisher_id, told_id, watch_id};
+ghost use Rattle.watched_machine.specs.Lists.{publisher_id, told_id, watch_id};
 ghost use Rattle.watched_machine.specs.View.{merger_in, publisher_in};
 
 use crate::machines::{list_of, one_guest, only};

@@ -1,8 +1,8 @@
 //! A watch sees at least what it was told of, and nothing older than what it saw.
 ghost use Rattle.std.specs.Prelude.{◌≡◌, ◌<◌};
 ghost use Rattle.merge_run.specs.View.{guest_count};
-ghost use Rattle.merge_reports.specs.Lists.{publisher_id, told_id, watch_id};
-ghost use Rattle.merge_reports.specs.Publishing.{Unchanged};
+ghost use Rattle.watched_machine.specs.Lists.{publisher_id, told_id, watch_id};
+ghost use Rattle.watched_machine.specs.Published.{Unchanged};
 ghost use Rattle.watched_machine.specs.View.{merger_in, publisher_in};
 
 use crate::watched::{all_zeros, new_machine, one_page, only};

@@ -3,7 +3,7 @@ use Rattle.merge_core.specs.Shown.{Shown, state_of}
 use Rattle.merge_machine.specs.Machines.{opening}
 use Rattle.merge_machine.specs.View.{journal_of, machine_of}
 use Rattle.merge_settle.specs.View.{settled_core, settled_journal}
-use Rattle.merge_reports.specs.Lists.{published}
+use Rattle.watched_machine.specs.Lists.{published}
 use Rattle.watched_machine.proofs.Publishing.{fronts_stay}
 use Rattle.watched_machine.proofs.settle_machine.settle.Goals as goal
 

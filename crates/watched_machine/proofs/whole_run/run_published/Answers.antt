@@ -2,7 +2,7 @@ use Rattle.std.proofs.Common.{◌≡◌, rules, subst}
 use Rattle.merge_core.specs.Shown.{state_of}
 use Rattle.merge_machine.specs.Machines.{opening}
 use Rattle.merge_settle.specs.View.{settled_journal, settled_core}
-use Rattle.merge_reports.specs.Lists.{published}
+use Rattle.watched_machine.specs.Lists.{published}
 use Rattle.merge_run.specs.Fronts.{AreOfFronts}
 use Rattle.watched_machine.proofs.whole_run.run_published.Goals as goal
 

@@ -1,8 +1,8 @@
 use Rattle.std.proofs.Common.{◌≡◌, ◌+◌, List, [], ◌∷◌, ◌++◌, ap, ◌∙◌, arith}
 use Rattle.page_model.specs.Parts.{Totals}
-use Rattle.merge_reports.specs.Reports.{last_of}
-use Rattle.merge_reports.specs.Lists.{published}
-use Rattle.merge_reports.proofs.Lists.{last_of_added}
+use Rattle.watched_machine.specs.Reports.{last_of}
+use Rattle.watched_machine.specs.Lists.{published}
+use Rattle.watched_machine.proofs.Lists.{last_of_added}
 use Rattle.worked_reports.proofs.console.publish_all.Goals as goal
 use Rattle.worked_reports.proofs.console.publish_all.Goals.{in-Ok, in-Err}
 

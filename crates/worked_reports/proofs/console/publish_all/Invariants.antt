@@ -1,6 +1,6 @@
 use Rattle.std.proofs.Common.{◌≤◌}
-use Rattle.merge_reports.specs.Reports.{last_of}
-use Rattle.merge_reports.specs.Lists.{published}
+use Rattle.watched_machine.specs.Reports.{last_of}
+use Rattle.watched_machine.specs.Lists.{published}
 use Rattle.worked_reports.proofs.console.publish_all.Given as goal
 
 abbrev pub invariant-loop-before : goal.invariant-loop-before

@@ -1,8 +1,8 @@
 use Rattle.std.proofs.Common.{◌≡◌, ◌+◌, List, [], ◌∷◌, ◌++◌, ap, sym, ◌∙◌, arith}
 use Rattle.page_model.specs.Parts.{Totals}
-use Rattle.merge_reports.specs.Reports.{last_of}
-use Rattle.merge_reports.specs.Lists.{published, publisher_id, watch_id}
-use Rattle.merge_reports.proofs.Lists.{last_of_added}
+use Rattle.watched_machine.specs.Reports.{last_of}
+use Rattle.watched_machine.specs.Lists.{published, publisher_id, watch_id}
+use Rattle.watched_machine.proofs.Lists.{last_of_added}
 use Rattle.worked_reports.proofs.published.publish_each.Goals as goal
 use Rattle.worked_reports.proofs.published.publish_each.Goals.{in-Ok, in-Err}
 

@@ -1,4 +1,4 @@
-use Rattle.merge_reports.specs.Lists.{published}
+use Rattle.watched_machine.specs.Lists.{published}
 use Rattle.watched_machine.proofs.Publishing.{last_within}
 use Rattle.watched_machine.proofs.lent_publisher.LentPublisherObserver.observe.Goals as goal
 

@@ -1,6 +1,6 @@
 use Rattle.std.proofs.Common.{◌≡◌}
 use Rattle.merge_machine.specs.View.{journal_of, machine_of}
-use Rattle.merge_reports.specs.Lists.{published}
+use Rattle.watched_machine.specs.Lists.{published}
 use Rattle.merge_run.proofs.Observing.{fronts_fresh}
 use Rattle.watched_machine.proofs.machine.Machine.new.Goals as goal
 

@@ -1,7 +1,7 @@
 use Rattle.std.proofs.Common.{◌≡◌, ap, arith}
 use Rattle.page_model.specs.Parts.{Totals}
 use Rattle.merge_machine.specs.View.{journal_of, memory_of}
-use Rattle.merge_reports.specs.Lists.{published}
+use Rattle.watched_machine.specs.Lists.{published}
 use Rattle.watched_machine.proofs.Publishing.{not_older, fronts_after}
 use Rattle.watched_machine.proofs.merger.Merger.publish.Goals as goal
 

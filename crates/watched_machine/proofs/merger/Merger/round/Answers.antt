@@ -1,4 +1,4 @@
-use Rattle.merge_reports.specs.Lists.{published}
+use Rattle.watched_machine.specs.Lists.{published}
 use Rattle.watched_machine.proofs.Publishing.{fronts_after_round}
 use Rattle.watched_machine.proofs.merger.Merger.round.Goals as goal
 

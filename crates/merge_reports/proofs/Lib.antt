@@ -1,4 +1,0 @@
-pub mod Fronts
-pub mod Lists
-pub mod Adding
-pub mod Showing

@@ -1,5 +1,0 @@
-use Rattle.merge_reports.proofs.Showing.{looks}
-use Rattle.merge_reports.proofs.watch.look.Goals as goal
-
-pub enter_as-requires : goal.enter_as-requires
-enter_as-requires g c = looks _ _
