@@ -92,9 +92,9 @@ COMMANDS = {
         Work("python", ["checks/python.py"], seconds=600),
     ],
 }
-# What each command takes from nothing, in processor minutes, on processors of 2.5 GHz; `check` after `make test`. Those of `edits` and `check` were
-# measured; of `test` it is known that it takes an hour on four processors.
-MINUTES = {"test": 225, "edits": 190, "check": 38}
+# What each command takes from nothing, in processor minutes, on processors of 2.5 GHz; `check` after `make test`. That of `check` was
+# measured. Of `test` it is known that it takes an hour on four processors, and of `edits` 490 of 1,108 were measured.
+MINUTES = {"test": 225, "edits": 125, "check": 38}
 TICKS = os.sysconf("SC_CLK_TCK")
 # The steps of which it is counted how far they are; of the others the last line is shown.
 COUNTED = ("rt ci", "edits")
