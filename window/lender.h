@@ -43,8 +43,8 @@ struct window_lender {
     unsigned char (*pages)[WINDOW_PAGE_BYTES]; /* buffer for WINDOW_BATCH pages */
 
     /*
-     * Tells of each page whether another page with its fingerprint was asked about or lent lately: seen[i] is 1 or 0. A question in passing,
-     * where passing[i] is true, needn't be remembered: others needn't find this page by it.
+     * Writes 1 to seen[i] if another page with fingerprints[i] was asked about lately, or the lender knows a frame in use with it; else 0.
+     * If passing[i] is true, the lender needn't note the question: no other page needs to find page i by it.
      */
     int (*ask)(void *opaque, const uint32_t *pages, const uint64_t *fingerprints, const bool *passing, size_t count,
                unsigned char *seen);

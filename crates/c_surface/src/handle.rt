@@ -5,7 +5,7 @@ ghost use Rattle.c_surface.specs.Statuses.{held_status};
 use crate::status;
 use std::alloc::Global;
 
-/// A handle: room for one value of the heap. It holds none while all its bytes are 0.
+/// A handle: it can contain one value of the heap, and contains none while all its bytes are 0.
 pub trait Handle {
     /// What it holds.
     type Held: Drop;

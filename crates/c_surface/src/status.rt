@@ -104,7 +104,7 @@ pub const FAULT_AGAIN: u32 = 70;
 /// More pages lent than the buffer has.
 pub const FAULT_PAGES: u32 = 71;
 
-/// A HELLO where no client can enter.
+/// A HELLO while no client can enter.
 pub const FAULT_CLIENTS: u32 = 72;
 
 /// An answer that isn't 0 or 1. Only a host's messages have answers, so no packet of a client has this fault.

@@ -39,8 +39,8 @@ fn process_option<'a>(alloc: Global) -> Arg<'a> {
     pid.value_parser(value_parser!(u32).range(1..))
 }
 
-/// What the words behind `digest` ask for. Neither an image nor a process or both, no name, and a number that is no sample are
-/// errors.
+/// What the words after `digest` ask for. It is an error to give no image and no process, both, no name, or a number that is no
+/// sample.
 pub fn digest_words<'a>(alloc: Global, matches: &ArgMatches<'a>) -> Result<DigestWords<'a>, Error> {
     let source = source_of(alloc, matches)?;
     Ok(DigestWords {

@@ -4,7 +4,7 @@ pub(crate) const ABOUT: &str = "\
 Find out how much memory virtual machines would save by sharing equal pages.
 Replay and run what guests ask of a machine that shares them.";
 
-/// What stands below the program's help.
+/// The text below the program's help.
 pub(crate) const PROGRAM: &str = "\
 How much memory would sharing save? For virtual machines that run here, give
 the numbers of their processes:
@@ -34,7 +34,7 @@ and 2 if the command line is wrong.";
 
 pub(crate) const REPLAY: &str = "Replay a journal: print verdicts and a report";
 
-/// What stands below the help of `replay`.
+/// The text below the help of `replay`.
 pub(crate) const JOURNAL: &str = "\
 A journal is a text file. Each line ends with a line feed, and single spaces
 separate its words:
@@ -63,7 +63,7 @@ pub(crate) const SERIAL: &str = "Serve a script on one thread: print verdicts an
 
 pub(crate) const RUN: &str = "Run a script, a thread for each guest: print verdicts and a report";
 
-/// What stands below the help of `run` and `serial`.
+/// The text below the help of `run` and `serial`.
 pub(crate) const SCRIPT: &str = "\
 A script is a text file that says what each guest asks. Each line ends with a
 line feed, and single spaces separate its words:
@@ -111,7 +111,7 @@ pub(crate) const JSON: &str = "Print a JSON object instead of the table";
 pub(crate) const ESTIMATE: &str =
     "Count the memory that sharing would save, of processes or images";
 
-/// What stands below the help of `estimate`.
+/// The text below the help of `estimate`.
 pub(crate) const OF_ESTIMATE: &str = "\
 An image is a raw memory file (of QEMU's `pmemsave`, or of a Firecracker or
 Cloud Hypervisor snapshot) or a 64-bit ELF core (of `virsh dump --memory-only`).
@@ -154,7 +154,7 @@ pub(crate) const SVG: &str = "Also write a picture to this file";
 
 pub(crate) const DIGEST: &str = "Write which contents a guest's memory has, without its bytes";
 
-/// What stands below the help of `digest`.
+/// The text below the help of `digest`.
 pub(crate) const OF_DIGEST: &str = "\
 A digest is a text file with a line for each different content of the guest's
 pages: 128 bits of its SHA-256, and how many pages have it. It contains no byte
@@ -191,7 +191,7 @@ pub(crate) const IMAGE: &str = "An image of the guest's memory";
 
 pub(crate) const FLEET: &str = "Count the memory that sharing would save, from digests";
 
-/// What stands below the help of `fleet`.
+/// The text below the help of `fleet`.
 pub(crate) const OF_FLEET: &str = "\
 Each digest is of one guest, as `pageshare digest` writes it. All must have the
 same sample:

@@ -7,7 +7,7 @@ use std::alloc::{AllocError, Global};
 /// In what a table's numbers are.
 const UNITS: [&str; 2] = ["mib", "pages"];
 
-/// A command with what it does, and what stands below its help.
+/// A command, with a line on what it does and the text below its help.
 pub fn described<'a>(alloc: Global, name: &'a str, about: &'a str, below: &'a str) -> Command<'a> {
     named(alloc, name, about).after_help(below)
 }

@@ -8,8 +8,8 @@ use page_model::{Entry, Request};
 use std::alloc::{AllocError, Allocator, Global};
 use std::marker::Model;
 
-/// What has passed between one guest and the merger: the requests that the guest sent and those that the merger took,
-/// and the verdicts that the merger gave and those that the guest got, by their places in the journal.
+/// What has passed between one guest and the merger. Requests: those that the guest sent and those that the merger took.
+/// Verdicts, by their places in the journal: those that the merger gave and those that the guest got.
 #[derive(Drop)]
 pub struct Traffic<A: Allocator = Global> {
     sent: Vec<Request, A>,

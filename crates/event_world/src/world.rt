@@ -43,8 +43,8 @@ impl<A: Allocator> World<A> {
         })
     }
 
-    /// Plays one event of one of the guests. An event with nothing to move changes nothing, and neither does one for which
-    /// memory was refused.
+    /// Plays one event of one of the guests. An event with nothing to move changes nothing. Nothing changes either if memory is
+    /// refused.
     pub fn happen(&mut self, event: &Event) -> Result<(), AllocError>
         requires { guest_of event.now < length self.old.guests }
         ensures happens { OnOk result (AreAlike (world_of self.new) (happens (world_of self.old) event.now)) }

@@ -66,7 +66,7 @@ impl<H: PageHash + Drop + Copy, A: Allocator + Clone> FingerprintDomain<H, A> {
     }
 }
 
-/// Returns how many frames so many machines have.
+/// Returns how many frames `machines` machines of `each` frames have.
 fn total_frames(machines: u32, each: u32) -> u32
     requires machines { machines ≤ MAX_MACHINES }
     requires each { each ≤ MAX_FRAMES }

@@ -6,7 +6,7 @@ ghost use Rattle.fingerprint_domain.specs.Fits.{after_freed};
 use frame_fingerprints::FrameFingerprints;
 use std::alloc::Allocator;
 
-/// Forgets the fingerprints of frames that were freed, where `NO_FRAME` names none.
+/// Forgets the fingerprints of frames that were freed. `NO_FRAME` names none.
 pub(crate) fn forget_each<A: Allocator>(fingerprints: &mut FrameFingerprints<A>, freed: &[u32])
     ensures { fingerprints.new ≡ with_held (after_freed freed.now fingerprints.old.held) fingerprints.old }
 {

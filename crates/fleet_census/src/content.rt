@@ -1,4 +1,4 @@
-//! A content that files list, and who has it.
+//! A content that files list, and its holders.
 ghost use Rattle.std.specs.Prelude.{◌≡◌, nat_lt, if◌then◌else◌};
 
 /// A file that lists a content.

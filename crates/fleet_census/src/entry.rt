@@ -1,4 +1,4 @@
-//! What stands in a tournament.
+//! An entry of a tournament.
 ghost use Rattle.std.specs.Prelude.{◌≡◌, ◌<◌, ◌^◌, nat_lt};
 ghost use Rattle.fleet_census.specs.Tournaments.{key, lesser};
 
@@ -14,7 +14,7 @@ pub(crate) struct Entry {
     pub(crate) file: u32,
 }
 
-/// What stands for a file at its end: it comes behind every line.
+/// The entry of a file at its end. It comes after those of all lines.
 pub(crate) const AT_END: Entry = Entry {
     digest: u128::MAX,
     copies: 0,

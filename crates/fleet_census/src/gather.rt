@@ -37,7 +37,8 @@ impl Content {
     }
 }
 
-/// Gathers the files that list a digest, which is the least that is left, and reads each of them on. `holders` has room for all files.
+/// Gathers the files that list a digest, and reads the next line of each. The digest is the least one left. `holders` has
+/// capacity for all files.
 pub(crate) fn gather<R: Read + Drop, A: Allocator>(
     readers: &mut [DigestReader<R, A>],
     tournament: &mut Tournament<A>,

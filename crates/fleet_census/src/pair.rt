@@ -90,7 +90,7 @@ fn count_row<A: Allocator>(
     }
 }
 
-/// Counts a content for each two guests that have it, where pairs are counted.
+/// Counts a content for each two guests that have it, if pairs are counted.
 pub(crate) fn count_pairs<A: Allocator>(
     rows: &mut Vec<Vec<FleetPair, A>, A>,
     content: &Content,

@@ -57,7 +57,7 @@ impl<A: Allocator> Tally<A> {
         })
     }
 
-    /// Counts a content, with the files that list it; or answers that the pages are too many.
+    /// Counts a content, with the files that list it. Fails if there are too many pages.
     pub(crate) fn count(&mut self, every: u32, content: &Content, holders: &[Holder]) -> bool
         requires holders { All (λ holder. holder.file < vec_len self.old.guests) holders.now }
         requires classes { vec_len self.old.classes ≡ 65 }

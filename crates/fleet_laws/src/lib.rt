@@ -9,20 +9,20 @@ ghost use Rattle.fleet_laws.specs.Texts.{TextLaw};
 use memory_pages::PageSource;
 use std::alloc::Allocator;
 
-/// *Where different contents have different digests, the numbers of a merge over whole digests are the numbers of a census of the
-/// pages*: of each guest, in total, and class for class.
+/// *If different contents have different digests, a merge of whole digests returns the numbers of a census of the pages*: of each
+/// guest, in total, and class for class.
 pub fn digest_law<S: PageSource>()
     ensures { DigestLaw S.pages }
 {}
 
-/// So what `merge` answers of such digests are the numbers of a census, and its sample is 1.
+/// So `merge` of such digests returns the numbers of a census, and its sample is 1.
 pub fn merge_law<S: PageSource, A: Allocator>()
     ensures { MergeLaw A S.pages }
 {}
 
-/// *From pages over texts to a census*: where different contents have different digests, and `write_digests` wrote each text, of what
-/// `digest_pages` answered with a sample of 1, what `merge` answers of the texts are the numbers of a census of the pages that were read.
-/// Of steady sources these are the sources' pages.
+/// *From pages over texts to a census*: let different contents have different digests, and let `write_digests` write each text
+/// from a result of `digest_pages` with sample 1. Then `merge` of the texts returns the numbers of a census of the pages that
+/// were read. If the sources are steady, these are the sources' pages.
 pub fn text_law<S: PageSource, A: Allocator, B: Allocator>()
     ensures { TextLaw A B S.is_steady S.pages }
 {}

@@ -32,8 +32,9 @@ impl<A: Allocator> Model for FrameFingerprints<A> {
 }
 
 impl<A: Allocator + Clone> FrameFingerprints<A> {
-    /// Makes room for the fingerprints of so many frames: 16 bytes for each, and at most 4 more for the buckets. The seed is drawn at
-    /// random and kept secret: who knows it can choose fingerprints that take long to look up. No result depends on it.
+    /// Makes an empty store for the fingerprints of `frames` frames: 16 bytes for each, and at most 4 more for the buckets. The
+    /// caller draws the seed at random and keeps it secret: knowing it, one can choose fingerprints that take long to look up. No
+    /// result depends on it.
     pub fn new(alloc: A, frames: u32, seed: u64) -> Result<FrameFingerprints<A>, AllocError>
         requires limit { frames ≤ MAX_FRAMES }
         ensures { IfOk result (λ fingerprints. fingerprints ≡ none_held frames seed) }
@@ -54,7 +55,7 @@ impl<A: Allocator + Clone> FrameFingerprints<A> {
     }
 }
 
-// Makes the links of so many buckets, which lead nowhere.
+// Returns the heads of `count` empty buckets.
 fn new_heads<A: Allocator>(alloc: A, count: u32) -> Result<Vec<u32, A>, AllocError>
     ensures { IfOk result (λ heads. heads.items ≡ replicate count NOWHERE) }
 {
@@ -65,7 +66,7 @@ fn new_heads<A: Allocator>(alloc: A, count: u32) -> Result<Vec<u32, A>, AllocErr
     Ok(heads)
 }
 
-// Makes so many frames without fingerprints.
+// Returns the nodes of `count` frames without fingerprints.
 fn new_nodes<A: Allocator>(alloc: A, frames: u32) -> Result<Vec<Node, A>, AllocError>
     ensures { IfOk result (λ nodes. nodes.items ≡ replicate frames no_node) }
 {

@@ -159,11 +159,11 @@ on_page_released gs guest ppn None = bare refl
 on_page_released gs guest ppn (Some (salt, slot)) = released_ends gs guest ppn salt slot
 
 release_stays : (old new : Shown) (guest ppn : ℕ) (verdict : Verdict) (o : Outcome) → FramesOfPages new → OthersKeep old.frames guest ppn verdict old.pmap new.pmap → o.guests ≡ (state_of new).guests → o.verdict ≡ verdict → ReleaseEnds (state_of old).guests guest ppn o → BytesStay None old new
-release_stays old new guest ppn verdict o whole stay guests told (bare same) =
+release_stays old new guest ppn verdict o whole stay guests verdict_is (bare same) =
     texts_stay None old new guest ppn (change_at verdict) whole stay.named stay.others (still_same _ _ (sym guests ∙ same))
-release_stays old new guest ppn verdict o whole stay guests told (gave_up gives set) =
+release_stays old new guest ppn verdict o whole stay guests verdict_is (gave_up gives set) =
     bytes_stay None old new guest ppn whole stay.others (set_but _ _ guest ppn Unmapped (sym guests ∙ set)) (change_at verdict) stay.named
-    (λ k m is apart. absurd (not_kept (sym k ∙ ap change_at (sym told) ∙ gives))) where
+    (λ k m is apart. absurd (not_kept (sym k ∙ ap change_at (sym verdict_is) ∙ gives))) where
       not_kept : Keeps ≡ GivesUp → ⊥
       not_kept e = cc
 

@@ -5,8 +5,8 @@
 
 ghost use Rattle.frame_laws.specs.BytesStay.{RequestKeepsBytes, StoresKeepBytes, LendKeepsBytes, TakingBackKeepsBytes};
 
-/// *A frame's bytes stay*: each frame that is taken before and after a request holds the bytes that it held, except the page's
-/// own at a store that is `Stored` or `Taken`.
+/// *A frame's bytes stay*: each frame that is taken before and after a request keeps its bytes. The only exception is the page's
+/// own frame at a store that is `Stored` or `Taken`.
 pub fn request_keeps_bytes_law()
     ensures { RequestKeepsBytes }
 {}

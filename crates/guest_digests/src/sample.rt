@@ -7,7 +7,7 @@ use std::marker::Model;
 /// The greatest sample.
 pub const MAX_SAMPLE: u32 = 65_536;
 
-/// A sample: of so many contents one is kept, on average. A power of two from 1 to 65,536; 1 keeps all.
+/// A sampling rate: one in `every` contents is kept, on average. A power of two from 1 to 65,536; 1 keeps all.
 #[derive(Clone, Copy, Debug, PartialEq, Eq)]
 pub struct Sample {
     every: u32,

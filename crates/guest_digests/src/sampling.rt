@@ -7,8 +7,8 @@ use page_digest::digest_content;
 use page_model::PAGE_BYTES;
 use std::marker::Model;
 
-/// The salt of a guest, and which digests of its pages are kept: those whose last 16 bits are a multiple of the sample, and
-/// the digest of the page of zeros.
+/// The salt of a guest, and which digests of its pages are kept. These are those whose last 16 bits are a multiple of the sample,
+/// and the digest of the page of zeros.
 #[derive(Clone, Copy, Debug, PartialEq, Eq)]
 pub struct Sampling {
     salt: u32,

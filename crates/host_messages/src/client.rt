@@ -16,19 +16,19 @@ use arrayvec::ArrayVec;
 /// A session's name.
 pub type Name = [u8; NAME_BYTES];
 
-/// The session that a client wants to take up.
+/// The session that a client asks to resume.
 #[derive(Clone, Copy, Debug, PartialEq, Eq)]
 pub struct Wanted {
     /// The session's name.
     pub name: Name,
-    /// How many replies to `Lend` the client has got in it. The host releases the slots of a later one.
+    /// How many replies to `Lend` the client has received in it. The host releases the slots of a later reply.
     pub loans: u64,
 }
 
 /// A message of a client.
 #[derive(Clone, Debug, PartialEq, Eq, Drop)]
 pub enum ClientMessage {
-    /// The first message: this session is to be taken up, or a new one to begin.
+    /// The first message. It resumes this session, or begins a new one if it is `None`.
     Hello(Option<Wanted>),
     /// Whether other pages have these fingerprints.
     Ask(ArrayVec<Question, MAX_IN_MESSAGE>),
@@ -128,7 +128,7 @@ pub(crate) fn read_name(bytes: &[u8]) -> Name
     name
 }
 
-/// Puts what a client wants to take up at a packet's end.
+/// Appends the session that a client asks to resume to a packet.
 fn put_wanted(packet: &mut Packet, wanted: &Wanted)
     requires { array_vec_len packet.old + 24 ≤ MAX_MESSAGE_BYTES }
     ensures { packet.new.items ≡ packet.old.items ++ wanted_bytes wanted.now }

@@ -19,7 +19,7 @@ pub enum MessageFault {
     /// There are more or fewer bytes than the head says.
     #[error("the packet has another length than its head says")]
     Length,
-    /// What says whether a page was seen is neither 0 nor 1.
+    /// The byte of an answer is neither 0 nor 1.
     #[error("an answer is neither 0 nor 1")]
     Answer,
 }

@@ -33,7 +33,8 @@ pub struct Welcome {
 pub enum HostMessage {
     /// The answer to `Hello`.
     Welcome(Welcome),
-    /// The answer to `Ask`: for each page, whether another page had its fingerprint lately.
+    /// The answer to `Ask`: for each page, whether another page with its fingerprint was asked about lately, or a frame in use
+    /// has this fingerprint.
     Seen(ArrayVec<bool, MAX_IN_MESSAGE>),
     /// The answer to `Lend`: what became of each page.
     Loans(ArrayVec<Lent, MAX_IN_MESSAGE>),
@@ -84,7 +85,7 @@ fn put_welcome(packet: &mut Packet, welcome: &Welcome)
     put_u32(packet, welcome.client_cpu);
 }
 
-/// Puts answers at a packet's end, a byte each.
+/// Appends answers to a packet, a byte each.
 fn put_answers(packet: &mut Packet, answers: &[bool])
     requires { array_vec_len packet.old + length answers.now ≤ MAX_MESSAGE_BYTES }
     ensures { packet.new.items ≡ packet.old.items ++ map answer_byte answers.now }

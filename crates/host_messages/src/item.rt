@@ -15,18 +15,18 @@ pub struct Question {
     pub page: u64,
     /// The fingerprint of its content.
     pub fingerprint: u64,
-    /// Whether the host only answers, and notes nothing of it.
+    /// Whether it is a passing question: the host answers it without noting the page.
     pub is_passing: bool,
 }
 
 /// What became of a page that was to be lent.
 #[derive(Clone, Copy, Debug, Default, PartialEq, Eq)]
 pub struct Lent {
-    /// The page's slot, or 0 where it isn't lent.
+    /// The page's slot, 0 if the page isn't lent.
     pub slot: u64,
-    /// The frame that holds its bytes, or 4,294,967,295 where it isn't lent.
+    /// The frame that contains its bytes, 4,294,967,295 if the page isn't lent.
     pub frame: u32,
-    /// How many slots have the frame, with this one, or 0 where it isn't lent.
+    /// How many slots have the frame, this one included; 0 if the page isn't lent.
     pub sharers: u32,
 }
 

@@ -11,7 +11,7 @@ use crate::item::{Item, Packet, put_u32};
 use crate::limits::MAX_IN_MESSAGE;
 use arrayvec::ArrayVec;
 
-/// Reads so many items.
+/// Reads `count` items.
 pub(crate) fn read_items<T: Item + Default>(
     count: usize,
     bytes: &[u8],
@@ -40,7 +40,7 @@ pub(crate) fn put_items<T: Item>(packet: &mut Packet, items: &[T])
     }
 }
 
-/// Returns what is wrong with a message that lists so many items of this width.
+/// Returns the fault of a message that lists `count` items of this width, if it has one.
 pub(crate) fn count_fault(count: u32, width: usize, rest: &[u8]) -> Option<MessageFault>
     requires { width ≤ 16 }
     ensures fault { result ≡ count_fault width count (length rest.now) }

@@ -18,16 +18,16 @@ abbrev pub count_of : Option ℕ → ℕ
 count_of None = 0
 count_of (Some count) = count
 
--- The client of a session leaves the domain, as far as there is room to tell of, and its questions are forgotten. The number is free
--- if it had no slot.
+-- The client of a session leaves the domain, by at most as many slots as the list of freed frames has places. Its questions are
+-- forgotten. The number is free if it had no slot.
 pub record EndsBegun (n : ℕ) (b : Begun) (count : ℕ) (room after : List ℕ) (old new : HostView) : Type 0 where
   pub answer : Option ℕ
   pub leaves : MatchOption answer (StaysOut b.client room after old.domain new.domain) (λ c. Leaves b.client c room after old.domain new.domain)
   pub counted : count ≡ count_of answer
   pub now : new ≡ with_session (with_recent (with_domain old new.domain) (forgotten b.client old.recent)) n (ended b (count_of answer))
 
--- A session's process has ended. Its client leaves the domain by as many slots as there is room to tell of. Nothing happens where
--- there is no session.
+-- A session's process has ended. Its client leaves the domain by at most as many slots as the list of freed frames has places.
+-- Nothing happens if there is no session.
 abbrev pub Ends : ℕ → Session → Option ℕ → List ℕ → List ℕ → HostView → HostView → Type 0
 Ends n session.Free result room after old new = (result ≡ None) × (after ≡ room) × (new ≡ old)
 Ends n (session.Silent name) result room after old new = (result ≡ Some 0) × (after ≡ room) × (new ≡ with_session old n session.Free)

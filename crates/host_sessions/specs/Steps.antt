@@ -22,8 +22,8 @@ use Rattle.host_sessions.specs.declared.session.Session.TheVariants as session
 use Rattle.host_sessions.specs.Table.{heard, heard_with, lent, new_session, takes, faulted, session_at, wanted_in, loans_of, begun_of, Slots, last_at, lost_of}
 use Rattle.host_sessions.specs.Turns.{answers_to, asked, freed_by, after_releases, slots_in, LendsInTurn}
 
--- the frames of all machines, the salt of fingerprints, the most slots of a session, the percentage of a processor that clients are
--- told, the domain, the last questions, the sessions by their numbers, and the slots of the last reply to Lend of each
+-- the frames of all machines, the salt of fingerprints, the most slots of a session, the percentage of a processor that
+-- clients learn, the domain, the last questions, the sessions by their numbers, and the slots of the last reply to Lend of each
 pub record HostView : Type 0 where
   pub frames : ℕ
   pub salt : ℕ

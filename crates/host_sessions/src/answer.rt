@@ -1,4 +1,4 @@
-//! What comes of a packet.
+//! The result of receiving a packet.
 ghost use Rattle.std.specs.Prelude.{◌≡◌};
 ghost use Rattle.host_sessions.specs.Replies.{reply_of};
 
@@ -6,7 +6,7 @@ use crate::session::SessionFault;
 use arrayvec::ArrayVec;
 use host_messages::{HostMessage, Lent, MAX_IN_MESSAGE, Packet, Welcome};
 
-/// What comes of a packet.
+/// The result of receiving a packet.
 #[derive(Clone, Debug, PartialEq, Eq, Drop)]
 pub enum Received {
     /// No session with this number takes messages. Nothing changed.
@@ -15,10 +15,11 @@ pub enum Received {
     Fault(SessionFault),
     /// The session began.
     Welcome(Welcome),
-    /// The session with this number was taken up, and the number is free now. For each slot of its last reply to `Lend`, if that
-    /// didn't arrive, the frame that its release freed, or [`NO_FRAME`](share_domain::NO_FRAME).
+    /// Session number `.1` was resumed under the number of this connection; `.1` is free now. If its last reply to `Lend` didn't
+    /// arrive, that reply's slots were released. `.2` lists for each of them the freed frame, or
+    /// [`NO_FRAME`](share_domain::NO_FRAME).
     Resumed(Welcome, u32, ArrayVec<u32, MAX_IN_MESSAGE>),
-    /// For each page, whether another one was asked about with its fingerprint lately, or a frame in use has it.
+    /// For each page, whether another page with its fingerprint was asked about lately, or a frame in use has this fingerprint.
     Seen(ArrayVec<bool, MAX_IN_MESSAGE>),
     /// What became of each page.
     Loans(ArrayVec<Lent, MAX_IN_MESSAGE>),
@@ -27,7 +28,7 @@ pub enum Received {
 }
 
 impl Received {
-    /// Returns the packet to reply with, which has no bytes where there is no reply.
+    /// Returns the packet to reply with, empty if there is no reply.
     pub fn into_reply(self) -> Packet
         ensures { result.items ≡ reply_of self }
     {

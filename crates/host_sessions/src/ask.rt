@@ -30,7 +30,7 @@ pub(crate) fn ask_each<H: PageHash, A: Allocator>(
     answers
 }
 
-/// Answers a question of a client.
+/// Answers one question of a client: whether another page was noted with its fingerprint, or a frame in use has it.
 fn ask_one<H: PageHash, A: Allocator>(
     domain: &FingerprintDomain<H, A>,
     recent: &mut RecentFingerprints<A>,

@@ -30,7 +30,7 @@ fn first_gone(sessions: &[Session], name: &Name) -> Option<usize>
     sessions.iter().position(|session| session.is_gone_as(name))
 }
 
-/// Returns the number of the session with this name that can be taken up.
+/// Returns the number of the session with this name that can be resumed.
 fn find_gone(sessions: &[Session], name: &Name) -> Option<u32>
     requires { length sessions.now ≤ MAX_CLIENTS }
     ensures number { result ≡ position (is_gone_as name.now) sessions.now }
@@ -42,7 +42,7 @@ fn find_gone(sessions: &[Session], name: &Name) -> Option<u32>
     }
 }
 
-/// Returns the number of the session that a client wants to take up, if there is one.
+/// Returns the number of the session that a client asks to resume, if there is one.
 pub(crate) fn find_wanted(sessions: &[Session], wanted: &Option<Wanted>) -> Option<u32>
     requires { length sessions.now ≤ MAX_CLIENTS }
     ensures number { result ≡ wanted_in sessions.now wanted.now }

@@ -102,7 +102,7 @@ impl<H: PageHash + Drop + Copy, A: Allocator + Clone> Host<H, A> {
     }
 }
 
-/// Returns how many frames so many machines have.
+/// Returns how many frames `machines` machines of `each` frames have.
 fn total_frames(machines: u32, each: u32) -> u32
     requires machines { machines ≤ MAX_MACHINES }
     requires each { each ≤ MAX_FRAMES }
@@ -111,7 +111,7 @@ fn total_frames(machines: u32, each: u32) -> u32
     machines * each
 }
 
-/// Makes so many numbers of sessions that none has.
+/// Returns a table of `count` free session entries.
 fn new_sessions<A: Allocator>(alloc: A, count: u32) -> Result<Vec<Session, A>, AllocError>
     ensures { IfOk result (λ sessions. sessions.items ≡ replicate count Session.Free) }
 {
@@ -122,7 +122,7 @@ fn new_sessions<A: Allocator>(alloc: A, count: u32) -> Result<Vec<Session, A>, A
     Ok(sessions)
 }
 
-/// Makes the slots of last replies of so many sessions, none of which has any.
+/// Returns `count` empty lists of slots, one for the last reply of each session.
 fn new_last<A: Allocator>(alloc: A, count: u32) -> Result<Vec<Slots, A>, AllocError>
     ensures { IfOk result (λ last. last.items ≡ replicate count no_slots) }
 {
@@ -196,7 +196,7 @@ impl<H: PageHash, A: Allocator> Host<H, A> {
         }
     }
 
-    /// A session's connection has ended. One that has begun keeps its number and its slots, and can be taken up by its name.
+    /// A session's connection has ended. A session that has begun keeps its number and its slots, and can be resumed by its name.
     /// Returns whether there was a session.
     pub fn disconnect(&mut self, number: u32) -> bool
         ensures there { result ≡ not (is_free (session_at self.old.sessions number)) }
@@ -221,7 +221,7 @@ impl<H: PageHash, A: Allocator> Host<H, A> {
         self.end_number(number, freed)
     }
 
-    /// Returns a session, which is free where there is no such number.
+    /// Returns the session with this number, `Free` if there is no such number.
     pub fn session(&self, number: u32) -> Session
         ensures session { result ≡ session_at self.now.sessions number }
         ensures within { is_free result ≡ false → number < length self.now.sessions }
@@ -351,7 +351,7 @@ impl<H: PageHash, A: Allocator> Host<H, A> {
         }
     }
 
-    /// Takes up a session that has begun, whose client has got so many replies to `Lend`.
+    /// Resumes the session `before`, whose client has received `loans` replies to `Lend`. It is number `number` from now on.
     fn take_up(&mut self, number: u32, before: u32, loans: u64) -> Received
         requires number { number < length self.old.sessions }
         requires before { before < length self.old.sessions }
@@ -445,7 +445,7 @@ impl<H: PageHash, A: Allocator> Host<H, A> {
         }
     }
 
-    /// Answers questions.
+    /// Answers a client's questions.
     fn ask(&mut self, number: u32, begun: Begun, questions: &[Question]) -> Received
         requires number { number < length self.old.sessions }
         requires few { length questions.now ≤ MAX_IN_MESSAGE }
@@ -467,7 +467,7 @@ impl<H: PageHash, A: Allocator> Host<H, A> {
         Received::Released(freed)
     }
 
-    /// Lends the first pages of a buffer, if it has so many.
+    /// Lends the first `count` pages of a buffer. If it has fewer, or a message can't list as many, the session breaks off.
     fn lend_first(&mut self, number: u32, begun: Begun, count: u32, pages: &[Page]) -> Received
         requires { number < length self.old.sessions }
         ensures { LendsFirst H.hash_of number begun count pages.now result self.old self.new }
@@ -546,7 +546,7 @@ fn count_of(answer: Option<usize>) -> usize
     }
 }
 
-/// Returns how many replies to `Lend` a client has got in the session that it wants to take up.
+/// Returns how many replies to `Lend` a client has received in the session that it asks to resume, 0 if it asks for none.
 fn loans_of(wanted: &Option<Wanted>) -> u64
     ensures { result ≡ loans_of wanted.now }
 {
@@ -569,7 +569,7 @@ fn new_session(name: Name, client: u32) -> Begun
     }
 }
 
-/// Returns a session whose process has ended, after so many of its slots were released.
+/// Returns a session whose process has ended, after `count` of its slots were released.
 fn ended(begun: Begun, count: usize) -> Session
     ensures { result ≡ ended begun count }
 {

@@ -30,7 +30,7 @@ pub enum SessionFault {
 pub enum Link {
     /// It takes messages.
     Talking,
-    /// Its connection has ended. Another one can take it up by its name.
+    /// Its connection has ended. Another one can resume it by its name.
     Gone,
     /// It sent a packet at fault, and takes no more messages.
     Broken(SessionFault),
@@ -41,13 +41,14 @@ pub enum Link {
 /// A session that has begun.
 #[derive(Clone, Copy, Debug, PartialEq, Eq)]
 pub struct Begun {
-    /// By this name another connection can take it up.
+    /// By this name another connection can resume it.
     pub name: Name,
     /// Its number among the domain's clients.
     pub client: u32,
     /// How many messages it sent, modulo 2^64.
     pub messages: u64,
-    /// How many replies to `Lend` were sent in it, modulo 2^64; or as many as its client said when it was taken up, and later ones.
+    /// How many replies to `Lend` were sent in it, modulo 2^64. When it is resumed, the count starts from the number that its
+    /// client says.
     pub loans: u64,
     /// How it is connected.
     pub link: Link,
@@ -79,7 +80,7 @@ impl Link {
         }
     }
 
-    /// Whether the session can be taken up.
+    /// Whether the session can be resumed.
     fn is_gone(self) -> bool
         ensures { result ≡ is_gone self }
     {
@@ -126,7 +127,7 @@ impl Begun {
         self.heard_with(self.loans)
     }
 
-    /// Returns the session after one more message, whose client has got so many replies to `Lend`. It takes messages.
+    /// Returns the session after one more message, with `loans` replies to `Lend` counted. It takes messages.
     pub(crate) fn heard_with(self, loans: u64) -> Begun
         ensures { result ≡ heard_with self loans }
     {
@@ -197,7 +198,7 @@ impl Session {
         }
     }
 
-    /// Whether the session has this name, and can be taken up.
+    /// Whether the session has this name, and can be resumed.
     pub(crate) fn is_gone_as(&self, name: &Name) -> bool
         ensures { result ≡ is_gone_as name.now self.now }
     {

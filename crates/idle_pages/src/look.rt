@@ -3,7 +3,7 @@
 /// Reads in a row with the same fingerprint that make a page idle.
 pub const STILL: u8 = 3;
 
-/// Up to so many times it is counted that a page was asked about in vain.
+/// Questions about a page that were in vain are counted up to this number.
 pub const ASKS_MOST: u8 = 3;
 
 /// What looks have found of a page that has memory of its own.
@@ -13,26 +13,28 @@ pub struct PageLooks {
     pub fingerprint: u64,
     /// Reads in a row with that fingerprint, up to `STILL`.
     pub looks: u8,
-    /// How often it was asked about in vain; or, where `looks` is 1, how often it has changed from one read to the next. Up to `ASKS_MOST`.
+    /// How often it was asked about in vain. If `looks` is 1: how often it has changed from one read to the next. Up to
+    /// `ASKS_MOST`.
     pub asks: u8,
 }
 
 /// How often pages and parts are looked at.
 #[derive(Clone, Copy, Debug, PartialEq, Eq)]
 pub struct LookConfig {
-    /// A page that was asked about in vain most often is asked about again at one of so many looks; 0: of eight.
+    /// A page with `ASKS_MOST` questions in vain is asked about again at one look in `turns`; 0 counts as 8.
     pub turns: u32,
-    /// How many times more seldom that is in a part that is whole.
+    /// In a part that is whole, that is this many times rarer.
     pub whole_turns: u32,
-    /// So many pages in a row are asked about in the same looks; 0 counts as 1.
+    /// This many pages in a row are asked about in the same looks; 0 counts as 1.
     pub together: u32,
-    /// A part is calm where at most a so-many-th of its pages has changed.
+    /// A part is calm if at most one in `calm_part` of its pages has changed.
     pub calm_part: u32,
-    /// So many looks in a row leave a calm part out at most.
+    /// At most this many looks in a row skip a calm part.
     pub rest_most: u8,
-    /// Of so many turns of a page that was asked about in vain most often one reads it, where glances find most changes; 0 counts as 1.
+    /// A page with `ASKS_MOST` questions in vain is read at one of `read_each` of its turns, if glances find most changes; 0
+    /// counts as 1.
     pub read_each: u32,
-    /// And where they can't, since its memory lies over a frame, in a part where nothing has changed.
+    /// The same if glances can't find changes, since its memory lies over a frame, and nothing has changed in its part.
     pub read_each_over: u32,
 }
 
@@ -43,7 +45,7 @@ pub struct Glance {
     pub is_over: bool,
     /// Nothing has changed in its part.
     pub is_still: bool,
-    /// A few of its bytes are others than when it was read last.
+    /// Some of its bytes differ from those that the last read found.
     pub differs: bool,
 }
 

@@ -7,7 +7,7 @@ ghost use Rattle.page_model.specs.declared.limits.TheConstants.{MAX_ENTRIES};
 use page_model::{Entry, MachineShape, ShapeFault};
 use std::alloc::Allocator;
 
-/// A machine's total of frames, its guests' numbers of pages and salts, guest 0's first, and who asked for what.
+/// A machine's number of frames, its guests' numbers of pages and salts, guest 0's first, and its requests, each with its guest.
 ///
 /// The machine is within the limits, with a salt for each guest, each entry is of one of its guests, and there
 /// are fewer than 16,777,216 entries.

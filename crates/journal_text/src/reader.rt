@@ -20,7 +20,7 @@ use std::alloc::Allocator;
 use text_words::TextFault;
 use text_words::word::cut;
 
-/// Notes who has closed.
+/// Notes which guest has closed.
 fn note(closed: &mut [bool], entry: &Entry)
     requires { entry.now.guest < length closed.old }
     ensures { closed.new ≡ closed_after closed.old entry.now }

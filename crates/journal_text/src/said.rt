@@ -16,7 +16,7 @@ pub enum Said<'a> {
     Propose(u32),
     /// A store to this page, from this place on, of the bytes that a word spells.
     Store(u32, u32, &'a [u8]),
-    /// A load from this page, from this place on, of so many bytes.
+    /// A load from this page: the first place, and how many bytes.
     Load(u32, u32, u32),
     /// A release of this page.
     Release(u32),

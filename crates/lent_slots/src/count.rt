@@ -9,7 +9,7 @@ ghost use Rattle.lent_slots.specs.Totals.{is_shared};
 use crate::holding::Holding;
 use std::alloc::Allocator;
 
-/// Counts one more slot of a frame, and returns how many there are now.
+/// Increments the frame's sharer count and returns it.
 pub fn add_sharer<A: Allocator>(counts: &mut Vec<u32, A>, frame: u32) -> u32
     requires within { frame < length counts.old.items }
     requires room { slice_index counts.old.items frame ≤ MAX_PAGES }
@@ -21,7 +21,7 @@ pub fn add_sharer<A: Allocator>(counts: &mut Vec<u32, A>, frame: u32) -> u32
     count
 }
 
-/// Counts one slot of a frame less, and returns how many there are now.
+/// Decrements the frame's sharer count and returns it.
 pub fn drop_sharer<A: Allocator>(counts: &mut Vec<u32, A>, frame: u32) -> u32
     requires within { frame < length counts.old.items }
     requires some { 1 ≤ slice_index counts.old.items frame }
@@ -33,7 +33,7 @@ pub fn drop_sharer<A: Allocator>(counts: &mut Vec<u32, A>, frame: u32) -> u32
     count
 }
 
-/// Counts the slots that have a frame that another slot has, too.
+/// Counts the slots whose frame has more than one sharer.
 pub fn count_shared(slots: &[Option<Holding>], counts: &[u32]) -> u32
     requires few { length slots.now ≤ MAX_PAGES }
     requires within { (ppn : ℕ) (h : Holding) → holding slots.now ppn ≡ Some h → h.frame < length counts.now }

@@ -19,8 +19,8 @@ use page_model::Page;
 use std::alloc::{AllocError, Allocator, Global};
 use std::marker::Model;
 
-/// Slots and their frames: the core that has the frames, what each slot holds, the slots that are free, how many slots have
-/// each frame, and what is noted of each client.
+/// Slots and their frames: the core that has the frames, what each slot holds, and the slots that are free. Then how many slots
+/// have each frame, and each client's slots in brief.
 #[derive(Drop)]
 pub struct LentSlots<H: PageHash, A: Allocator = Global> {
     core: Core<H, A>,
@@ -77,8 +77,8 @@ impl<H: PageHash + Drop, A: Allocator + Clone> LentSlots<H, A> {
 }
 
 impl<H: PageHash, A: Allocator> LentSlots<H, A> {
-    /// Lends a client's page, whose hash under a salt is known: puts it into a free slot, where it joins the pages that are equal to
-    /// it, or gets a frame of its own. If the salt isn't that of the slots, the hash is ignored. It allocates no memory.
+    /// Lends a client's page, whose hash under a salt is known: puts it into a free slot. There it joins the pages that are equal
+    /// to it, or gets a frame of its own. If the salt isn't that of the slots, the hash is ignored. It allocates no memory.
     ///
     /// # Errors
     ///

@@ -48,7 +48,7 @@ pub fn new_slots<A: Allocator>(alloc: A, count: u32) -> Result<Vec<Option<Holdin
     Ok(slots)
 }
 
-/// Lists so many slots, the first one first.
+/// Returns the list of all `count` slots, in order.
 pub fn new_free<A: Allocator>(alloc: A, count: u32) -> Result<Vec<u32, A>, AllocError>
     ensures free { IfOk result (λ free. ListsFree (replicate count None) free.items) }
     ensures room { IfOk result (λ free. count ≤ vec_capacity free) }
@@ -60,7 +60,7 @@ pub fn new_free<A: Allocator>(alloc: A, count: u32) -> Result<Vec<u32, A>, Alloc
     Ok(free)
 }
 
-/// Makes counts of so many frames that no slot has.
+/// Returns the sharer counts of `frames` frames, all 0.
 pub fn new_counts<A: Allocator>(alloc: A, frames: u32) -> Result<Vec<u32, A>, AllocError>
     ensures { IfOk result (λ counts. counts.items ≡ replicate frames 0) }
 {
@@ -71,7 +71,7 @@ pub fn new_counts<A: Allocator>(alloc: A, frames: u32) -> Result<Vec<u32, A>, Al
     Ok(counts)
 }
 
-/// Notes so many clients that have no slot.
+/// Returns the entries of `clients` clients that have no slot.
 pub fn new_clients<A: Allocator>(alloc: A, clients: u32) -> Result<Vec<ClientSlots, A>, AllocError>
     ensures { IfOk result (λ noted. noted.items ≡ replicate clients no_slots) }
 {

@@ -1,8 +1,8 @@
 //! The memory of a process of this machine, as a source of pages.
 //!
-//! The process's own list of its mappings, `/proc/PID/smaps`, says which of its memory is no file's, can be written and is offered
-//! for sharing, and `/proc/PID/pagemap` which of its pages are in memory. `specs/` defines how both are read. The pages are those
-//! of an [`Image`](memory_images::Image) of `/proc/PID/mem`.
+//! The process's own list of its mappings, `/proc/PID/smaps`, says which of its memory is no file's, can be written and is
+//! offered for sharing. `/proc/PID/pagemap` says which of its pages are in memory. `specs/` defines how both are read. The pages
+//! are those of an [`Image`](memory_images::Image) of `/proc/PID/mem`.
 #![tactic(auto)]
 
 mod choice;

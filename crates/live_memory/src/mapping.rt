@@ -89,7 +89,7 @@ pub(crate) fn read_mapping(line: &[u8]) -> Option<(Mapping, &[u8])>
     Some((mapping, behind_spaces(rest)))
 }
 
-/// Whether a mapping's memory is no file's: it has no inode and isn't the system's own, or its name says that it is a memfd,
+/// Whether a mapping's memory is no file's. Then it has no inode and isn't the system's own. Or its name says that it is a memfd,
 /// or anonymous memory that is shared or of large pages.
 fn is_fileless(inode: u64, name: &[u8]) -> bool
     ensures { result ≡ is_fileless inode name.now }

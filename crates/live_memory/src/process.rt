@@ -26,8 +26,8 @@ pub struct LiveProcess {
     pub shared: u64,
 }
 
-/// Opens the memory of a process of this machine: the pages that are in memory or swapped of its mappings that are no file's and
-/// can be written, or of those among them that it offered for sharing, in the order of their addresses.
+/// Opens the memory of a process of this machine. It is the pages, in memory or swapped, of the mappings that can be written and
+/// are no file's, in the order of their addresses. It may be limited to the mappings that the process offered for sharing.
 ///
 /// The process runs on, and each page reads as it is when it is read.
 pub fn open_process<R: Files<File = File>>(
@@ -94,7 +94,7 @@ pub fn image_of_maps<F: FileExt + Drop, P: ReadAt<Fault = io::Error>, A: Allocat
     }
 }
 
-/// Returns how many pages so many bytes have.
+/// Returns how many pages this many bytes have.
 #[tactic(auto, unfolding(memory_images::specs::Pages::page_count))]
 fn page_count(len: u64) -> u64
     ensures { result ≡ page_count len }

@@ -26,7 +26,7 @@ impl Model for Region {
     ghost also_owns = { λ r. region_owns r.at r.pages r.texts r.held };
 }
 
-// SAFETY: nobody else has this memory, so it may go to another thread with its address.
+// SAFETY: nothing else accesses this memory, so it may go to another thread with its address.
 unsafe impl Send for Region {}
 
 impl Region {
@@ -53,7 +53,7 @@ impl Memory {
     }
 }
 
-// It goes back to nobody: its caller gave it for good.
+// The memory isn't given back: the caller gave it for good.
 impl Drop for Memory {
     fn drop(self) {
         let Memory { slots } = self;

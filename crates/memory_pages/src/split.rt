@@ -6,10 +6,12 @@ ghost use Rattle.memory_pages.specs.declared.split.TheConstants.{RUN};
 /// How many pages are read at once.
 pub const RUN: u32 = 64;
 
-/// Parts of pages. Each has `size` pages; the last may have fewer.
+/// A split of pages into `parts` parts of `size` pages each; the last may have fewer.
 #[derive(Clone, Copy)]
 pub struct Split {
+    /// How many pages a part has.
     pub size: u32,
+    /// How many parts there are.
     pub parts: usize,
 }
 

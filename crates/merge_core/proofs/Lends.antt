@@ -30,17 +30,17 @@ pub data IsOffer (verdict : Verdict) : Type 0 where
   joins : change_at verdict ≡ JoinsAnother → IsOffer verdict
 
 pub record Offers (o : Outcome) : Type 0 where
-  pub told : IsOffer o.verdict
+  pub says : IsOffer o.verdict
 
 choose : (t : Bool) (x y : Outcome) → Offers x → Offers y → Offers (cond t x y)
 choose true x y h k = h
 choose false x y h k = k
 
 calm : (gs : List Guest) (verdict : Verdict) → change_at verdict ≡ Keeps → Offers (stays gs verdict)
-calm gs verdict e = record { told = stays_put e }
+calm gs verdict e = record { says = stays_put e }
 
 moves : (gs : List Guest) (verdict : Verdict) → change_at verdict ≡ JoinsAnother → Offers (stays gs verdict)
-moves gs verdict e = record { told = joins e }
+moves gs verdict e = record { says = joins e }
 
 module _ (hash : ℕ → List ℕ → ℕ) (gs : List Guest) (guest ppn salt : ℕ) (bytes : List ℕ) where
   weighed_offers : (key other place other_salt : ℕ) (others : List ℕ) → Offers (weighed hash gs guest ppn salt bytes key other place other_salt others)
@@ -82,7 +82,7 @@ proposed_offers hash gs guest ppn salt (Private bytes hint) =
 
 -- the verdict of a proposal
 pub is_offer : (hash : ℕ → List ℕ → ℕ) (gs new : List Guest) (guest ppn salt : ℕ) (slot : Slot) (verdict : Verdict) → stays new verdict ≡ proposed hash gs guest ppn salt slot → IsOffer verdict
-is_offer hash gs new guest ppn salt slot verdict e = moved (proposed_offers hash gs guest ppn salt slot).told where
+is_offer hash gs new guest ppn salt slot verdict e = moved (proposed_offers hash gs guest ppn salt slot).says where
   moved : IsOffer (proposed hash gs guest ppn salt slot).verdict → IsOffer verdict
   moved (stays_put h) = stays_put (ap (λ (o : Outcome). change_at o.verdict) e ∙ h)
   moved (joins h) = joins (ap (λ (o : Outcome). change_at o.verdict) e ∙ h)
@@ -148,16 +148,16 @@ module _ {H A : Type 0} (hash : ℕ → List ℕ → ℕ) (guest ppn salt : ℕ)
   lends_done bytes hint verdict lent is did total step stay freed free =
       let own : Slot = Private bytes hint in
       let outcome : page_outcome (length old.frames) gs guest ppn page ≡ sets gs guest ppn own verdict = ap (on_page gs store) at ∙ is in
-      let told : (page_outcome (length old.frames) gs guest ppn page).verdict ≡ verdict = ap (λ (o : Outcome). o.verdict) outcome in
+      let same_verdict : (page_outcome (length old.frames) gs guest ppn page).verdict ≡ verdict = ap (λ (o : Outcome). o.verdict) outcome in
       let there : page_at (with_slot gs guest ppn own) guest ppn ≡ Some (salt, own) = at_same gs guest ppn salt slot own at in
       let then : proposed_after hash guest ppn (sets gs guest ppn own verdict) ≡ proposed hash (with_slot gs guest ppn own) guest ppn salt own =
       rw did (ap (on_page (with_slot gs guest ppn own) (λ s x. proposed hash (with_slot gs guest ppn own) guest ppn s x)) there) in
       record {
         total = total;
         step = step ∙ sym (ap (proposed_after hash guest ppn) outcome ∙ then);
-        done = sym (ap is_done told ∙ did);
-        stay = rw told stay;
-        freed = rw told freed;
+        done = sym (ap is_done same_verdict ∙ did);
+        stay = rw same_verdict stay;
+        freed = rw same_verdict freed;
         free = free;
       }
 
@@ -167,13 +167,13 @@ module _ {H A : Type 0} (hash : ℕ → List ℕ → ℕ) (guest ppn salt : ℕ)
       LendsPage hash guest ppn page (Err verdict) old new
   lends_nothing verdict is undone calm other total same pmap =
       let outcome : page_outcome (length old.frames) gs guest ppn page ≡ stays gs verdict = ap (on_page gs store) at ∙ is in
-      let told : (page_outcome (length old.frames) gs guest ppn page).verdict ≡ verdict = ap (λ (o : Outcome). o.verdict) outcome in
+      let same_verdict : (page_outcome (length old.frames) gs guest ppn page).verdict ≡ verdict = ap (λ (o : Outcome). o.verdict) outcome in
       record {
         total = total;
         step = ap (λ (x : List Guest). stays x verdict) same ∙ sym (ap (proposed_after hash guest ppn) outcome ∙ rw undone refl);
-        done = sym (ap is_done told ∙ undone);
-        stay = record { named = rw (told, calm) (ap (λ (x : Pmap). frame_at x guest ppn) pmap); others = λ x y _. ap (λ (n : Pmap). frame_at n x y) pmap };
-        freed = rw (told, other) refl;
+        done = sym (ap is_done same_verdict ∙ undone);
+        stay = record { named = rw (same_verdict, calm) (ap (λ (x : Pmap). frame_at x guest ppn) pmap); others = λ x y _. ap (λ (n : Pmap). frame_at n x y) pmap };
+        freed = rw (same_verdict, other) refl;
         free = record {};
       }
 

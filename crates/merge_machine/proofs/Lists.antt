@@ -19,7 +19,7 @@ maps_at f g (a ∷ cs) [] i x y e l = cc
 maps_at f g (a ∷ cs) (b ∷ bs) zero x y e l = cc
 maps_at f g (a ∷ cs) (b ∷ bs) (suc i) x y e l = let t : map f cs ≡ map g bs = cc in maps_at f g cs bs i x y t (omega arith)
 
--- an element is replaced by one that f cannot tell from it
+-- an element is replaced by one with the same image under f
 pub map_put : {X Y : Type 0} (f : X → Y) (xs : List X) (i : ℕ) (x y : X) → x ≡ get_or xs i x → f y ≡ f x → map f (set xs i y) ≡ map f xs
 map_put f xs i x y at e = map-set_same f xs i y x (e ∙ ap f at)
 

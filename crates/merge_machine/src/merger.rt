@@ -35,8 +35,8 @@ pub struct JournalFull;
 
 /// A machine's merger: its end of each guest's rings, the journal and the core.
 ///
-/// Between calls, each guest's taken requests are its entries in the journal, the verdicts given to it are those of the
-/// journal's replay, and the core shows the state of that replay.
+/// Between calls, each guest's taken requests are its entries in the journal, and the verdicts given to it are those of the
+/// journal's replay. The core shows the state of that replay.
 #[derive(Drop)]
 pub struct Merger<H: PageHash, A: Allocator = Global> {
     pub(crate) ends: Vec<MergerEnd<A>, A>,

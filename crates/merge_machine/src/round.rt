@@ -27,15 +27,15 @@ impl<H: PageHash, A: Allocator + Sync> Merger<H, A> {
     ghost use Rattle.merge_core.specs.Hashing.{AreWorkers};
     ghost use Rattle.merge_machine.specs.declared.limits.TheConstants.{MAX_ROUND};
 
-    /// Serves several requests: visits guests 0, 1, .. in turn, skipping those that have ended, and takes one request at each
-    /// visit, as [`step`](Merger::step) does, until `limit` requests are taken, a whole turn finds none, or the journal has no
-    /// room for more; then applies and answers them in that order. Returns how many there were. So a guest that doesn't take
-    /// its verdicts keeps no other guest from being served.
+    /// Serves several requests. Visits guests 0, 1, .. in turn, skipping those that have ended, and takes one request at each
+    /// visit, as [`step`](Merger::step) does. Stops once `limit` requests are taken, a whole turn finds none, or the journal is
+    /// full. Then applies and answers the requests in that order. Returns how many there were. So a guest that doesn't take its
+    /// verdicts keeps no other guest from being served.
     ///
-    /// A request is taken only if a slot for its verdict is free beyond those for the verdicts that its guest is owed. The
-    /// hashes of proposed pages are computed ahead, eight or four at a time and, if there are enough of them, by several
-    /// workers: at most `workers`, 1 to 64, one of which is the calling thread. If memory or a thread is refused, the calling
-    /// thread computes them alone. `limit` is 1 to [`MAX_ROUND`](crate::MAX_ROUND).
+    /// A request is taken only if a slot for its verdict is free beyond those for the verdicts that its guest is owed. The hashes
+    /// of proposed pages are computed ahead, eight or four at a time. If there are enough of them, several workers compute them:
+    /// at most `workers`, 1 to 64, one of which is the calling thread. If memory or a thread is refused, the calling thread
+    /// computes them alone. `limit` is 1 to [`MAX_ROUND`](crate::MAX_ROUND).
     ///
     /// # Errors
     ///

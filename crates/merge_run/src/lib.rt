@@ -4,9 +4,9 @@
 //! This crate has the whole interface of machines with threads, so that users need only this one. [`Machine::new`] makes a
 //! [`Merger`] and one port for each guest (`merge_machine`). Each [`Merger::step`] serves one request of one guest, and each
 //! [`Merger::round`] serves the waiting requests of all guests, up to its limit. Once every guest has closed its port and
-//! received its `Closed`, [`settle`] takes the merger and all ports together (`merge_settle`): each guest has then received
-//! one verdict for each request that it sent, and they are those of one thread that replays the journal. [`run`] does all
-//! of this, and serves by rounds.
+//! received its `Closed`, [`settle`] takes the merger and all ports together (`merge_settle`). Each guest has then received one
+//! verdict for each request that it sent. These verdicts are those of one thread that replays the journal. [`run`] does all of
+//! this, and serves by rounds.
 #![tactic(auto)]
 
 mod crew;

@@ -5,7 +5,7 @@ ghost use Rattle.page_model.specs.Parts.{Totals};
 use page_model::Report;
 use std::sync::Wait;
 
-/// Is shown the report of a run's machine after each round of its merger, on the calling thread.
+/// Receives the report of a run's machine after each round of its merger, on the calling thread.
 ///
 /// It is passed from call to call by value, so that it may hold what a run can't own, such as a `&mut` to something that
 /// can't be dropped.
@@ -16,11 +16,10 @@ pub trait Observer: Drop {
     // the reports that it kept, in order
     ghost kept: { Self → List Totals };
 
-    // what it becomes where it is shown a report, after a round that served so many requests
+    // how it changes when it receives a report, after a round that served this many requests
     ghost becomes: { Self → Totals → ℕ → Self → Type 0 };
 
-    /// Shows it what the machine counts after a round, and how many requests the round served, perhaps none. It keeps the
-    /// report or doesn't.
+    /// Receives the machine's report after a round, and how many requests the round served, perhaps none. It may keep the report.
     fn observe<R: Wait>(self, rt: &R, report: Report, served: u32) -> Self
         requires { All (λ before. before.entries ≤ report.entries) (kept self) }
         ensures name { name result ≡ name self }
@@ -28,7 +27,7 @@ pub trait Observer: Drop {
         ensures becomes { becomes self report served result };
 }
 
-/// The observer of a run that nobody observes.
+/// An observer that does nothing.
 #[derive(Clone, Copy, Debug, PartialEq, Eq)]
 pub(crate) struct NoObserver;
 

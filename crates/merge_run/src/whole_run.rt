@@ -41,8 +41,8 @@ use std::thread::{Scope, Threads};
 /// There is one script for each guest, guest 0's first, and no script contains a close. `gate` is called in the guests'
 /// threads, around each send and verdict, and on the calling thread before the first thread is started.
 ///
-/// At `Ok` the machine is settled. Each guest sent its script and a close, and received exactly one verdict for each
-/// request, in order, and they are those of one thread that replays the journal on plain page contents.
+/// At `Ok` the machine is settled. Each guest sent its script and a close, and received exactly one verdict for each request, in
+/// order. These verdicts are those of one thread that replays the journal on plain page contents.
 ///
 /// # Errors
 ///

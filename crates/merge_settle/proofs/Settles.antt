@@ -79,7 +79,7 @@ module _ {A : Type 0} where
       settles_views hash machine journal i (get_or ports i d) (get_or now i d) there
       (settled_at hash machine journal i (get_or ports i d) (get_or ends i e) h.0 h.1 w.0 w.1 last)
 
--- what f cannot tell apart, no function of what f sees can
+-- lists with equal images under f have equal images under any function of f
 seen_through : {X Y Z : Type 0} (f : X → Y) (h : Y → Z) (xs ys : List X) → map f xs ≡ map f ys → map (λ x. h (f x)) xs ≡ map (λ x. h (f x)) ys
 seen_through f h [] [] e = refl
 seen_through f h [] (y ∷ ys) e = cc

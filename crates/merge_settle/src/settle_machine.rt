@@ -18,8 +18,8 @@ use page_digest::PageHash;
 use share_rings::ClosedPort;
 use std::alloc::Allocator;
 
-/// Settles a machine. Each guest has then received exactly one verdict for each request that it sent, in order, and they
-/// are those of one thread that replays the journal on plain page contents; each page reads the bytes last stored to it.
+/// Settles a machine. Each guest has then received exactly one verdict for each request that it sent, in order. These verdicts
+/// are those of one thread that replays the journal on plain page contents. Each page reads the bytes last stored to it.
 ///
 /// The ports are all those of the merger's machine, guest 0's first.
 ///

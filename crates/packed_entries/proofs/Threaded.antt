@@ -241,22 +241,22 @@ replaced next next' cap free free' heads spare spare' chains b h ps L l same new
       (λ q m. same q (omega (arith, once_each next cap free heads spare chains L q, times_in-set q chains b [] l)) (omega (arith, once_each next cap free heads spare chains L q, times_in-set q chains b [] l)))
       new L.chains_end;
   each_once = λ q. let e : times q spare' + times_in q (set chains b ps) ≡ times q spare + times_in q chains = omega (arith, counts q, times_in-set q chains b ps l) in e ∙ L.each_once q;
-  all_told = omega (arith, len, lengths-set chains b ps l, L.all_told);
+  all_placed = omega (arith, len, lengths-set chains b ps l, L.all_placed);
 }
 
 pub settled : (next : ℕ → ℕ) (cap free : ℕ) (heads spare : List ℕ) (chains : List (List ℕ)) → Linked next cap free heads spare chains → Linked next cap free heads (walk next cap free) (map (walk next cap) heads)
 settled next cap free heads spare chains L =
-    rw (walk_is next cap free spare L.spare_ends (omega (arith, L.all_told)), walks_are next cap heads chains L.chains_end (omega (arith, L.all_told))) L
+    rw (walk_is next cap free spare L.spare_ends (omega (arith, L.all_placed)), walks_are next cap heads chains L.chains_end (omega (arith, L.all_placed))) L
 
 pub settled_chains : (next : ℕ → ℕ) (cap free : ℕ) (heads spare : List ℕ) (chains : List (List ℕ)) → Linked next cap free heads spare chains → map (walk next cap) heads ≡ chains
-settled_chains next cap free heads spare chains L = walks_are next cap heads chains L.chains_end (omega (arith, L.all_told))
+settled_chains next cap free heads spare chains L = walks_are next cap heads chains L.chains_end (omega (arith, L.all_placed))
 
 -- a chain from its head
 pub chain_ends : (next : ℕ → ℕ) (cap free : ℕ) (heads spare : List ℕ) (chains : List (List ℕ)) (b : ℕ) → Linked next cap free heads spare chains → Follows next (get_or heads b 0) (get_or chains b [])
 chain_ends next cap free heads spare chains b L = FollowAll-at next heads chains b L.chains_end
 
 pub chain_is : (next : ℕ → ℕ) (cap free : ℕ) (heads spare : List ℕ) (chains : List (List ℕ)) (b : ℕ) → Linked next cap free heads spare chains → walk next cap (get_or heads b 0) ≡ get_or chains b []
-chain_is next cap free heads spare chains b L = walk_is next cap _ _ (chain_ends next cap free heads spare chains b L) (omega (arith, L.all_told, length_at chains b))
+chain_is next cap free heads spare chains b L = walk_is next cap _ _ (chain_ends next cap free heads spare chains b L) (omega (arith, L.all_placed, length_at chains b))
 
 pub chain_once : (next : ℕ → ℕ) (cap free : ℕ) (heads spare : List ℕ) (chains : List (List ℕ)) (b : ℕ) → Linked next cap free heads spare chains → (q : ℕ) → times q spare + times q (get_or chains b []) ≤ 1
 chain_once next cap free heads spare chains b L q = omega (arith, once_each next cap free heads spare chains L q, times_at q chains b)
@@ -266,7 +266,7 @@ chain_within next cap free heads spare chains b L q h = in_range next cap free h
 
 -- the first spare place
 pub spare_place : (next : ℕ → ℕ) (cap free : ℕ) (heads spare : List ℕ) (chains : List (List ℕ)) → Linked next cap free heads spare chains → lengths chains < cap → (1 ≤ free) × (free ≤ cap) × (times_in (free - 1) chains ≡ 0)
-spare_place next cap free heads [] chains L room = absurd (omega (arith, L.all_told))
+spare_place next cap free heads [] chains L room = absurd (omega (arith, L.all_placed))
 spare_place next cap free heads (q ∷ qs) chains L room =
     let is : free ≡ q + 1 = L.spare_ends.0 in
     let same : free - 1 ≡ q = omega arith in
@@ -366,7 +366,7 @@ started next n b is = record {
   spare_ends = Follows-down next n is;
   chains_end = none_follow next b;
   each_once = λ p. let e : times p (down n) + times_in p (replicate b []) ≡ times p (down n) = omega (arith, none_in p b) in e ∙ times_down p n;
-  all_told = omega (arith, length_down n, no_lengths b);
+  all_placed = omega (arith, length_down n, no_lengths b);
 }
 
 -- ---- links in a list of their own
@@ -446,7 +446,7 @@ module _ (heads links : List ℕ) (free used : ℕ) (K : IsKept heads links free
         rest =
             let M = K.linked in
             let ends = chain_ends (link_in links) (length links) free heads spare_of chains_of b M in
-            steps_to (link_in links) (length links) (get_or heads b 0) at (get_or chains_of b []) ends (omega (arith, M.all_told, length_at chains_of b)) is
+            steps_to (link_in links) (length links) (get_or heads b 0) at (get_or chains_of b []) ends (omega (arith, M.all_placed, length_at chains_of b)) is
 
         pub chain_from : get_or chains_of b [] ≡ at ∷ walk (link_in links) (length links) (link_in links at)
         chain_from = rest.is

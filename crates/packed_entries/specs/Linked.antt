@@ -60,7 +60,7 @@ pub record Linked (next : ℕ → ℕ) (capacity free : ℕ) (heads spare : List
   pub spare_ends : Follows next free spare
   pub chains_end : FollowAll next heads chains
   pub each_once : (p : ℕ) → times p spare + times_in p chains ≡ (if nat_lt p capacity then 1 else 0)
-  pub all_told : length spare + lengths chains ≡ capacity
+  pub all_placed : length spare + lengths chains ≡ capacity
 
 -- each place's entry, and each bucket's chain of places
 pub record Chained : Type 0 where

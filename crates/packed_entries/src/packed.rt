@@ -48,10 +48,10 @@ impl Packed {
         })
     }
 
-    /// Returns the bytes: two big-endian words, whose fields are listed here from the most significant bit down.
-    /// The first word of a shared frame is the hash; that of a hint frame has the key in 32 bits, the guest in 8, and
-    /// the PPN in 24. The second word has the MPN in 24 bits, the count in 16 (0 in a hint frame), the link in 23, and a
-    /// tag in 1 bit, which is 1 in a shared frame and 0 in a hint frame.
+    /// Returns the bytes: two big-endian words, whose fields are listed here from the most significant bit down. The first word
+    /// of a shared frame is the hash; that of a hint frame has the key in 32 bits, the guest in 8, and the PPN in 24. The second
+    /// word has the MPN in 24 bits, the count in 16 (0 in a hint frame), the link in 23, and a tag in 1 bit. The tag is 1 in a
+    /// shared frame and 0 in a hint frame.
     pub fn write(&self) -> [u8; 16]
         ensures bytes { result ≡ packed_bytes self.now }
         ensures read_back { unpacked result ≡ Some self.now }

@@ -3,7 +3,7 @@ ghost use Rattle.std.specs.Prelude.{◌≡◌, false, All};
 ghost use Rattle.share_rings.specs.Closing.{has_close};
 
 use crate::requests::{Mix, PAGES, request};
-use crate::tell::Refusal;
+use crate::step::Refusal;
 use merge_core::Core;
 use merge_run::{Config, Finished, OpenGate, RunFault, run};
 use page_digest::PageHash;

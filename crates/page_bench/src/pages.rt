@@ -3,7 +3,7 @@ ghost use Rattle.std.specs.Prelude.{IfOk};
 ghost use Rattle.machine_frames.specs.FrameMap.{IsTaken};
 ghost use Rattle.page_digest.specs.Many.{AreTaken};
 
-use crate::tell::Refusal;
+use crate::step::Refusal;
 use machine_frames::Frames;
 use page_digest::{HashFault, PageHash, hash_many};
 use page_model::{MAX_WORKERS, Page};
@@ -14,7 +14,7 @@ use std::thread::Threads;
 // The salt of each hash.
 const SALT: u32 = 3;
 
-/// A frame, the list that has it so many times with its salt, and the sum of the hashes of all these.
+/// A frame, a list that repeats it with its salt, and the sum of the hashes of the list's pages.
 #[derive(Drop)]
 pub struct Listed {
     frames: Frames,
@@ -75,7 +75,7 @@ fn sum_at_once<H: PageHash>(hash: &H, page: &Page, at_once: usize) -> u64 {
     }
 }
 
-/// Returns the sum of the hashes of all that is listed, made by so many workers.
+/// Returns the sum of the hashes of all listed pages, computed by `workers` workers.
 pub fn sum_by<R: Threads + Wait + Sync, H: PageHash>(
     rt: &R,
     alloc: Global,

@@ -8,7 +8,7 @@ use std::alloc::Global;
 // The most entries of a table, and the most pages that all its shared frames have.
 const MOST: u32 = 1_048_576;
 
-/// A table with room for so many entries.
+/// A table, and its capacity.
 #[derive(Drop)]
 pub struct TimedTable {
     table: Table,

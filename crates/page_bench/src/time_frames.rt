@@ -1,6 +1,6 @@
 //! The calls of `Frames`.
 use crate::frame_calls::{Held, give_back_others, hold, take_all, write_all};
-use crate::tell::tell;
+use crate::step::print_step;
 use std::alloc::Global;
 use std::io;
 use std::rt::Clock;
@@ -30,12 +30,12 @@ const STEPS: [(&str, Step); 6] = [
 pub fn time_frames<R: Clock + Print>(rt: &R, alloc: Global, asked: Option<u32>) -> io::Result<()> {
     let start = Instant::now(rt)?;
     let Some(mut held) = hold(alloc, asked.unwrap_or(FEW)) else {
-        return tell(rt, start, false, "frames", Err("no memory"));
+        return print_step(rt, start, false, "frames", Err("no memory"));
     };
     for (name, step) in STEPS {
         let start = Instant::now(rt)?;
         let calls = do_step(&mut held, step);
-        tell(rt, start, asked.is_some(), name, Ok(u64::from(calls)))?;
+        print_step(rt, start, asked.is_some(), name, Ok(u64::from(calls)))?;
     }
     Ok(())
 }

@@ -2,7 +2,7 @@
 //!
 //! It is the same page each time, which stays in the processor's cache, so the times are those of the hash itself.
 use crate::pages::{Listed, list_frame, sum_alone, sum_by};
-use crate::tell::{Refusal, tell};
+use crate::step::{Refusal, print_step};
 use page_digest::PageHash;
 use std::alloc::Global;
 use std::io;
@@ -42,7 +42,7 @@ pub fn time_hashes<R: Clock + Print + Threads + Wait + Sync, H: PageHash>(
     let start = Instant::now(rt)?;
     let count = asked.unwrap_or(FEW) / 8 * 8;
     let Some(listed) = list_frame(alloc, hash, count) else {
-        return tell(rt, start, false, "hash", Err("no memory"));
+        return print_step(rt, start, false, "hash", Err("no memory"));
     };
     let turns = if asked.is_some() { TURNS } else { 1 };
     for _turn in 0..turns {
@@ -61,7 +61,7 @@ fn time_turn<R: Clock + Print + Threads + Wait + Sync, H: PageHash>(
     for (name, step) in STEPS {
         let start = Instant::now(rt)?;
         let calls = do_step(rt, alloc, hash, listed, step);
-        tell(rt, start, is_timed, name, calls)?;
+        print_step(rt, start, is_timed, name, calls)?;
     }
     Ok(())
 }

@@ -1,6 +1,6 @@
 //! A request and its verdict through a pair of rings, on one thread and between two.
 use crate::server::{Server, new_pair, serve_one};
-use crate::tell::{Refusal, tell};
+use crate::step::{Refusal, print_step};
 use page_model::Verdict;
 use share_rings::Port;
 use std::alloc::Global;
@@ -15,7 +15,7 @@ const FEW: u32 = 1000;
 
 const STEPS: [(&str, bool); 2] = [("on one thread", false), ("between two", true)];
 
-/// Makes as many round trips as asked for, and tells how many came back in order. With no number it makes a few.
+/// Makes as many round trips as asked for, and prints how many came back in order. With no number it makes a few.
 pub fn time_rings<R: Clock + Threads + Wait + Print + Sync>(
     rt: &R,
     alloc: Global,
@@ -25,7 +25,7 @@ pub fn time_rings<R: Clock + Threads + Wait + Print + Sync>(
     for (name, between_two) in STEPS {
         let start = Instant::now(rt)?;
         let calls = round_trips(rt, alloc, rounds, between_two);
-        tell(rt, start, asked.is_some(), name, calls)?;
+        print_step(rt, start, asked.is_some(), name, calls)?;
     }
     Ok(())
 }

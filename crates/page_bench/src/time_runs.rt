@@ -3,7 +3,7 @@
 //! Scripts are made before the clock starts. Both times include making the machine.
 use crate::machines::{Case, config, new_core, run_scripts, serve_all};
 use crate::requests::{Mix, scripts};
-use crate::tell::tell;
+use crate::step::print_step;
 use page_digest::PageHash;
 use page_model::{MAX_FRAMES, MAX_PAGES};
 use std::alloc::Global;
@@ -37,8 +37,8 @@ const RUNS: [(u8, Mix, [&str; 2]); 10] = [
     (64, Mix::Plain, PLAIN),
 ];
 
-/// Makes the largest machine, and then serves as many requests of each guest as asked for, for 1, 2, 4, 8 and 64 guests over
-/// rings of 256 items: of a mix with a proposal in 16, and of stores and loads alone. With no number it serves a few.
+/// Makes the largest machine. Then serves as many requests of each guest as asked for, for 1, 2, 4, 8 and 64 guests over rings of
+/// 256 items. The requests are a mix with a proposal in 16, and then stores and loads alone. With no number it serves a few.
 pub fn time_runs<R: Clock + Threads + Wait + Print + Sync, H: PageHash + Copy>(
     rt: &R,
     alloc: Global,
@@ -71,7 +71,7 @@ fn time_the_largest<R: Clock + Print, H: PageHash + Copy>(
         Ok(_core) => Ok(1),
         Err(refusal) => Err(*refusal),
     };
-    tell(rt, start, is_timed, "the largest machine", made)
+    print_step(rt, start, is_timed, "the largest machine", made)
 }
 
 fn time_threads<R: Clock + Threads + Wait + Print + Sync, H: PageHash + Copy>(
@@ -91,7 +91,7 @@ fn time_threads<R: Clock + Threads + Wait + Print + Sync, H: PageHash + Copy>(
         Ok(finished) => Ok(finished.settled.journal().len() as u64),
         Err(refusal) => Err(*refusal),
     };
-    tell(rt, start, is_timed, name, served)
+    print_step(rt, start, is_timed, name, served)
 }
 
 fn time_one_thread<R: Clock + Print, H: PageHash + Copy>(
@@ -110,5 +110,5 @@ fn time_one_thread<R: Clock + Print, H: PageHash + Copy>(
         Ok((_core, served)) => Ok(u64::from(*served)),
         Err(refusal) => Err(*refusal),
     };
-    tell(rt, start, is_timed, name, served)
+    print_step(rt, start, is_timed, name, served)
 }

@@ -1,9 +1,9 @@
 //! The calls of `Table`.
+use crate::step::print_step;
 use crate::table_calls::{
     AddShared, DropHint, FindHint, FindShared, Join, Leave, PutHint, TimedTable, by_jumps,
     in_order, new_table,
 };
-use crate::tell::tell;
 use std::alloc::Global;
 use std::io;
 use std::rt::Clock;
@@ -40,12 +40,12 @@ const STEPS: [(&str, Step); 9] = [
 pub fn time_table<R: Clock + Print>(rt: &R, alloc: Global, asked: Option<u32>) -> io::Result<()> {
     let start = Instant::now(rt)?;
     let Some(mut timed) = new_table(alloc, asked.unwrap_or(FEW)) else {
-        return tell(rt, start, false, "table", Err("no memory"));
+        return print_step(rt, start, false, "table", Err("no memory"));
     };
     for (name, step) in STEPS {
         let start = Instant::now(rt)?;
         let calls = do_step(&mut timed, step);
-        tell(rt, start, asked.is_some(), name, Ok(u64::from(calls)))?;
+        print_step(rt, start, asked.is_some(), name, Ok(u64::from(calls)))?;
     }
     Ok(())
 }

@@ -29,9 +29,9 @@ pub struct CensusNumbers<A: Allocator> {
     pub copies: Vec<CopiesClass, A>,
 }
 
-/// Counts the pages of the guests, guest 0 first. Each source is read once in order, by `workers` workers, and pages
-/// that may be equal are read once more to be compared; and once again, on one thread, if different pages of guests with the
-/// same salt have the same hash.
+/// Counts the pages of the guests, guest 0 first. `workers` workers read each source once in order, and read pages that may be
+/// equal once more to compare them. One thread reads them again if different pages of guests with the same salt have the same
+/// hash.
 ///
 /// The result holds if each source is steady: if each of its reads returns the same bytes.
 pub fn census<

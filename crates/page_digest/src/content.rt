@@ -10,8 +10,8 @@ use crate::message::padded;
 use crate::sha256::digest;
 use page_model::Page;
 
-/// Returns the first sixteen bytes, read big-endian, of the SHA-256 digest (FIPS 180-4): of the page alone under salt 0, and
-/// otherwise of the salt's four big-endian bytes followed by the page.
+/// Returns the first sixteen bytes, read big-endian, of a SHA-256 digest (FIPS 180-4). Under salt 0 that is of the page alone,
+/// and otherwise of the salt's four big-endian bytes followed by the page.
 pub fn digest_content(salt: u32, page: &Page) -> u128
     ensures { result ≡ content_digest salt page.now }
 {

@@ -9,7 +9,7 @@ use crate::message::padded;
 use page_model::{HashFunction, Page};
 use sha2::{Digest, Sha256};
 
-/// The first eight bytes, read big-endian, of a SHA-256 digest (FIPS 180-4): of the page alone under salt 0, and
+/// The first eight bytes, read big-endian, of a SHA-256 digest (FIPS 180-4). Under salt 0 that is of the page alone, and
 /// otherwise of the salt's four big-endian bytes followed by the page.
 #[derive(Clone, Copy, Debug, PartialEq, Eq)]
 pub struct Sha256Hash;

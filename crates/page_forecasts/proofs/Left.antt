@@ -27,10 +27,10 @@ left_own e guest ppn page own = rw (eq-eqb e.guest guest own) refl
 pub left_alone : (e : Entry) (guest ppn : ℕ) (page : Option (List ℕ)) → (e.guest ≡ guest → ⊥) → left_at e guest ppn page ≡ page
 left_alone e guest ppn page other = elim (eqb_tells e.guest guest) [
   | inl own ↦ absurd (other own.1)
-  | inr told ↦ rw told.0 refl
+  | inr differ ↦ rw differ.0 refl
 ]
 
--- what is told of a page is told of its bytes
-pub is_told : (bytes : Option (Bor (List ℕ))) → is_some bytes ≡ is_some (option_map (λ page. page.now) bytes)
-is_told None = refl
-is_told (Some bytes) = refl
+-- a page is there exactly if its bytes are
+pub same_presence : (bytes : Option (Bor (List ℕ))) → is_some bytes ≡ is_some (option_map (λ page. page.now) bytes)
+same_presence None = refl
+same_presence (Some bytes) = refl

@@ -41,10 +41,10 @@ left_by (e ∷ entries) guest ppn page = left_by entries guest ppn (left_at e gu
 abbrev pub expected : ℕ → Option (List ℕ) → Foreseen
 expected salt page = record { salt = salt; bytes = read_as page; hash = None }
 
--- the forecast is of this page with this salt, and what was returned for whether it is mapped is right
-pub record Expects (f : Foreseen) (salt : ℕ) (told : Bool) (page : Option (List ℕ)) : Type 0 where
+-- the forecast is of this page with this salt, and `is_mapped` says whether it is mapped
+pub record Expects (f : Foreseen) (salt : ℕ) (is_mapped : Bool) (page : Option (List ℕ)) : Type 0 where
   pub foreseen : f ≡ expected salt page
-  pub mapped : told ≡ is_some page
+  pub mapped : is_mapped ≡ is_some page
 
 -- the forecast with its hash computed
 abbrev pub hashed : (ℕ → List ℕ → ℕ) → Foreseen → Foreseen

@@ -1,4 +1,4 @@
-//! A page that is foreseen.
+//! A predicted page.
 ghost use Rattle.std.specs.Prelude.{◌≡◌};
 ghost use Rattle.std.specs.Option.{ForSome};
 
@@ -63,8 +63,8 @@ impl<H: PageHash> Forecast<H> {
         &self.bytes
     }
 
-    /// Foresees what a page will hold once these requests are served, and returns whether it will be mapped then. It has this
-    /// salt, and now these bytes, or none if it is unmapped.
+    /// Predicts what page `ppn` of `guest` will contain once the requests `before` are served, and returns whether it will be
+    /// mapped. The page has salt `salt` and now contains `bytes`, `None` if it is unmapped.
     pub(crate) fn foresee(
         &mut self,
         salt: u32,
@@ -93,7 +93,7 @@ impl<H: PageHash> Forecast<H> {
         }
     }
 
-    /// Foresees what these requests do to a page. Returns whether it is mapped after them.
+    /// Applies these requests to the predicted page. Returns whether it is mapped after them.
     fn serve_all(&mut self, requests: &[Entry], guest: u8, ppn: u32, is_mapped: bool) -> bool
         ensures { (salt : ℕ) (page : Option (List ℕ)) → Expects self.old salt is_mapped page
             → Expects self.new salt result (left_by requests.now guest ppn page) }
@@ -107,7 +107,7 @@ impl<H: PageHash> Forecast<H> {
         is_mapped
     }
 
-    /// Foresees what one request of a guest does to one of its pages. Returns whether the page is mapped after it.
+    /// Applies one request to the predicted page. Returns whether the page is mapped after it.
     fn serve(&mut self, request: &Request, ppn: u32, is_mapped: bool) -> bool
         ensures { (salt : ℕ) (page : Option (List ℕ)) → Expects self.old salt is_mapped page
             → Expects self.new salt result (left request.now ppn page) }
@@ -134,7 +134,7 @@ impl<H: PageHash> Forecast<H> {
         }
     }
 
-    /// Foresees a store.
+    /// Applies a store to the predicted page.
     fn store(&mut self, at: usize, bytes: &[u8])
         requires { at + length bytes.now ≤ PAGE_BYTES }
         ensures { self.new ≡ expected self.old.salt (Some (written self.old.bytes at bytes.now)) }
@@ -143,7 +143,7 @@ impl<H: PageHash> Forecast<H> {
         self.bytes[at..at + bytes.len()].copy_from_slice(bytes);
     }
 
-    /// Keeps the hash of what is foreseen.
+    /// Keeps the hash of the predicted page.
     pub(crate) fn learn(&mut self, code: u64)
         requires { code ≡ H.hash_of self.old.salt self.old.bytes }
         ensures { self.new ≡ hashed H.hash_of self.old }
@@ -151,7 +151,7 @@ impl<H: PageHash> Forecast<H> {
         self.hash = Some(code);
     }
 
-    /// Returns the hash of a page that holds what was foreseen, if the hash was computed.
+    /// Returns the hash of a page with this salt and these bytes, if that was predicted and its hash computed.
     pub(crate) fn hash_of(&self, salt: u32, bytes: &Page) -> Option<u64>
         ensures known { result ≡ hash_for salt bytes.now self.now }
         ensures right { IfSome result (λ code. code ≡ H.hash_of salt bytes.now) }

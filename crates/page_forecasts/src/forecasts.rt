@@ -4,14 +4,13 @@ use page_digest::PageHash;
 use page_model::{Entry, Page};
 use std::marker::Model;
 
-/// The most pages that are foreseen: together with the proposed one, as many as are hashed at once.
+/// The most pages that are predicted: with the proposed one, as many as are hashed at once.
 pub const FORECASTS: usize = 7;
 
-/// How many of the next requests are considered: where one in 16 is a proposal, as many as show a proposal and the seven pages
-/// that are foreseen beside it.
+/// How many of the next requests are considered. If one in 16 is a proposal, they include the proposed page and seven others.
 pub const REACH: usize = 16 * (FORECASTS + 1);
 
-/// Pages that are foreseen, at most seven. Earlier ones stay until others replace them.
+/// Predicted pages, at most seven. Earlier ones stay until others replace them.
 ///
 /// A contract sees a list of seven `Foreseen`.
 #[derive(Drop)]
@@ -40,7 +39,7 @@ impl<H: PageHash> Forecasts<H> {
     ghost use Rattle.page_forecasts.specs.Forecasts.{expected, hashed, known_hash, left_by};
     ghost use Rattle.page_forecasts.specs.declared.forecasts.TheConstants.{FORECASTS};
 
-    /// Makes forecasts with nothing foreseen: seven pages of zeros, and no hash.
+    /// Makes seven forecasts of a page of zeros, without hashes.
     pub fn new() -> Forecasts<H>
         ensures { result ≡ replicate FORECASTS (expected 0 None) }
     {
@@ -55,8 +54,9 @@ impl<H: PageHash> Forecasts<H> {
         }
     }
 
-    /// Foresees a page, at a place from 0 to 6: what it will hold once the requests `before` its proposal are served. It has
-    /// this salt, and now these bytes, or none if it is unmapped. That a store may find no frame isn't foreseen.
+    /// Predicts what page `ppn` of `guest` will contain once the requests `before` its proposal are served. Keeps that as
+    /// forecast `place`, 0 to 6. The page has salt `salt` and now contains `bytes`, `None` if it is unmapped. Assumes that no
+    /// store is refused a frame.
     ///
     /// Returns whether the page will be mapped then. Its hash isn't computed yet.
     pub fn foresee(
@@ -84,7 +84,7 @@ impl<H: PageHash> Forecasts<H> {
         }
     }
 
-    /// Returns the hash of a page with this salt and these bytes, if it was foreseen and its hash computed.
+    /// Returns the hash of a page with this salt and these bytes, if it was predicted and its hash computed.
     pub fn hash_of(&self, salt: u32, bytes: &Page) -> Option<u64>
         ensures known { result ≡ known_hash self.now salt bytes.now }
         ensures right { IfSome result (λ code. code ≡ H.hash_of salt bytes.now) }

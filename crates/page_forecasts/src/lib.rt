@@ -1,8 +1,8 @@
 //! What pages will hold when they are proposed, as far as the next requests show, and the hashes of that, computed ahead
 //! of time.
 //!
-//! A forecast is a guess about bytes, and its hash is the hash of the guessed bytes. It's used for a page only if the page
-//! then holds exactly those bytes, which is checked. So what was foreseen affects nothing but time.
+//! A forecast is a guess about bytes, and its hash is the hash of the guessed bytes. It's used for a page only if the page then
+//! holds exactly those bytes, which is checked. So a wrong prediction costs time, and affects nothing else.
 #![tactic(auto)]
 
 mod forecast;

@@ -3,8 +3,8 @@ ghost use Rattle.std.specs.Prelude.{◌≡◌};
 ghost use Rattle.page_lending.specs.declared.pieces.TheConstants.{STORES_A_PAGE};
 ghost use Rattle.page_lending.specs.Laws.{StoresAtOnce, VerdictsFollow, LentIsTakenBack};
 
-/// The stores of a whole page do at once what one store of all its bytes would do: what the first store's verdict says
-/// happens to the page, and then the page has these bytes.
+/// The stores of a whole page together do what one store of all its bytes would do. The page changes as the first store's verdict
+/// says, and then has these bytes.
 pub fn stored_at_once_law()
     ensures { StoresAtOnce }
 {}

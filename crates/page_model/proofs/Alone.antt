@@ -11,7 +11,7 @@ use Rattle.page_model.specs.Steps.{Outcome, stored, released, loaded, on_page, a
 use Rattle.page_model.specs.Replay.{Shape, empty_guest, empty_state, state_after, verdicts_of}
 use Rattle.page_model.specs.Stored.{text_at, byte_in}
 use Rattle.page_model.specs.Journal.{asked, answers}
-use Rattle.page_model.specs.Alone.{is_no_frame, is_load, loads_told, lone, by_itself, LoadsAsAlone, PagesAsAlone}
+use Rattle.page_model.specs.Alone.{is_no_frame, is_load, load_verdicts, lone, by_itself, LoadsAsAlone, PagesAsAlone}
 use Rattle.page_model.specs.Proposals.{KeepsBytes, KeepsLoads}
 use Rattle.page_model.specs.declared.request.Entry.{Entry}
 use Rattle.page_model.specs.declared.request.Request.{Request}
@@ -95,14 +95,14 @@ on_page_changes gs a b f k None e h =
     idle gs a b f _ (ap (option_map f) none ∙ sym none) refl
 on_page_changes gs a b f k (Some (salt, slot)) e h = h salt slot (ap (option_map (λ (x : ℕ × Slot). bytes_of x.1)) e)
 
--- what a load is told, by what the page reads as
-abbrev told : ℕ → ℕ → Option (List ℕ) → Verdict
-told at len None = v.NoPage
-told at len (Some bytes) = v.Bytes (record { items = take len (drop at bytes) })
+-- the verdict of a load, by what the page reads as
+abbrev load_verdict : ℕ → ℕ → Option (List ℕ) → Verdict
+load_verdict at len None = v.NoPage
+load_verdict at len (Some bytes) = v.Bytes (record { items = take len (drop at bytes) })
 
-on_page_told : (gs : List Guest) (at len : ℕ) (o : Option (ℕ × Slot)) → (on_page gs (λ _ slot. loaded gs at len slot) o).verdict ≡ told at len (option_map (λ (x : ℕ × Slot). bytes_of x.1) o)
-on_page_told gs at len None = refl
-on_page_told gs at len (Some (salt, slot)) = refl
+on_page_load : (gs : List Guest) (at len : ℕ) (o : Option (ℕ × Slot)) → (on_page gs (λ _ slot. loaded gs at len slot) o).verdict ≡ load_verdict at len (option_map (λ (x : ℕ × Slot). bytes_of x.1) o)
+on_page_load gs at len None = refl
+on_page_load gs at len (Some (salt, slot)) = refl
 
 -- what a request does to the texts of its own guest's pages, and of others'
 record Served (before : State) (a : ℕ) (r : Request) (o : Outcome) : Type 0 where
@@ -126,10 +126,10 @@ answered_served hash s a (Release page) =
 answered_served hash s a Count = record { texts = λ h p. refl; others = λ g p ne. refl }
 answered_served hash s a Close = record { texts = λ h p. refl; others = λ g p ne. refl }
 
--- the verdict of a load is told by what the page reads as
-step_told : (hash : ℕ → List ℕ → ℕ) (s : State) (a : ℕ) (r : LoadParts) → (step hash s a (Load r)).verdict ≡ told r.at r.len (text_at s.guests a r.ppn)
+-- the verdict of a load follows from what the page reads as
+step_load : (hash : ℕ → List ℕ → ℕ) (s : State) (a : ℕ) (r : LoadParts) → (step hash s a (Load r)).verdict ≡ load_verdict r.at r.len (text_at s.guests a r.ppn)
 unfolding step answered
-step_told hash s a r = on_page_told s.guests r.at r.len (page_at s.guests a r.ppn)
+step_load hash s a r = on_page_load s.guests r.at r.len (page_at s.guests a r.ppn)
 
 step_texts : (hash : ℕ → List ℕ → ℕ) (s : State) (a : ℕ) (r : Request) → is_no_frame (step hash s a r).verdict ≡ false → (p : ℕ) → text_at (step hash s a r).state.guests a p ≡ own r p (text_at s.guests a p)
 unfolding step
@@ -189,27 +189,27 @@ both hash s i t r alike h = record {
 one : (hash : ℕ → List ℕ → ℕ) (s : State) (i : ℕ) (t : State) (a : ℕ) (r : Request) → Alike s i t → (a ≡ i → ⊥) → Alike (step hash s a r).state i t
 one hash s i t a r alike ne = record { texts = λ p. step_others hash s a r i p ne ∙ alike.texts p; fits = alike.fits }
 
--- the loads are told the same
+-- the loads get the same verdicts
 load_alike : (hash : ℕ → List ℕ → ℕ) (s : State) (i : ℕ) (t : State) (r : Request) (vs ws : List Verdict) → Alike s i t → vs ≡ ws → cond (is_load r) ((step hash s i r).verdict ∷ vs) vs ≡ cond (is_load r) ((step hash t 0 r).verdict ∷ ws) ws
 load_alike hash s i t (Propose page) vs ws alike e = e
 load_alike hash s i t (Store r) vs ws alike e = e
 load_alike hash s i t (Load r) vs ws alike e =
-    let same : (step hash s i (Load r)).verdict ≡ (step hash t 0 (Load r)).verdict = step_told hash s i r ∙ ap (told r.at r.len) (alike.texts r.ppn) ∙ sym (step_told hash t 0 r) in
+    let same : (step hash s i (Load r)).verdict ≡ (step hash t 0 (Load r)).verdict = step_load hash s i r ∙ ap (load_verdict r.at r.len) (alike.texts r.ppn) ∙ sym (step_load hash t 0 r) in
     cc
 load_alike hash s i t (Release page) vs ws alike e = e
 load_alike hash s i t Count vs ws alike e = e
 load_alike hash s i t Close vs ws alike e = e
 
--- guest i's requests are rs and its verdicts vs: what the loads are told, and what the pages read as in the end
+-- guest i's requests are rs and its verdicts vs: the loads' verdicts, and what the pages read as in the end
 record Ends (hash : ℕ → List ℕ → ℕ) (last : State) (i : ℕ) (t : State) (rs : List Request) (vs : List Verdict) : Type 0 where
-  loads : loads_told rs vs ≡ loads_told rs (verdicts_of hash t (by_itself rs))
+  loads : load_verdicts rs vs ≡ load_verdicts rs (verdicts_of hash t (by_itself rs))
   texts : (p : ℕ) → text_at last.guests i p ≡ text_at (state_after hash t (by_itself rs)).guests 0 p
 
 -- an entry of guest i, and one of another guest
 own_entry : (hash : ℕ → List ℕ → ℕ) (s : State) (i : ℕ) (t : State) (r : Request) (last : State) (rs : List Request) (vs : List Verdict) → Alike s i t → Ends hash last i (step hash t 0 r).state rs vs → Ends hash last i t (r ∷ rs) ((step hash s i r).verdict ∷ vs)
 unfolding state_after verdicts_of
 own_entry hash s i t r last rs vs alike rest = record {
-  loads = load_alike hash s i t r (loads_told rs vs) (loads_told rs (verdicts_of hash (step hash t 0 r).state (by_itself rs))) alike rest.loads;
+  loads = load_alike hash s i t r (load_verdicts rs vs) (load_verdicts rs (verdicts_of hash (step hash t 0 r).state (by_itself rs))) alike rest.loads;
   texts = rest.texts;
 }
 
@@ -283,4 +283,4 @@ keeps_bytes a page hash s g p k = ap (byte_in k) (proposal_texts hash s a page g
 
 pub keeps_loads : (a page : ℕ) → KeepsLoads a page
 keeps_loads a page hash s g r =
-    step_told hash (step hash s a (Propose page)).state g r ∙ ap (told r.at r.len) (proposal_texts hash s a page g r.ppn) ∙ sym (step_told hash s g r)
+    step_load hash (step hash s a (Propose page)).state g r ∙ ap (load_verdict r.at r.len) (proposal_texts hash s a page g r.ppn) ∙ sym (step_load hash s g r)

@@ -26,10 +26,10 @@ is_load Count = false
 is_load Close = false
 
 -- the verdicts of the loads, from these requests and their verdicts, one for each request
-abbrev pub loads_told : List Request → List Verdict → List Verdict
-loads_told [] verdicts = []
-loads_told (r ∷ rs) [] = []
-loads_told (r ∷ rs) (v ∷ verdicts) = if is_load r then v ∷ loads_told rs verdicts else loads_told rs verdicts
+abbrev pub load_verdicts : List Request → List Verdict → List Verdict
+load_verdicts [] verdicts = []
+load_verdicts (r ∷ rs) [] = []
+load_verdicts (r ∷ rs) (v ∷ verdicts) = if is_load r then v ∷ load_verdicts rs verdicts else load_verdicts rs verdicts
 
 -- a machine with only this guest, with its salt and its pages, and with one frame for each page
 abbrev pub lone : Shape → State
@@ -49,7 +49,7 @@ LoadsAsAlone es guest =
     (hash : ℕ → List ℕ → ℕ) (total : ℕ) (shapes : List Shape) (shape : Shape) → slice_get shapes guest ≡ Some shape →
     let s = empty_state total shapes in
     list_any is_no_frame (answers hash s guest es) ≡ false →
-    loads_told (asked guest es) (answers hash s guest es) ≡ loads_told (asked guest es) (verdicts_of hash (lone shape) (alone guest es))
+    load_verdicts (asked guest es) (answers hash s guest es) ≡ load_verdicts (asked guest es) (verdicts_of hash (lone shape) (alone guest es))
 
 -- and at the end each byte of its pages reads as it does there
 abbrev pub PagesAsAlone : List Entry → ℕ → Type 0

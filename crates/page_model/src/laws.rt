@@ -60,9 +60,9 @@ pub fn frames_law(entries: &[Entry])
     ensures { FramesSuffice entries.now }
 {}
 
-/// In every state the mapped pages have at most as many different contents as frames are in use, and exactly as many
-/// if each mapped page whose content occurs more than once is shared: no sharing does better, and sharing all equal pages
-/// is just as good.
+/// In every state the mapped pages have at most as many different contents as frames are in use. They have exactly as many if
+/// each mapped page whose content occurs more than once is shared. So no sharing does better, and sharing all equal pages is just
+/// as good.
 pub fn least_frames_law()
     ensures least { NeedsAFrameEach }
     ensures exact { SharingAllIsLeast }
@@ -92,9 +92,9 @@ pub fn key_clash()
         ≡ Verdict.Mapped ∷ Verdict.Hinted ∷ Verdict.Mapped ∷ Verdict.Mapped ∷ Verdict.Ineligible ∷ Verdict.Ineligible ∷ [] }
 {}
 
-/// In whatever order guests send and get, and the merger takes and gives, each list of a guest's traffic is a
-/// beginning of the one before it, nothing follows a close, and an entry whose verdict one guest got before another
-/// guest sent a request comes before that request in the journal.
+/// Guests may send and get, and the merger may take and give, in any order. Each list of a guest's traffic is a beginning of the
+/// one before it, and nothing follows a close. If a guest got an entry's verdict before another guest sent a request, the entry
+/// comes before that request in the journal.
 pub fn schedule_law(events: &[Event])
     ensures taken { (guest : ℕ) → let w = world_after events.now in Begins (w.traffic guest).taken (w.traffic guest).sent }
     ensures journal { (guest : ℕ) → let w = world_after events.now in (w.traffic guest).taken ≡ asked guest w.journal }

@@ -29,8 +29,8 @@ eight (p ∷ q ∷ x ∷ []) none size = absurd (omega arith)
 
 -- the page at this place was lent
 abbrev OneOf : List Lending → Lending → ℕ → Answer → Option HashedCore → Option HashedCore → Type 0
-OneOf pages none n told old new =
-    LendsOne (slice_index_or pages n none).guest (slice_index_or pages n none).ppn (slice_index_or pages n none).page.now told old new
+OneOf pages none n answer old new =
+    LendsOne (slice_index_or pages n none).guest (slice_index_or pages n none).ppn (slice_index_or pages n none).page.now answer old new
 
 -- four pages, lent one by one
 pub four_in_turn : (pages : List Lending) (none : Lending) (a b c d : Answer) (s t u v w : Option HashedCore) → length pages ≡ 4
@@ -41,25 +41,25 @@ four_in_turn pages none a b c d s t u v w size first second third fourth =
     (record { between = t; first = first; others = record { between = u; first = second; others = record { between = v; first = third; others = record { between = w; first = fourth; others = refl } } } })
 
 -- four pages, lent as a list of four
-pub listed_in_turn : (pages : List Lending) (none : Lending) (told : List Answer) (s t : Option HashedCore) → length pages ≡ 4 → LendInTurn (four_from 0 pages none) told s t → LendInTurn pages told s t
-listed_in_turn pages none told s t size lent = subst (λ xs. LendInTurn xs told s t) (sym (four pages none size)) lent
+pub listed_in_turn : (pages : List Lending) (none : Lending) (answers : List Answer) (s t : Option HashedCore) → length pages ≡ 4 → LendInTurn (four_from 0 pages none) answers s t → LendInTurn pages answers s t
+listed_in_turn pages none answers s t size lent = subst (λ xs. LendInTurn xs answers s t) (sym (four pages none size)) lent
 
 -- some pages, and then others
-pub then_others : (pages others : List Lending) (told more : List Answer) (s t u : Option HashedCore) → LendInTurn pages told s t → LendInTurn others more t u → LendInTurn (pages ++ others) (told ++ more) s u
+pub then_others : (pages others : List Lending) (answers more : List Answer) (s t u : Option HashedCore) → LendInTurn pages answers s t → LendInTurn others more t u → LendInTurn (pages ++ others) (answers ++ more) s u
 then_others [] others [] more s t u same rest = subst (λ x. LendInTurn others more x u) same rest
-then_others (p ∷ pages) others (a ∷ told) more s t u lent rest =
-    record { between = lent.between; first = lent.first; others = then_others pages others told more lent.between t u lent.others rest }
-then_others [] others (a ∷ told) more s t u none rest = absurd none
+then_others (p ∷ pages) others (a ∷ answers) more s t u lent rest =
+    record { between = lent.between; first = lent.first; others = then_others pages others answers more lent.between t u lent.others rest }
+then_others [] others (a ∷ answers) more s t u none rest = absurd none
 then_others (p ∷ pages) others [] more s t u none rest = absurd none
 
 -- four pages that are lent get four answers
-told_four : (p q x y : Lending) (told : List Answer) (blank : Answer) (s t : Option HashedCore) → LendInTurn (p ∷ q ∷ x ∷ y ∷ []) told s t → told ≡ four_from 0 told blank
-told_four p q x y (a ∷ b ∷ c ∷ d ∷ []) blank s t lent = refl
-told_four p q x y [] blank s t lent = absurd lent
-told_four p q x y (a ∷ []) blank s t lent = absurd lent.others
-told_four p q x y (a ∷ b ∷ []) blank s t lent = absurd lent.others.others
-told_four p q x y (a ∷ b ∷ c ∷ []) blank s t lent = absurd lent.others.others.others
-told_four p q x y (a ∷ b ∷ c ∷ d ∷ e ∷ told) blank s t lent = absurd lent.others.others.others.others
+answers_four : (p q x y : Lending) (answers : List Answer) (blank : Answer) (s t : Option HashedCore) → LendInTurn (p ∷ q ∷ x ∷ y ∷ []) answers s t → answers ≡ four_from 0 answers blank
+answers_four p q x y (a ∷ b ∷ c ∷ d ∷ []) blank s t lent = refl
+answers_four p q x y [] blank s t lent = absurd lent
+answers_four p q x y (a ∷ []) blank s t lent = absurd lent.others
+answers_four p q x y (a ∷ b ∷ []) blank s t lent = absurd lent.others.others
+answers_four p q x y (a ∷ b ∷ c ∷ []) blank s t lent = absurd lent.others.others.others
+answers_four p q x y (a ∷ b ∷ c ∷ d ∷ e ∷ answers) blank s t lent = absurd lent.others.others.others.others
 
 -- eight pages, of which four are lent and then the other four
 pub eight_in_turn : (pages : List Lending) (none : Lending) (early late : List Answer) (blank : Answer) (s t u : Option HashedCore) → length pages ≡ 8
@@ -68,5 +68,5 @@ eight_in_turn pages none early late blank s t u size first last =
     let lower : List Lending = four_from 0 pages none in
     let upper : List Lending = four_from 4 pages none in
     subst (λ xs. LendInTurn xs (four_from 0 early blank ++ four_from 0 late blank) s u) (sym (eight pages none size))
-    (subst (λ told. LendInTurn (lower ++ upper) (told ++ four_from 0 late blank) s u) (told_four _ _ _ _ early blank s t first)
-    (subst (λ told. LendInTurn (lower ++ upper) (early ++ told) s u) (told_four _ _ _ _ late blank t u last) (then_others lower upper early late s t u first last)))
+    (subst (λ answers. LendInTurn (lower ++ upper) (answers ++ four_from 0 late blank) s u) (answers_four _ _ _ _ early blank s t first)
+    (subst (λ answers. LendInTurn (lower ++ upper) (early ++ answers) s u) (answers_four _ _ _ _ late blank t u last) (then_others lower upper early late s t u first last)))

@@ -13,12 +13,12 @@ use Rattle.pageshare_c.specs.declared.hosted.MadeDomain.{MadeDomain}
 use Rattle.pageshare_c.specs.declared.loan.DomainLoan.{DomainLoan}
 
 -- the domain lent the page or refused it, and is by the same hash as before
-pub lent_at : (client : ℕ) (page : List ℕ) (told : DomainLoan) (result : Result Loan LendFault) (old : Hosted) (m : MadeDomain) (d : HashedDomain) → old ≡ Made m → told ≡ loan_of (Some result)
+pub lent_at : (client : ℕ) (page : List ℕ) (loan_given : DomainLoan) (result : Result Loan LendFault) (old : Hosted) (m : MadeDomain) (d : HashedDomain) → old ≡ Made m → loan_given ≡ loan_of (Some result)
     → MatchResult result (λ loan. LendsIn (page_machine (hash_of m.domain) (view_of m.domain) page) client page loan (view_of m.domain) (view_of d))
     (λ fault. RefusesIn (page_machine (hash_of m.domain) (view_of m.domain) page) client fault (view_of m.domain) × (d ≡ m.domain))
-    → d ≡ with_view (view_of d) m.domain → LendsAt client page told (Some old) (Some (Made (record { domain = d; recent = m.recent })))
-lent_at client page told result old m d is says lends same =
-    subst (λ (h : Hosted). LendsAt client page told (Some h) (Some (Made (record { domain = d; recent = m.recent })))) (sym is)
+    → d ≡ with_view (view_of d) m.domain → LendsAt client page loan_given (Some old) (Some (Made (record { domain = d; recent = m.recent })))
+lent_at client page loan_given result old m d is says lends same =
+    subst (λ (h : Hosted). LendsAt client page loan_given (Some h) (Some (Made (record { domain = d; recent = m.recent })))) (sym is)
     (record { became = Some result; says = says; lends = go result lends }) where
       go : (r : Result Loan LendFault) → MatchResult r (λ loan. LendsIn (page_machine (hash_of m.domain) (view_of m.domain) page) client page loan (view_of m.domain) (view_of d))
           (λ fault. RefusesIn (page_machine (hash_of m.domain) (view_of m.domain) page) client fault (view_of m.domain) × (d ≡ m.domain))

@@ -67,7 +67,7 @@ fn new_begun(alloc: Global, shape: &DomainShape, hash: u32) -> Result<Box<Hosted
     Ok(hosted)
 }
 
-/// Begins a domain of this shape in regions of so many pages, and returns the status.
+/// Begins a domain of this shape in regions of `pages` pages, and returns the status.
 pub(crate) fn begin(
     alloc: Global,
     domain: &mut DomainHandle,

@@ -6,7 +6,7 @@ use crate::hosted::Hosted;
 use c_surface::{Handle, Parcel};
 use std::alloc::Global;
 
-/// A handle: room for one domain. It holds none while all its bytes are 0.
+/// A handle: it can contain one domain, and contains none while all its bytes are 0.
 #[repr(C)]
 pub struct DomainHandle {
     pub slot: DomainSlot,

@@ -35,7 +35,7 @@ pub(crate) fn find_frame<H: PageHash>(core: &Core<H>, guest: u32, ppn: u32) -> R
     }
 }
 
-/// Copies a page to the room. The result is whether there is such a page.
+/// Copies a page to `room`. The result is whether there is such a page.
 #[tactic(auto, using(crate::proofs::Finds::text_absent))]
 pub(crate) fn copy_page<H: PageHash>(core: &Core<H>, guest: u32, ppn: u32, room: &mut Page) -> bool
     ensures page { IsTrue result ↔ IsSome (page_at (state_of core.now).guests guest ppn) }

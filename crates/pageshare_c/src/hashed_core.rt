@@ -46,7 +46,7 @@ impl HashedCore {
         }
     }
 
-    /// Serves a load, and puts the bytes into the room.
+    /// Serves a load, and puts the bytes into `room`.
     pub(crate) fn answer_load(
         &mut self,
         guest: u32,
@@ -184,7 +184,7 @@ impl HashedCore {
         }
     }
 
-    /// Takes a page back, and puts its bytes into the room.
+    /// Takes a page back, and puts its bytes into `room`.
     pub(crate) fn take_back(&mut self, guest: u32, ppn: u32, room: &mut Page) -> Answer
         ensures answer { result ≡ answer_to (Some self.old) (Some self.new) guest (Ok (Release ppn)) }
         ensures state { seen (Some self.new) ≡ state_after (Some self.old) guest (Ok (Release ppn)) }
@@ -234,7 +234,7 @@ impl HashedCore {
         }
     }
 
-    /// Copies a page to the room. The result is whether there is such a page.
+    /// Copies a page to `room`. The result is whether there is such a page.
     pub(crate) fn copy_page(&self, guest: u32, ppn: u32, room: &mut Page) -> bool
         ensures page { IsTrue result ↔ IsSome (page_at (state_of (shown_in self.now)).guests guest ppn) }
         ensures bytes { room.new ≡ value_or room.old (text_in (state_of (shown_in self.now)) guest ppn) }

@@ -1,9 +1,9 @@
 //! Page sharing for C: each function that a program in C, C++ or Rust calls.
 //!
-//! C makes room for a [`Machine`], a handle that holds no machine while its bytes are 0, and passes its address to each
-//! call. No call has a condition on its arguments except that its references are valid: a wrong argument is answered
-//! by a status above 0, and then nothing has changed. A status above 0 is the first cause that holds, in the order of the
-//! numbers; only [`pageshare_make`] first checks whether the handle holds a machine already.
+//! C provides a [`Machine`], a handle that contains no machine while its bytes are 0, and passes its address to each call. No
+//! call has a condition on its arguments except that its references are valid: a wrong argument is answered by a status above 0,
+//! and then nothing has changed. A status above 0 is the first cause that holds, in the order of the numbers; only
+//! [`pageshare_make`] first checks whether the handle holds a machine already.
 //!
 //! `lib/include/pageshare.h` declares the same functions in C, and says what the caller owes.
 #![tactic(auto)]
@@ -90,10 +90,10 @@ use std::alloc::Global;
 
 /// Makes a machine with `frames` frames. Guest i has `pages[i]` pages and the salt `salts[i]`.
 ///
-/// The status is `OK` if it is made, `IN_USE` if the handle holds a machine already, and else `FRAMES` (0 frames, or
-/// more than 1,048,576), `GUESTS` (no guest, more than 64, or not as many salts as guests), `PAGES` (a guest with no
-/// page, or more than 1,048,576 pages in total) or `MEMORY` (memory was refused). This takes all memory that the machine
-/// needs; no other call asks for any.
+/// The status is `OK` if it is made, and `IN_USE` if the handle holds a machine already. Else it is `FRAMES` (0 frames, or more
+/// than 1,048,576), `GUESTS` (no guest, more than 64, or not as many salts as guests), `PAGES` (a guest with no page, or more
+/// than 1,048,576 pages in total) or `MEMORY` (memory was refused). This takes all memory that the machine needs; no other call
+/// asks for any.
 #[unsafe(no_mangle)]
 pub extern "C" fn pageshare_make(
     alloc: Global,
@@ -185,8 +185,7 @@ pub extern "C" fn pageshare_store(
     serve(alloc, machine, guest, &store_request(ppn, at, bytes))
 }
 
-/// Loads 1 to 64 bytes of a page, as many as the room holds, from place `at` on. The room stays as it is unless
-/// the verdict is `Bytes`.
+/// Loads 1 to 64 bytes of a page into all of `room`, from place `at` on. `room` stays as it is unless the verdict is `Bytes`.
 #[unsafe(no_mangle)]
 pub extern "C" fn pageshare_load(
     alloc: Global,
@@ -324,8 +323,8 @@ pub extern "C" fn pageshare_lend_eight(
     }
 }
 
-/// Takes a page back: copies it to the room and releases it, which counts as the release alone. The room stays as it is unless
-/// the verdict is `Released`.
+/// Takes a page back: copies it to `room` and releases it, which counts as the release alone. `room` stays as it is unless the
+/// verdict is `Released`.
 #[unsafe(no_mangle)]
 pub extern "C" fn pageshare_take_back(
     alloc: Global,
@@ -422,8 +421,8 @@ pub extern "C" fn pageshare_report(alloc: Global, machine: &mut Machine, totals:
     }
 }
 
-/// Copies a page to the room; an unmapped page reads as zeros. The status is `NO_MACHINE` if the handle holds no
-/// machine, and `NO_PAGE` if there is no such page.
+/// Copies a page to `room`; an unmapped page reads as zeros. The status is `NO_MACHINE` if the handle holds no machine, and
+/// `NO_PAGE` if there is no such page.
 #[unsafe(no_mangle)]
 pub extern "C" fn pageshare_read(
     alloc: Global,
@@ -543,8 +542,8 @@ pub extern "C" fn pageshare_domain_begin(
 
 /// Gives a domain that was begun the frames of its next machine. With those of the last one the domain is made.
 ///
-/// The status is `OK`, `NO_MACHINE` if no domain was begun or it is made, `REGION` if the region has room for another number of
-/// frames, or `MEMORY` if memory was refused: then the handle holds nothing.
+/// The status is `OK`, `NO_MACHINE` if no domain was begun or it is made, or `REGION` if the region is for another number of
+/// frames. It is `MEMORY` if memory was refused: then the handle holds nothing.
 #[unsafe(no_mangle)]
 pub extern "C" fn pageshare_domain_add(
     alloc: Global,
@@ -589,11 +588,11 @@ pub extern "C" fn pageshare_domain_enter(
     }
 }
 
-/// Lends a client's page: it gets a free slot of the machine that its hash names, and the frame of the pages that are equal to it or
-/// one of its own.
+/// Lends a client's page. It gets a free slot of the machine that its hash names, and the frame of the pages that are equal to it
+/// or one of its own.
 ///
-/// The status is `NO_MACHINE` without a domain, `NO_CLIENT` if no such client is in, `NO_SLOT` if that machine has no free slot,
-/// and `NO_FRAME` if the page joins no other and all frames of the machine but the spare one are in use.
+/// The status is `NO_MACHINE` without a domain, `NO_CLIENT` if no such client is in, and `NO_SLOT` if that machine has no free
+/// slot. It is `NO_FRAME` if the page joins no other and all frames of the machine but the spare one are in use.
 #[unsafe(no_mangle)]
 pub extern "C" fn pageshare_domain_lend(
     alloc: Global,
@@ -639,8 +638,8 @@ pub extern "C" fn pageshare_domain_release(
     }
 }
 
-/// Releases slots of a client that leaves, in the order of their numbers, as many as `freed` has places: `count` is then how many,
-/// and each of the first places of `freed` holds the frame that is free since, or [`NO_FRAME`]. With 0 the client is out.
+/// Releases slots of a client that leaves, in the order of their numbers, as many as `freed` has places. `count` is then how
+/// many, and each of the first places of `freed` contains the freed frame, or [`NO_FRAME`]. With 0 the client is out.
 ///
 /// The status is `NO_MACHINE` without a domain, `LENGTH` if `freed` has no place, and `NO_CLIENT` if there is no such
 /// client; then nothing is written.
@@ -672,8 +671,8 @@ pub extern "C" fn pageshare_domain_fingerprint(salt: u32, page: &[u8; 4096]) -> 
     FoldHash.hash(salt, page)
 }
 
-/// Asks about a page of a client: `seen` is then 1 if another page was asked about with this fingerprint, within the last questions
-/// that the domain remembers, and else 0.
+/// Asks about a page of a client. `seen` is then 1 if another page was asked about with this fingerprint, within the last
+/// questions that the domain remembers, and else 0.
 ///
 /// The status is `NO_MACHINE` without a domain, and then `seen` stays as it is.
 #[unsafe(no_mangle)]

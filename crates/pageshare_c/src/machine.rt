@@ -6,7 +6,7 @@ use crate::slot::Slot;
 use c_surface::{Handle, Parcel};
 use std::alloc::Global;
 
-/// A handle: room for one machine. It holds none while all its bytes are 0.
+/// A handle: it can contain one machine, and contains none while all its bytes are 0.
 #[repr(C)]
 pub struct Machine {
     pub slot: Slot,

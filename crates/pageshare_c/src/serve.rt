@@ -37,7 +37,7 @@ pub(crate) fn load_request(ppn: u32, at: u32, len: usize) -> Result<Request, Req
     Request::load(ppn, at, len as u32)
 }
 
-/// Returns why the machine refuses a call of this guest that counts as so many requests, if it does.
+/// Returns why the machine refuses a call of this guest that counts as `requests` requests, if it does.
 pub(crate) fn refusal_for<H: PageHash>(core: &Core<H>, guest: u32, requests: u32) -> Option<Refusal>
     ensures refusal { result ≡ refusal_for requests (state_of core.now) guest }
     ensures guest { result ≡ None → guest < length (state_of core.now).guests }
@@ -110,7 +110,7 @@ pub(crate) fn answer<H: PageHash>(
     }
 }
 
-/// Serves a load, and puts the bytes into the room.
+/// Serves a load, and puts the bytes into `room`.
 #[tactic(auto, using(crate::proofs::Tellings::not_accepted))]
 pub(crate) fn answer_load<H: PageHash>(
     core: &mut Core<H>,
@@ -180,7 +180,7 @@ pub(crate) fn serve(
     }
 }
 
-/// Serves a load, and puts the bytes into the room.
+/// Serves a load, and puts the bytes into `room`.
 pub(crate) fn serve_load(
     alloc: Global,
     machine: &mut Machine,
@@ -228,7 +228,7 @@ pub(crate) fn serve_count(
     }
 }
 
-/// Puts what a verdict loaded at the start of the room.
+/// Puts the bytes that a verdict loaded at the start of `room`.
 fn put_loaded(room: &mut [u8], verdict: &Verdict)
     ensures { room.new ≡ loaded room.old (Ok verdict.now) }
 {
@@ -237,7 +237,7 @@ fn put_loaded(room: &mut [u8], verdict: &Verdict)
     }
 }
 
-/// Puts bytes at the start of the room, if they fit.
+/// Puts bytes at the start of `room`, if they fit.
 fn put_bytes(room: &mut [u8], bytes: &[u8])
     ensures { room.new ≡ overlaid room.old bytes.now }
 {

@@ -63,7 +63,7 @@ pub(crate) fn lend<H: PageHash>(
     answer_of(&lent.verdict, frame_of(core, guest, ppn), lent.freed)
 }
 
-/// Takes a page back, and puts its bytes into the room.
+/// Takes a page back, and puts its bytes into `room`.
 #[tactic(auto, using(crate::proofs::Tellings::not_taken_back))]
 pub(crate) fn take_back<H: PageHash>(
     core: &mut Core<H>,

@@ -74,7 +74,7 @@ fn numbers_of<'a, R: Eprint + Clock>(
     }
 }
 
-/// Returns whether pairs are counted: only where they are written.
+/// Returns whether pairs are counted: only if they are written.
 fn pairs_for(words: &FleetWords<'_>) -> Pairs {
     match words.pairs {
         Some(_path) => Pairs::Counted,

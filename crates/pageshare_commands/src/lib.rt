@@ -1,5 +1,5 @@
-//! The commands of the program `pageshare`: it replays journals of page requests, runs scripts of them, and shows what
-//! sharing would reclaim of memory images, or of the guests whose digests it merges.
+//! The commands of the program `pageshare`. It replays journals of page requests, and runs scripts of them. It shows what sharing
+//! would reclaim of memory images, or of the guests whose digests it merges.
 //!
 //! A command reads a file or standard input, and writes to standard output. Its status is 0 if the work was done, 1 if
 //! input, output, memory or a thread was at fault, and 2 for a bad command line.

@@ -71,33 +71,33 @@ abbrev pub refused : ℕ → ReceivedPacket
 refused why = record { status = why; reply_bytes = 0; freed = 0; resumed = NO_FRAME }
 
 -- C gets what came of a packet: the reply's bytes, and the frames that are free since
-pub record Gives (received : Received) (told : ReceivedPacket) (reply reply' freed freed' : List ℕ) : Type 0 where
-  pub told-is : told ≡ record { status = status_of received; reply_bytes = length (reply_of received); freed = length (frees_of received); resumed = resumed_of received }
+pub record Gives (received : Received) (returned : ReceivedPacket) (reply reply' freed freed' : List ℕ) : Type 0 where
+  pub returned-is : returned ≡ record { status = status_of received; reply_bytes = length (reply_of received); freed = length (frees_of received); resumed = resumed_of received }
   pub reply-is : reply' ≡ put_front (reply_of received) reply
   pub freed-is : freed' ≡ put_front (frees_of received) freed
 
 -- nothing was done, and nothing written
-pub record IsRefused (why : ℕ) (told : ReceivedPacket) (reply reply' freed freed' : List ℕ) : Type 0 where
-  pub told-is : told ≡ refused why
+pub record IsRefused (why : ℕ) (returned : ReceivedPacket) (reply reply' freed freed' : List ℕ) : Type 0 where
+  pub returned-is : returned ≡ refused why
   pub reply-is : reply' ≡ reply
   pub freed-is : freed' ≡ freed
 
 -- A packet that a host received. Each slot of a client that the session isn't of afterwards is still held by it, with the same frame; and
 -- each slot that stays a client's reads the same bytes after as before
-pub record ReceivesPacket (session : ℕ) (bytes : List ℕ) (pages : List (List ℕ)) (told : ReceivedPacket) (reply reply' freed freed' : List ℕ) (old new : HostView) : Type 0 where
+pub record ReceivesPacket (session : ℕ) (bytes : List ℕ) (pages : List (List ℕ)) (returned : ReceivedPacket) (reply reply' freed freed' : List ℕ) (old new : HostView) : Type 0 where
   pub received : Received
   pub receives : Receives fold_hash session bytes pages received old new
   pub others : SparesOthers (session_at new.sessions session) old.domain new.domain
   pub stay : BytesStay old.domain new.domain
-  pub gives : Gives received told reply reply' freed freed'
+  pub gives : Gives received returned reply reply' freed freed'
 
 -- a packet for which there are buffers
 abbrev pub ReceivesWith : ℕ → List ℕ → List (List ℕ) → ReceivedPacket → List ℕ → List ℕ → List ℕ → List ℕ → HostView → HostView → Type 0
-ReceivesWith session bytes pages told reply reply' freed freed' old new =
+ReceivesWith session bytes pages returned reply reply' freed freed' old new =
     MatchBool (nat_lt (length reply) MAX_MESSAGE_BYTES || nat_lt (length freed) MAX_IN_MESSAGE)
-    (IsRefused status.SHORT told reply reply' freed freed' × (new ≡ old))
-    (ReceivesPacket session bytes pages told reply reply' freed freed' old new)
+    (IsRefused status.SHORT returned reply reply' freed freed' × (new ≡ old))
+    (ReceivesPacket session bytes pages returned reply reply' freed freed' old new)
 
 abbrev pub ReceivesAt : ℕ → List ℕ → List (List ℕ) → ReceivedPacket → List ℕ → List ℕ → List ℕ → List ℕ → Option Hosted → Option Hosted → Type 0
-ReceivesAt session bytes pages told reply reply' freed freed' old new =
-    AtHost (IsRefused status.NO_MACHINE told reply reply' freed freed') (λ h n. ReceivesWith session bytes pages told reply reply' freed freed' h n) old new
+ReceivesAt session bytes pages returned reply reply' freed freed' old new =
+    AtHost (IsRefused status.NO_MACHINE returned reply reply' freed freed') (λ h n. ReceivesWith session bytes pages returned reply reply' freed freed' h n) old new

@@ -93,7 +93,7 @@ pub(crate) fn write_session(hosted: &Hosted, session: u32, known: &mut KnownSess
     }
 }
 
-/// Returns what C gets of a session that has so many slots.
+/// Returns C's view of a session that has `slots` slots.
 fn known_session(slots: u32, session: &Session) -> KnownSession
     ensures { result ≡ known_session slots session.now }
 {

@@ -6,7 +6,7 @@ use crate::slot::HostSlot;
 use c_surface::{Handle, Parcel};
 use std::alloc::Global;
 
-/// A handle: room for one host. It holds none while all its bytes are 0.
+/// A handle: it can contain one host, and contains none while all its bytes are 0.
 #[repr(C)]
 pub struct HostHandle {
     pub slot: HostSlot,

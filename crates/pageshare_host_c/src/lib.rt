@@ -1,8 +1,8 @@
 //! A host of VMM processes for C: each function that a program in C or C++ calls.
 //!
-//! C makes room for a [`HostHandle`], which holds no host while its bytes are 0, and passes its address to each call. No call has a
-//! condition on its arguments except that its references are valid. `lib/include/pageshare_host.h` declares the same functions in C, and
-//! says what the caller owes.
+//! C provides a [`HostHandle`], which contains no host while its bytes are 0, and passes its address to each call. No call has a
+//! condition on its arguments except that its references are valid. `lib/include/pageshare_host.h` declares the same functions in
+//! C, and says what the caller owes.
 #![tactic(auto)]
 
 ghost use Rattle.std.specs.Prelude.{◌≡◌, None};
@@ -66,8 +66,8 @@ pub extern "C" fn pageshare_host_begin(
 
 /// Gives a host that was begun the frames of its next machine. With those of the last one the host is made.
 ///
-/// The status is `OK`, `NO_MACHINE` if no host was begun or it is made, `REGION` if the region has room for another number of
-/// frames, or `MEMORY` if memory was refused: then the handle holds nothing.
+/// The status is `OK`, `NO_MACHINE` if no host was begun or it is made, or `REGION` if the region is for another number of
+/// frames. It is `MEMORY` if memory was refused: then the handle holds nothing.
 #[unsafe(no_mangle)]
 pub extern "C" fn pageshare_host_add(alloc: Global, host: &mut HostHandle, region: Region) -> u32
     ensures { AddsFrames region.pages host.old.slot.host host.new.slot.host result }
@@ -109,8 +109,8 @@ pub extern "C" fn pageshare_host_connect(
 
 /// Receives a packet of a session.
 ///
-/// The status is `NO_MACHINE` without a host, `SHORT` if a buffer is too short, `NO_SESSION` if no session with this number takes
-/// messages, and that of a fault (`FAULT_HEAD` and on) if the packet has one.
+/// The status is `NO_MACHINE` without a host, `SHORT` if a buffer is too short, and `NO_SESSION` if no session with this number
+/// takes messages. If the packet has a fault, it is that of the fault (`FAULT_HEAD` and on).
 #[unsafe(no_mangle)]
 pub extern "C" fn pageshare_host_receive(
     alloc: Global,
@@ -159,7 +159,7 @@ pub extern "C" fn pageshare_host_serve(
     }
 }
 
-/// Returns what a packet says, before a session receives it, and writes the name of the session that it wants to take up.
+/// Returns what a packet says, before a session receives it, and writes the name of the session that it asks to resume.
 #[unsafe(no_mangle)]
 pub extern "C" fn pageshare_host_read(bytes: &[u8], name: &mut [u8; 16]) -> PacketHead
     ensures head { result ≡ head_of (client_at bytes.now) }

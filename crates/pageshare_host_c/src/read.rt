@@ -13,11 +13,11 @@ pub struct PacketHead {
     pub kind: u32,
     /// How many questions, pages or slots it lists.
     pub count: u32,
-    /// 1 if it names a session that is to be taken up, else 0.
+    /// 1 if it names a session to resume, else 0.
     pub names: u32,
 }
 
-/// Reads a packet, and writes the name of the session that is to be taken up.
+/// Reads a packet, and writes the name of the session to resume.
 pub(crate) fn read(bytes: &[u8], name: &mut Name) -> PacketHead
     ensures head { result ≡ head_of (client_at bytes.now) }
     ensures name { name.new ≡ name_after name.old (client_at bytes.now) }
@@ -59,7 +59,7 @@ fn wanted_head(wanted: &Option<Wanted>) -> PacketHead
     }
 }
 
-/// Writes the name of the session that a message wants to take up.
+/// Writes the name of the session that a message asks to resume.
 fn put_name(message: &ClientMessage, name: &mut Name)
     ensures { name.new ≡ name_wanted name.old message.now }
 {

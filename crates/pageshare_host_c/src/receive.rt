@@ -19,7 +19,7 @@ pub struct ReceivedPacket {
     pub reply_bytes: u32,
     /// How many frames stand in `freed`.
     pub freed: u32,
-    /// The number of the session that was taken up, or [`NO_FRAME`].
+    /// The number of the session that was resumed, or [`NO_FRAME`].
     pub resumed: u32,
 }
 
@@ -157,7 +157,7 @@ fn message_status(fault: &MessageFault) -> u32
     }
 }
 
-/// Returns the number of the session that was taken up, or [`NO_FRAME`].
+/// Returns the number of the session that was resumed, or [`NO_FRAME`].
 fn resumed_of(received: &Received) -> u32
     ensures { result ≡ resumed_of received.now }
 {

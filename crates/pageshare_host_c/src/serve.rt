@@ -20,15 +20,15 @@ pub struct ServedPacket {
     pub status: u32,
     /// The bytes of the reply.
     pub reply_bytes: u32,
-    /// How many frames that are free since stand in the buffer of frames.
+    /// How many freed frames are in the buffer of frames.
     pub freed: u32,
-    /// The number of the session that was taken up, or [`NO_FRAME`].
+    /// The number of the session that was resumed, or [`NO_FRAME`].
     pub resumed: u32,
     /// The kind of the reply, or 0.
     pub kind: u32,
     /// How many questions the reply answers.
     pub answers: u32,
-    /// How many pages' frames stand in the buffer of frames, each [`NO_FRAME`] where the page isn't lent.
+    /// How many pages the reply has loans of. The buffer of frames contains the frame of each, [`NO_FRAME`] if it isn't lent.
     pub loans: u32,
 }
 
@@ -99,7 +99,7 @@ fn with_received(got: &ReceivedPacket, kind: u32, answers: u32, loans: u32) -> S
     }
 }
 
-/// Returns the kind of the reply, or 0 where there is none.
+/// Returns the kind of the reply, or 0 if there is none.
 fn kind_of(received: &Received) -> u32
     ensures { result ≡ kind_of received.now }
 {

@@ -2,14 +2,14 @@
 ghost use Rattle.std.specs.Prelude.{◌≡◌, ◌*◌, ◌≤◌, ◌<◌, ◌^◌};
 ghost use Rattle.recent_fingerprints.specs.Chains.{bucket_of, IsBucketCount};
 
-/// How a fingerprint's bucket is found: the highest bits of its product with an odd number. Of two fingerprints a part of at
-/// most two in the number of buckets of all odd numbers make them meet. So nobody who doesn't know the number can choose
-/// fingerprints that meet.
+/// How a fingerprint's bucket is found: it is the highest bits of its product with an odd factor (multiply-shift hashing). For
+/// two distinct fingerprints, at most 2/buckets of all odd factors put both in one bucket. So fingerprints of one bucket can't be
+/// chosen without knowing the factor.
 #[derive(Clone, Copy, Debug, PartialEq, Eq)]
 pub struct Buckets {
-    /// The odd number.
+    /// The odd factor.
     pub factor: u64,
-    /// How many bits of a product name no bucket.
+    /// How many low bits of a product are dropped.
     pub shift: u32,
 }
 
@@ -24,7 +24,7 @@ impl Buckets {
     }
 }
 
-/// Returns the number of buckets for this many places, a power of two, and the bits of a product that name none.
+/// Returns the number of buckets for this many places, a power of two, and how many low bits of a product to drop.
 pub fn bucket_count(places: u32) -> (u32, u32)
     requires { places ≤ 2 ^ 31 }
     ensures shift { result.1 < 64 }

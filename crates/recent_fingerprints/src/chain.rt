@@ -37,7 +37,7 @@ impl<A: Allocator> Chains<A> {
         false
     }
 
-    // Puts a note before the others. The oldest one goes where all places are taken.
+    // Puts a note before the others. If all places are taken, it replaces the oldest one.
     pub(crate) fn put(&mut self, note: Note)
         requires { AreKept self.old.ring.items self.old.heads.items self.old.buckets.factor self.old.buckets.shift self.old.places self.old.newest (deque_capacity self.old.ring) }
         ensures kept { AreKept self.new.ring.items self.new.heads.items self.new.buckets.factor self.new.buckets.shift self.new.places self.new.newest (deque_capacity self.new.ring) }
@@ -90,7 +90,7 @@ impl<A: Allocator> Chains<A> {
     }
 }
 
-// Puts a place before the others. The last one goes where all places are taken.
+// Puts a place before the others. If all places are taken, the last one is removed.
 fn put_first<A: Allocator>(ring: &mut VecDeque<Place, A>, places: u32, place: Place)
     requires some { 1 ≤ places }
     requires few { length ring.old.items ≤ places }
@@ -118,7 +118,7 @@ fn is_other(lives: &[u64], asked: Note, note: Note) -> bool
     note.life == life_of(lives, note.page.client)
 }
 
-// Returns the life of the client with this number. It is 0 where no life is kept of the number.
+// Returns the life number of the client with this number, 0 if none is kept.
 pub(crate) fn life_of(lives: &[u64], client: u32) -> u64
     ensures { result ≡ life_of lives.now client }
 {

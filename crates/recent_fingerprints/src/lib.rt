@@ -1,7 +1,8 @@
-//! Which fingerprints of pages were noted lately.
+//! Which fingerprints were asked about lately.
 //!
-//! A host that shares memory between virtual machines asks first and lends later: a page is lent only where another page
-//! with its fingerprint was asked about or lent lately. `RecentFingerprints` keeps the last notes, as many as it has places.
+//! A host that shares memory between virtual machines asks first and lends later. A page is lent only if another page with its
+//! fingerprint was asked about lately, or a frame in use has this fingerprint. `RecentFingerprints` contains the last notes, as
+//! many as it has places. [`ask`](RecentFingerprints::ask) makes one, and no other call does.
 #![tactic(auto)]
 
 mod buckets;

@@ -9,7 +9,7 @@ pub struct PageName {
     pub number: u64,
 }
 
-/// That a page was asked about, with its fingerprint.
+/// A note that a page was asked about, with its fingerprint.
 #[derive(Clone, Copy, Debug, PartialEq, Eq)]
 pub struct Note {
     /// The fingerprint of the page's content.
@@ -20,8 +20,8 @@ pub struct Note {
     pub life: u64,
 }
 
-// A note in its place, and how many notes stand between it and the next older one of its chain. Where that would be out of
-// the places, the chain ends.
+// A note in its place, and how many notes stand between it and the next older one of its chain. The chain ends if that one would
+// be beyond the last place.
 #[derive(Clone, Copy)]
 pub(crate) struct Place {
     pub(crate) note: Note,

@@ -11,7 +11,7 @@ use std::collections::VecDeque;
 use std::marker::Model;
 
 /// The last notes of pages with their fingerprints, as many as there are places. It says whether another page was noted with a
-/// fingerprint. Notes of clients that have ended don't count.
+/// fingerprint. It ignores notes of clients that have ended.
 ///
 /// `new` takes all memory.
 #[derive(Drop)]
@@ -36,9 +36,9 @@ impl<A: Allocator> Model for RecentFingerprints<A> {
 impl<A: Allocator + Clone> RecentFingerprints<A> {
     ghost use Rattle.recent_fingerprints.specs.declared.limits.TheConstants.{MAX_PLACES};
 
-    /// Makes an empty list of notes with `places` places, 40 bytes each, and 4 to 8 more for the buckets. For each of so many
-    /// clients there are 8 bytes. The seed is drawn at random and kept secret: who knows it can choose fingerprints that take long
-    /// to look up. No result depends on it.
+    /// Makes an empty list of notes with `places` places, 40 bytes each, and 4 to 8 more for the buckets. Each of the `clients`
+    /// clients takes 8 bytes. The caller draws the seed at random and keeps it secret: knowing it, one can choose fingerprints
+    /// that take long to look up. No result depends on it.
     pub fn new(
         alloc: A,
         places: u32,
@@ -71,7 +71,7 @@ impl<A: Allocator + Clone> RecentFingerprints<A> {
     }
 }
 
-// Makes the lives of so many clients, of which none has ended.
+// Returns the life numbers of `clients` clients, all 0: none has ended.
 fn new_lives<A: Allocator>(alloc: A, clients: u32) -> Result<Vec<u64, A>, AllocError>
     ensures { IfOk result (λ lives. lives.items ≡ replicate clients 0) }
 {
@@ -112,8 +112,8 @@ impl<A: Allocator> RecentFingerprints<A> {
         self.chains.has_other(&self.lives, asked)
     }
 
-    /// A client has ended: its notes don't count from now on, also where its number becomes another client's. Nothing changes if
-    /// no life is kept of the number.
+    /// A client has ended. Its notes are ignored from now on, even after another client gets its number. Nothing changes if the
+    /// number isn't below the `clients` of `new`.
     pub fn forget(&mut self, client: u32)
         ensures { self.new ≡ forgotten client self.old }
     {

@@ -58,7 +58,7 @@ pub fn in_units(scale: u32, pages: u64) -> u64
     in_units_of(scale, u128::from(pages))
 }
 
-/// Returns how many units a MiB has where so many pages are shown: 10 below 10 MiB, and else 1.
+/// Returns how many units a MiB has in an amount of `pages` pages: 10 below 10 MiB, and else 1.
 pub fn scale_for(pages: u64) -> u32
     ensures value { result ≡ scale_for pages }
     ensures within { result ≤ 10 }

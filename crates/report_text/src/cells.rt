@@ -4,15 +4,18 @@ use crate::rows::{ClassRow, TotalRow};
 use crate::{Unit, in_units};
 use std::alloc::{AllocError, Allocator};
 
-/// In what the numbers of the cells are, and how wide a cell is. If the numbers are estimates, the cell of the standard error comes
-/// behind each cell of one.
+/// The table's unit and its columns' widths. If the numbers are estimates, a column for the standard error follows each column of
+/// estimates.
 #[derive(Clone, Copy)]
 pub(crate) struct Cells {
+    /// Whether the numbers are estimates.
     is_sampled: bool,
     pub(crate) unit: Unit,
+    /// The width of a column of memory.
     width: usize,
-    /// How wide the copies of a class are, and how many contents it has.
+    /// The width of the column of copies.
     pub(crate) copies: usize,
+    /// The width of the column of contents.
     contents: usize,
 }
 
@@ -21,14 +24,14 @@ pub(crate) struct Cells {
 pub(crate) enum Column {
     /// Numbers that are known.
     Known(&'static str),
-    /// Numbers that are estimates, unless all contents were kept.
+    /// Numbers that are estimates if a sample was taken.
     Estimated(&'static str),
 }
 
 /// The length of the longest heading.
 const LONGEST: usize = 14;
 
-/// How wide the copies of a class are at least. That is enough for the copies of an estimate, which has fewer than 2^32 pages.
+/// The least width of the column of copies. It fits every estimate, which has fewer than 2^32 pages.
 const COPIES: usize = 24;
 
 /// Returns how many decimal digits a number has.
@@ -39,7 +42,7 @@ pub(crate) fn digits(number: u64) -> usize {
     }
 }
 
-/// Returns the greatest of all numbers in pages: those of a guest and of a class are parts of those in total.
+/// Returns the greatest number of pages in the table. It is one of the totals, of which all other numbers are parts.
 fn greatest(total: &TotalRow) -> u64 {
     let errors = total.errors.unwrap_or_default();
     let mut most = total.pages;
@@ -95,7 +98,7 @@ fn push_heading<A: Allocator>(
     write!(text, "  {heading:>wide$}")
 }
 
-/// Appends the heading of a column, and behind that of estimates the one of their standard errors.
+/// Appends the heading of a column, followed by that of the standard errors if the column has estimates.
 fn push_column<A: Allocator>(
     text: &mut String<A>,
     cells: Cells,

@@ -101,8 +101,8 @@ impl TotalErrors {
         }
     }
 
-    /// Returns these standard errors, but no more than those of the pool, where these bound them: in the pool each content counts at
-    /// least as much as on all hosts together, but for frames.
+    /// Returns these standard errors, bounded by those of the pool. Only the frames aren't bounded: in all else a content counts
+    /// at least as much in the pool as on all hosts together.
     fn at_most(&self, pool: &TotalErrors) -> TotalErrors
         ensures { result ≡ bound_of self.now pool.now }
     {

@@ -37,7 +37,7 @@ fn header_of(fleet: &Fleet<'_>) -> &'static str {
     }
 }
 
-/// Returns the guests' names: empty where a digest has no line.
+/// Returns the guests' names, empty if a digest has no line.
 fn names_of<'a>(alloc: Global, fleet: &Fleet<'a>) -> Result<Vec<&'a str>, AllocError> {
     let mut names = Vec::with_capacity(alloc, fleet.guests.len())?;
     for guest in fleet.guests {

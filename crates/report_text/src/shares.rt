@@ -9,13 +9,17 @@ use crate::{Reclaimed, Unit};
 /// What could be reclaimed and its parts, in units of memory. The parts add up to the whole.
 #[derive(Clone, Copy, Debug, PartialEq, Eq)]
 pub struct Shares {
+    /// All that could be reclaimed.
     pub whole: u64,
+    /// Pages of zeros.
     pub zeros: u64,
+    /// Other pages, which only sharing between guests reclaims.
     pub between: u64,
+    /// Other pages, which sharing within each guest reclaims.
     pub within: u64,
 }
 
-/// Which parts get one unit more.
+/// How many units are added to each part: 0 or 1.
 #[derive(Clone, Copy)]
 struct More {
     zeros: u64,
@@ -31,7 +35,7 @@ fn below(a: u64, b: u64) -> u64
     if a < b { 1 } else { 0 }
 }
 
-/// Returns which parts get one of the units that are lacking, by what is left of each.
+/// Largest remainder method: returns which parts are rounded up. `lack` units are lacking; the remainders are `a`, `b` and `c`.
 fn more_by(lack: u64, a: u64, b: u64, c: u64) -> More
     ensures value { result ≡ more_by lack a b c }
     ensures sum { lack ≤ 3 → result.zeros + result.between + result.within ≡ lack }
@@ -54,7 +58,7 @@ fn filled(scale: u32, pages: u64) -> u64
     (u128::from(scale) * u128::from(pages) / PAGES_OF_A_MEBIBYTE) as u64
 }
 
-/// Returns what is left of these pages beyond the units that they fill, in parts of 256 of a unit.
+/// Returns the remainder of these pages beyond the whole units that they fill, in 256ths of a unit.
 fn remainder(scale: u32, pages: u64) -> u64
     requires { scale ≤ 10 }
     ensures { result ≡ remainder scale pages }
@@ -71,7 +75,7 @@ fn whole_in(scale: u32, parts: &Reclaimed) -> u64
     in_units_of(scale, whole)
 }
 
-/// Returns how many units the filled ones lack to the nearest of the whole.
+/// Returns by how many units the rounded whole exceeds the sum of the whole units that the parts fill.
 fn lacking(scale: u32, parts: &Reclaimed) -> u64
     requires { scale ≤ 10 }
     ensures { result ≡ lacking scale parts.now }

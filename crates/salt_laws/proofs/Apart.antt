@@ -36,9 +36,9 @@ record BothEnd (hash : ℕ → List ℕ → ℕ) (salt : ℕ) (shapes : List Sha
   owners : (c : ℕ) → owns salt (state_after hash s es).guests c ≡ has_salt salt shapes c
 
 -- a verdict more, or none, in front of verdicts that are alike
-told : (b : Bool) (v w : Verdict) (vs ws : List Verdict) → without_totals w ≡ without_totals v → map without_totals vs ≡ map without_totals ws → map without_totals (cond b (v ∷ vs) vs) ≡ map without_totals (cond b (w ∷ ws) ws)
-told true v w vs ws e f = ap (λ x. x ∷ map without_totals vs) (sym e) ∙ ap (λ xs. without_totals w ∷ xs) f
-told false v w vs ws e f = f
+verdict_listed : (b : Bool) (v w : Verdict) (vs ws : List Verdict) → without_totals w ≡ without_totals v → map without_totals vs ≡ map without_totals ws → map without_totals (cond b (v ∷ vs) vs) ≡ map without_totals (cond b (w ∷ ws) ws)
+verdict_listed true v w vs ws e f = ap (λ x. x ∷ map without_totals vs) (sym e) ∙ ap (λ xs. without_totals w ∷ xs) f
+verdict_listed false v w vs ws e f = f
 
 -- an entry of a guest with this salt, which both replays have
 own_entry : (hash : ℕ → List ℕ → ℕ) (salt : ℕ) (shapes : List Shape) (s : State) (n : ℕ) (e : Entry) (es short : List Entry) → SameStep hash salt s n e.guest e.request →
@@ -46,7 +46,7 @@ own_entry : (hash : ℕ → List ℕ → ℕ) (salt : ℕ) (shapes : List Shape)
     BothEnd hash salt shapes after (small salt after (n + 1)) es short → BothEnd hash salt shapes s (small salt s n) (e ∷ es) (e ∷ short)
 unfolding verdicts_of state_after
 own_entry hash salt shapes s n e es short same rest = record {
-  verdicts = λ guest h. told (nat_eq e.guest guest) _ _ _ _ same.verdict (rest.verdicts guest h ∙ ap (λ u. map without_totals (answers hash u guest short)) (sym same.state));
+  verdicts = λ guest h. verdict_listed (nat_eq e.guest guest) _ _ _ _ same.verdict (rest.verdicts guest h ∙ ap (λ u. map without_totals (answers hash u guest short)) (sym same.state));
   guests = ap (λ u. (state_after hash u short).guests) same.state ∙ rest.guests;
   owners = rest.owners;
 }

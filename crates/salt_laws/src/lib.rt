@@ -14,8 +14,8 @@ use page_model::{Entry, Verdict};
 /// *Salts keep guests apart.* Leave out of a journal the entries of all guests with other salts, and keep the machine. Then
 /// each guest with this salt gets the same verdicts, but for the numbers of a report, and has the same pages at the end.
 ///
-/// That is so where, in the whole journal, none of these guests was refused a frame, and no key under which one of them
-/// proposed a page is one under which a guest with another salt did (`AreUndisturbed`).
+/// That holds if in the whole journal none of these guests was refused a frame. Further, no guest with another salt may have
+/// proposed a page under a key under which one of these did (`AreUndisturbed`).
 pub fn salts_apart_law(entries: &[Entry], salt: u32)
     ensures verdicts { VerdictsAsApart entries.now salt }
     ensures pages { PagesAsApart entries.now salt }

@@ -12,9 +12,9 @@ some_shared : (v : MachineView) (ppn : ℕ) (h : Holding) → holding v.slots pp
 some_shared v ppn h e (inl none) = absurd (unshared h.frame v.slots ppn h none e refl)
 some_shared v ppn h e (inr some) = omega (arith, some)
 
-told_within : (b : Bool) (mpn total : ℕ) → mpn < total → IfSome (cond b (Some mpn) None) (λ m. m < total)
-told_within true mpn total h = h
-told_within false mpn total h = tt
+free_within : (b : Bool) (mpn total : ℕ) → mpn < total → IfSome (cond b (Some mpn) None) (λ m. m < total)
+free_within true mpn total h = h
+free_within false mpn total h = tt
 
 freed_within : (v : MachineView) (ppn : ℕ) → FramesOfSlots v → IfSome (freed ppn v) (λ mpn. mpn < length v.frames)
 freed_within v ppn f = go (holding v.slots ppn) refl where
@@ -22,9 +22,9 @@ freed_within v ppn f = go (holding v.slots ppn) refl where
   go None e = rw e tt
   go (Some h) e =
       let shared : 1 ≤ sharers h.frame v.slots = some_shared v ppn h e (cases_eq (sharers h.frame v.slots) 0) in
-      rw e (told_within (sharers h.frame (slice_set v.slots ppn None) == 0) h.frame (length v.frames) (taken_within v.frames h.frame ((f h.frame).1 shared)))
+      rw e (free_within (sharers h.frame (slice_set v.slots ppn None) == 0) h.frame (length v.frames) (taken_within v.frames h.frame ((f h.frame).1 shared)))
 
-pub freed_told : (ppn : ℕ) (v a b : MachineView) (r : Option ℕ) → FramesOfSlots a → a ≡ v → b ≡ v → r ≡ freed ppn b → IfSome r (λ mpn. mpn < length v.frames)
-freed_told ppn v a b r f ea eb e =
+pub returned_within : (ppn : ℕ) (v a b : MachineView) (r : Option ℕ) → FramesOfSlots a → a ≡ v → b ≡ v → r ≡ freed ppn b → IfSome r (λ mpn. mpn < length v.frames)
+returned_within ppn v a b r f ea eb e =
     subst (λ (o : Option ℕ). IfSome o (λ mpn. mpn < length v.frames)) (sym (e ∙ ap (λ (m : MachineView). freed ppn m) eb))
     (freed_within v ppn (subst (λ (m : MachineView). FramesOfSlots m) ea f))

@@ -104,8 +104,8 @@ impl<H: PageHash, A: Allocator> Domain<H, A> {
         }
     }
 
-    /// Lends a client's page: puts it into a free slot of the machine that its hash names, where it joins the pages that are equal
-    /// to it or gets a frame of its own.
+    /// Lends a client's page: puts it into a free slot of the machine that its hash names. There it joins the pages that are
+    /// equal to it or gets a frame of its own.
     ///
     /// # Errors
     ///

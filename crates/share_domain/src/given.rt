@@ -8,7 +8,7 @@ use machine_frames::Frames;
 use std::alloc::{AllocError, Global};
 use std::marker::Model;
 
-/// The frames of so many machines, of which some are there.
+/// Collects the frames of `machines` machines, `each` frames for each, one machine after the other.
 #[derive(Drop)]
 pub struct GivenFrames {
     frames: Vec<Frames>,
@@ -30,7 +30,7 @@ impl Model for GivenFrames {
 impl GivenFrames {
     ghost use Rattle.page_model.specs.declared.limits.TheConstants.{MAX_FRAMES};
 
-    /// Makes room for the frames of so many machines, each of which has so many.
+    /// Makes an empty collection for `machines` machines of `each` frames.
     pub fn new(alloc: Global, machines: u32, each: u32) -> Result<GivenFrames, AllocError>
         requires some { 1 ≤ each }
         requires limit { each ≤ MAX_FRAMES }

@@ -12,7 +12,7 @@ pub fn limits_law()
     ensures no_frame { NO_FRAME ≡ 4294967295 }
 {}
 
-/// *Bytes stay*: after a release and after a leave, each slot that is still held, by the same client and with the same frame, reads
+/// *Bytes stay*: a slot may still be held after a release or a leave, by the same client and with the same frame. Then it reads
 /// the bytes that it read before. [`Domain::lend`](crate::Domain::lend) has this in its contract.
 pub fn bytes_law()
     ensures releases { ReleaseKeepsBytes }

@@ -11,7 +11,7 @@ use page_digest::PageHash;
 use page_model::Page;
 use std::alloc::Allocator;
 
-/// Returns the machine of a page with this hash, if there are so many machines.
+/// Returns which of `machines` machines a page with this hash goes to.
 pub(crate) fn machine_of(machines: usize, hash: u64) -> usize
     requires { 0 < machines }
     ensures machine { result ≡ machine_of machines hash }

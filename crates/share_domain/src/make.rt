@@ -53,7 +53,7 @@ pub(crate) fn new_machines<H: PageHash + Drop + Copy, A: Allocator + Clone>(
     Ok(machines)
 }
 
-/// Makes so many numbers of clients that none has.
+/// Returns a table of `count` free client numbers.
 pub(crate) fn new_clients<A: Allocator>(
     alloc: A,
     count: u32,

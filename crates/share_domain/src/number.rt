@@ -9,10 +9,10 @@ use crate::holding::Slot;
 /// How far apart the numbers of slots of two machines are: a slot's number is its machine times this plus its page.
 pub const SLOTS_APART: u64 = 4_294_967_296;
 
-/// What stands for a frame where there is none: no frame has this number.
+/// The number that says that there is no frame. No frame has it.
 pub const NO_FRAME: u32 = u32::MAX;
 
-/// Returns a frame's number, or [`NO_FRAME`] where there is none.
+/// Returns the frame's number, or [`NO_FRAME`] if there is none.
 pub fn frame_number(frame: Option<u32>) -> u32
     ensures { result ≡ frame_number frame }
 {

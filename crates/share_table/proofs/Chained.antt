@@ -19,14 +19,14 @@ use Rattle.share_table.specs.Stored.{shared_of, hint_of, before_pairs, pairs, al
 use Rattle.share_table.proofs.Maps.{tied, found, tied_same, true_not_false, under}
 
 -- ---- keys
-abbrev pub tells : {X : Type 0} → Option (ℕ × X) → ℕ → Bool
-tells None q = false
-tells (Some p) q = tied q p.0
+abbrev pub is_tied_to : {X : Type 0} → Option (ℕ × X) → ℕ → Bool
+is_tied_to None q = false
+is_tied_to (Some p) q = tied q p.0
 
 -- entries of one kind, each of which is found by the key that its number stands for
 pub record IsKind {X : Type 0} (kind : Entry → Option (ℕ × X)) (key : ℕ → Key) : Type 0 where
   pub keyed : (e : Entry) (p : ℕ × X) → kind e ≡ Some p → key_of e ≡ key p.0
-  pub finds : (q : ℕ) (e : Entry) → has_key (key q) e ≡ tells (kind e) q
+  pub finds : (q : ℕ) (e : Entry) → has_key (key q) e ≡ is_tied_to (kind e) q
 
 alike_step : (q h : ℕ) (b : Bool) → eqb q h ≡ b → tied q h ≡ b
 alike_step q h true e = grind (arith, nat_tests, unsigned_tied q h)
@@ -39,7 +39,7 @@ shared_keyed : (e : Entry) (p : ℕ × SharedEntry) → shared_of e ≡ Some p �
 shared_keyed (Shared h m c) p e = ap (λ (x : ℕ × SharedEntry). keys.Shared x.0) (same_Some _ p e)
 shared_keyed (Hint k g n m) p e = absurd (cc)
 
-shared_finds : (q : ℕ) (e : Entry) → has_key (keys.Shared q) e ≡ tells (shared_of e) q
+shared_finds : (q : ℕ) (e : Entry) → has_key (keys.Shared q) e ≡ is_tied_to (shared_of e) q
 shared_finds q (Shared h m c) = alike q h
 shared_finds q (Hint k g n m) = refl
 
@@ -47,7 +47,7 @@ hint_keyed : (e : Entry) (p : ℕ × HintFrame) → hint_of e ≡ Some p → key
 hint_keyed (Shared h m c) p e = absurd (cc)
 hint_keyed (Hint k g n m) p e = ap (λ (x : ℕ × HintFrame). keys.Hint x.0) (same_Some _ p e)
 
-hint_finds : (q : ℕ) (e : Entry) → has_key (keys.Hint q) e ≡ tells (hint_of e) q
+hint_finds : (q : ℕ) (e : Entry) → has_key (keys.Hint q) e ≡ is_tied_to (hint_of e) q
 hint_finds q (Shared h m c) = refl
 hint_finds q (Hint k g n m) = alike q k
 
@@ -215,7 +215,7 @@ module _ {X : Type 0} (kind : Entry → Option (ℕ × X)) (key : ℕ → Key) (
   value_tied p q e ps r true is h = sym (ap second_of is)
   value_tied p q e ps r false is h = h
 
-  value_step : (o : Option (ℕ × X)) (q : ℕ) (e : Entry) (b : Bool) (ps : List (ℕ × X)) (r : Option Entry) → kind e ≡ o → b ≡ tells o q → found q ps ≡ value_of kind r → found q (before_pairs o ps) ≡ value_of kind (cond b (Some e) r)
+  value_step : (o : Option (ℕ × X)) (q : ℕ) (e : Entry) (b : Bool) (ps : List (ℕ × X)) (r : Option Entry) → kind e ≡ o → b ≡ is_tied_to o q → found q ps ≡ value_of kind r → found q (before_pairs o ps) ≡ value_of kind (cond b (Some e) r)
   value_step None q e b ps r is t h = rw t h
   value_step (Some p) q e b ps r is t h = rw t (value_tied p q e ps r (tied q p.0) is h)
 
@@ -228,7 +228,7 @@ module _ {X : Type 0} (kind : Entry → Option (ℕ × X)) (key : ℕ → Key) (
   none_pair true x r h = absurd (cc)
   none_pair false x r h = (refl, h)
 
-  absent_step : (o : Option (ℕ × X)) (q : ℕ) (e : Entry) (ps : List (ℕ × X)) (r : Option Entry) (b : Bool) → b ≡ tells o q → found q (before_pairs o ps) ≡ None → (found q ps ≡ None → r ≡ None) → cond b (Some e) r ≡ None
+  absent_step : (o : Option (ℕ × X)) (q : ℕ) (e : Entry) (ps : List (ℕ × X)) (r : Option Entry) (b : Bool) → b ≡ is_tied_to o q → found q (before_pairs o ps) ≡ None → (found q ps ≡ None → r ≡ None) → cond b (Some e) r ≡ None
   absent_step None q e ps r b t h ih = rw t (ih h)
   absent_step (Some p) q e ps r b t h ih =
       let s = none_pair (tied q p.0) p.1 (found q ps) h in
@@ -317,7 +317,7 @@ module _ {X : Type 0} (kind : Entry → Option (ℕ × X)) (key : ℕ → Key) (
   pushed b v k q ps o rest = cond b (cond (tied q k) (Some v) (found q ps)) (found q (before_pairs o rest))
 
   other_step : (o : Option (ℕ × X)) (k q : ℕ) (new e : Entry) (es : List Entry) (v : X) (b : Bool) → kind e ≡ o → kind new ≡ Some (k, v)
-      → b ≡ tells o k → IsSome (cond b (Some e) (first_with (key k) es))
+      → b ≡ is_tied_to o k → IsSome (cond b (Some e) (first_with (key k) es))
       → (IsSome (first_with (key k) es) → found q (pairs kind (with_other (key k) new es)) ≡ cond (tied q k) (Some v) (found q (pairs kind es)))
       → pushed b v k q (pairs kind es) o (pairs kind (with_other (key k) new es))
       ≡ cond (tied q k) (Some v) (found q (before_pairs o (pairs kind es)))
@@ -344,7 +344,7 @@ module _ {X : Type 0} (kind : Entry → Option (ℕ × X)) (key : ℕ → Key) (
       ap (cond (tied q p.0) (Some p.1)) (h refl)
       ∙ swapped (tied q p.0) (tied q k) p.1 None (found q ps) (λ x y. true_not_false (tied k p.0) (ap (λ z. tied z p.0) (sym (tied_same q k y)) ∙ x) e)
 
-  gone_step : (o : Option (ℕ × X)) (k q : ℕ) (e : Entry) (es : List Entry) (b : Bool) → kind e ≡ o → b ≡ tells o k → first_with (key_of e) es ≡ None
+  gone_step : (o : Option (ℕ × X)) (k q : ℕ) (e : Entry) (es : List Entry) (b : Bool) → kind e ≡ o → b ≡ is_tied_to o k → first_with (key_of e) es ≡ None
       → found q (pairs kind (without_first (key k) es)) ≡ cond (tied q k) None (found q (pairs kind es))
       → cond b (found q (pairs kind es)) (found q (before_pairs o (pairs kind (without_first (key k) es))))
       ≡ cond (tied q k) None (found q (before_pairs o (pairs kind es)))
@@ -397,7 +397,7 @@ each_step P cs b es all new l i false e = subst (P i) (sym (get_or-set_other cs 
 pub each_set : (P : ℕ → List Entry → Type 0) (cs : List (List Entry)) (b : ℕ) (es : List Entry) → ((i : ℕ) → P i (get_or cs i [])) → P b es → b < length cs → (i : ℕ) → P i (get_or (set cs b es) i [])
 each_set P cs b es all new l i = each_step P cs b es all new l i (eqb i b) refl
 
--- ---- what a search of a chain told of a shared frame
+-- ---- what a search of a chain found of a shared frame
 value_of_head : (h : ℕ) (e : Entry) (r : Option Entry) (m f : ℕ) (b : Bool) → has_key (keys.Shared h) e ≡ b
     → shared_parts (cond b (Some e) r) ≡ Some (m, f)
     → (shared_parts r ≡ Some (m, f) → Some (record { hash = h; mpn = m; field = f }) ≡ value_of shared_of r)

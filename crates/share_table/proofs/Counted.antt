@@ -1,4 +1,4 @@
--- What a count that stands in its entry tells, and what the table is once the frame has one page more or less.
+-- What follows from a count that stands in its entry, and what the table is once the frame has one page more or less.
 use Rattle.std.proofs.Common.{◌≡◌, ℕ, ◌+◌, ◌-◌, ◌≤◌, ◌≢◌, Bool, true, false, cond, eqb, nat_le, List, [], ◌∷◌, Option, Some, None, IsSome, sym, refl, ap, ◌∙◌, arith, rules}
 use Rattle.std.proofs.lemmas.Bool.Decides.{nat_tests}
 use Rattle.std.specs.FinMap.{get}

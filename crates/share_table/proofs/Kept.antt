@@ -128,7 +128,7 @@ module _ (total : ℕ) (T : EntryChains) (wide : WideMap) (k : IsKept total T wi
   hint_got h = get-from_entries nat_cmp_total hint_pairs h ∙ hint_found h
 
   pub count_is : entry_count (maps_of T wide) ≡ chained T
-  count_is = k.told
+  count_is = k.all_counted
 
   -- ---- another chain
   module _ (key : Key) (es : List Entry) (belongs : BelongInto (length T.chains) (home_of key) es) where
@@ -186,7 +186,7 @@ module _ (total : ℕ) (T : EntryChains) (wide : WideMap) (k : IsKept total T wi
         record {
           filed = filed_set (keys.Shared h) with_frame frame_homes (none_first, k.filed.once (home_of (keys.Shared h))) (omega (arith, frame_counted, room));
           counted = added_counted total shared_pairs wide k.counted _ (record { hash = h; mpn = m; field = 2 }) refl none_in frame_put most;
-          told = omega (arith, frames_len, hints_len, frame_counted, k.told);
+          all_counted = omega (arith, frames_len, hints_len, frame_counted, k.all_counted);
         }
 
   -- ---- another count of a shared frame
@@ -231,7 +231,7 @@ module _ (total : ℕ) (T : EntryChains) (wide : WideMap) (k : IsKept total T wi
           record {
             filed = filed_set (keys.Shared e.hash) with_field field_homes (once_other (keys.Shared e.hash) (Shared e.hash e.mpn field) (chain_of T (keys.Shared e.hash)) refl (k.filed.once (home_of (keys.Shared e.hash)))) (omega (arith, field_counted, fits));
             counted = recounted total shared_pairs wide k.counted e entry_is c _ new_entry refl field_is least field_put rest sum most;
-            told = omega (arith, frames_len, hints_len, field_counted, k.told);
+            all_counted = omega (arith, frames_len, hints_len, field_counted, k.all_counted);
           }
 
     -- ---- the last page leaves a shared frame
@@ -272,7 +272,7 @@ module _ (total : ℕ) (T : EntryChains) (wide : WideMap) (k : IsKept total T wi
           record {
             filed = filed_set (keys.Shared e.hash) without_frame gone_homes (once_without (keys.Shared e.hash) (chain_of T (keys.Shared e.hash)) (k.filed.once (home_of (keys.Shared e.hash)))) (omega (arith, gone_counted, fits));
             counted = removed_counted total shared_pairs wide k.counted e entry_is one _ frame_taken rest sum;
-            told = omega (arith, frames_len, hints_len, gone_counted, k.told);
+            all_counted = omega (arith, frames_len, hints_len, gone_counted, k.all_counted);
           }
 
   -- ---- a new hint
@@ -313,7 +313,7 @@ module _ (total : ℕ) (T : EntryChains) (wide : WideMap) (k : IsKept total T wi
         record {
           filed = filed_set (keys.Hint j) with_note note_homes (note_first, k.filed.once (home_of (keys.Hint j))) (omega (arith, note_counted, room));
           counted = subst (λ ps. IsCounted total ps wide) (sym frames_stay) k.counted;
-          told = omega (arith, frames_len, hints_len, note_counted, k.told);
+          all_counted = omega (arith, frames_len, hints_len, note_counted, k.all_counted);
         }
 
   -- ---- a hint goes
@@ -357,7 +357,7 @@ module _ (total : ℕ) (T : EntryChains) (wide : WideMap) (k : IsKept total T wi
         record {
           filed = filed_set (keys.Hint j) without_note drop_homes (once_without (keys.Hint j) (chain_of T (keys.Hint j)) (k.filed.once (home_of (keys.Hint j)))) (omega (arith, drop_counted, fits));
           counted = subst (λ ps. IsCounted total ps wide) (sym frames_still) k.counted;
-          told = omega (arith, frames_len, hints_len, drop_counted, k.told);
+          all_counted = omega (arith, frames_len, hints_len, drop_counted, k.all_counted);
         }
 
 -- ---- an empty table
@@ -377,8 +377,8 @@ no_entries (suc n) = omega (arith, no_entries n)
 pub nothing_shown : (n capacity : ℕ) → maps_of (empty_chains n capacity) empty ≡ empty_table capacity
 nothing_shown n capacity = rw (no_pairs shared_of n, no_pairs hint_of n) refl
 
-no_entry_told : (n : ℕ) → len (empty {K = ℕ} {X = SharedFrame} {R = nat_cmp}) + len (empty {K = ℕ} {X = HintFrame} {R = nat_cmp}) ≡ entries_in (replicate n [])
-no_entry_told n = omega (arith, no_entries n, len-empty nat_cmp SharedFrame, len-empty nat_cmp HintFrame)
+no_entry_counted : (n : ℕ) → len (empty {K = ℕ} {X = SharedFrame} {R = nat_cmp}) + len (empty {K = ℕ} {X = HintFrame} {R = nat_cmp}) ≡ entries_in (replicate n [])
+no_entry_counted n = omega (arith, no_entries n, len-empty nat_cmp SharedFrame, len-empty nat_cmp HintFrame)
 
 pub nothing_kept : (n capacity : ℕ) → IsGreatestPower capacity n → capacity ≤ 1048576 → IsKept 0 (empty_chains n capacity) empty
 nothing_kept n capacity buckets most =
@@ -394,5 +394,5 @@ nothing_kept n capacity buckets most =
         room = omega (arith, none);
       };
       counted = subst (λ ps. IsCounted 0 ps empty) (sym (no_pairs shared_of n)) nothing_counted;
-      told = ap (λ (t : TableMaps). entry_count t) (nothing_shown n capacity) ∙ no_entry_told n;
+      all_counted = ap (λ (t : TableMaps). entry_count t) (nothing_shown n capacity) ∙ no_entry_counted n;
     }

@@ -128,4 +128,4 @@ pub record IsKept (total : ℕ) (chains : EntryChains) (wide : WideMap) : Type 0
   pub filed : IsFiled chains
   pub counted : IsCounted total (all_pairs shared_of chains.chains) wide
   -- the maps have as many entries as the chains, so no map entry comes from two
-  pub told : entry_count (maps_of chains wide) ≡ chained chains
+  pub all_counted : entry_count (maps_of chains wide) ≡ chained chains

@@ -172,8 +172,8 @@ fn read_and_run<
     }
 }
 
-/// Reads a script, runs it with a thread for each guest, and writes what `form` names: each guest's verdict lines in the order
-/// in which it got them, guest 0's first, and then the report line; or the text of the run's journal.
+/// Reads a script, runs it with a thread for each guest, and writes what `form` names. That is each guest's verdict lines in the
+/// order in which it got them, guest 0's first, and then the report line. Or it is the text of the run's journal.
 ///
 /// The journal of a run depends on the threads; in every journal the entries are of the script's guests, and each guest asks
 /// for what its script says and then closes. `gate` is called in the guests' threads, around each send and verdict, and on the
@@ -181,9 +181,9 @@ fn read_and_run<
 ///
 /// # Errors
 ///
-/// If the text is at fault, only the line of the fault is written, and the fault is returned; the same goes for `Run(NoThread)`, if
-/// the start of a guest's thread is refused. On `OutOfMemory`, `Read` and `Long` nothing was written, and on `Write` a front of
-/// the output went out. `Read` is returned exactly if the reader failed, and `Write` exactly if the writer did.
+/// If the text is at fault, only the line of the fault is written, and the fault is returned. The same goes for `Run(NoThread)`,
+/// if the start of a guest's thread is refused. On `OutOfMemory`, `Read` and `Long` nothing was written, and on `Write` a front
+/// of the output went out. `Read` is returned exactly if the reader failed, and `Write` exactly if the writer did.
 #[tactic(auto, unfolding(crate::specs::Faults::plain))]
 pub fn threaded<
     T: Threads + Wait + Sync,

@@ -1,9 +1,8 @@
 //! Texts of page requests, and the engines that serve them.
 //!
-//! This crate has the whole surface of journals (`journal_text`, `journal_replay`), of scripts (`script_text`) and of their faults
-//! (`text_words`), so that users
-//! need to name no other crate, and the engine that runs a script with a thread for each guest. The texts, the output and the
-//! order of faults are in `docs/FORMATS.md`.
+//! This crate has the whole surface of journals (`journal_text`, `journal_replay`), of scripts (`script_text`) and of their
+//! faults (`text_words`). So users need no other crate. It also has the engine that runs a script with a thread for each guest.
+//! The texts, the output and the order of faults are in `docs/FORMATS.md`.
 #![tactic(auto)]
 
 mod engine;

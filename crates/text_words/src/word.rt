@@ -59,7 +59,7 @@ fn long_first_word<'a>(bytes: &'a [u8]) -> (&'a [u8], Left<'a>)
     }
 }
 
-/// Returns the next word as [`word`] does, and is quicker where that is long.
+/// Returns the next word as [`word`] does, faster if the word is long.
 #[tactic(auto, unfolding(crate::specs::Words::word_at))]
 pub fn long_word<'a>(rest: Left<'a>) -> Result<(&'a [u8], Left<'a>), Cause>
     ensures value { seen (λ x. (x.0.now, left x.1)) result ≡ word_at (left rest.entry) }
@@ -81,7 +81,7 @@ pub fn nothing(rest: Left<'_>) -> Result<(), Cause>
     }
 }
 
-/// Whether one more digit makes a number greater than `most`. For most numbers the first comparison tells, whatever the digit.
+/// Whether one more digit makes a number greater than `most`. For most numbers the first comparison decides, whatever the digit.
 #[inline(always)]
 fn is_past(most: u64, n: u64, digit: u64) -> bool
     requires most { 9 ≤ most }

@@ -1,14 +1,15 @@
 //! How the play of a trace ends.
 
-/// How the play of a trace ends. A place is that of a step, counted from 0.
+/// How the play of a trace ends. Steps are counted from 0.
 #[derive(Clone, Copy, Debug, PartialEq, Eq)]
 pub enum Outcome {
-    /// Each of so many events was possible, and each of so many pages showed what the trace says.
+    /// All events were possible, and each page showed what the trace claims. Contains the number of events, then that of the
+    /// pages.
     Right(usize, usize),
-    /// The event at this place isn't possible.
+    /// The event at step `.0` isn't possible.
     NotPossible(usize),
-    /// The trace says at this place of this page, which shows the third number, that it shows the fourth.
+    /// At step `.0` page `.1` shows `.2`, but the trace claims `.3`.
     Differs(usize, u32, u64, u64),
-    /// The trace says at this place what this page shows, and there is no such page.
+    /// At step `.0` the trace claims what page `.1` shows, but there is no such page.
     NoPage(usize, u32),
 }

@@ -18,8 +18,8 @@ use std::sync::Wait;
 pub struct Machine;
 
 impl Machine {
-    /// Makes a machine before its first request: its merger, which has published nothing and has room for 8 watches, and a list
-    /// of ports in which item i is guest i's.
+    /// Makes a machine before its first request: its merger, and a list of ports in which item i is guest i's. The merger has
+    /// published nothing, and can have 8 watches.
     ///
     /// All memory of the machine is allocated here. It takes `rt` because `left_right` shows its first value once. It waits for
     /// nobody, since there is no watch yet.

@@ -21,7 +21,7 @@ pub fn begin_law()
 {}
 
 /// A page that a domain lends is the event `Lend`. If its lender copied it before it guarded it, the loan is at most a `Trim` of
-/// a frame that no page holds, and `Lend` comes when the guarded page is compared with the frame.
+/// a frame that no page holds. `Lend` comes when the guarded page is compared with the frame.
 pub fn lend_law()
     ensures lends { LendsByEvent }
     ensures fills { LendsEarly }

@@ -15,8 +15,8 @@ pub fn window_law(events: &[Event], page: u32)
     ensures holds { HoldsShown events.now page }
 {}
 
-/// After these events, a write or a discard of a page that is possible makes it show that content, and no other event
-/// changes what it shows: neither its lender's, nor the host's, nor any of other pages.
+/// After these events, a possible write or discard of a page makes it show that content. No other event changes what it shows,
+/// whether of its lender, of the host or of another page.
 pub fn write_law(events: &[Event], event: &Event, page: u32)
     ensures others { KeepsOthers events.now event.now page }
     ensures written { ShowsWritten events.now event.now page }

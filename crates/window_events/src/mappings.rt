@@ -38,7 +38,7 @@ impl<A: Allocator> Mappings<A> {
         Ok(Mappings { parts })
     }
 
-    /// Plays one event, and answers whether it was possible. One that isn't changes nothing.
+    /// Plays one event, and returns whether it was possible. An impossible event changes nothing.
     pub fn apply(&mut self, event: &Event) -> bool
         ensures possible { result ≡ is_some (step self.old event.now) }
         ensures mappings { self.new ≡ unwrap_or (step self.old event.now) self.old }
@@ -46,7 +46,7 @@ impl<A: Allocator> Mappings<A> {
         self.parts.apply(event)
     }
 
-    /// Plays events up to the first that isn't possible, and answers its place, if there is one.
+    /// Plays events up to the first impossible one, and returns the place of that, if there is one.
     #[tactic(auto, using(crate::proofs::Played::refused_on, crate::proofs::Played::refused_here, crate::proofs::Played::played_on, crate::proofs::Played::played_here))]
     pub fn play(&mut self, events: &[Event]) -> Option<usize>
         ensures refused { result ≡ refused_from 0 self.old events.now }

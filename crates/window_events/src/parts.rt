@@ -36,7 +36,7 @@ impl<A: Allocator> Parts<A> {
         Ok(Parts { pages, frames })
     }
 
-    // Plays one event, and answers whether it was possible.
+    // Plays one event, and returns whether it was possible.
     pub(crate) fn apply(&mut self, event: &Event) -> bool
         ensures possible { result ≡ is_some (step self.old event.now) }
         ensures mappings { self.new ≡ unwrap_or (step self.old event.now) self.old }
@@ -85,7 +85,7 @@ impl<A: Allocator> Parts<A> {
         self.pages.get(number as usize).copied()
     }
 
-    // Changes a page to this one, if any, and answers whether there was one.
+    // Replaces a page by `page`, if that is one, and returns whether it is.
     fn put(&mut self, number: u32, page: Option<Page>) -> bool
         requires { number < length self.old.pages }
         ensures possible { result ≡ is_some page }

@@ -1,6 +1,6 @@
 //! The program `window_trace`: plays a trace of windows by their protocol.
 //!
-//! It prints one line, and its status is 0 if each event was possible and each page showed what the trace says, 1 if not, and 2 if
+//! It prints one line. Its status is 0 if each event was possible and each page showed what the trace says, 1 if not, and 2 if
 //! the trace can't be read.
 #![tactic(auto)]
 

@@ -30,7 +30,7 @@ OneOrderMore =
     (b : Ledger) (cs : List Call) (spent : ℕ) → b.percent ≤ b.burst → let to : Ledger = after called b cs in may_work to ≡ true → to.spent ≤ spent →
     100 * (spent - b.spent) ≤ b.percent * (to.time - b.time) + 100 * (b.saved + b.credit + given cs + b.owed_most + (spent - to.spent))
 
--- Whoever does nothing for as long as it was told, and has no credit, may work then.
+-- A thread that has no credit, and does nothing for as long as its wait, may work then.
 abbrev pub WaitsEnough : Type 0
 WaitsEnough = (b : Ledger) → 1 ≤ b.percent → b.credit ≡ 0 → b.owed ≤ 10000000000 → may_work (settled b (b.time + wait_of b) b.spent) ≡ true
 

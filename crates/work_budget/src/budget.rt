@@ -5,7 +5,7 @@ ghost use Rattle.work_budget.specs.Budgets.{part_of, begun, paced, credited, set
 use crate::Config;
 use std::marker::Model;
 
-// The longest debt that a thread is told to wait for at once, in nanoseconds: ten seconds.
+// The longest debt that one call lets a thread wait for, in nanoseconds: ten seconds.
 const LONGEST: u64 = 10_000_000_000;
 
 /// What a thread may use of one processor, by two clocks: the time, and the processor time that the thread has used.
@@ -40,7 +40,7 @@ impl Model for Budget {
     ghost invariant = { λ b. IsLedger b.config.percent b.config.burst b.config.saved_ns b.config.credit_ns b.spent b.saved b.owed b.credit };
 }
 
-// Returns so many percent of a time.
+// Returns this many percent of a time.
 fn part_of(percent: u32, ns: u64) -> u64
     requires { percent ≤ 100 }
     ensures { result ≡ part_of percent ns }
@@ -48,7 +48,7 @@ fn part_of(percent: u32, ns: u64) -> u64
     (u128::from(percent) * u128::from(ns) / 100) as u64
 }
 
-// Returns a sum, or `most` where it is more.
+// Returns the sum, but at most `most`.
 fn sum_up_to(a: u64, b: u64, most: u64) -> u64
     requires { a ≤ most }
     ensures { result ≡ min most (a + b) }
@@ -95,8 +95,8 @@ impl Budget {
         self.credit = sum_up_to(self.credit, ns, self.config.credit_ns);
     }
 
-    /// Counts what was used since the last call, and returns how many nanoseconds the thread is to wait before it asks again: 0 where it
-    /// may work. What is due is paid by what was saved, then by the share of the time that passed, and then by the credit.
+    /// Counts what was used since the last call. Returns how many nanoseconds the thread waits before it calls again, 0 if it may
+    /// work. What is due is paid by what was saved, then by the share of the time that passed, and then by the credit.
     pub fn settle(&mut self, now: u64, spent: u64) -> u64
         ensures ledger { self.new ≡ settled self.old now spent }
         ensures wait { result ≡ wait_of self.new }

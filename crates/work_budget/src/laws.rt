@@ -2,25 +2,25 @@
 ghost use Rattle.work_budget.specs.Budgets.{called};
 ghost use Rattle.work_budget.specs.Stretches.{EveryStretch, OneOrderMore, WaitsEnough, by_order_only};
 
-/// Whatever calls are made in whatever order, and whatever the clocks say: what was used over the stretch of these calls is at most the
-/// budget's share of its time, what was saved before, what credit there was or was given, and what is owed after it. It is also at most the
-/// burst's share, what was saved, and what is owed.
+/// For all calls in any order, whatever the clocks say: the time used over these calls is at most a sum of four. It consists of
+/// the budget's share of the time that passed, what was saved before, the credit that there was or was given, and what is owed
+/// afterwards. It is also at most the sum of the burst's share, what was saved, and what is owed.
 pub fn stretch_law()
     ensures { EveryStretch called }
 {}
 
-/// Where the thread may work after these calls, it has used no more than its share, what was saved, its credit, and what it may owe. So with
-/// the order that it works on then it has used that and this order.
+/// If the thread may work after these calls, it has used no more than its share, what was saved, its credit, and what it may owe.
+/// So with its next order it uses at most that and this order.
 pub fn order_law()
     ensures { OneOrderMore }
 {}
 
-/// A thread that does nothing for as long as it was told, and has no credit, may work then.
+/// A thread that has no credit and does nothing for as long as `settle` returned may work then.
 pub fn wait_law()
     ensures { WaitsEnough }
 {}
 
-/// A budget that counts each order by itself, and forgets what is owed, doesn't keep to its share.
+/// A budget that counts each order by itself, and forgets what is owed, can exceed its share.
 pub fn wrong_budget()
     ensures { EveryStretch by_order_only → ⊥ }
 {}

@@ -32,7 +32,7 @@ pub fn request_of(rt: &impl Abort, ask: Ask) -> Request {
     }
 }
 
-pub fn told<H: PageHash, A: Allocator>(
+pub fn verdict_on<H: PageHash, A: Allocator>(
     rt: &impl Abort,
     core: &mut Core<H, A>,
     guest: u8,
@@ -45,7 +45,7 @@ pub fn told<H: PageHash, A: Allocator>(
 
 pub fn serve<H: PageHash, A: Allocator>(rt: &impl Abort, core: &mut Core<H, A>, lines: &[Line]) {
     for (at, (guest, ask, answer)) in lines.iter().enumerate() {
-        let verdict = told(rt, core, *guest, *ask);
+        let verdict = verdict_on(rt, core, *guest, *ask);
         assert!(rt; answer_of(&verdict) == *answer, "line {at}: {verdict:?}");
     }
 }

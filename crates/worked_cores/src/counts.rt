@@ -1,5 +1,5 @@
 //! The count of requests, and the last page of a shared frame.
-use crate::asks::{Ask, core_of, numbers, serve, share_three, told};
+use crate::asks::{Ask, core_of, numbers, serve, share_three, verdict_on};
 use merge_core::Core;
 use page_digest::Sha256Hash;
 use page_model::Verdict;
@@ -31,7 +31,7 @@ fn count_anew(rt: HostRuntime) {
 
 /// Whether a count of guest 0 gets the report that the machine has then.
 fn counts_report(rt: &impl Abort, core: &mut Core<Sha256Hash>) -> bool {
-    let verdict = told(rt, core, 0, Ask::Count);
+    let verdict = verdict_on(rt, core, 0, Ask::Count);
     verdict == Verdict::Totals(core.report())
 }
 

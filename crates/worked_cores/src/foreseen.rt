@@ -23,7 +23,7 @@ fn entries_of(rt: &impl Abort, alloc: Global, lines: &[Line]) -> Vec<Entry> {
 }
 
 /// Serves the first of these entries, with the others in sight.
-fn told_ahead<H: PageHash, A: Allocator>(
+fn answer_ahead<H: PageHash, A: Allocator>(
     rt: &impl Abort,
     core: &mut Core<H, A>,
     entries: &[Entry],
@@ -44,8 +44,8 @@ fn serve_entries<H: PageHash, A: Allocator>(
 ) {
     for (at, (_, _, answer)) in lines.iter().enumerate() {
         assert!(rt; at < entries.len());
-        let told = told_ahead(rt, core, &entries[at..]);
-        assert!(rt; told == *answer, "line {at}");
+        let served = answer_ahead(rt, core, &entries[at..]);
+        assert!(rt; served == *answer, "line {at}");
     }
 }
 

@@ -37,8 +37,8 @@ fn calls_after(rt: &impl Abort, alloc: Global, first: &[Line], second: &[Line]) 
     [shared, served, calls.load(Ordering::SeqCst)]
 }
 
-/// Each page is hashed once as long as its bytes stay the same: neither a proposal of an unchanged page, nor a match,
-/// nor leaving a shared frame hashes it again, and an equal hint page is never hashed.
+/// Each page is hashed once as long as its bytes stay the same. A proposal of an unchanged page, a match, and leaving a shared
+/// frame don't hash it again. An equal hint page is never hashed.
 #[test]
 fn known_hashes(rt: HostRuntime) {
     let unchanged = [
@@ -67,8 +67,8 @@ const FIVE_STORES: [Line; 5] = [
     (0, Ask::Store(4, b'E'), Answer::Mapped),
 ];
 
-/// Returns how often pages were hashed once these pages' hashes were noted, after stores to five pages of six; once
-/// they were noted again and three of them proposed; and once another was stored to and proposed.
+/// Returns how often pages were hashed, at three times. First these pages' hashes were noted, after stores to five pages of six.
+/// Then they were noted again and three of them proposed. Then another was stored to and proposed.
 fn calls_noted(rt: &impl Abort, alloc: Global, pages: &[(u8, u32)]) -> [u32; 3] {
     let calls = AtomicU32::new(0);
     let mut core = core_of(rt, alloc, 5, &[6], Counted(&calls));
@@ -181,8 +181,8 @@ fn noted(rt: &impl Abort, alloc: Global, count: u32) -> (u32, u32, u32) {
     calls.counts()
 }
 
-// Of the pages that are noted ahead, each eight are hashed at once, the last eight too; of those left over four at once if
-// there are as many, and the others alone.
+// Pages that are noted ahead are hashed eight at once, the last eight too. Of those left over, four are hashed at once if there
+// are as many, and the others alone.
 #[test]
 fn noted_at_once(rt: HostRuntime) {
     for (pages, alone, by_fours, by_eights) in [

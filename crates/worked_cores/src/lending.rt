@@ -20,8 +20,8 @@ enum Step {
     TakeBack(u32),
 }
 
-/// What is seen of a step: its answer, whether the frame that the page had is told as free, and the first and last byte of
-/// the room that a page is taken back to, which are 1 before.
+/// What is seen of a step: its answer, and whether the frame that the page had is returned as freed. Then the first and last byte
+/// of the buffer that a page is taken back to, which are 1 before.
 type Seen = (Answer, bool, [u8; 2]);
 
 type Line = (u8, Step, Seen);
@@ -34,11 +34,11 @@ fn page_of(byte: u8) -> Page {
     page
 }
 
-/// Whether a freed frame is told, and is the one that the page had.
+/// Whether a freed frame is returned, and is the one that the page had.
 fn is_own(rt: &impl Abort, freed: Option<u32>, own: Option<u32>) -> bool {
     assert!(rt;
         freed.is_none() || freed == own,
-        "another page's frame is told as free"
+        "another page's frame is returned as freed"
     );
     freed.is_some()
 }
@@ -166,8 +166,8 @@ fn report_of(rt: &impl Abort, alloc: Global, frames: u32, lines: &[Line]) -> ([u
     (numbers(&core), calls.load(Ordering::SeqCst))
 }
 
-/// Three equal pages are lent, each hashed once, and share one frame; then all are taken back. A page that isn't there
-/// leaves the room as it was.
+/// Three equal pages are lent, each hashed once, and share one frame; then all are taken back. A page that isn't there leaves the
+/// buffer as it was.
 #[test]
 fn lent_and_taken_back(rt: HostRuntime) {
     let lent = [

@@ -20,7 +20,7 @@ enum Ask {
 #[derive(Clone, Copy, Debug, PartialEq, Eq)]
 enum Seen {
     Client(u32),
-    /// Nobody could enter, or leave.
+    /// No client could enter or leave.
     Nobody,
     /// So many slots have the page's frame.
     Lent(u32),
@@ -28,7 +28,7 @@ enum Seen {
     /// Whether a frame is free since.
     Released(bool),
     NotItsOwn,
-    /// So many slots were released, and so many frames are free since.
+    /// A client left: `.0` slots were released, and `.1` frames became free.
     Left(usize, usize),
 }
 

@@ -20,7 +20,7 @@ fn many_clients_enter(rt: HostRuntime) {
     assert!(rt; domain.held_by(299) == 0);
 }
 
-/// The first number that no domain has is found. A frame's number is told from none.
+/// The first number that no domain has is found. A frame's number differs from that of no frame.
 #[test]
 fn numbers_out_of_range(rt: HostRuntime) {
     let mut config = DomainConfig {

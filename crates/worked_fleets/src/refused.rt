@@ -8,8 +8,8 @@ const WEB: &[u8] = b"guest,salt,pages,sample,digest,copies
 web,0,3,1,00e1000000000000000000000000000a,3
 ";
 
-// A request for each text's buffer, six for the merge, and where pairs are counted one for their rows and one for the row that has
-// an entry: each is refused in turn, and nothing is held after it.
+// There is a request for memory for each text's buffer, and six for the merge. If pairs are counted, there is one for their rows
+// and one for the row that has an entry. Each is refused in turn, and nothing is held after it.
 #[test]
 fn each_request(rt: HostRuntime) -> Result<(), Fail> {
     for (pairs, requests) in [(Pairs::Omitted, 8), (Pairs::Counted, 10)] {

@@ -15,7 +15,7 @@ const TENTH: Config = Config {
 /// The longest order.
 const LONGEST_NS: u64 = 4_000_000;
 
-/// A thread, and how often it was told to wait.
+/// A thread, and how often it had to wait.
 #[derive(Drop)]
 struct Thread {
     budget: Budget,
@@ -24,7 +24,7 @@ struct Thread {
     waits: u32,
 }
 
-/// Works on so many orders, and waits where it is told to.
+/// Works on `orders` orders, and waits as long as the budget says.
 fn work(thread: &mut Thread, numbers: &mut Numbers, orders: u32) {
     for _ in 0..orders {
         let wait_ns = thread.budget.settle(thread.now, thread.spent);

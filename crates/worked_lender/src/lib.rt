@@ -1,5 +1,6 @@
-//! Lenders of one page and of a window beside the protocol of windows, the budget of their thread, and its looks, by the public calls of
-//! `page_lender`, `window_lender`, `window_events`, `work_budget` and `idle_pages`. This crate has only tests.
+//! Tests of lenders of one page and of a window beside the protocol of windows, of the budget of their thread, and of its looks.
+//! They use the public calls of `page_lender`, `window_lender`, `window_events`, `work_budget` and `idle_pages`. This crate has
+//! only tests.
 #![tactic(auto)]
 
 #[cfg(test)]

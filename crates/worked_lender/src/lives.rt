@@ -76,7 +76,7 @@ fn finish<A: Allocator>(rt: &impl Abort, life: &mut Life, mappings: &mut Mapping
     life.lender.done(order, outcome);
 }
 
-/// Tells the lender what is so: the page shows no frame itself.
+/// Reports to the lender that the page shows no frame itself.
 fn hear<A: Allocator>(rt: &impl Abort, life: &mut Life, mappings: &Mappings<A>) {
     if is_bare(&page_of(rt, mappings, 0)) || life.lender.is_busy() {
         return;
@@ -128,7 +128,7 @@ fn go_on<A: Allocator>(rt: &impl Abort, life: &mut Life, mappings: &mut Mappings
     }
 }
 
-/// Lives for so many moves. After each the belief is right, the host agrees, and the page shows what its guest wrote last.
+/// Makes `moves` moves. After each one the belief is right, the host agrees, and the page shows what its guest wrote last.
 fn live<A: Allocator>(rt: &impl Abort, mappings: &mut Mappings<A>, seed: u64, moves: u32) -> Life {
     let mut life = Life {
         lender: PageLender::new(),

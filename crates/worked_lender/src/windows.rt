@@ -79,8 +79,8 @@ fn count(counts: &mut Counts, work: Work, done: u32) {
     counts.longest = counts.longest.max(done);
 }
 
-/// Tells the lender that so many pages of a run were done.
-fn tell_done<A: Allocator>(
+/// Reports to the lender that `done` pages of a run are done.
+fn report_done<A: Allocator>(
     rt: &impl Abort,
     outside: &mut Outside,
     lender: &mut WindowLender<A>,
@@ -97,8 +97,8 @@ fn tell_done<A: Allocator>(
     lender.done(run, done, Outcome::Done)
 }
 
-/// Tells the lender what came of a run's first page.
-fn tell_one<A: Allocator>(
+/// Reports to the lender how a run's first page ended.
+fn report_one<A: Allocator>(
     rt: &impl Abort,
     lender: &mut WindowLender<A>,
     run: Run,
@@ -128,7 +128,7 @@ fn give_back<A: Allocator>(
     lender.withdraw(run);
 }
 
-/// Carries out a run, or the first of its pages, and tells the lender.
+/// Carries out a run, or the first of its pages, and reports that to the lender.
 fn finish<A: Allocator, B: Allocator>(
     rt: &impl Abort,
     outside: &mut Outside,
@@ -148,12 +148,12 @@ fn finish<A: Allocator, B: Allocator>(
         if outcome == Outcome::Done {
             done = done.wrapping_add(1);
         } else {
-            rest = tell_done(rt, outside, lender, rest, done);
+            rest = report_done(rt, outside, lender, rest, done);
             done = 0;
-            rest = tell_one(rt, lender, rest, outcome);
+            rest = report_one(rt, lender, rest, outcome);
         }
     }
-    rest = tell_done(rt, outside, lender, rest, done);
+    rest = report_done(rt, outside, lender, rest, done);
     give_back(rt, outside, lender, rest);
 }
 
@@ -278,7 +278,7 @@ fn check<A: Allocator, B: Allocator>(
     }
 }
 
-/// Lives for so many moves. After each, what is believed of each page is right, and the host agrees.
+/// Makes `moves` moves. After each one, every page's belief is right, and the host agrees.
 fn live<A: Allocator, B: Allocator>(
     rt: &impl Abort,
     lender: &mut WindowLender<A>,

@@ -17,8 +17,8 @@ const READS: u32 = 5_000;
 
 const PUBLISHED: u32 = 5_000;
 
-/// How many reads returned a report, how many of these had fewer entries than the read before, and how many had a number that
-/// was not published with so many entries.
+/// How many reads returned a report, and how many of these had fewer entries than the read before. Then how many had a number
+/// that was not published with that number of entries.
 #[derive(Clone, Copy, Debug, PartialEq, Eq)]
 struct Tally {
     reports: u32,

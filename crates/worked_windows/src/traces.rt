@@ -50,7 +50,7 @@ fn a_shown_frame_is_not_released(rt: HostRuntime) -> Result<(), Fail> {
 }
 
 // Page 0 and the second frame, after these events.
-fn told<A: Allocator + Clone>(
+fn page_and_frame<A: Allocator + Clone>(
     alloc: A,
     events: &[Event],
 ) -> Result<(Option<Page>, Option<u64>), AllocError> {
@@ -77,7 +77,7 @@ fn a_mapped_page_shows_its_frame(rt: HostRuntime) -> Result<(), Fail> {
         held: Some(1),
         frame_fresh: false,
     };
-    let answer = told(rt.alloc(), &events)?;
+    let answer = page_and_frame(rt.alloc(), &events)?;
     assert_eq!(rt; answer, (Some(page), Some(7)));
     Ok(())
 }

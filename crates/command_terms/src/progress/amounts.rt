@@ -15,7 +15,7 @@ pub fn per_cent(part: u64, whole: u64) -> u64
     part.saturating_mul(100) / whole
 }
 
-/// Returns how many a second, where these were counted in so many milliseconds.
+/// Returns the rate per second of `count` items in `elapsed` milliseconds.
 pub fn a_second(count: u64, elapsed: u64) -> u64
     ensures { result ≡ a_second count elapsed }
 {
@@ -25,7 +25,7 @@ pub fn a_second(count: u64, elapsed: u64) -> u64
     count.saturating_mul(1000) / elapsed
 }
 
-/// Returns how many MiB a second, where these pages were read in so many milliseconds.
+/// Returns the rate in MiB per second of `pages` pages in `elapsed` milliseconds.
 pub fn mebibytes_a_second(pages: u64, elapsed: u64) -> u64
     ensures { result ≡ mebibytes_a_second pages elapsed }
 {

@@ -62,7 +62,7 @@ impl<'a, R: Eprint + Clock> DrawnLine<'a, R> {
     }
 }
 
-/// Makes a line if one should be drawn, where standard error is a terminal or not. Without a clock there is none.
+/// Makes a line if one is to be drawn. `is_terminal` says whether standard error is a terminal. Without a clock there is no line.
 pub fn line_where<R: Eprint + Clock>(
     rt: &R,
     drawn: Drawn,

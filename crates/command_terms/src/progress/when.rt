@@ -5,14 +5,14 @@ ghost use Rattle.command_terms.specs.When.{is_on, drawn_of};
 /// When a line on standard error shows how far the work is.
 #[derive(Clone, Copy, Debug, PartialEq, Eq)]
 pub enum Drawn {
-    /// Where standard error is a terminal.
+    /// If standard error is a terminal.
     Auto,
     Always,
     Never,
 }
 
 impl Drawn {
-    /// Whether the line is drawn, where standard error is a terminal or not.
+    /// Whether the line is drawn. `is_terminal` says whether standard error is a terminal.
     pub fn is_on(self, is_terminal: bool) -> bool
         ensures { result ≡ is_on self is_terminal }
     {

@@ -8,7 +8,7 @@ pub struct Counted {
     pub guests: Vec<GuestNumbers>,
     pub total: TotalNumbers,
     pub copies: Vec<CopiesClass>,
-    /// How many pages of the processes aren't one process's alone; none where no process was read.
+    /// How many pages of the processes aren't one process's alone; `None` if no process was read.
     pub shared_already: Option<u64>,
 }
 

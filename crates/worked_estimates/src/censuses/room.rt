@@ -7,8 +7,8 @@ use std::process::Abort;
 use std::test::Fail;
 use std::thread::Threads;
 
-// What a census of one guest asks for at most: for each page, 16 bytes for its mark, 10 for its class and 8 for copies;
-// for each worker and in all, pages to read into; and a little more for the numbers and the workers' answers.
+// What a census of one guest asks for at most. For each page: 16 bytes for its mark, 10 for its class and 8 for copies. For each
+// worker and in all: pages to read into. Then a little more for the numbers and the workers' answers.
 const PAGE: u64 = 34;
 
 const WORKER: u64 = 66 * 4096 + 256;

@@ -79,19 +79,19 @@ module _ (Z : Al) {M : Type 1} {𝓤 : Ura M} (𝓛 : Logic 𝓤) (𝓜 : Model 
     abbrev call : (walk_of 𝓛 (E Z) (let_go Z) clauses).Ghost
     call = (((κ, (ρ, tt)), (s, (t, tt)), (inn, tt), (handle, (n, (a, tt))), (shr_vals handle, (vint w64 n ∷ [], (vint w64 a ∷ [], tt)))), τ)
 
-    abbrev Told : Val → SProp 𝓤
-    Told = (walk_of 𝓛 (E Z) (let_go Z) clauses).post call
+    abbrev Post : Val → SProp 𝓤
+    Post = (walk_of 𝓛 (E Z) (let_go Z) clauses).post call
 
-    -- every way out: an answer, with the block that it tells of
+    -- every way out: an answer, with its block
     out : (v : Val) (answer : Answer.Denot) → ent 𝓤 (emp 𝓤) (sem 𝓛 (Answer.own_val answer (v ∷ [])))
-        → Sq 𝓛 (‵ (block_if_ok (Z.g.dealloc_token handle.now.inner) τ answer) ∷ ‵ (flft κ s) ∷ (‵ (flft ρ t) ⊛ ‵ ftrue) ∷ []) (prop (Told v))
+        → Sq 𝓛 (‵ (block_if_ok (Z.g.dealloc_token handle.now.inner) τ answer) ∷ ‵ (flft κ s) ∷ (‵ (flft ρ t) ⊛ ‵ ftrue) ∷ []) (prop (Post v))
     out v answer made =
         suffices ! _ (ends_at 𝓛 (E Z) (let_go Z) clauses call v answer (tt, (tt, (tt, tt))) (tt, (tt, (tt, tt)))) $
         use0 𝓛 (‵ (Answer.own_val answer (v ∷ []))) made $ nothing ! $ nothing ! $
         fjoin ! $ nothing ! $ fjoin ! $ nothing ! $ fjoin ! $ join ! $ move ! (2 ∷ 3 ∷ []) $ join ! $ join ! $ done !
 
     walk : n < 2 ^ 64 → a < 2 ^ 64 → Triple 𝓤 (𝓣.C (takes_key Z)) (Takes Z 𝓛 𝓜.mem 𝓡.returns) → Triple 𝓤 (𝓣.C asked.name) (Ask 𝓛 𝓜.mem 𝓡.returns)
-        → ent 𝓤 ((walk_of 𝓛 (E Z) (let_go Z) clauses).pre call) (WpFn 𝓤 𝓛.H 𝓣.C 𝓣.Λ (body Z) (vptr handle.ref_ptr.0 handle.ref_ptr.1 ∷ vint w64 n ∷ vint w64 a ∷ []) Told)
+        → ent 𝓤 ((walk_of 𝓛 (E Z) (let_go Z) clauses).pre call) (WpFn 𝓤 𝓛.H 𝓣.C 𝓣.Λ (body Z) (vptr handle.ref_ptr.0 handle.ref_ptr.1 ∷ vint w64 n ∷ vint w64 a ∷ []) Post)
     walk small_n small_a inner_takes count_asks =
         let x : (Handle Z).Denot = handle.now in let inner : ℕ × ℕ = inner_at Z handle.ref_ptr in let counts : ℕ × ℕ = counts_at Z handle.ref_ptr in
         let Right : Type 0 = (capped (size τ) ≡ n) × (capped (align τ) ≡ a) in
@@ -112,8 +112,8 @@ module _ (Z : Al) {M : Type 1} {𝓤 : Ura M} (𝓛 : Logic 𝓤) (𝓜 : Model 
         lands_as ! is refl (tt, tt) $ move ! (1 ∷ []) $ first ! $ branches ! (get ! refl)
         (λ yes. drop ! $ nothing ! $ sets ! (agg ! (no_more !)) refl (tt, tt) $
         sets ! (agg ! (and_then ! (lit ! tt) (and_then ! (get ! refl) (no_more !)))) refl (Answer-typed false 0 0) $
-        returns_within ! Told refl (look_at ! 0 refl) $ free_all ! refl $ out (answer_val false 0 0) (Err (record {})) (Answer-err 𝓛))
-        (λ no. skips ! $ exec ! 𝓣.C 𝓣.Λ (env (body Z).locals l) (after 3 (body Z).body) (at_ret (env (body Z).locals l) Told) $
+        returns_within ! Post refl (look_at ! 0 refl) $ free_all ! refl $ out (answer_val false 0 0) (Err (record {})) (Answer-err 𝓛))
+        (λ no. skips ! $ exec ! 𝓣.C 𝓣.Λ (env (body Z).locals l) (after 3 (body Z).body) (at_ret (env (body Z).locals l) Post) $
         sets ! (addr ! (through ! refl (fld ! refl (stop !)))) refl (tt, tt) $
         use2 𝓛 (raw ((Takes Z 𝓛 𝓜.mem 𝓡.returns).pre taking)) (Takes-goes Z 𝓛 𝓜.mem 𝓡.returns κ s inner x.inner (⊑_trans κ ρ Z.row.lives inn lives) n a τ right.0 right.1 small_n small_a) $
         calls_at ! (fm_of 𝓤 𝓛.H 𝓛.laws 𝓣) (Takes Z 𝓛 𝓜.mem 𝓡.returns) inner_takes taking (and_then ! (get ! refl) (and_then ! (get ! refl) (and_then ! (get ! refl) (no_more !)))) (λ v.

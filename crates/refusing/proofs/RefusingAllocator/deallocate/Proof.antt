@@ -79,8 +79,8 @@ module _ (Z : Al) {M : Type 1} {𝓤 : Ura M} (𝓛 : Logic 𝓤) (𝓜 : Model 
     abbrev call : Ptr → (walk_of 𝓛 (E Z) (let_go Z) clauses).Ghost
     call x = (((κ, (ρ, tt)), (s, (t, tt)), (inn, tt), (handle, (x, (n, (a, tt)))), (shr_vals handle, (rawptr_vals x, (vint w64 n ∷ [], (vint w64 a ∷ [], tt))))), τ)
 
-    abbrev Told : Ptr → Val → SProp 𝓤
-    Told x = (walk_of 𝓛 (E Z) (let_go Z) clauses).post (call x)
+    abbrev Post : Ptr → Val → SProp 𝓤
+    Post x = (walk_of 𝓛 (E Z) (let_go Z) clauses).post (call x)
 
     -- what the caller hands over, where `block` is what lies at the pointer
     abbrev given_to : Ptr → Fml → List (Item 𝓤)
@@ -88,14 +88,14 @@ module _ (Z : Al) {M : Type 1} {𝓤 : Ura M} (𝓛 : Logic 𝓤) (𝓜 : Model 
         ∷ (raw (fact 𝓤 (ρ ⊑ Z.row.lives)) ⊛ raw (fact 𝓤 ((capped (size τ) ≡ n) × (capped (align τ) ≡ a))) ⊛ ‵ (fsep block (token Z handle.now.inner τ x))) ∷ []
 
     -- the way out, once the block went back
-    out : (x : Ptr) → Sq 𝓛 (‵ (flft κ s) ∷ (‵ (flft ρ t) ⊛ ‵ ftrue) ∷ []) (prop (Told x vunit))
+    out : (x : Ptr) → Sq 𝓛 (‵ (flft κ s) ∷ (‵ (flft ρ t) ⊛ ‵ ftrue) ∷ []) (prop (Post x vunit))
     out x =
         suffices ! _ (ends_at 𝓛 (E Z) (let_go Z) clauses (call x) vunit tt (tt, (tt, (tt, (tt, tt)))) (tt, (tt, (tt, (tt, tt))))) $
         nothing ! $ feq_i ! (List Val) (vunit ∷ []) (vunit ∷ []) refl $ nothing ! $ nothing ! $
         fjoin ! $ nothing ! $ fjoin ! $ nothing ! $ fjoin ! $ nothing ! $ fjoin ! $ join ! $ move ! (2 ∷ 3 ∷ []) $ join ! $ join ! $ done !
 
     walk : n < 2 ^ 64 → a < 2 ^ 64 → Triple 𝓤 (𝓣.C (gives_key Z)) (Gives Z 𝓛 𝓜.mem 𝓡.returns) → Triple 𝓤 (𝓣.C counted.name) (Return 𝓛 𝓜.mem 𝓡.returns)
-        → (x : Ptr) → ent 𝓤 ((walk_of 𝓛 (E Z) (let_go Z) clauses).pre (call x)) (WpFn 𝓤 𝓛.H 𝓣.C 𝓣.Λ (body Z) (vptr handle.ref_ptr.0 handle.ref_ptr.1 ∷ ptr_val x ∷ vint w64 n ∷ vint w64 a ∷ []) (Told x))
+        → (x : Ptr) → ent 𝓤 ((walk_of 𝓛 (E Z) (let_go Z) clauses).pre (call x)) (WpFn 𝓤 𝓛.H 𝓣.C 𝓣.Λ (body Z) (vptr handle.ref_ptr.0 handle.ref_ptr.1 ∷ ptr_val x ∷ vint w64 n ∷ vint w64 a ∷ []) (Post x))
     walk small_n small_a inner_gives count_notes null_ptr =
         -- no block lies at null
         qed 𝓛 (given_to null_ptr ffalse) ∵ move ! (1 ∷ []) $ split3 ! $ move ! (2 ∷ []) $ fsplit ! $ keep ! (0 ∷ []) $ by ! (never_e 𝓤 _)

@@ -96,6 +96,6 @@ into_slots_spec 𝓤 𝓛 𝓜 𝓡 wired =
     let good : T (has_ty (layout (Sr E)) v) × WT v = subst (λ (u : Val). T (has_ty (layout (Sr E)) u) × WT u) (sym (ap only bits')) (tt, (tt, (record { fits = fits' }, tt))) in
     lands_last ! refl good $ exec ! 𝓣.C 𝓣.Λ (env code.Mir.locals l) code.Mir.t-4 (at_ret (env code.Mir.locals l) (W.post y)) $
     sets ! (of_opd ! (get ! refl)) refl good $
-    let Told : Type 0 = (slots_len r ≡ n) × (slots_items r ≡ xs) × (slots_filled r ≡ fs) in
-    use0 𝓛 (raw (fact 𝓤 Told)) (fact_i 𝓤 Told (emp 𝓤) (made.1, made.2, made.3)) $ nothing ! $ nothing ! $ fjoin ! $ nothing ! $
+    let Parts : Type 0 = (slots_len r ≡ n) × (slots_items r ≡ xs) × (slots_filled r ≡ fs) in
+    use0 𝓛 (raw (fact 𝓤 Parts)) (fact_i 𝓤 Parts (emp 𝓤) (made.1, made.2, made.3)) $ nothing ! $ nothing ! $ fjoin ! $ nothing ! $
     returns ! (look_at ! 0 refl) $ free_all ! refl $ keep ! (0 ∷ 1 ∷ 3 ∷ 2 ∷ []) $ types.Kit.by ! (leaves 𝓛 f.ended stayed c y v r (tt, tt) (tt, tt))))))))))))))))

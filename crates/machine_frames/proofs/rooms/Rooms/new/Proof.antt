@@ -69,7 +69,7 @@ new_spec 𝓤 𝓛 𝓜 𝓡 wired =
     fjoin ! $ nothing ! $ move ! (1 ∷ 0 ∷ []) $ fjoin ! $
     let r : PageList = rooms.the_view i in let Hidden : Type 0 = (a : Inside) × ((rooms.the_view a ≡ r) × rooms.the_invariant a) in
     fpack ! Hidden (λ x. fsep (inside.the_row.own_val x.0 (word ∷ [])) ftrue) (i, (refl, holds)) $
-    let Told : Type 0 = r ≡ record { pages = []; room = slots_len d.slots } in
-    let told : Told = λ j. record { pages = []; room = sym d.slots.ok.0 j } in
-    use0 𝓛 (raw (fact 𝓤 Told)) (fact_i 𝓤 Told (emp 𝓤) told) $ nothing ! $ nothing ! $ fjoin ! $ nothing ! $
+    let IsEmpty : Type 0 = r ≡ record { pages = []; room = slots_len d.slots } in
+    let is_empty : IsEmpty = λ j. record { pages = []; room = sym d.slots.ok.0 j } in
+    use0 𝓛 (raw (fact 𝓤 IsEmpty)) (fact_i 𝓤 IsEmpty (emp 𝓤) is_empty) $ nothing ! $ nothing ! $ fjoin ! $ nothing ! $
     returns ! (look_at ! 0 refl) $ free_all ! refl $ keep ! (0 ∷ 1 ∷ 3 ∷ 2 ∷ []) $ by ! (leaves 𝓛 f.ended stayed c y word r ((tt, tt), tt) (tt, tt))))))

@@ -7,7 +7,7 @@ use std::time::Instant;
 pub type Refusal = &'static str;
 
 /// Prints how many calls a step made since `start`, and how long they took if it is timed; or why it made none.
-pub fn tell<R: Clock + Print>(
+pub fn print_step<R: Clock + Print>(
     rt: &R,
     start: Instant,
     is_timed: bool,
