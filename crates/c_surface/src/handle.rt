@@ -37,3 +37,13 @@ pub fn free<H: Handle>(handle: &mut H, alloc: Global) -> u32
         Some(_held) => status::OK,
     }
 }
+
+/// Puts a value back into the handle from which it was taken, and returns this status.
+pub fn put_back<H: Handle>(handle: &mut H, value: Box<H::Held>, status: u32) -> u32
+    requires { H.held handle.old ≡ None }
+    ensures held { H.held handle.new ≡ Some value.value }
+    ensures status { result ≡ status }
+{
+    handle.put(value);
+    status
+}

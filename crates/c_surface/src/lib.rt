@@ -12,7 +12,7 @@ pub mod status;
 mod totals;
 
 pub use faults::{domain_status, lend_status};
-pub use handle::{Handle, free};
+pub use handle::{Handle, free, put_back};
 pub use laws::numbers_law;
 pub use limits::shape_status;
 pub use parcel::Parcel;

@@ -30,7 +30,7 @@ pub fn new_core<H: PageHash + Drop, A: Allocator + Clone>(
     match MachineShape::new(frames.total(), &pages, &salts) {
         Err(_) => Err(AllocError),
         Ok(shape) => {
-            let core = Core::with_frames(alloc, &shape, hash, frames)?;
+            let core = Core::without_forecasts(alloc, &shape, hash, frames)?;
             core.frames();
             Ok(core)
         }

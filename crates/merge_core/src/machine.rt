@@ -50,7 +50,8 @@ pub const PAGES_A_WORKER: usize = 16;
 pub struct Core<H: PageHash, A: Allocator = Global> {
     entries: u32,
     held: Held<H, A>,
-    forecasts: Forecasts<H>,
+    /// One, or none in a machine that never looks ahead.
+    forecasts: Vec<Forecasts<H>, A>,
 }
 
 impl<H: PageHash, A: Allocator> Model for Core<H, A> {
@@ -109,11 +110,42 @@ impl<H: PageHash + Drop, A: Allocator + Clone> Core<H, A> {
         requires { frames ≡ no_frames shape.now.frames }
         ensures { IfOk result (λ core. IsNew shape.now core) }
     {
+        let mut forecasts = Vec::with_capacity(alloc.clone()?, 1)?;
+        forecasts.push_reserved(Forecasts::new());
+        Core::with_forecasts(alloc, shape, hash, frames, forecasts)
+    }
+
+    /// Makes a machine as [`with_frames`](Core::with_frames) does, but one that never looks ahead: its
+    /// [`apply_ahead`](Core::apply_ahead) does what [`apply`](Core::apply) does. So it takes 28 KiB less of memory.
+    pub fn without_forecasts(
+        alloc: A,
+        shape: &MachineShape<'_>,
+        hash: H,
+        frames: Frames<A>,
+    ) -> Result<Core<H, A>, AllocError>
+        requires { frames ≡ no_frames shape.now.frames }
+        ensures { IfOk result (λ core. IsNew shape.now core) }
+    {
+        let forecasts = Vec::with_capacity(alloc.clone()?, 0)?;
+        Core::with_forecasts(alloc, shape, hash, frames, forecasts)
+    }
+
+    /// Makes a machine with these frames and forecasts. All other memory of the machine is allocated here.
+    fn with_forecasts(
+        alloc: A,
+        shape: &MachineShape<'_>,
+        hash: H,
+        frames: Frames<A>,
+        forecasts: Vec<Forecasts<H>, A>,
+    ) -> Result<Core<H, A>, AllocError>
+        requires { frames ≡ no_frames shape.now.frames }
+        ensures { IfOk result (λ core. IsNew shape.now core) }
+    {
         let held = new_held(alloc, shape, hash, frames)?;
         Ok(Core {
             entries: 0,
             held,
-            forecasts: Forecasts::new(),
+            forecasts,
         })
     }
 }
@@ -208,7 +240,16 @@ impl<H: PageHash, A: Allocator> Core<H, A> {
         ensures { self.new ≡ self.old }
     {
         if let Request::Propose(ppn) = request {
-            foresee(&mut self.held, &mut self.forecasts, guest, *ppn, next);
+            self.foresee_page(guest, *ppn, next);
+        }
+    }
+
+    /// Notes the hash of a page that a guest proposes, if it pays, in a machine that looks ahead.
+    fn foresee_page(&mut self, guest: u8, ppn: u32, next: &[Entry])
+        ensures { self.new ≡ self.old }
+    {
+        if let Some(forecasts) = self.forecasts.first_mut() {
+            foresee(&mut self.held, forecasts, guest, ppn, next);
         }
     }
 

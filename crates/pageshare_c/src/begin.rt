@@ -14,7 +14,7 @@ use crate::hosted::{Hosted, MadeDomain};
 use crate::limits::{config_of, make_cause};
 use crate::make::{WIDE_SHA256, new_frames};
 use crate::shape::DomainShape;
-use c_surface::{Handle, status};
+use c_surface::{Handle, put_back, status};
 use machine_frames::{Frames, FramesFault, Region};
 use recent_fingerprints::RecentFingerprints;
 use share_domain::new_frames as new_frames_of_each;
@@ -115,14 +115,10 @@ pub(crate) fn add_frames(alloc: Global, domain: &mut DomainHandle, region: Regio
     };
     let each = frames_awaited(&held);
     if each == 0 {
-        domain.put(held);
-        return status::NO_MACHINE;
+        return put_back(domain, held, status::NO_MACHINE);
     }
     let frames = match new_frames(alloc, each, Some(region)) {
-        Err(FramesFault::Region) => {
-            domain.put(held);
-            return status::REGION;
-        }
+        Err(FramesFault::Region) => return put_back(domain, held, status::REGION),
         Err(FramesFault::Frames) => return status::MEMORY,
         Err(FramesFault::OutOfMemory) => return status::MEMORY,
         Ok(frames) => frames,

@@ -10,7 +10,7 @@ use crate::handle::HostHandle;
 use crate::hosted::Hosted;
 use crate::shape::{HostShape, begin_cause};
 use crate::waiting::Waiting;
-use c_surface::{Handle, status};
+use c_surface::{Handle, put_back, status};
 use machine_frames::{Frames, FramesFault, Region};
 use std::alloc::{AllocError, Global};
 
@@ -63,14 +63,10 @@ pub(crate) fn add_frames(alloc: Global, host: &mut HostHandle, region: Region) -
     };
     let each = frames_awaited(&held);
     if each == 0 {
-        host.put(held);
-        return status::NO_MACHINE;
+        return put_back(host, held, status::NO_MACHINE);
     }
     let frames = match Frames::in_region(alloc, each, region) {
-        Err(FramesFault::Region) => {
-            host.put(held);
-            return status::REGION;
-        }
+        Err(FramesFault::Region) => return put_back(host, held, status::REGION),
         Err(FramesFault::Frames) => return status::MEMORY,
         Err(FramesFault::OutOfMemory) => return status::MEMORY,
         Ok(frames) => frames,

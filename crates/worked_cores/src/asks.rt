@@ -2,9 +2,10 @@
 //!
 //! Machines are made, served and dropped in functions without clauses that return plain data. So a test has little to
 //! prove: it makes a list of lines and compares what was seen.
+use machine_frames::Frames;
 use merge_core::Core;
 use page_digest::PageHash;
-use page_model::{Request, Verdict};
+use page_model::{MachineShape, Request, Verdict};
 use std::alloc::{Allocator, Global};
 use std::process::Abort;
 use worked_answers::{Answer, answer_of};
@@ -66,6 +67,27 @@ pub fn core_of<H: PageHash + Drop, A: Allocator + Clone>(
     let salts = [0; 64];
     assert!(rt; pages.len() <= 64);
     Core::new(alloc, frames, pages, &salts[..pages.len()], hash)
+        .ok()
+        .expect(rt, "a core")
+}
+
+/// Makes a core without forecasts, whose salts are all 0.
+pub fn core_without_forecasts<H: PageHash + Drop>(
+    rt: &impl Abort,
+    alloc: Global,
+    frames: u32,
+    pages: &[u32],
+    hash: H,
+) -> Core<H> {
+    let salts = [0; 64];
+    assert!(rt; pages.len() <= 64);
+    let shape = MachineShape::new(frames, pages, &salts[..pages.len()])
+        .ok()
+        .expect(rt, "a machine's shape");
+    let frames = Frames::new(alloc, shape.frames())
+        .ok()
+        .expect(rt, "memory for the frames");
+    Core::without_forecasts(alloc, &shape, hash, frames)
         .ok()
         .expect(rt, "a core")
 }

@@ -1,5 +1,5 @@
 //! Pages that are hashed together with a proposed one, as the requests in sight will leave them.
-use crate::asks::{Ask, Line, core_of, request_of, store_all};
+use crate::asks::{Ask, Line, core_of, core_without_forecasts, request_of, store_all};
 use crate::hashes::{Calls, Lanes};
 use merge_core::Core;
 use page_digest::PageHash;
@@ -90,23 +90,34 @@ fn upcoming_of(rt: &impl Abort, alloc: Global, lines: &[Line; 8]) -> [Option<Upc
     pages
 }
 
-/// Each page is stored to and then proposed, with two guests in turn: four are hashed at once, then the last one alone.
+/// Each page is stored to and then proposed, with two guests in turn.
+const STORED_AND_PROPOSED: [Line; 11] = [
+    (0, Ask::Store(0, b'A'), Answer::Mapped),
+    (0, Ask::Propose(0), Answer::Hinted),
+    (1, Ask::Store(0, b'B'), Answer::Mapped),
+    (1, Ask::Propose(0), Answer::Hinted),
+    (0, Ask::Store(1, b'C'), Answer::Mapped),
+    (0, Ask::Store(1, b'B'), Answer::Stored),
+    (0, Ask::Propose(1), Answer::Paired),
+    (1, Ask::Store(1, b'D'), Answer::Mapped),
+    (1, Ask::Propose(1), Answer::Hinted),
+    (0, Ask::Store(2, b'E'), Answer::Mapped),
+    (0, Ask::Propose(2), Answer::Hinted),
+];
+
+/// Four are hashed at once, then the last one alone.
 #[test]
 fn stored_and_proposed(rt: HostRuntime) {
-    let lines = [
-        (0, Ask::Store(0, b'A'), Answer::Mapped),
-        (0, Ask::Propose(0), Answer::Hinted),
-        (1, Ask::Store(0, b'B'), Answer::Mapped),
-        (1, Ask::Propose(0), Answer::Hinted),
-        (0, Ask::Store(1, b'C'), Answer::Mapped),
-        (0, Ask::Store(1, b'B'), Answer::Stored),
-        (0, Ask::Propose(1), Answer::Paired),
-        (1, Ask::Store(1, b'D'), Answer::Mapped),
-        (1, Ask::Propose(1), Answer::Hinted),
-        (0, Ask::Store(2, b'E'), Answer::Mapped),
-        (0, Ask::Propose(2), Answer::Hinted),
-    ];
-    assert_eq!(rt; hashed(&rt, rt.alloc(), &lines), (1, 4, 0));
+    assert_eq!(rt; hashed(&rt, rt.alloc(), &STORED_AND_PROPOSED), (1, 4, 0));
+}
+
+/// A machine without forecasts hashes each page alone, when it is proposed. Its answers are the same.
+#[test]
+fn without_forecasts(rt: HostRuntime) {
+    let calls = Calls::new();
+    let mut core = core_without_forecasts(&rt, rt.alloc(), 16, &[8, 8], Lanes(&calls));
+    serve_ahead(&rt, rt.alloc(), &mut core, &STORED_AND_PROPOSED);
+    assert_eq!(rt; calls.counts(), (5, 0, 0));
 }
 
 /// Pages at rest are hashed four at once, before those that are stored to first.

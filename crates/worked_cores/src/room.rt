@@ -6,12 +6,13 @@ use refusing::Refusing;
 use std::alloc::Global;
 use std::process::Abort;
 
-// What a machine keeps in addition to the pages of its frames, at most: for each frame, for each page, and in all.
+// What a machine keeps in addition to the pages of its frames, at most: for each frame, for each page, and in all. Seven forecasts
+// of a page are part of the last.
 const FRAME: u64 = 48;
 
 const PAGE: u64 = 16;
 
-const MORE: u64 = 4096;
+const MORE: u64 = 4096 + 7 * 4160;
 
 /// Returns how many bytes a machine with `frames` frames and one guest of `pages` pages asks for.
 fn asked(rt: &impl Abort, alloc: Global, frames: u32, pages: u32) -> u64 {

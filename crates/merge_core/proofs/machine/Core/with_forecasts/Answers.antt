@@ -5,7 +5,7 @@ use Rattle.machine_frames.specs.FrameMap.{no_frames}
 use Rattle.merge_core.specs.Pmap.{guest_in}
 use Rattle.merge_core.proofs.Empty.{empty_guests}
 use Rattle.merge_core.specs.View.{pmap_of}
-use Rattle.merge_core.proofs.machine.Core.with_frames.Goals as goal
+use Rattle.merge_core.proofs.machine.Core.with_forecasts.Goals as goal
 
 pub returns : goal.returns
 returns g c =
