@@ -1,10 +1,10 @@
 #!/usr/bin/env python3
-"""Shows checks/edits.py a small crate, and looks at what it tells of each edit.
+"""Shows checks/edits.py a small crate, and looks at what it says of each edit.
 
     checks/edits_test.py
 
-A script that looks for wrong bodies can be wrong itself: it might tell of a refusal where there is none. So the crate has edits
-that must be told as refused, as not refused, and as bad ones. Prints what went wrong, and 'N passed, M failed'.
+A script that looks for wrong bodies can be wrong itself: it might report a refusal where there is none. So the crate has edits
+that must be reported as refused, as not refused, and as bad ones. Prints what went wrong, and 'N passed, M failed'.
 """
 import argparse
 import os
@@ -90,7 +90,7 @@ pub fn width_of_pair(pair: &Pair<u32, u8>) -> u32
 }
 """
 
-# An edit's name, what it changes, and how what is told of it begins.
+# An edit's name, what it changes, and how what is said of it begins.
 EDITS = [
     ("twice_of_one", "let other = number;", "let other = 1;", "refused, as it must be"),
     ("once", "number + other", "other", "refused, as it must be"),
@@ -116,7 +116,7 @@ def write_crate(room, text, edits):
     (room / "crates.txt").write_text("sums:\n")
     (room / "HANDLES").write_text("Handles allowed: none.\n")
     (crate / "src/lib.rt").write_text(text)
-    for name, old, new, _told in edits:
+    for name, old, new, _said in edits:
         (crate / f"edits/{name}.edit").write_text(f"file: src/lib.rt\nold: {old}\nnew: {new}\n")
 
 
@@ -130,16 +130,16 @@ def looked_at(text, edits, old, *words, checks=None):
             errors="replace", check=False,
         )
     lines, wrong = ran.stdout.splitlines(), []
-    for name, _old, _new, told in edits:
-        if not any(it.startswith(f"edit sums/{name}.edit: {told}") for it in lines):
-            wrong.append(f"{name} isn't told as {told!r}")
+    for name, _old, _new, said in edits:
+        if not any(it.startswith(f"edit sums/{name}.edit: {said}") for it in lines):
+            wrong.append(f"{name} isn't reported as {said!r}")
     refused = sum(it in REFUSED for it in edits)
     closing, status = f"{refused} passed, {len(edits) - refused} failed", int(refused < len(edits))
     if lines[-1:] != [closing] or ran.returncode != status:
         wrong.append(f"the last line isn't {closing!r} with status {status}, but {lines[-1:]} with status {ran.returncode}")
     known = f"sums: {old} of {len(edits)} edits were refused by an earlier run of the same on this machine"
     if (known in lines) != (old > 0):
-        wrong.append(f"{known!r} is {'not ' * (old > 0)}told")
+        wrong.append(f"{known!r} is {'not ' * (old > 0)}printed")
     made = [it for it in lines if re.match(r"sums: .* (in one check|in one bare copy|alone|the whole crate), \d+ s$", it)]
     if checks is not None and len(made) != checks:
         wrong.append(f"{len(made)} checks were made where {checks} suffice")

@@ -1,5 +1,5 @@
 #!/usr/bin/env python3
-"""Compares the numbers of fleets, told in three ways, with a plain count (common/plain_fleet.py).
+"""Compares the numbers of fleets, computed in three ways, with a plain count (common/plain_fleet.py).
 
     checks/fleet.py [SEED [PROGRAM]]
 
@@ -12,7 +12,7 @@ two of their guests have in common (`fleet --pairs`), by host, and with lists of
 (fleet/place.py) beside all placements, and what `fleet --hosts` counts of them; its bounds and its search beside all placements
 (common/small_fleets.py); 200 digests at once, whole and sampled, and their pairs; broken digests, each
 with its first line at fault; that at least 90 of 100 true numbers of 200 random fleets lie within two standard errors of what one
-content in 16 tells; the example fleet's digests beside its images; random images through `digest` and `fleet` beside `estimate`;
+content in 16 gives; the example fleet's digests beside its images; random images through `digest` and `fleet` beside `estimate`;
 and the memory that `fleet` takes for 5 million lines. Prints what went wrong, and at the end `N passed, M failed` (status 0 where
 all passed, else 1).
 """
@@ -64,7 +64,7 @@ for path in sys.argv[1:]:
         print(fault)
 """
 
-# A small program that runs another one, and tells on standard error its status and the most memory that it held, in KiB. The system
+# A small program that runs another one, and prints on standard error its status and the most memory that it held, in KiB. The system
 # counts for a process what the one that started it held, which is little here.
 MEASURE = """
 import os, sys
@@ -74,7 +74,7 @@ print(os.waitstatus_to_exitcode(status), used.ru_maxrss, file=sys.stderr)
 
 
 class Ways:
-    """What tells the numbers of digests: each way's name, and the words that the paths come after."""
+    """What computes the numbers of digests: each way's name, and the words that the paths come after."""
 
     def __init__(self, program: str) -> None:
         self.program = program
@@ -120,7 +120,7 @@ def differences(given: Any, due: Any, name: str = "") -> Iterator[str]:
 
 
 def merge_faults(words: Sequence[object], paths: Sequence[object], due: plain_fleet.Numbers) -> Iterator[str]:
-    """What is wrong with the numbers that are told of some digests."""
+    """What is wrong with the numbers that are printed of some digests."""
     done = ran([*words, *paths])
     wrong = list(wrong_end(done, 0, None, ""))
     yield from wrong or list(differences(json.loads(done.stdout), due))[:5]
@@ -155,14 +155,14 @@ def table_faults(program: str, paths: Sequence[pathlib.Path], due: plain_fleet.N
 def pairs_faults(
     program: str, folder: pathlib.Path, paths: Sequence[pathlib.Path], texts: Sequence[str], due: plain_fleet.Numbers,
 ) -> Iterator[str]:
-    """What is wrong with what is told of each two of some digests, and with the numbers beside it."""
+    """What is wrong with what is printed of each two of some digests, and with the numbers beside it."""
     pairs = folder / "pairs.csv"
     yield from merge_faults([program, "fleet", "--json", "--pairs", pairs], paths, due)
     lines = plain_fleet.pairs_text(texts).splitlines()
     given = pairs.read_text().splitlines() if pairs.exists() else []
     if len(given) != len(lines):
         yield f"{len(given)} lines of pairs, and {len(lines)} were due"
-    yield from [f"{one!r} is told, and {other!r} was due" for one, other in zip(given, lines) if one != other][:5]
+    yield from [f"{one!r} is printed, and {other!r} was due" for one, other in zip(given, lines) if one != other][:5]
 
 
 def random_copies(draw: random.Random, pool: Sequence[str], most: int) -> dict[str, int]:
@@ -326,17 +326,17 @@ def python_with_dask() -> str:
 @contextlib.contextmanager
 def scheduler(python: str, folder: pathlib.Path) -> Iterator[str]:
     """A scheduler and two workers, and the scheduler's address. They end with the case, or else by themselves."""
-    told, bounds = folder / "scheduler.json", ["timeout", str(2 * SECONDS), python, "-m"]
-    host = ["--host", "127.0.0.1", "--no-dashboard", "--scheduler-file", told]
+    address, bounds = folder / "scheduler.json", ["timeout", str(2 * SECONDS), python, "-m"]
+    host = ["--host", "127.0.0.1", "--no-dashboard", "--scheduler-file", address]
     programs = [[*bounds, "distributed.cli.dask_scheduler", "--port", "0", *host]]
     worker = ["--nthreads", "1", "--death-timeout", "60", "--local-directory", folder]
     programs += [[*bounds, "distributed.cli.dask_worker", *worker, "--name", name, *host] for name in ("one", "other")]
     running = [subprocess.Popen(list(map(str, words)), stderr=subprocess.DEVNULL) for words in programs]
     try:
         until = time.monotonic() + 60
-        while not told.exists() and time.monotonic() < until:
+        while not address.exists() and time.monotonic() < until:
             time.sleep(0.1)
-        yield json.loads(told.read_text())["address"]
+        yield json.loads(address.read_text())["address"]
     finally:
         for process in running:
             process.terminate()
@@ -390,8 +390,8 @@ def read_by_workers(tally: Tally, python: str, folder: pathlib.Path) -> None:
     texts = broken_texts()
     paths = written(folder, [text for _what, _line, _cause, text in texts])
     done = ran([python, "-c", READ, *paths], cwd=FLEET)
-    told = done.stdout.decode().splitlines() + [""] * len(texts)
-    for (what, line, cause, _text), path, one in zip(texts, paths, told):
+    printed = done.stdout.decode().splitlines() + [""] * len(texts)
+    for (what, line, cause, _text), path, one in zip(texts, paths, printed):
         tally.equal(f"{what}, a worker", one or done.stderr, f"{path}: fault line {line}: {cause}")
 
 
@@ -437,14 +437,14 @@ def broken_texts() -> list[tuple[str, int, str, str]]:
 
 
 def fault_faults(done: Done, path: pathlib.Path, line: int, cause: str) -> Iterator[str]:
-    """What is wrong with how a fault is told: one line, with the file, the number of the line at fault and the cause."""
-    told = done.stderr.decode("utf-8", "replace")
+    """What is wrong with how a fault is printed: one line, with the file, the number of the line at fault and the cause."""
+    printed = done.stderr.decode("utf-8", "replace")
     if done.returncode != 1 or done.stdout:
-        yield f"status {done.returncode}, {done.stdout[:200]!r}, {told[-500:]!r}"
-    elif told.count("\n") != 1 or str(path) not in told or f"line {line}: " not in told:
-        yield f"{told[-500:]!r} was told, and line {line} was due"
-    elif cause not in told.split(": ")[-1].split() and CAUSES[cause] not in told:
-        yield f"{told!r} was told, and the cause {cause} was due"
+        yield f"status {done.returncode}, {done.stdout[:200]!r}, {printed[-500:]!r}"
+    elif printed.count("\n") != 1 or str(path) not in printed or f"line {line}: " not in printed:
+        yield f"{printed[-500:]!r} was printed, and line {line} was due"
+    elif cause not in printed.split(": ")[-1].split() and CAUSES[cause] not in printed:
+        yield f"{printed!r} was printed, and the cause {cause} was due"
 
 
 def broken(tally: Tally, ways: Ways) -> None:
@@ -486,18 +486,18 @@ def ordinary_copies(draw: random.Random) -> Iterator[dict[str, int]]:
 def count_within(
     within: collections.Counter[str], every: collections.Counter[str], due: plain_fleet.Numbers, whole: plain_fleet.Numbers,
 ) -> None:
-    """Counts the true numbers of one fleet, and those of them that lie within two standard errors of what is told."""
-    told = {(name, place): (value, error) for name, place, value, error in numbers_in(due)}
+    """Counts the true numbers of one fleet, and those of them that lie within two standard errors of what is printed."""
+    printed = {(name, place): (value, error) for name, place, value, error in numbers_in(due)}
     for name, place, true, _error in numbers_in(whole):
-        value, error = told.get((name, place), (0, 0))
-        # A class of few contents has few in the sample or none, from which no error can be told.
+        value, error = printed.get((name, place), (0, 0))
+        # A class of few contents has few in the sample or none, from which no error can be computed.
         if not name.startswith("a class") or place <= 8:
             every[name] += 1
             within[name] += abs(true - value) <= 2 * error
 
 
 def standard_errors(tally: Tally, draw: random.Random, ways: Ways) -> None:
-    """Of the true numbers at least 90 of 100 lie within two standard errors of what a sample of 16 tells."""
+    """Of the true numbers at least 90 of 100 lie within two standard errors of what a sample of 16 gives."""
     within: collections.Counter[str] = collections.Counter()
     every: collections.Counter[str] = collections.Counter()
     for number in range(200):
@@ -548,7 +548,7 @@ def beside_estimate(
     due = json.loads(ran([ways.program, *words, *paths]).stdout)
     found = json.loads(ran([ways.program, "fleet", "--json", *files]).stdout)
     for one in due["guests"] + found["guests"]:
-        # (a digest without lines tells no name and no salt)
+        # (a digest without lines has no name and no salt)
         for key in ("image", "guest", "salt"):
             one.pop(key, None)
     yield from differences(found, due, "beside estimate: ")
@@ -569,15 +569,15 @@ def example(tally: Tally, ways: Ways) -> None:
     """The digests that examples/make_fleet.py writes are those of the images that it writes, here of one host."""
     for guest, sample in [(1, 1), (2, 64)]:
         with new_folder() as folder:
-            told = make_fleet.name_of(7, guest)
+            name = make_fleet.name_of(7, guest)
             make_fleet.write_digest(folder, 7, guest, sample)
             make_fleet.write_image(folder, 7, guest)
-            image, given = folder / f"{told}.raw", (folder / f"{told}.csv").read_text()
-            due = {"the count": plain_fleet.text_of_pages(told, 0, sample, pages_of_bytes(image.read_bytes()))}
+            image, given = folder / f"{name}.raw", (folder / f"{name}.csv").read_text()
+            due = {"the count": plain_fleet.text_of_pages(name, 0, sample, pages_of_bytes(image.read_bytes()))}
             if "digest" in ways.commands:
-                due["digest"] = ran([ways.program, "digest", "--name", told, "--sample", sample, image]).stdout.decode()
+                due["digest"] = ran([ways.program, "digest", "--name", name, "--sample", sample, image]).stdout.decode()
             for way, text in due.items():
-                tally.equal(f"the example's {told}, {way}", given, text)
+                tally.equal(f"the example's {name}, {way}", given, text)
 
 
 def big_file(folder: pathlib.Path) -> pathlib.Path:
@@ -598,11 +598,11 @@ def memory(tally: Tally, ways: Ways) -> None:
         path = big_file(folder)
         begun = time.monotonic()
         done = ran([sys.executable, "-c", MEASURE, ways.program, "fleet", "--json", path])
-        *told, status, kibibytes = done.stderr.decode("utf-8", "replace").split()
+        *errors, status, kibibytes = done.stderr.decode("utf-8", "replace").split()
         taken = int(kibibytes) << 10
         print(f"fleet: {BIG_LINES:,} lines in {time.monotonic() - begun:.2f} s, {taken / (1 << 20):.1f} MiB of memory")
-        is_right = (status, told) == ("0", []) and taken <= MOST_MEMORY and json.loads(done.stdout)["total"]["frames"] == BIG_LINES
-        tally.holds("5 million lines", is_right, f"status {status}, {taken} bytes of memory, {told}")
+        is_right = (status, errors) == ("0", []) and taken <= MOST_MEMORY and json.loads(done.stdout)["total"]["frames"] == BIG_LINES
+        tally.holds("5 million lines", is_right, f"status {status}, {taken} bytes of memory, {errors}")
 
 
 def main() -> int:

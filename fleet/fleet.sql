@@ -1,6 +1,6 @@
 -- The numbers of a fleet, as SQL: the same as fleet_dask.py prints. It needs two tables (fleet/README.md says how to fill them):
 --
---   lines(file, guest, salt, pages, sample, digest, copies)   all lines of all digests; `file` tells files apart, and all numbers
+--   lines(file, guest, salt, pages, sample, digest, copies)   all lines of all digests; `file` numbers the files, and all numbers
 --                                                             are BIGINT
 --   zeros(zero_digest)                                        the digest of a page of zeros under each salt, as zeros.py prints it
 --
@@ -20,7 +20,7 @@ FROM (
         SELECT digest, copies, 1 AS one, 0 AS zeros, sample FROM lines
         UNION ALL
         SELECT zero_digest AS digest, 0 AS copies, 0 AS one, 1 AS zeros, 0 AS sample FROM zeros
-    ) AS told
+    ) AS listed
     GROUP BY digest
 ) AS counted
 WHERE guests > 0;

@@ -173,13 +173,13 @@ def report(asked: Asked, moves: Iterable[tuple[int, int]], bound: float, how: st
     """The object of a plan."""
     guests, hosts = asked.guests, asked.hosts
     frames = order.Frames(guests, asked.host_of)
-    before, told = frames.total(), []
+    before, listed = frames.total(), []
     for guest, host in moves:
         saved = frames.move(guest, host)
-        told.append({"guest": guests.names[guest], "from": hosts[frames.was], "to": hosts[host], "reclaimed": round(saved)})
+        listed.append({"guest": guests.names[guest], "from": hosts[frames.was], "to": hosts[host], "reclaimed": round(saved)})
     pages = int(guests.pages.sum())
     return {
-        "page_bytes": digests.PAGE_BYTES, "sample": guests.sample, "pages": pages, "moves": told,
+        "page_bytes": digests.PAGE_BYTES, "sample": guests.sample, "pages": pages, "moves": listed,
         "before": {"frames": round(before), "reclaimed": pages - round(before)},
         "after": {"frames": round(frames.total()), "reclaimed": pages - round(frames.total())},
         "bound": {"frames": round(min(bound, frames.total())), "by": how},

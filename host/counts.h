@@ -1,6 +1,7 @@
 /*
- * What the library counts in a client, for operators: a file without a name (memfd) that the process keeps open. Whoever may look at its
- * descriptors finds the file there, so no message is needed. A reader takes nothing for granted: the process can write anything.
+ * What the library counts in a client, for operators: a file without a name (memfd) that the process keeps open. Other processes
+ * that may look at its descriptors find the file there, so no message is needed. A reader takes nothing for granted: the process
+ * can write anything.
  */
 #ifndef HOST_COUNTS_H
 #define HOST_COUNTS_H

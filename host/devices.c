@@ -88,7 +88,7 @@ struct seen {
     bool has_buffers; /* one with registered buffers */
 };
 
-/* Reads fdinfo/NAME. Returns false where it can't be read. */
+/* Reads fdinfo/NAME. Returns false if it can't be read. */
 static bool read_fdinfo(const struct seen *seen, const char *name, char *text, size_t room) {
     char path[32];
     snprintf(path, sizeof path, "%.20s", name);
@@ -153,7 +153,7 @@ static void add(struct seen *seen, int folder, const char *name) {
 
 /* ---- requests of io_submit ---- */
 
-/* The system's number of requests that io_setup has reserved, for all processes; -1 where it doesn't say. */
+/* The system's number of requests that io_setup has reserved, for all processes; -1 if it doesn't say. */
 static long reserved_requests(void) {
     char text[32];
     int file = (int)syscall(SYS_openat, AT_FDCWD, "/proc/sys/fs/aio-nr", O_RDONLY | O_CLOEXEC, 0);
@@ -185,7 +185,7 @@ static bool has_requests_mapped(const char *process) {
     return has;
 }
 
-/* The mappings are read only where the system's number has changed, since that takes long where there are many. */
+/* The mappings are read only if the system's number has changed, since that takes long if there are many. */
 static bool may_submit(void) {
     static atomic_long last;
     static atomic_bool found;
@@ -201,7 +201,7 @@ static bool may_submit(void) {
 
 /* ---- all descriptors ---- */
 
-/* What was seen last; and of what that is, so that nothing has to be looked at again where nothing can have changed. */
+/* What was seen last; and of what that is, so that nothing has to be looked at again if nothing can have changed. */
 static struct {
     atomic_int devices;
     atomic_bool has_ring; /* then what is registered with it may change at any time */
@@ -218,7 +218,7 @@ static long descriptors_count(void) {
     return stat("/proc/self/fd", &folder) == 0 ? (long)folder.st_size : 0;
 }
 
-/* Looks at all descriptors of a process. Returns false where they can't be seen. */
+/* Looks at all descriptors of a process. Returns false if they can't be seen. */
 static bool see(struct seen *seen, const char *process) {
     int fds = open_of(process, "fd", O_DIRECTORY);
     *seen = (struct seen){.info = open_of(process, "fdinfo", O_DIRECTORY)};

@@ -20,9 +20,9 @@ bool devices_may_be(const char *path, int flags);
 enum devices devices_of_request(unsigned long request, const void *with);
 /* What the process's descriptors may do, also those that came by a socket. The worst of them. */
 enum devices devices_open(void);
-/* Looks at the descriptors of another process. Returns false where they can't be seen. */
+/* Looks at the descriptors of another process. Returns false if they can't be seen. */
 bool devices_of_process(unsigned long long process, enum devices *devices);
-/* As devices_open. It takes a microsecond or two where no descriptor was opened or closed since the last call of either. */
+/* As devices_open. It takes a microsecond or two if no descriptor was opened or closed since the last call of either. */
 enum devices devices_still_open(void);
 /* Notes that a descriptor was closed. */
 void devices_closed(void);

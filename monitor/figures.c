@@ -30,7 +30,7 @@ static double most_held(const struct figures *figures) {
     return most;
 }
 
-/* The first sample that has 98 % of the most pages saved at once; the last one where nothing was saved. */
+/* The first sample that has 98 % of the most pages saved at once; the last one if nothing was saved. */
 static const struct sample *settled(const struct figures *figures) {
     uint64_t most = 0;
     for (size_t i = 0; i < figures->count; i++)

@@ -34,13 +34,13 @@ struct figures {
 };
 
 bool figures_make(struct figures *figures, size_t most);
-/* Room for the next sample, or NULL. */
+/* Space for the next sample, or NULL. */
 struct sample *figures_next(struct figures *figures);
 
 /* Draws a line anew on a terminal: what the last sample shows. */
 void figures_watch(const struct figures *figures, FILE *to);
 void figures_print(struct figures *figures, FILE *to);
-/* Returns false, with errno, where the file can't be written. benches/held.py draws a picture of the file. */
+/* Returns false, with errno, if the file can't be written. benches/held.py draws a picture of the file. */
 bool figures_json(struct figures *figures, const char *path);
 
 #endif

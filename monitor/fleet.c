@@ -11,13 +11,13 @@
  *     --round MILLISECONDS                     a look at all guests' pages so often
  *     --frames HUNDREDTHS, --slots HUNDREDTHS  frames, and most pages that are lent, of all pages
  *     --renew SECONDS                          so often a guest ends, and another begins in its place
- *     --trace FILE                             a record of events, where windows are built for it
+ *     --trace FILE                             a record of events, if windows are built for it
  *     --journal FILE --requests N              what was asked of the domain, and to FILE.replay the lines that `pageshare replay`
  *                                              must print; when so many are written, and after 10 s at least, the run ends
  *     --words TEXT                             more of Linux's command line
  *     --json FILE, --watch                     figures, of which benches/held.py draws a picture; a line a second on a terminal
  *
- * Prints a table at the end. The status is 0 where every processor ran to the end and saw no wrong word, 1 where not, 2 for a bad
+ * Prints a table at the end. The status is 0 if every processor ran to the end and saw no wrong word, 1 if not, 2 for a bad
  * command line.
  */
 #define _GNU_SOURCE
@@ -91,7 +91,7 @@ static bool wrote(struct processor *processor, uint16_t port, uint8_t byte) {
     return true;
 }
 
-/* Reads the number behind a word of a file such as /proc/self/status; 0 where there is none. */
+/* Reads the number behind a word of a file such as /proc/self/status; 0 if there is none. */
 static uint64_t number_in(const char *path, const char *word) {
     char line[256];
     uint64_t number = 0;

@@ -151,7 +151,7 @@ static void check_all(const struct memory *memory, uint64_t processor, uint64_t 
     for (uint64_t i = first; i < first + freshened; i++) check_page(&memory->fresh, processor, i, memory->fresh.seed);
 }
 
-/* Changes some mixed pages. Answers the mean of a write's cycles. */
+/* Changes some mixed pages. Returns the mean of a write's cycles. */
 static uint64_t change(const struct memory *memory, uint64_t processor, uint64_t round) {
     static uint64_t state[PROCESSORS];
     uint64_t spent = 0;

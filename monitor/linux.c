@@ -51,7 +51,7 @@ static bool refuse(const char *kernel, const char *why) {
     return false;
 }
 
-/* Reads a kernel's header, and loads what is behind its first sectors. Answers false, having printed why. */
+/* Reads a kernel's header, and loads what is behind its first sectors. Returns false, having printed why. */
 static bool put_kernel(struct vm *vm, const char *name, const uint8_t *image, size_t bytes, struct boot_params *params) {
     struct setup_header *header = &params->hdr;
     const size_t at = offsetof(struct boot_params, hdr);

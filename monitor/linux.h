@@ -9,7 +9,7 @@ enum { LINUX_PORT = 0x3f8 };
 
 /*
  * Loads a bzImage and an initramfs, and sets the first processor of a machine with chips to the kernel's 64-bit beginning, by the
- * boot protocol of Documentation/arch/x86/boot.rst. `words` are its command line. Answers false, having printed why.
+ * boot protocol of Documentation/arch/x86/boot.rst. `words` are its command line. Returns false, having printed why.
  */
 bool linux_set(struct vm *vm, const char *kernel, const char *initrd, const char *words);
 

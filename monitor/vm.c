@@ -136,7 +136,7 @@ static void put_tables(struct vm *vm) {
     for (uint64_t i = 0; i < frames; i++) tables[1536 + i] = i * FRAME | ENTRY;
 }
 
-/* Copies a program's segments to their places. Answers its beginning, or 0. */
+/* Copies a program's segments to their places. Returns its beginning, or 0. */
 static uint64_t put_elf(struct vm *vm, const uint8_t *image, size_t bytes) {
     Elf64_Ehdr head;
     if (bytes < sizeof head) return 0;
@@ -167,7 +167,7 @@ const uint8_t *vm_map_file(const char *path, size_t *bytes) {
 
 void vm_unmap_file(const uint8_t *image, size_t bytes) { munmap((void *)(uintptr_t)image, bytes); }
 
-/* Answers a program's beginning, or 0, having printed why. */
+/* Returns a program's beginning, or 0, having printed why. */
 static uint64_t load(struct vm *vm, const char *program) {
     size_t bytes;
     const uint8_t *image = vm_map_file(program, &bytes);
@@ -193,7 +193,7 @@ bool vm_set_guest(struct vm *vm, const char *program, unsigned rest) {
     return true;
 }
 
-/* Serves an access to ports: bytes are reported, and what is read is ones, or that a byte may be written. Answers false where the
+/* Serves an access to ports: bytes are reported, and what is read is ones, or that a byte may be written. Returns false if the
  * processor is to halt. */
 static bool serve_port(struct processor *processor) {
     struct kvm_run *run = processor->run;
@@ -208,7 +208,7 @@ static bool serve_port(struct processor *processor) {
     return true;
 }
 
-/* Tells where a processor stands, and which bytes KVM couldn't emulate there if it says so. */
+/* Prints where a processor stands, and which bytes KVM couldn't emulate there if it says so. */
 static enum vm_end failed(const struct processor *processor, const char *what) {
     const struct kvm_run *run = processor->run;
     struct kvm_regs regs = {0};

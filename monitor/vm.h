@@ -55,7 +55,7 @@ void vm_free(struct vm *vm);
 /* Sets a processor to real mode at an address below 64 KiB, all segments at 0. */
 bool vm_set_real(struct vm *vm, uint16_t at);
 
-/* Where a processor begins in 64-bit mode, with flat segments; in user mode, with the right to all ports, where these say so. */
+/* Where a processor begins in 64-bit mode, with flat segments; in user mode, with the right to all ports, if these say so. */
 struct vm_begin {
     uint64_t entry, stack;
     uint64_t first, second; /* in rdi and rsi */
@@ -64,7 +64,7 @@ struct vm_begin {
 };
 bool vm_set_long(struct processor *processor, const struct vm_begin *begin);
 
-/* Writes through the slot's addresses, as the guest would. Returns false where that is out of the guest's memory. */
+/* Writes through the slot's addresses, as the guest would. Returns false if that is out of the guest's memory. */
 bool vm_put(struct vm *vm, uint64_t at, const void *bytes, size_t length);
 
 /* Maps a file for reading. Returns NULL, having said why. */

@@ -115,7 +115,7 @@ struct home {
     bool stays[HOME_MOST]; /* a device may have pinned its copy */
 };
 
-/* Takes memory for pages, and guards them. Returns 0 or an errno; where it isn't 0 nothing is guarded. */
+/* Takes memory for pages, and guards them. Returns 0 or an errno; if it isn't 0, nothing is guarded. */
 static int begin_home(struct home *home) {
     const struct window *window = home->window;
     const int kind = MAP_PRIVATE | MAP_ANONYMOUS | MAP_NORESERVE;
@@ -143,7 +143,7 @@ static int find_staying(struct home *home) {
     return cause;
 }
 
-/* Moves copies of pages in a row to their place, in one step for those who read or write meanwhile. Returns 0 or an errno. */
+/* Moves copies of pages in a row to their place, in one step for threads that read or write meanwhile. Returns 0 or an errno. */
 static int bring(struct home *home, size_t from, size_t count) {
     struct window *window = home->window;
     uint8_t *to = address_of(window, home->first + from), *copies = home->at + bytes_of(from);

@@ -35,7 +35,7 @@ int faults_protect(const struct faults *faults, void *at, size_t pages);
  * uses too, as that of a device that has pinned it. Nobody is woken.
  */
 void faults_move(const struct faults *faults, void *to, void *from, size_t pages, bool *moved);
-/* Puts a page at its place, where none is: it is moved, or copied where that can't be, or else its mapping is moved: *remapped. */
+/* Puts a page at its place, where none is: it is moved, or copied if that can't be, or else its mapping is moved: *remapped. */
 int faults_put(const struct faults *faults, void *to, void *from, bool *remapped);
 
 /* What a look finds of a page. */
@@ -49,17 +49,17 @@ struct pagemap {
 int pagemap_open(struct pagemap *pagemap, bool never_scan);
 enum { PAGEMAP_MOST = 512 };
 /*
- * Tells of up to PAGEMAP_MOST pages whether each has memory of its own: no file's page, not the page of zeros, no guard's mark. `*is_huge`:
- * all of PAGEMAP_MOST pages are one huge page; true also where the system doesn't say.
+ * Finds which of up to PAGEMAP_MOST pages have memory of their own: no file's page, not the page of zeros, no guard's mark.
+ * `*is_huge`: all of PAGEMAP_MOST pages are one huge page; true also if the system doesn't say.
  */
 int pagemap_find(const struct pagemap *pagemap, const void *at, size_t pages, uint8_t *found, bool *is_huge);
-/* Whether PAGEMAP_MOST pages are one huge page; false where the system doesn't say. */
+/* Whether PAGEMAP_MOST pages are one huge page; false if the system doesn't say. */
 bool pagemap_is_huge(const struct pagemap *pagemap, const void *at);
-/* Returns 0 where each of up to PAGEMAP_MOST pages is there and guarded against writes, and else an errno. */
+/* Returns 0 if each of up to PAGEMAP_MOST pages is there and guarded against writes, and else an errno. */
 int pagemap_are_guarded(const struct pagemap *pagemap, const void *at, size_t pages);
-/* Tells of up to PAGEMAP_MOST pages whether each has memory of its own that isn't swapped out. Pages may be guarded, but not missing. */
+/* Finds which of up to PAGEMAP_MOST pages have memory of their own that isn't swapped out. They may be guarded, but not missing. */
 int pagemap_find_copies(const struct pagemap *pagemap, const void *at, size_t pages, bool *own);
-/* Whether this page has memory of its own, asked in another way; false where that can't be known. */
+/* Whether this page has memory of its own, asked in another way; false if that can't be known. */
 bool pagemap_is_own(const struct pagemap *pagemap, const void *at);
 
 /* A memory policy of mbind. */
@@ -104,7 +104,7 @@ int advice_begin(void *at, size_t pages);
 int advice_end(const struct advice *advice, void *at, size_t pages);
 /* Says of memory of its own, which was mapped in the place of frames, what was `now` said there, and of huge pages and KSM `before`. */
 int advice_give(const struct advice *now, const struct advice *before, void *at, size_t pages);
-/* Says one thing of a range. Returns 0 also where the kernel was built without it. */
+/* Says one thing of a range. Returns 0 also if the kernel was built without it. */
 int advice_say(void *at, size_t pages, int advice);
 
 /* Whether `is_it` says so of any locked mapping of the process. It is called with the mapping's bounds. */

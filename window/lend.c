@@ -30,7 +30,7 @@ static uint8_t *place_of(const struct hold *hold, size_t i) {
 static uint32_t number_of(const struct hold *hold, size_t i) { return hold->window->base + (uint32_t)(hold->first + i); }
 
 /*
- * Guards pages against writes. What a device may have pinned isn't held by that. So where pages may be pinned, only those are held that
+ * Guards pages against writes. What a device may have pinned isn't held by that. So if pages may be pinned, only those are held that
  * show a frame still, now that nobody can make a copy any more. Devices are looked for only now, since one that pins a page from now
  * on waits.
  */
@@ -45,7 +45,7 @@ static void guard(struct hold *hold) {
     for (size_t i = 0; i < hold->count && cause == 0; i++) hold->held[i] = !own[i];
 }
 
-/* The pages are held that can be, and none where the system refuses. */
+/* The pages are held that can be, and none if the system refuses. */
 static void take(struct hold *hold) {
     struct windows *windows = hold->window->windows;
     void *at = address_of(hold->window, hold->first);
@@ -119,7 +119,7 @@ static void note_held(struct hold *hold, size_t count) {
     note_hold(hold->window->windows, hold->begun_ns, count);
 }
 
-/* Maps what is to be shown, and lets those go on who wait for it. */
+/* Maps what is to be shown, and lets the threads go on that wait for it. */
 static void map(struct hold *hold) {
     struct windows *windows = hold->window->windows;
     for (size_t i = 0, count = 1; i < hold->count; i += count) {
@@ -147,7 +147,7 @@ static bool is_stuck(const struct windows *windows, size_t page) {
     return false;
 }
 
-/* Lets everyone go on who waits for these pages, but for those that could not be put back: their place must not be touched. */
+/* Lets the threads go on that wait for these pages, but for those that could not be put back: their place must not be touched. */
 static void end_watch(struct hold *hold) {
     struct windows *windows = hold->window->windows;
     size_t step = windows->stuck_count == 0 ? hold->count : 1;
@@ -379,7 +379,7 @@ static void take_answers(struct windows *windows, struct batch *batch, const uns
     batch->count = kept;
 }
 
-/* Leaves those pages of the batch that others have. Returns false where the lender didn't answer. Takes the lock. */
+/* Leaves those pages of the batch that others have. Returns false if the lender didn't answer. Takes the lock. */
 static bool ask(struct windows *windows, struct batch *batch) {
     uint32_t numbers[WINDOW_BATCH];
     bool passing[WINDOW_BATCH];

@@ -39,12 +39,12 @@ struct window_lender {
     void *opaque;
     int frames; /* descriptor of the frames' file, sealed against shrinking, open for reading at least; stays the lender's */
     uint32_t frame_count; /* 1 to WINDOW_FRAMES_MOST */
-    uint32_t salt;        /* of fingerprints: the same for all who lend to one domain, and never the domain's secret salt */
+    uint32_t salt;        /* of fingerprints: the same for all lenders of one domain, and never the domain's secret salt */
     unsigned char (*pages)[WINDOW_PAGE_BYTES]; /* buffer for WINDOW_BATCH pages */
 
     /*
-     * Writes 1 to seen[i] if another page with fingerprints[i] was asked about lately, or the lender knows a frame in use with it; else 0.
-     * If passing[i] is true, the lender needn't note the question: no other page needs to find page i by it.
+     * Writes 1 to seen[i] if another page with fingerprints[i] was asked about lately, or the lender knows a frame in use with
+     * it; else 0. If passing[i] is true, the lender needn't note the question: no other page needs to find page i by it.
      */
     int (*ask)(void *opaque, const uint32_t *pages, const uint64_t *fingerprints, const bool *passing, size_t count,
                unsigned char *seen);

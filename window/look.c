@@ -8,11 +8,11 @@
 enum {
     READY_PARTS = 64,   /* parts of which a look says MADV_UNMERGEABLE at most, while KSM has merged something */
     WHOLE_TURNS = 2,    /* how much more seldom a page of a whole part is read and asked about again */
-    CALM_PART = 64,     /* a part is calm where at most a so many-th of its pages with memory of their own has changed */
+    CALM_PART = 64,     /* a part is calm if at most one in this many of its pages with memory of their own has changed */
     LIMIT_EACH = 16,    /* looks until the system's limit of mappings is read again */
     LEFT_OUT_EACH = 64, /* parts that are left out, until the pace is kept */
-    READ_EACH = 16,     /* of so many times that a page is asked about again, it is read once, where glances find most changes; */
-    READ_EACH_OVER = 2, /* and where they can't, since its memory lies over a frame */
+    READ_EACH = 16,     /* of so many times that a page is asked about again, it is read once, if glances find most changes; */
+    READ_EACH_OVER = 2, /* and if they can't, since its memory lies over a frame */
     AHEAD = 12          /* pages that are fetched while another one is glanced at */
 };
 /* Between two times that the pace is kept, of processor time; and that a look attends to what may not wait for its end, by the clock. */
@@ -218,7 +218,7 @@ static void find_in_part(struct window *window, size_t first, size_t count, stru
 #endif
 }
 
-/* Looks at a part. Returns false where the window has ended. Takes the lock. */
+/* Looks at a part. Returns false if the window has ended. Takes the lock. */
 static bool look_at_part(struct window *window, size_t first, size_t count, struct findings *findings, size_t *unready) {
     struct windows *windows = window->windows;
     findings->count = findings->changes = 0;
@@ -364,7 +364,7 @@ static bool has_page_between(void *set, const uint8_t *begin, const uint8_t *end
 }
 
 /*
- * Looks whether memory of a window was locked since the last look. That takes reading smaps, long where there are many mappings, so it is
+ * Looks whether memory of a window was locked since the last look. That takes reading smaps, long if there are many mappings, so it is
  * done for a small part of the time only, and never with the lock.
  */
 static void look_for_locks(struct windows *windows) {
@@ -399,7 +399,7 @@ static void attend(struct windows *windows) {
     release_slots(windows);
 }
 
-/* What a look begins with. Returns false where nothing can be looked at. */
+/* What a look begins with. Returns false if nothing can be looked at. */
 static bool begin(struct windows *windows) {
     windows->is_cut_short = false;
     windows->paced_ns = clock_spent_ns();

@@ -119,7 +119,7 @@ static void split(struct window *window, size_t first, bool is_huge) {
 
 /* ---- split parts become whole ---- */
 
-/* An empty huge page of which is said what was said of the window; NULL where the system has none to give. */
+/* An empty huge page of which is said what was said of the window; NULL if the system has none to give. */
 static uint8_t *make_room(const struct window *window) {
     const int kind = MAP_PRIVATE | MAP_ANONYMOUS | MAP_NORESERVE;
     const size_t bytes = bytes_of(PART);
@@ -148,7 +148,7 @@ static bool can_copy(const struct window *window, size_t first) {
 
 /*
  * Guards a part's pages against writes, all of them: a page without memory couldn't be guarded, so there is none when that begins. Devices
- * are looked for only then, since who pins a page from now on to write to it waits. Returns 0 or an errno.
+ * are looked for only then, since pinning a page from now on, to write to it, waits. Returns 0 or an errno.
  */
 static int guard_part(struct window *window, size_t first) {
     struct windows *windows = window->windows;

@@ -31,8 +31,8 @@ static const uint32_t ZEROS = WINDOW_NO_FRAME - 1;
  * may have pinned, stays where it is. Nothing is lent of it any more, but a discard must not uncover the frame.
  */
 struct __attribute__((packed)) page {
-    uint64_t kept;       /* the slot, if it holds one; otherwise its fingerprint when it was read last, where `looks` isn't 0 */
-    uint32_t frame : 26; /* that is mapped at its place; where none is, what a glance at it found when it was read last */
+    uint64_t kept;       /* the slot, if it holds one; otherwise its fingerprint when it was read last, if `looks` isn't 0 */
+    uint32_t frame : 26; /* that is mapped at its place; if none is, what a glance at it found when it was read last */
     uint32_t over : 1;   /* a frame is mapped at its place; the page is that frame or a private copy */
     uint32_t shows : 1;  /* as far as is known it is the frame */
     uint32_t holds : 1;  /* the lender counts the slot */
@@ -40,10 +40,10 @@ struct __attribute__((packed)) page {
     uint32_t out : 1;    /* it has left the window */
     uint32_t zero : 1;   /* it was given back as zeros, and has no memory since */
     uint8_t looks : 2;   /* looks with that fingerprint, at most STILL */
-    uint8_t asks : 2;   /* how often it was asked about in vain; or, where `looks` is 1, changed again. At most ASKS_APART_MOST */
-    uint8_t seen : 1;   /* it counts among its part's `shareable` */
-    uint8_t moved : 1;  /* its memory was moved to its place, and so is in no mapping with what is beside it */
-    uint8_t begins : 1; /* it is the first page of what was moved */
+    uint8_t asks : 2;    /* how often it was asked about in vain; or, if `looks` is 1, changed again. At most ASKS_APART_MOST */
+    uint8_t seen : 1;    /* it counts among its part's `shareable` */
+    uint8_t moved : 1;   /* its memory was moved to its place, and so is in no mapping with what is beside it */
+    uint8_t begins : 1;  /* it is the first page of what was moved */
 };
 _Static_assert(sizeof(struct page) == 13, "a page takes 13 bytes of tables");
 
@@ -82,7 +82,7 @@ struct window {
     bool ended;      /* the range is the caller's again; only slots are left to release */
 };
 
-/* Memory of which a transfer by O_DIRECT is under way, which may have pinned its pages. `begin` is NULL where there is none. */
+/* Memory of which a transfer by O_DIRECT is under way, which may have pinned its pages. `begin` is NULL if there is none. */
 struct transfer {
     const uint8_t *begin, *end;
 };
@@ -108,7 +108,7 @@ struct windows {
     struct faults faults;
     struct pagemap pagemap;
     uint8_t *scratch; /* place for SCRATCH pages that are held, or were */
-    uint8_t *zeros;   /* PART pages that nobody touches, and no child has; NULL where there are none */
+    uint8_t *zeros;   /* PART pages that nobody touches, and no child has; NULL if there are none */
     size_t scratch_used;
     struct stuck stuck[PART];
     size_t stuck_count;
@@ -248,10 +248,10 @@ int begin_parts(struct window *window);
 void count_parts(struct window *window, bool is_more);
 /* Notes whether a part is a huge page. With the lock. */
 void note_huge(struct window *window, size_t first, bool is_huge);
-/* Splits a whole part, or makes a split one whole, where that is worth it by what a look has found of it. With the lock. */
+/* Splits a whole part, or makes a split one whole, if that is worth it by what a look has found of it. With the lock. */
 void settle_part(struct window *window, size_t first, size_t own, bool is_huge);
 
-/* Lets others run where there is a pace, and attends to what may not wait for the end of a look. Not with the lock, nor while pages are
+/* Lets others run if there is a pace, and attends to what may not wait for the end of a look. Not with the lock, nor while pages are
  * held. Returns whether the look goes on. */
 bool keep_pace(struct windows *windows);
 /* Notes that so many pages weren't lent since mappings are short. With the lock. */
@@ -259,7 +259,7 @@ void note_crowded(struct windows *windows, size_t pages);
 /* Notes how long pages were held that are held no longer. */
 void note_hold(struct windows *windows, uint64_t begun_ns, size_t pages);
 
-/* Reads the system's limit of mappings, where that counts. With the lock, or before there is a window. */
+/* Reads the system's limit of mappings, if that counts. With the lock, or before there is a window. */
 void follow_limit(struct windows *windows);
 
 /* Frees a window's tables. */
@@ -287,7 +287,7 @@ struct batch {
 };
 /* Notes that a lender's call failed. One that isn't there is asked nothing more in this look. Takes the lock. */
 void lender_failed(struct windows *windows, int cause);
-/* Lets others run, where this thread has run for long since it got its processor, so that it doesn't lose it while it holds pages. Not with
+/* Lets others run if this thread has run for long since it got its processor, so that it doesn't lose it while it holds pages. Not with
  * the lock. */
 void begin_turn(struct turn *turn);
 /* Gives idle pages of zeros back to the system. Empties the batch. */

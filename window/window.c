@@ -12,7 +12,7 @@ void free_window(struct window *window) {
     free(window);
 }
 
-/* The first numbers that no window has, for `count` pages. Returns false where there are none. With the lock. */
+/* The first numbers that no window has, for `count` pages. Returns false if there are none. With the lock. */
 static bool find_numbers(const struct windows *windows, size_t count, uint32_t *base) {
     uint64_t from = 0;
     for (const struct window *window = windows->first; window != NULL;) {

@@ -1,5 +1,5 @@
 /*
- * Windows: ranges of a process's memory whose idle pages are lent, while those who use the memory go on reading and writing it.
+ * Windows: ranges of a process's memory whose idle pages are lent, while its users go on reading and writing it.
  *
  * A page of a window is at each moment
  *   private: memory of its own;
@@ -78,7 +78,7 @@ struct windows_tuning {
      * huge pages. 1: a part is split as soon as any page could be shared. More than WINDOWS_HUGE_PAGES: no huge page is split.
      */
     uint16_t huge_from;
-    /* A part where next to nothing changes is left out of up to so many looks, 1, 3, 7 and so on; 0: of none. */
+    /* A part where next to nothing changes is left out of at most this many looks in a row: 1, 3, 7 and so on. 0: of none. */
     uint8_t rest_most;
     /* A page that nobody else has is read and asked about again at each so many-th look; 0: at each 8th. */
     uint16_t turns;
@@ -100,14 +100,14 @@ struct windows_config {
     struct windows_tuning tuning;
     /*
      * Called in a look, by the thread that looks, after each 0.4 ms or so of its processor time, with nothing held and no lock. It may
-     * sleep, and may call anything of windows but what that thread alone calls. Returns false where the look is to end early. NULL: none.
+     * sleep, and may call anything of windows but what that thread alone calls. Returns false if the look is to end early. NULL: none.
      */
     bool (*pace)(void *opaque);
     void *pace_opaque;
     bool never_move;   /* as on a kernel without UFFDIO_MOVE; for tests */
     bool never_scan;   /* as on a kernel without PAGEMAP_SCAN; for tests */
     bool never_wait;   /* parts are split and made whole at any look that finds a cause; for tests */
-    const char *trace; /* a file for a record of events, where the library was built with WINDOW_TRACE; NULL: none */
+    const char *trace; /* a file for a record of events, if the library was built with WINDOW_TRACE; NULL: none */
 };
 
 /* Makes a set without windows or lender. Unless the status is WINDOW_OK *made is NULL. */
@@ -169,14 +169,14 @@ enum window_end {
 };
 /*
  * Ends a window; the range is the caller's again, and window means nothing any more. Slots are released by later looks. Where the
- * status isn't WINDOW_OK the window is as it was, but that some pages may be private: WINDOW_PINNED where copies have to stay over
+ * status isn't WINDOW_OK the window is as it was, but that some pages may be private: WINDOW_PINNED if copies have to stay over
  * their frames. Pages that have left the window are left alone. NULL is no window.
  */
 struct window_result window_free(struct window *window, enum window_end end);
 
 /*
  * Says `advice` for all pages of the window, now and for frames that are mapped later: MADV_DONTFORK, MADV_DOFORK, MADV_DONTDUMP or
- * MADV_DODUMP; else WINDOW_ADVICE with EINVAL. MADV_DOFORK is refused with WINDOW_PINNED where copies have to stay over frames.
+ * MADV_DODUMP; else WINDOW_ADVICE with EINVAL. MADV_DOFORK is refused with WINDOW_PINNED if copies have to stay over frames.
  */
 struct window_result window_advise(struct window *window, int advice);
 

@@ -48,7 +48,7 @@ static void make_zeros(struct windows *windows) {
     else munmap(at, bytes_of(PART + 2));
 }
 
-/* Maps the frames' file; for reading alone where the system, which may count each byte that could be written, refuses it otherwise. */
+/* Maps the frames' file; for reading alone if the system, which may count each byte that could be written, refuses it otherwise. */
 static uint8_t *map_frames(size_t frames, int fd, bool *are_given) {
     void *at = mmap(NULL, bytes_of(frames), PROT_READ | PROT_WRITE, MAP_PRIVATE | MAP_NORESERVE, fd, 0);
     *are_given = at != MAP_FAILED && is_kept_back(at, frames) && madvise(at, bytes_of(frames), MADV_DONTDUMP) == 0;

@@ -95,7 +95,7 @@ def faults(problem: Problem, due: float) -> Iterator[str | dict[str, bool]]:
 
     placement = search(problem, is_late)
     if not placement.is_sound() or abs(placement.frames() - Placement(problem, placement.host_of).frames()) > 1e-6:
-        yield "the search's placement doesn't hold, or its frames aren't those that are told"
+        yield "the search's placement doesn't hold, or its frames aren't those that it returned"
     if placement.frames() > 1.1 * due:
         yield f"the search finds {placement.frames()} frames, and {due} are enough"
     # (so that a bound that is always 0 isn't taken for one)
@@ -110,7 +110,7 @@ def least_faults(draw: numpy.random.Generator) -> Iterator[str]:
     for count in range(1, most + 1):
         due = min(has[list(some)].any(axis=0).sum() for some in itertools.combinations(range(len(has)), count))
         if found[count] != due:
-            yield f"{count} units need at least {due} contents, and {found[count]} are told"
+            yield f"{count} units need at least {due} contents, and {found[count]} are returned"
     offset, slope = kinds.chord(found)
     if any(offset + slope * count > found[count] + 1e-9 for count in range(1, most + 1)) or offset < 0:
         yield f"{offset} + {slope} n is more than {found}"

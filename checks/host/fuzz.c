@@ -49,7 +49,7 @@ static void check_freed(const uint32_t *freed, size_t count) {
     }
 }
 
-/* A session's process has ended, and so many of its slots were released. (Which of them are first isn't told.) */
+/* A session's process has ended, and `released` of its slots were released. (Nothing says which of them are first.) */
 static void forget(uint32_t session, size_t released) {
     for (size_t i = loan_count; i-- > 0;)
         if (loans[i].session == session) loans[i] = loans[--loan_count], ending[session]++;

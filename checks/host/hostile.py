@@ -96,13 +96,13 @@ def words_after_a_fault(path: str) -> bool:
 
 
 def other_versions(path: str) -> bool:
-    """A client of another version is told which one the host has, and is heard no more. Answers whether it isn't."""
+    """A client of another version learns which one the host has, and is heard no more. Returns whether that isn't so."""
     client = RawClient(path, hello=False)
     client.say(struct.pack("<II16s", HELLO, 1, bytes(16)))
-    told = struct.unpack("<II", client.hear())
+    reply = struct.unpack("<II", client.hear())
     ended = client.is_ended()
-    print(f"  a client of version 1 is told {told}, and its connection ends: {'yes' if ended else 'NO'}")
-    return told != (WELCOME, VERSION) or not ended
+    print(f"  a client of version 1 gets {reply}, and its connection ends: {'yes' if ended else 'NO'}")
+    return reply != (WELCOME, VERSION) or not ended
 
 
 def loses_a_reply(path: str) -> bool:

@@ -1,6 +1,6 @@
 /*
  * What host/preload/remote.c says to a host whose connections break. The host is a stand-in in a thread of its own, which loses replies and
- * releases on purpose and looks at what it is told afterwards. Prints "ok", or what isn't so (status 1).
+ * releases on purpose and looks at what it gets afterwards. Prints "ok", or what isn't so (status 1).
  */
 #define _GNU_SOURCE
 #include "remote.h"

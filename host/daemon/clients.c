@@ -40,7 +40,7 @@ static union event_key key_of(const struct domain *domain, const struct client *
     return key;
 }
 
-/* The client that an event is of, or NULL where its entry has become another's. */
+/* The client that an event is of, or NULL if its entry has become another's. */
 static struct client *client_of(struct domain *domain, union event_key key) {
     struct client *client = key.index < domain->client_most ? &domain->clients[key.index] : NULL;
     return client && client->state != CLIENT_NONE && client->generation == key.generation ? client : NULL;
@@ -111,7 +111,7 @@ static bool is_trusted(const struct domain *domain, const struct ucred *peer) {
     return domain->settings.trust_peers || (peer->uid != 0 && peer->uid != geteuid());
 }
 
-/* A free entry for a process, or NULL where there are as many clients, or connections of this process, as there may be. */
+/* A free entry for a process, or NULL if there are as many clients, or connections of this process, as there may be. */
 static struct client *free_entry(struct domain *domain, pid_t pid) {
     struct client *found = NULL;
     uint32_t others = 0, its = 0;
@@ -155,7 +155,7 @@ static bool watch(struct domain *domain, struct client *client) {
            poll_add(domain, client->process, key_of(domain, client, EVENT_PROCESS));
 }
 
-/* Fills an entry for a connection: with a session, and watched. Returns false where something is refused; the entry is free then. */
+/* Fills an entry for a connection: with a session, and watched. Returns false if something is refused; the entry is free then. */
 static bool enter(struct domain *domain, struct client *client, int socket, const struct ucred *peer) {
     *client = (struct client){.generation = client->generation,
                               .socket = socket,
@@ -175,7 +175,7 @@ static bool enter(struct domain *domain, struct client *client, int socket, cons
     return good;
 }
 
-/* Takes connections of a listener, or takes none until the next tick. Returns false where the system refuses. */
+/* Takes connections of a listener, or takes none until the next tick. Returns false if the system refuses. */
 static bool hear(const struct domain *domain, int listener, enum event_of of, bool to_it) {
     struct epoll_event event = {.events = to_it ? EPOLLIN : 0, .data.u64 = (union event_key){.of = (uint16_t)of}.key};
     return epoll_ctl(domain->poll, EPOLL_CTL_MOD, listener, &event) == 0;
@@ -187,7 +187,7 @@ void clients_defer_status(struct domain *domain) {
     domain->is_status_deaf = hear(domain, domain->status_listener, EVENT_STATUS, false);
 }
 
-/* Counts a connection of somebody, and returns how many there are in this second. Those that find no room are counted together. */
+/* Counts a connection of `who`, and returns how many there are in this second. Those that find no free place are counted together. */
 static uint32_t connects_of(struct connects *counted, size_t most, uint32_t who) {
     size_t i = 0;
     while (i + 1 < most && counted[i].times != 0 && counted[i].who != who) i++;
@@ -339,7 +339,7 @@ static size_t extend_loans(struct domain *domain, struct pageshare_host_served g
     return (size_t)(end - domain->serving->answer);
 }
 
-/* A client of another version is told which one this host has: by the beginning of WELCOME, which all versions have. */
+/* A client of another version learns which one this host has by the beginning of WELCOME, which all versions have. */
 static void refuse_version(const struct client *client) {
     const uint32_t head[2] = {PAGESHARE_HOST_WELCOME, PAGESHARE_HOST_VERSION};
     reply(client, (const uint8_t *)head, sizeof head, NULL, 0);
@@ -356,7 +356,7 @@ static bool is_fault(struct domain *domain, const struct client *client, uint32_
     return true;
 }
 
-/* Serves one packet of a client, which lends `count` pages or does something else. Returns false where the connection is to end. */
+/* Serves one packet of a client, which lends `count` pages or does something else. Returns false if the connection is to end. */
 static bool serve_packet(struct domain *domain, struct client *client, uint8_t *bytes, size_t length, uint32_t count) {
     struct serving *with = domain->serving;
     uint32_t served = count ? within_quota(domain, client, count) : 0;
@@ -382,7 +382,7 @@ static void listen_to(struct domain *domain, struct client *client, bool to_it) 
 }
 
 /*
- * Takes one packet of a client. Returns false where the connection is to end. A lend may take any frame that is free, so it waits while
+ * Takes one packet of a client. Returns false if the connection is to end. A lend may take any frame that is free, so it waits while
  * memory of free frames is given back (frames.h). Then nothing more is read of this client, and others are served. A hello whose session
  * the client may not take up is cut short: it asks for a new one.
  */

@@ -41,7 +41,7 @@ void clients_tick(struct domain *domain);
 void clients_defer_status(struct domain *domain);
 void clients_free(struct domain *domain);
 
-/* Sends the domain's status to who waits for it. */
+/* Sends the domain's status to the connections that wait for it. */
 void status_send(struct domain *domain);
 
 #endif

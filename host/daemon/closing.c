@@ -10,7 +10,7 @@
 #define SO_PASSRIGHTS 83 /* Linux 6.16 */
 #endif
 
-/* With more sockets than these to close no connection is taken. The pipe has room for 16,384 numbers: that is more than these and a
+/* With more sockets than these to close no connection is taken. The pipe can hold 16,384 numbers: that is more than these and a
  * domain's clients (twice CLIENTS_MOST) together. */
 enum { WAITING_MOST = 1024 };
 
@@ -37,7 +37,7 @@ bool closing_start(struct closing *closing) {
     pthread_t thread;
     if (pipe2(ends, O_CLOEXEC) != 0) return trouble("a pipe");
     *closing = (struct closing){.is_needed = true, .from = ends[0], .to = ends[1]};
-    /* A number that finds no room would be closed by the thread that writes it: it must never wait. */
+    /* A number that finds no free place would be closed by the thread that writes it: it must never wait. */
     bool good = fcntl(closing->to, F_SETFL, O_NONBLOCK) == 0 || trouble("a pipe");
     int cause = good ? pthread_create(&thread, NULL, close_all, closing) : 0;
     if (good && cause == 0) return pthread_detach(thread) == 0;
@@ -57,7 +57,7 @@ void closing_close(struct closing *closing, int socket) {
     if (closing->to >= 0) {
         atomic_fetch_add(&closing->waiting, 1);
         if (write(closing->to, &socket, sizeof socket) == sizeof socket) return;
-        atomic_fetch_sub(&closing->waiting, 1); /* (the system gave the pipe less room than usual) */
+        atomic_fetch_sub(&closing->waiting, 1); /* (the system gave the pipe less space than usual) */
     }
     close(socket);
 }
@@ -71,6 +71,6 @@ ssize_t closing_receive(const struct closing *closing, int socket, void *packet,
     ssize_t got = recvmsg(socket, &message, MSG_DONTWAIT | MSG_PEEK);
     if (got < 0) return got;
     if ((message.msg_flags & MSG_CTRUNC) != 0)
-        return (errno = EPERM, NOTHING); /* there is no room for descriptors, so there are some */
+        return (errno = EPERM, NOTHING); /* there is no space for descriptors, so there are some */
     return recv(socket, packet, room, MSG_DONTWAIT);
 }

@@ -1,7 +1,7 @@
 /*
  * Closing the sockets of clients without waiting.
  *
- * A client can pass descriptors to a socket of the host. The host wants none, but the kernel closes them where the socket is closed
+ * A client can pass descriptors to a socket of the host. The host wants none, but the kernel closes them if the socket is closed
  * or their message is received. Closing some descriptors takes as long as their owner likes, for example a TCP socket with SO_LINGER
  * and data that nobody takes. Two ways keep the domain's thread from that:
  * - Linux 6.16 and later: the listener refuses descriptors (SO_PASSRIGHTS), and each connection inherits that. The sender gets EPERM.
@@ -18,17 +18,17 @@
 
 struct closing {
     bool is_needed;      /* the kernel can't refuse descriptors */
-    int to, from;        /* a pipe of the descriptors that are to be closed; NOTHING where it isn't needed */
+    int to, from;        /* a pipe of the descriptors that are to be closed; NOTHING if it isn't needed */
     atomic_uint waiting; /* how many are in the pipe or being closed */
 };
 
 #define CLOSING_NONE                                                                                                             \
     { .to = -1, .from = -1 }
 
-/* Makes a socket refuse descriptors, before it listens. Returns false where the kernel can't. */
+/* Makes a socket refuse descriptors, before it listens. Returns false if the kernel can't. */
 bool closing_refuses_descriptors(int listener);
 
-/* Begins to close sockets by a thread. `closing` stays where it is until the process ends. Returns false where the system refuses,
+/* Begins to close sockets by a thread. `closing` stays where it is until the process ends. Returns false if the system refuses,
  * after it has printed why. */
 bool closing_start(struct closing *closing);
 /* The thread ends when it has closed what waits. Nobody waits for it. */

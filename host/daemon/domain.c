@@ -135,7 +135,7 @@ bool domain_make(struct domain *domain) {
 
 /* ---- the thread ---- */
 
-/* One event. Returns false where the thread is to end. */
+/* One event. Returns false if the thread is to end. */
 static bool handle(struct domain *domain, union event_key key) {
     switch ((enum event_of)key.of) {
     case EVENT_WAKE: return false;
@@ -178,7 +178,7 @@ bool domain_start(struct domain *domain) {
     return cause == 0 || (errno = cause, trouble("a domain's thread"));
 }
 
-/* Takes the sockets' files away; they stay where the folder isn't the host's, and the next host takes them away. */
+/* Takes the sockets' files away; they stay if the folder isn't the host's, and the next host takes them away. */
 static void unlink_sockets(const struct domain *domain) {
     if (domain->listener >= 0) unlink(domain->settings.socket);
     if (domain->status_listener < 0) return;

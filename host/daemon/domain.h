@@ -24,8 +24,8 @@ enum client_state {
 
 struct client {
     enum client_state state;
-    uint32_t generation; /* of the entry, so that an event of who had it before is known */
-    int socket;          /* NOTHING where the connection ended */
+    uint32_t generation; /* of the entry, so that an event of its former client is recognized */
+    int socket;          /* NOTHING if the connection ended */
     int process;         /* a descriptor of the process: readable when the process has ended */
     pid_t pid;
     uid_t uid;
@@ -84,7 +84,7 @@ struct domain {
     atomic_bool must_end;
 };
 
-/* Binds a domain's sockets, before the host becomes another user. Returns false where that fails, after it has printed why. */
+/* Binds a domain's sockets, before the host becomes another user. Returns false if that fails, after it has printed why. */
 bool domain_bind(struct domain *domain, const struct domain_settings *settings, int faults_device);
 /* Makes the domain's frames and the library's host. */
 bool domain_make(struct domain *domain);

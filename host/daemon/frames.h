@@ -38,19 +38,19 @@ struct frames {
 #define FRAMES_NONE                                                                                                              \
     { .file = -1, .file_for_clients = -1, .at = (void *)-1, .lending = PTHREAD_MUTEX_INITIALIZER, .free_again = -1 }
 
-/* Makes a file with memory for `count` frames. Returns false where the system refuses, after it has printed why. */
+/* Makes a file with memory for `count` frames. Returns false if the system refuses, after it has printed why. */
 bool frames_make(struct frames *frames, uint32_t count);
 void frames_free(struct frames *frames);
 
 /*
- * Before a call of the library that may lend. Returns false where memory is being given back and that takes a while: then the call has
+ * Before a call of the library that may lend. Returns false if memory is being given back and that takes a while: then the call has
  * to wait until `free_again` is readable.
  */
 bool frames_begin_lend(struct frames *frames);
 /* A slot has frame `frame` now. Between frames_begin_lend and frames_end_lend. */
 void frames_lent(struct frames *frames, uint32_t frame);
 void frames_end_lend(struct frames *frames);
-/* Tells a lend that waits that the lock is free again. */
+/* Wakes a lend that waits for the lock, which is free again. */
 void frames_free_again(struct frames *frames);
 
 /*

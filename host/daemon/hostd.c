@@ -96,7 +96,7 @@ static enum outcome serve_all(const struct settings *settings, int count, char *
     return outcome;
 }
 
-/* Begins anew in the same process, of which nothing is left: each descriptor closes by itself. Returns only where that fails. */
+/* Begins anew in the same process, of which nothing is left: each descriptor closes by itself. Returns only if that fails. */
 static int begin_anew(char **words) {
     log_line("SIGHUP: the host begins anew");
     execv("/proc/self/exe", words);

@@ -16,7 +16,7 @@ static int open_of(uint64_t process, const char *what) {
     return open(path, O_RDONLY | O_CLOEXEC);
 }
 
-/* Reads a file as far as there is room. Returns how many bytes it has got. */
+/* Reads as much of a file as the buffer holds. Returns how many bytes it has got. */
 static size_t read_all(int file, char *bytes, size_t room) {
     size_t done = 0;
     for (ssize_t got; done < room && (got = read(file, bytes + done, room - done)) > 0;) done += (size_t)got;
@@ -41,7 +41,7 @@ static const char *part_end(const char *part, const char *end) {
     return part;
 }
 
-/* The value of -name: its part that says guest=, or its first one where that has no name of its own. */
+/* The value of -name: its part that says guest=, or its first one if that has no name of its own. */
 static void read_option(const char *option, const char *end, char name[GUEST_NAME_MOST]) {
     static const char guest[] = "guest=";
     const size_t length = sizeof guest - 1;
@@ -88,7 +88,7 @@ uint64_t naming_tables_of(uint64_t process) {
     return line && sscanf(line, "\nVmPTE: %llu kB", &kibibytes) == 1 ? kibibytes * 1024 : 0;
 }
 
-/* Reads a text of a thread. Returns false where there is none. */
+/* Reads a text of a thread. Returns false if there is none. */
 static bool read_thread(uint64_t process, const char *thread, const char *what, char *text, size_t room) {
     char path[64];
     snprintf(path, sizeof path, "task/%.20s/%s", thread, what);
@@ -99,7 +99,7 @@ static bool read_thread(uint64_t process, const char *thread, const char *what, 
     return true;
 }
 
-/* The processor time of a thread, of whose name nobody knows what it contains. */
+/* The processor time of a thread, whose name may contain anything. */
 static uint64_t time_of(uint64_t process, const char *thread) {
     char text[1024];
     unsigned long long user = 0, system = 0;

@@ -51,7 +51,7 @@ static void punch(struct punching *punching, uint32_t first, uint32_t end) {
 
 /*
  * Gives back one run of free frames, which begins with the first listed one from next_listed on. Frames among them that aren't listed
- * have no memory, or should have none. Returns false where none is listed from there on.
+ * have no memory, or should have none. Returns false if none is listed from there on.
  *
  * The lock is held from the look at `in_use` until the memory is given back. So each frame of the run is one that the library says is
  * free, and no lend takes it meanwhile.
@@ -85,7 +85,7 @@ static void punch_some(struct punching *punching) {
     }
 }
 
-/* The first byte from `at` on that has memory; the file's end where none has. */
+/* The first byte from `at` on that has memory; the file's end if none has. */
 static uint64_t next_memory(const struct frames *frames, uint64_t at) {
     off_t found = lseek(frames->file, (off_t)at, SEEK_DATA);
     return found >= 0 ? (uint64_t)found : (uint64_t)frames->count * PAGE;

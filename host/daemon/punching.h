@@ -14,7 +14,7 @@
 
 struct punching {
     struct frames *frames;
-    int end; /* an eventfd, which is readable when the thread must end; NOTHING where there is no thread */
+    int end; /* an eventfd, which is readable when the thread must end; NOTHING if there is no thread */
     atomic_bool must_end;
     pthread_t thread;
     uint32_t next_listed, next_looked_at; /* where the next frames are looked for */
@@ -24,7 +24,7 @@ struct punching {
 #define PUNCHING_NONE                                                                                                            \
     { .end = -1 }
 
-/* Begins to give back memory of these frames, which stay where they are until punching_end. Returns false where the system refuses,
+/* Begins to give back memory of these frames, which stay where they are until punching_end. Returns false if the system refuses,
  * after it has printed why. */
 bool punching_start(struct punching *punching, struct frames *frames);
 void punching_end(struct punching *punching);

@@ -20,13 +20,13 @@ struct refusals {
     uint64_t total;
     uint64_t pending[REFUSALS]; /* since the last line */
     uint64_t next_ns;           /* no line is printed before */
-    struct ucred last;          /* who was refused last */
+    struct ucred last;          /* the process that was refused last */
     enum refusal why;           /* and why */
 };
 
 /* Counts a refused connection. */
 void refusals_count(struct refusals *refusals, const char *domain, const struct ucred *peer, enum refusal why);
-/* Prints what wasn't printed yet, where a minute has passed since the last line. */
+/* Prints what wasn't printed yet, if a minute has passed since the last line. */
 void refusals_report(struct refusals *refusals, const char *domain);
 
 #endif

@@ -36,7 +36,7 @@ static const struct domain_settings usual = {
 enum { LINE_MOST = 512 };
 static const uint64_t memory_least = 1 << 20, memory_most = UINT64_C(1) << 38; /* 1 MiB, 256 GiB: frames of 64 machines */
 
-/* One line or word where it is wrong. Returns false. */
+/* Prints the wrong line or word. Returns false. */
 static bool wrong(const char *option, const char *value, const char *why) {
     log_line("--%s %s: %s", option, value ? value : "", why);
     return false;
@@ -158,7 +158,7 @@ static bool read_numbers(struct domain_settings *domain, const char *option, con
     return true;
 }
 
-/* One option. `value` is NULL where none follows; `used` says whether it was one of the option's. */
+/* One option. `value` is NULL if none follows; `used` says whether it was one of the option's. */
 static bool read_option(struct settings *settings, const char *option, const char *value, bool *used) {
     struct domain_settings *domain = settings->domain_count ? &settings->domains[settings->domain_count - 1] : &settings->usual;
     bool known;

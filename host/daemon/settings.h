@@ -7,7 +7,7 @@
 #include <stdint.h>
 #include <sys/types.h>
 
-/* Limits of one host. NAME_MOST and PATH_MOST are with the closing zero; a socket's address has room for 108 bytes, and the status
+/* Limits of one host. NAME_MOST and PATH_MOST are with the closing zero; a socket's address can have 108 bytes, and the status
  * socket's name is 7 longer than the domain's. */
 enum { DOMAINS_MOST = 16, NAME_MOST = 64, PATH_MOST = 101, CLIENTS_MOST = 4096 };
 
@@ -21,7 +21,7 @@ struct domain_settings {
     uint32_t clients;         /* the most at a time */
     uint32_t client_rate;     /* messages that are taken of one client in a second */
     uint32_t connection_rate; /* connections that are taken of one user in a second */
-    uint32_t client_cpu;      /* the percentage of one processor that a client is told to use at most; 0: nothing is said */
+    uint32_t client_cpu;      /* the percentage of one processor that a client is to use at most; 0: the client decides */
     mode_t mode;              /* of the socket */
     gid_t group;              /* of the socket; (gid_t)-1: as it comes */
     bool trust_peers;         /* takes clients that are root or of the host's own user */
@@ -35,13 +35,13 @@ struct settings {
     struct domain_settings usual; /* what domains begin with */
     struct domain_settings domains[DOMAINS_MOST];
     size_t domain_count;
-    char user[NAME_MOST]; /* whom the host becomes after it opened /dev/userfaultfd; "": it stays who it is */
+    char user[NAME_MOST]; /* the user that the host becomes after it opened /dev/userfaultfd; "": it doesn't change */
     char status[PATH_MOST];
     enum status_form form;
     bool watch;
 };
 
-/* Reads the command line. Returns false where a word or a line of the file is wrong, after it has printed which. */
+/* Reads the command line. Returns false if a word or a line of the file is wrong, after it has printed which. */
 bool settings_read(struct settings *settings, int count, char **words);
 
 extern const char settings_help[];

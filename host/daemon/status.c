@@ -256,7 +256,7 @@ static void show_prometheus(const struct report *report) {
         show_of_clients(&of_client[i], i < LABELS ? "client_connected" : name_of(&of_client[i]), report);
 }
 
-/* A line for one second, where a table is watched that goes to no terminal. */
+/* A line for one second, if a table is watched that goes to no terminal. */
 static void show_line(const struct report *report, bool is_first) {
     const struct status_totals *totals = &report->totals;
     if (is_first) printf("%8s %8s %12s %12s %12s %12s\n", "seconds", "clients", "lent MiB", "shared", "frames", "reclaimed");

@@ -52,7 +52,7 @@ struct status_client {
 };
 
 /* Prints what the domain at `socket` reports, in the form asked for; with `watch` each second until the reader ends it. Returns the
- * process's status: 0, or 1 where the domain can't be asked. */
+ * process's status: 0, or 1 if the domain can't be asked. */
 int status_show(const char *socket, enum status_form form, bool watch);
 
 #endif

@@ -11,7 +11,7 @@ enum { LARGE = 1 << 18, STEP = 512 /* pages that are looked at together */ };
 
 /* What stands before each block. A mapping begins with a page of which this is the end, so that the block is whole pages. */
 struct head {
-    struct head *before, *next; /* in the list of mappings, the newest one first; it itself, where it is none */
+    struct head *before, *next; /* in the list of mappings, the newest one first; itself, if it is none */
     size_t bytes;               /* of the block */
     size_t looked_at;           /* 1: its pages of zeros were given back */
 };

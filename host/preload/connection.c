@@ -26,11 +26,11 @@ enum {
     MANY_MAPPINGS = 65536, /* what is said of mappings is a multiple of this */
     LITTLE = 4,
     EAGER_LOOKS = 8,  /* looks that come sooner after there is a new host or a new window */
-    FIRST_NICE = -10, /* the nice value of the thread, where it may have it */
-    CPU_PERCENT = 2,  /* of one processor, which the thread may use where nobody says; and for what is new */
+    FIRST_NICE = -10, /* the nice value of the thread, if it may have it */
+    CPU_PERCENT = 2,  /* of one processor, which the thread may use unless its settings or the host say; also for what is new */
     BURST_PERCENT = 25,
     HUGE_FROM = 64,  /* pages of a huge page that could be shared, until which it stays whole */
-    TURNS_LEAST = 4, /* looks until a page that nobody else has is asked about again, where looks are short; and at most */
+    TURNS_LEAST = 4, /* looks until a page that nobody else has is asked about again, if looks are short; and at most */
     TURNS_MOST = 512,
     AGAIN_NS = 250, /* processor time that asking about a page again takes, about */
     REST_MOST = 7,  /* looks that leave out a part of a window where nothing changes */
@@ -146,7 +146,7 @@ static struct windows_tuning tuning(void) {
         .huge_from = (uint16_t)(is_split ? 1 : settings.huge_from), .rest_most = REST_MOST, .turns = (uint16_t)my.turns};
 }
 
-/* Makes the set of windows, which needs the host's descriptor where the process may make no userfaultfd itself. */
+/* Makes the set of windows, which needs the host's descriptor if the process may make no userfaultfd itself. */
 static bool make_windows(void) {
     struct windows_config config = {.pins = find_pins(NULL),
                                     .find_pins = find_pins,
@@ -198,7 +198,7 @@ static void set_budget(void) {
     budget_set(&my.budget, said && granted ? both : one, BURST_PERCENT);
 }
 
-/* Connects where there is no connection, not too often. Returns whether there is one. */
+/* Connects if there is no connection, not too often. Returns whether there is one. */
 static bool connect_host(void) {
     if (my.remote.socket >= 0) return my.is_attached;
     if (my.is_refused || now_ns() < my.next_try_ns) return false;
@@ -346,7 +346,7 @@ static void write_times(const uint64_t *held, char *text, size_t room) {
         used += (size_t)snprintf(text + used, room - used, "%s%llu", i > 0 ? "," : "", (unsigned long long)held[i]);
 }
 
-/* The counts as JSON, for tests and for who wants to know. */
+/* The counts as JSON, for tests and operators. */
 static void write_counts(const struct windows_counts *now) {
     char text[3584], held[WINDOWS_TIMES * 21];
     counts_file_write(now);

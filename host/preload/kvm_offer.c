@@ -14,7 +14,7 @@
 #define REQUEST_2 _IOW(KVMIO, 0x49, char[160])
 enum { GUEST_MEMFD = 1 << 2, SLOTS_MOST = 512 };
 
-/* A range that a virtual machine has in a slot. Whoever deletes a slot names it by the same descriptor as when it was made. */
+/* A range that a virtual machine has in a slot. A slot is deleted by the same descriptor as when it was made. */
 struct slot {
     int machine; /* the descriptor */
     uint32_t number;

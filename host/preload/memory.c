@@ -4,7 +4,7 @@
 
 static const double short_percent = 10;
 
-/* The number behind a word in the first line of a file that begins so; -1 where there is none. */
+/* The number behind a word in the first line of a file that begins so; -1 if there is none. */
 static double number_behind(const char *path, const char *line_begin, const char *word) {
     char line[256];
     double number = -1;

@@ -129,7 +129,7 @@ static long call_mremap(void *with) {
     return syscall(SYS_mremap, words->of[0], words->of[1], words->of[2], words->of[3], words->of[4]);
 }
 
-/* Memory of a window that is to be moved leaves it first. Returns false, with errno, where it can't. */
+/* Memory of a window that is to be moved leaves it first. Returns false, with errno, if it can't. */
 static bool leave_to_move(void *at, size_t bytes) {
     enum sharing_left left = sharing_meets(at, bytes) ? sharing_leave(at, bytes, "mremap") : SHARING_LEFT;
     if (left == SHARING_KEPT) errno = ENOMEM; /* (a device may have pinned pages of it) */
@@ -182,7 +182,7 @@ PUBLIC int mlockall(int flags) {
 
 /* ---- devices, and the monitor's own userfaultfd ---- */
 
-/* What a request needs of the windows before it is made. Returns false, with errno, where that can't be had. */
+/* What a request needs of the windows before it is made. Returns false, with errno, if that can't be had. */
 static bool prepare_request(unsigned long request, const void *with) {
     const struct uffdio_register *asked = with;
     if (request == UFFDIO_REGISTER && with && sharing_meets((const void *)(uintptr_t)asked->range.start, asked->range.len))
@@ -202,7 +202,7 @@ PUBLIC int ioctl(int descriptor, unsigned long request, ...) {
     return request == USERFAULTFD_IOC_NEW && sharing_is_inside() ? sharing_own(status) : status;
 }
 
-/* Looks what a descriptor that was opened may do. It is closed again where lending would have to end for it, and can't. */
+/* Looks what a descriptor that was opened may do. It is closed again if lending would have to end for it, and can't. */
 static int opened(int descriptor, bool may_pin) {
     if (descriptor < 0 || !may_pin || sharing_devices(devices_open())) return descriptor;
     int cause = errno;
@@ -217,7 +217,7 @@ static int open_at(int folder, const char *path, int flags, mode_t mode) {
     return opened(descriptor, devices_may_be(path, flags));
 }
 
-/* The mode is there only where a file may be made. */
+/* The mode is there only if a file may be made. */
 #define READ_MODE(FLAGS, MODE)                                                                                                   \
     mode_t MODE = 0;                                                                                                             \
     if ((FLAGS)&O_CREAT || ((FLAGS)&O_TMPFILE) == O_TMPFILE) {                                                                   \

@@ -38,7 +38,7 @@ size_t ranges_count(void);
 /* How many ranges are left of a window. */
 size_t ranges_of(const struct window *window);
 
-/* Adds a range that isn't a window yet. Returns false where there is no place for it. */
+/* Adds a range that isn't a window yet. Returns false if there is no place for it. */
 bool ranges_add(uint8_t *at, size_t bytes, uint64_t now_ns);
 void ranges_remove(struct range *range);
 
@@ -46,7 +46,7 @@ struct piece range_piece(const struct range *range, uint8_t *at, uint8_t *end);
 /* The number of a piece's first page in the range's window. */
 size_t range_first(const struct range *range, struct piece piece);
 /*
- * Takes a piece out of a range, of which one or two parts may be left. Returns false where there is no place for the second one: then
+ * Takes a piece out of a range, of which one or two parts may be left. Returns false if there is no place for the second one: then
  * nothing has changed.
  */
 bool range_take_out(struct range *range, struct piece piece);

@@ -137,7 +137,7 @@ static bool open_socket(struct remote *remote, const char *path) {
            connect(remote->socket, (const struct sockaddr *)&name, sizeof name) == 0;
 }
 
-/* Takes WELCOME and its descriptors, which are NOTHING where they didn't come. */
+/* Takes WELCOME and its descriptors, which are NOTHING if they didn't come. */
 static bool hear_welcome(struct remote *remote, struct pageshare_host_welcome *welcome, int got[DESCRIPTORS]) {
     union {
         struct cmsghdr head;

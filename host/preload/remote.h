@@ -14,9 +14,9 @@
 enum { REMOTE_UNHEARD = 8 * WINDOW_BATCH };
 
 struct remote {
-    int socket;        /* NOTHING where there is no connection */
+    int socket;        /* NOTHING if there is no connection */
     int frames;        /* the file of frames, open for reading; stays open when the connection breaks */
-    int faults_device; /* /dev/userfaultfd, or NOTHING where the host had none to give */
+    int faults_device; /* /dev/userfaultfd, or NOTHING if the host had none to give */
     unsigned char (*pages)[WINDOW_PAGE_BYTES];
     uint32_t frame_count, salt;
     uint32_t client_cpu; /* the percentage of one processor that the host grants, or 0: it says nothing */

@@ -159,7 +159,7 @@ static struct window_result cut(struct range *range, struct piece piece, size_t 
         return result;
     }
     result = window_cut(window, range_first(range, piece), piece.bytes / PAGE, kept);
-    /* (where there is no place for what is left, the range goes on with pages that aren't its window's) */
+    /* (if there is no place for what is left, the range goes on with pages that aren't its window's) */
     if (result.status == WINDOW_OK && *kept == 0 && range_take_out(range, piece)) end_unused(window);
     return result;
 }

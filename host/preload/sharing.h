@@ -12,7 +12,7 @@
 #include <stddef.h>
 #include <sys/uio.h>
 
-/* Whether a part of the range may be a window's, and the caller isn't this library itself. Cheap where there is no window near. */
+/* Whether a part of the range may be a window's, and the caller isn't this library itself. Cheap if there is no window near. */
 bool sharing_meets(const void *at, size_t bytes);
 
 /* The monitor offers a range (MADV_MERGEABLE). It becomes a window soon, if it can be one. Returns whether sharing is wanted at all. */
@@ -44,12 +44,12 @@ enum sharing_left sharing_leave(void *at, size_t bytes, const char *why);
 long sharing_replace(void *at, size_t bytes, long (*call)(void *with), void *with);
 
 /*
- * Lending ends for good, and each page gets memory of its own. `why` is printed, once. Returns false, with errno, where the system has no
+ * Lending ends for good, and each page gets memory of its own. `why` is printed, once. Returns false, with errno, if the system has no
  * memory for that: nothing is lent any more, but pages show frames still.
  */
 bool sharing_end(const char *why);
 
-/* Devices may write from now on. Returns false, with errno, where lending would have to end for them and can't. */
+/* Devices may write from now on. Returns false, with errno, if lending would have to end for them and can't. */
 bool sharing_devices(enum devices devices);
 
 /* Transfers by O_DIRECT between files and the monitor's memory that are under way, of one call. */

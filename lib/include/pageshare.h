@@ -24,9 +24,9 @@
  *
  * - A handle begins as PAGESHARE_NONE or as zeros, and these calls alone read and write its members. It may be moved while no
  *   call runs, but is not copied: one of two copies would free the other's machine. It is freed by pageshare_free.
- * - One call at a time works on a handle. It may go to another thread, or be used by several in turn, where a lock, a thread's
+ * - One call at a time works on a handle. It may go to another thread, or be used by several in turn, if a lock, a thread's
  *   start or end, or the like orders their calls. Different handles have nothing to do with each other.
- * - Each pointer is not null, also where its count is 0, and is aligned for its type. It points to as many elements as are named
+ * - Each pointer is not null, even if its count is 0, and is aligned for its type. It points to as many elements as are named
  *   beside it, for as long as the call runs. What a call writes to (the handle, room, totals, mpn, at, answers) overlaps no
  *   other argument of it. Nobody else reads or writes it meanwhile. What a call only reads, nobody writes meanwhile.
  * - A count of elements makes less than 2^63 bytes.
@@ -55,7 +55,7 @@
 extern "C" {
 #endif
 
-/* A handle: room for one machine. Its members are the library's. */
+/* A handle: it can contain one machine. Its members are the library's. */
 struct pageshare {
     void *private_at;
     bool private_live;
@@ -82,14 +82,14 @@ enum pageshare_status {
     PAGESHARE_ERROR_CROSSES = 10,   /* the last byte would stand past the page's end */
     PAGESHARE_ERROR_NO_PAGE = 11,   /* there is no such page (of a request it is a verdict) */
     PAGESHARE_ERROR_UNMAPPED = 12,  /* the page has no frame (of a request it is a verdict) */
-    PAGESHARE_ERROR_REGION = 13,    /* the region has too little room for the frames, or isn't aligned to 4,096 (checked after PAGES) */
+    PAGESHARE_ERROR_REGION = 13,    /* the region is too small for the frames, or isn't aligned to 4,096 (checked after PAGES) */
     PAGESHARE_ERROR_HASH = 14,      /* there is no such hash */
     /* of domains alone: */
     PAGESHARE_ERROR_SIZE = 15,      /* config->size is not that of the struct */
     PAGESHARE_ERROR_MACHINES = 16,  /* no machine, or more than 64 */
     PAGESHARE_ERROR_SLOTS = 17,     /* no slots, or more than 1,048,576 for each machine */
-    PAGESHARE_ERROR_CLIENTS = 18,   /* room for no client, or for more than 65,536 */
-    PAGESHARE_ERROR_RECENT = 19,    /* room for no question, or for more than 16,777,216 */
+    PAGESHARE_ERROR_CLIENTS = 18,   /* no client, or more than 65,536 */
+    PAGESHARE_ERROR_RECENT = 19,    /* no question, or more than 16,777,216 */
     PAGESHARE_ERROR_NO_ROOM = 20,   /* as many clients are in as there may be */
     PAGESHARE_ERROR_NO_CLIENT = 21, /* no such client is in, or it has begun to leave */
     PAGESHARE_ERROR_NO_SLOT = 22,   /* the page's machine has no free slot */
@@ -115,7 +115,7 @@ enum pageshare_verdict {
     PAGESHARE_VERDICT_TAKEN = 13,      /* store: the page was the shared frame's last, which is its own again */
     PAGESHARE_VERDICT_NO_FRAME = 14,   /* store: no frame is free, and nothing changed */
     PAGESHARE_VERDICT_BYTES = 15,      /* load: the bytes stand in room. count: how many */
-    PAGESHARE_VERDICT_RELEASED = 16,   /* release: the page has no frame now. count: 1 where that frame is free now */
+    PAGESHARE_VERDICT_RELEASED = 16,   /* release: the page has no frame now. count: 1 if that frame is free now */
     PAGESHARE_VERDICT_TOTALS = 17,     /* count: the numbers stand in totals */
     PAGESHARE_VERDICT_CLOSED = 18      /* no request of C has it */
 };
@@ -125,7 +125,7 @@ enum pageshare_verdict {
 
 /* The answer to a request. */
 struct pageshare_answer {
-    uint32_t status;  /* an enum pageshare_status: PAGESHARE_OK where the request was served */
+    uint32_t status;  /* an enum pageshare_status: PAGESHARE_OK if the request was served */
     uint32_t verdict; /* an enum pageshare_verdict */
     uint32_t count;   /* as the verdict says, and else 0 */
     uint32_t frame;   /* the named page's frame afterwards, or PAGESHARE_NO_FRAME if it has none */
@@ -175,7 +175,7 @@ struct pageshare_config {
     size_t region_bytes;   /* at least 4,096 for each frame; the library uses no more than that. 0 if there is no region */
 };
 
-/* Memory of the caller's for frames: room for `pages` pages of 4,096 bytes, one after the other, from `at` on. */
+/* Memory of the caller's for frames: `pages` pages of 4,096 bytes, one after the other, from `at` on. */
 struct pageshare_region {
     void *at;
     size_t pages;
@@ -184,7 +184,7 @@ struct pageshare_region {
 /*
  * Deprecated: the calls by which 0.1.0 made machines, which the next release drops from this header. Use pageshare_make with a
  * struct pageshare_config (below). guests and salts_count are the lengths of the lists, both the same. frames, pages, salts and
- * hash are as in the config, and frames are in memory of the library's unless there is a region. It has room for exactly `frames`
+ * hash are as in the config, and frames are in memory of the library's unless there is a region. It has exactly `frames`
  * pages and is aligned to 4,096 bytes. With PAGESHARE_WARN_DEPRECATED defined, compilers name each use of them.
  */
 #if defined(PAGESHARE_WARN_DEPRECATED)
@@ -292,7 +292,7 @@ struct pageshare_answer pageshare_store_page(struct pageshare *machine, uint32_t
                                              const uint8_t page[PAGESHARE_PAGE_BYTES]);
 
 /*
- * Lends a page: stores it whole and then proposes it, which counts as 65 requests, or as 64 where the stores were refused
+ * Lends a page: stores it whole and then proposes it, which counts as 65 requests, or as 64 if the stores were refused
  * (NO_PAGE, NO_FRAME). The verdict is the proposal's, or that refusal. A page that joins others is compared where it lies.
  */
 struct pageshare_answer pageshare_lend(struct pageshare *machine, uint32_t guest, uint32_t ppn,
@@ -427,13 +427,13 @@ uint32_t pageshare_page(struct pageshare *machine, uint32_t guest, uint32_t ppn,
  *   more. That is after the client has mapped something else in its place, or when its process has ended.
  * - A frame that a call returns as freed is free, and the host may give its memory back to the system while no call runs. Nobody
  *   may still read it by then, since a later lend fills it with another page.
- * - A client's calls name that client alone: the library can't see who calls.
+ * - A client's calls name that client alone: the library can't see the caller.
  *
  * A handle is used by one thread at a time. A host with a thread for each machine makes as many domains of one machine each, with
  * one salt, and chooses one for each page by its fingerprint.
  */
 
-/* A handle: room for one domain. Its members are the library's. */
+/* A handle: it can contain one domain. Its members are the library's. */
 struct pageshare_domain {
     void *private_at;
     bool private_live;
@@ -472,7 +472,7 @@ struct pageshare_domain_shape {
 uint32_t pageshare_domain_make_shaped(struct pageshare_domain *domain, const struct pageshare_domain_shape *shape, uint32_t hash);
 
 /*
- * Begins a domain whose frames come from the caller: room for `pages` pages, exactly as many as all machines together have frames.
+ * Begins a domain whose frames come from the caller: `pages` pages, exactly as many as all machines together have frames.
  * Each other call but pageshare_domain_add and pageshare_domain_free returns _NO_MACHINE until it is made. Returns what
  * pageshare_domain_make does, but for _SIZE.
  */
@@ -480,7 +480,7 @@ uint32_t pageshare_domain_begin(struct pageshare_domain *domain, const struct pa
                                 size_t pages);
 
 /*
- * Gives a domain that was begun the frames of its next machine: a region with room for exactly as many pages. With those of the last
+ * Gives a domain that was begun the frames of its next machine: a region of exactly as many pages. With those of the last
  * machine the domain is made. Returns PAGESHARE_OK, _NO_MACHINE (no domain was begun, or it is made), _REGION (it has room for
  * another number of pages) or _MEMORY. At _MEMORY the handle holds nothing, and the library doesn't touch the regions again.
  */
@@ -533,8 +533,8 @@ uint32_t pageshare_domain_enter(struct pageshare_domain *domain, uint32_t *clien
 
 /* What became of a page that was to be lent. */
 struct pageshare_loan {
-    uint32_t status;  /* an enum pageshare_status: PAGESHARE_OK where the page was lent */
-    uint32_t frame;   /* the frame that holds the page's bytes, or PAGESHARE_NO_FRAME where it wasn't lent */
+    uint32_t status;  /* an enum pageshare_status: PAGESHARE_OK if the page was lent */
+    uint32_t frame;   /* the frame that holds the page's bytes, or PAGESHARE_NO_FRAME if it wasn't lent */
     uint64_t slot;    /* the page's slot, or 0 */
     uint32_t sharers; /* how many slots have this frame, with this one, or 0 */
 };

@@ -21,7 +21,7 @@
  *
  * - A handle begins as PAGESHARE_HOST_NONE or as zeros, and these calls alone read and write its members. It isn't copied. One call
  *   at a time works on it.
- * - Each pointer is not null, also where its count is 0, and is aligned for its type. It points to as many elements as are named
+ * - Each pointer is not null, even if its count is 0, and is aligned for its type. It points to as many elements as are named
  *   beside it, for as long as the call runs. What a call writes to overlaps no other argument of it. Nobody writes meanwhile to what
  *   it reads: a client can write to a buffer that it shares with the host, so copy the pages out of it first.
  * - A count of elements makes less than 2^63 bytes.
@@ -69,7 +69,7 @@ enum pageshare_host_kind {
 
 /*
  * 8 bytes for a new session. 32 bytes to take up the session with this name, whose connection has ended. If there is none, a new
- * session begins: WELCOME says which by its name. `loans` is how many LOANS the client has got in the session that it takes up. Where
+ * session begins: WELCOME says which by its name. `loans` is how many LOANS the client has got in the session that it takes up. If
  * the host sent another number, it releases the slots of its last LOANS: the client can't know of them. So a client sends a LEND only
  * when it has got the reply to the one before.
  */
@@ -111,7 +111,7 @@ struct pageshare_host_welcome {
 };
 
 /*
- * seen[i] is 1 where another page was asked about with the fingerprint of questions[i], within the last questions, or where a frame in
+ * seen[i] is 1 if another page was asked about with the fingerprint of questions[i], within the last questions, or if a frame in
  * use has it; and else 0. The questions of a client whose process has ended don't count.
  */
 struct pageshare_host_seen {
@@ -120,9 +120,9 @@ struct pageshare_host_seen {
 };
 
 struct pageshare_host_lent {
-    uint64_t slot;    /* the page's slot; 0 where it isn't lent */
-    uint32_t frame;   /* the frame that holds the page's bytes; PAGESHARE_HOST_NO_FRAME where it isn't lent */
-    uint32_t sharers; /* how many slots have the frame, with this one; 0 where it isn't lent */
+    uint64_t slot;    /* the page's slot; 0 if it isn't lent */
+    uint32_t frame;   /* the frame that holds the page's bytes; PAGESHARE_HOST_NO_FRAME if it isn't lent */
+    uint32_t sharers; /* how many slots have the frame, with this one; 0 if it isn't lent */
 };
 
 struct pageshare_host_loans {
@@ -137,11 +137,11 @@ enum pageshare_host_status {
     PAGESHARE_HOST_ERROR_MEMORY = 4,    /* memory was refused */
     PAGESHARE_HOST_ERROR_IN_USE = 5,    /* the handle holds a host already */
     PAGESHARE_HOST_ERROR_NO_HOST = 6,   /* the handle holds no host, or one that isn't made yet */
-    PAGESHARE_HOST_ERROR_REGION = 13,   /* the region has room for another number of frames, or isn't aligned to 4,096 */
+    PAGESHARE_HOST_ERROR_REGION = 13,   /* the region is for another number of frames, or isn't aligned to 4,096 */
     PAGESHARE_HOST_ERROR_MACHINES = 16, /* no machine, or more than 64 */
     PAGESHARE_HOST_ERROR_SLOTS = 17,    /* no slots, or more than 1,048,576 for each machine */
-    PAGESHARE_HOST_ERROR_SESSIONS = 18, /* room for no session, or for more than 65,536 */
-    PAGESHARE_HOST_ERROR_RECENT = 19,   /* room for no question, or for more than 16,777,216 */
+    PAGESHARE_HOST_ERROR_SESSIONS = 18, /* no session, or more than 65,536 */
+    PAGESHARE_HOST_ERROR_RECENT = 19,   /* no question, or more than 16,777,216 */
     PAGESHARE_HOST_ERROR_NO_ROOM = 20,  /* connect: there are as many sessions as there may be */
     PAGESHARE_HOST_ERROR_NO_SESSION = 32, /* no session with this number takes messages (disconnect, end, session: there is none) */
     PAGESHARE_HOST_ERROR_SHORT = 33,      /* receive: the reply needs PAGESHARE_HOST_MAX_MESSAGE bytes, freed 128 numbers */
@@ -157,7 +157,7 @@ enum pageshare_host_status {
     PAGESHARE_HOST_FAULT_CLIENTS = 72   /* HELLO: no client can enter */
 };
 
-/* A handle: room for one host. Its members are the library's. */
+/* A handle: it can contain one host. Its members are the library's. */
 struct pageshare_host {
     void *private_at;
     bool private_live;
@@ -177,11 +177,11 @@ struct pageshare_host_shape {
     uint32_t salt;     /* of the pages' hash. Drawn at random, and kept secret from clients */
     uint32_t fingerprints; /* the salt of fingerprints, which clients get: another one */
     uint64_t seed;     /* drawn at random and kept secret: with it one can make questions take long */
-    uint32_t client_cpu; /* the percentage of one processor that clients are told to use at most, or 0 */
+    uint32_t client_cpu; /* the percentage of one processor that clients are to use at most; 0: they decide */
     uint32_t reserved;   /* isn't read */
 };
 
-/* Memory of the caller's for the frames of one machine: room for `pages` pages of 4,096 bytes from `at` on. */
+/* Memory of the caller's for the frames of one machine: `pages` pages of 4,096 bytes from `at` on. */
 struct pageshare_host_region {
     void *at;
     size_t pages;
@@ -196,7 +196,7 @@ uint32_t pageshare_host_begin(struct pageshare_host *host, const struct pageshar
 
 /*
  * Gives a host that was begun the frames of its next machine. With those of the last machine the host is made. Returns
- * PAGESHARE_HOST_OK, _NO_HOST (no host was begun, or it is made), _REGION (it has room for another number of frames) or _MEMORY.
+ * PAGESHARE_HOST_OK, _NO_HOST (no host was begun, or it is made), _REGION (it is for another number of frames) or _MEMORY.
  * At _MEMORY the handle holds nothing, and the library doesn't touch the regions again.
  */
 uint32_t pageshare_host_add(struct pageshare_host *host, struct pageshare_host_region region);
@@ -243,7 +243,7 @@ struct pageshare_host_received {
  * Receives one packet of a session: `length` bytes, as many as there are. `pages` are the pages of its buffer, copied out of it; only
  * LEND reads them, so page_count may be 0 for a packet of another kind. The reply goes to `reply`, of at least
  * PAGESHARE_HOST_MAX_MESSAGE bytes. After RELEASE freed[i] is the frame that slot i's release freed, or PAGESHARE_HOST_NO_FRAME. After
- * a HELLO that took up a session the same holds of the slots of its last LOANS, if the client didn't get that. Give room for 128
+ * a HELLO that took up a session the same holds of the slots of its last LOANS, if the client didn't get that. Give space for 128
  * numbers. What it does changes no slot of another session, whatever the bytes are. The status is PAGESHARE_HOST_OK, or the first
  * cause that holds in this order: _NO_HOST, _SHORT, _NO_SESSION, a fault. At the first three nothing has changed.
  */
@@ -260,7 +260,7 @@ struct pageshare_host_packet {
 
 /*
  * Reads a packet of `length` bytes. If it names a session to take up, that goes to `name`, and else `name` stays as it is. A caller can so
- * prepare what the packet needs: pages of the buffer for a LEND, or a look at who may take the session up.
+ * prepare what the packet needs: pages of the buffer for a LEND, or a check that the client may take the session up.
  */
 struct pageshare_host_packet pageshare_host_read(const uint8_t *bytes, size_t length, uint8_t name[PAGESHARE_HOST_NAME_BYTES]);
 
@@ -292,8 +292,8 @@ uint32_t pageshare_host_disconnect(struct pageshare_host *host, uint32_t session
 /*
  * A session's process has ended: releases at most `room` of its slots. *count is how many, and for the i-th of them freed[i] is the
  * frame that is free since, or PAGESHARE_HOST_NO_FRAME. From the first call on the session takes no message. Call it until *count is
- * 0: then the session's number may be another's. Give room for one number at least. Returns PAGESHARE_HOST_OK, or the first
- * cause that holds in this order: _NO_HOST, _SHORT (no room), _NO_SESSION. freed and *count are written only on PAGESHARE_HOST_OK.
+ * 0: then the session's number may be another's. Give space for one number at least. Returns PAGESHARE_HOST_OK, or the first
+ * cause that holds in this order: _NO_HOST, _SHORT (no space), _NO_SESSION. freed and *count are written only on PAGESHARE_HOST_OK.
  */
 uint32_t pageshare_host_end(struct pageshare_host *host, uint32_t session, uint32_t *freed, size_t room, size_t *count);
 

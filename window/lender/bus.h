@@ -1,6 +1,6 @@
 /*
  * Writes to a file's mapping for which the system has no memory. They raise SIGBUS, which would end the process: here the page gets
- * memory that isn't the file's, and who wrote is reported.
+ * memory that isn't the file's, and the writer is reported.
  */
 #ifndef WINDOW_BUS_H
 #define WINDOW_BUS_H

@@ -49,7 +49,7 @@ struct journal *journal_open(const char *path, uint32_t most) {
     return NULL;
 }
 
-/* Notes the first failure of a write, which journal_close answers. */
+/* Notes the first failure of a write, which journal_close returns. */
 static void wrote(struct journal *journal, int bytes) {
     if (bytes < 0 && journal->cause == 0) journal->cause = errno != 0 ? errno : EIO;
 }
@@ -90,7 +90,7 @@ static void write_end(struct journal *journal) {
 
 bool journal_has_ended(const struct journal *journal) { return atomic_load(&journal->ended); }
 
-/* Whether the next lend or release is to be written. Ends a journal that has no room for it. */
+/* Whether the next lend or release is to be written. Ends a journal that has no space for it. */
 static bool is_open(struct journal *journal) {
     if (journal == NULL || journal_has_ended(journal)) return false;
     if (journal->most - journal->requests > STORES && journal->bytes <= TEXT_MOST) return true;

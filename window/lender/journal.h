@@ -10,14 +10,14 @@
 struct journal;
 
 /*
- * Begins the text at `path` and the lines of its replay at `path`.replay. It has room for `most` requests, and for as many as
+ * Begins the text at `path` and the lines of its replay at `path`.replay. It has space for `most` requests, and for as many as
  * make a text of 64 MiB. Returns NULL, with errno.
  */
 struct journal *journal_open(const char *path, uint32_t most);
 
 /*
  * The head, of a domain of one machine: one guest, whose pages are the slots. `region`: the frames, which the journal reads until it
- * is closed. Returns false, with errno, where there is no memory.
+ * is closed. Returns false, with errno, if there is no memory.
  */
 bool journal_head(struct journal *journal, uint32_t frames, uint32_t slots, uint32_t salt, const uint8_t *region);
 
@@ -32,10 +32,10 @@ struct pageshare_loan journal_lend(struct journal *journal, struct pageshare_dom
 uint32_t journal_release(struct journal *journal, struct pageshare_domain *domain, uint32_t client, uint64_t slot,
                          uint32_t *freed);
 
-/* It has ended when it had no room for another lend or release: then the last lines are written. Any thread may ask. */
+/* It has ended when there was no space for another lend or release: then the last lines are written. Any thread may ask. */
 bool journal_has_ended(const struct journal *journal);
 
-/* Ends the files. Returns how many requests were written, or -1, with errno, where a write failed or the journal has no end. */
+/* Ends the files. Returns how many requests were written, or -1, with errno, if a write failed or the journal has no end. */
 int64_t journal_close(struct journal *journal);
 
 #endif

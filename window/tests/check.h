@@ -1,4 +1,4 @@
-/* What the tests of windows have in common: checks, draws, and the reads and writes of those who use a window. */
+/* What the tests of windows have in common: checks, draws, and the reads and writes of a window's users. */
 #ifndef PAGESHARE_WINDOW_CHECK_H
 #define PAGESHARE_WINDOW_CHECK_H
 

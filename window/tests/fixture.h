@@ -97,7 +97,7 @@ static inline int file_of(int byte) {
     return fd;
 }
 
-/* A number behind a word of a file such as /proc/self/status; -1 where there is none. */
+/* A number behind a word of a file such as /proc/self/status; -1 if there is none. */
 static inline long number_in(const char *path, const char *word) {
     char line[256];
     long number = -1;

@@ -196,7 +196,7 @@ static int policy_of(const uint8_t *at) {
     return syscall(SYS_get_mempolicy, &mode, nodes, 1024ul, at, 2) == 0 ? mode : -1;
 }
 
-/* What was said of the range holds where pages are lent, discarded and home again. */
+/* What was said of the range holds while pages are lent, discarded and home again. */
 static void advice(void) {
     struct fixture fixture = fixture_make(&never_pinned, PAGES);
     uint8_t *at = memory(PAGES);
@@ -345,7 +345,7 @@ static void ends(void) {
     fixture_free(&fixture);
 }
 
-/* Mappings are counted as the system counts them, and lending ends where they would be too many. */
+/* Mappings are counted as the system counts them, and lending ends if they would be too many. */
 static void mappings(void) {
     enum { MANY = 4096, MOST = 1500 };
     const struct windows_config config = {.pins = WINDOWS_PINS_NEVER, .mappings_most = MOST};

@@ -30,7 +30,7 @@ static bool is_huge(const uint8_t *at) {
     return is;
 }
 
-/* Memory of huge pages for so many parts, and one more before and behind them; NULL where the system has no more to give. */
+/* Memory of huge pages for so many parts, and one more before and behind them; NULL if the system has no more to give. */
 static uint8_t *huge_memory(size_t parts) {
     enum { TRIES = 5 };
     for (int i = 0; i < TRIES; i++) {

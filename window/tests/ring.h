@@ -12,7 +12,7 @@ struct ring {
     unsigned tail_at, mask_at, array_at;
 };
 
-/* Pins `bytes` bytes at `at`. Returns false, with errno, where the system has no io_uring. */
+/* Pins `bytes` bytes at `at`. Returns false, with errno, if the system has no io_uring. */
 bool ring_pin(struct ring *ring, void *at, size_t bytes);
 /* Reads the file from its beginning to the pinned bytes; returns when it is done. */
 bool ring_read(struct ring *ring, int file, void *at, size_t bytes);

@@ -177,7 +177,7 @@ static void read_by_device(struct guest *guest, uint64_t *state) {
     if (!pins_unknown) must(window_unpin(guest->window, page, 1), "window_unpin");
 }
 
-/* The system swaps pages out, where it has swap. */
+/* The system swaps pages out, if it has swap. */
 static void page_out(struct guest *guest, uint64_t *state) {
     uint32_t first = (uint32_t)draw(state, pages), count = 1 + (uint32_t)draw(state, 64);
     if (count > pages - first) count = pages - first;
