@@ -43,7 +43,7 @@ moved p page w (turns new) = w
 moved p page w (guest e) = unwrap_or (step w e) w
 moved p page w (others e) = unwrap_or (step w e) w
 
--- the move keeps the contracts of `done`, `heard`, and of `choose` and `next`, and what is told is so
+-- the move keeps the contracts of `done`, `heard`, and of `choose` and `next`, and what it says is so
 abbrev pub IsTrue : ℕ → Belief → Page → Mappings → Move → Type 0
 IsTrue p old page w (takes order outcome was_done new) = DoneByEvents old order outcome new × IsTold order outcome w page
 IsTrue p old page w (hears new) = HeardRightly old new × (is_bare page.view ≡ false)

@@ -16,7 +16,7 @@ pub fn others_law()
 {}
 
 /// Before the first event nothing is lent. Whatever comes of the orders, is heard or is done by others, and in whatever order:
-/// where it is as it was told, what is believed is right, and each event of the lender is possible.
+/// if all of that is true, what is believed is right, and each event of the lender is possible.
 pub fn history_law()
     ensures begins { BeginsPrivate }
     ensures possible { EveryHistoryIsPossible }

@@ -23,7 +23,7 @@ pub enum Order {
     CopyInPlace,
     /// Give it other memory of its own, with what it shows.
     TakeHome,
-    /// Tell the host that this slot isn't needed.
+    /// Say to the host that this slot isn't needed.
     Release(u32),
     /// Find out whether the host still has this slot.
     FindSlot(u32),

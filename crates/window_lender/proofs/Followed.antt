@@ -99,10 +99,10 @@ one_follows : (first i : ℕ) (pages : List PageLender) (outcome : ℕ → Outco
 one_follows first i pages outcome was_done w x y e b d t =
     let is_due : due_at pages i ≡ due x.belief = ap (λ o. option_map_or (λ a. due a.belief) o Order.Wait) e in
     let is_shown : content w (first + i) ≡ shown_in w.frames b.page.view = ap (λ o. unwrap_or (option_map (λ page. shown_in w.frames page.view) o) 0) b.there in
-    let told : IsTold (due x.belief) (outcome i) w b.page = subst (λ o. IsTold o (outcome i) w b.page) is_due (t b.page b.there) in
+    let is_so : IsTold (due x.belief) (outcome i) w b.page = subst (λ o. IsTold o (outcome i) w b.page) is_due (t b.page b.there) in
     subst (λ o. Follows (events_of (first + i) (content w (first + i)) o (outcome i) (was_done i)) y.belief w (first + i)) (sym is_due)
     (subst (λ s. Follows (events_of (first + i) s (due x.belief) (outcome i) (was_done i)) y.belief w (first + i)) (sym is_shown)
-    (d w (first + i) (was_done i) b told))
+    (d w (first + i) (was_done i) b is_so))
 
 -- what comes of the events of so many pages
 record Ran (n first at : ℕ) (new : List PageLender) (es : List Event) (w : Mappings) : Type 0 where
@@ -147,32 +147,32 @@ joined_run n first at new xs ys w y e f a r = record {
 
 run_follows : (n first at : ℕ) (old new : List PageLender) (outcome : ℕ → Outcome) (was_done : ℕ → Bool) (w : Mappings) → at + n ≤ length old → length new ≡ length old →
     Steps at n old new outcome → RightOf first at n old w → AreTold n first at old outcome was_done w → Ran n first at new (run_events n first at old outcome was_done w) w
-run_follows zero first at old new outcome was_done w room len steps right told = record {
+run_follows zero first at old new outcome was_done w room len steps right is_so = record {
   possible = refl;
   inside = λ i y l h e. absurd (omega arith);
   others = λ q belief h b. b;
 }
-run_follows (suc n) first at old new outcome was_done w room len steps right told =
+run_follows (suc n) first at old new outcome was_done w room len steps right is_so =
     let x = there old at (omega arith) in
     let y = there new at (omega arith) in
     let b : Believes x.0.belief w (first + at) = right at x.0 (omega arith) (omega arith) x.1 in
     let f : Follows (page_events first at old outcome was_done w) y.0.belief w (first + at) =
-    one_follows first at old outcome was_done w x.0 y.0 x.1 b (steps at x.0 y.0 (omega arith) (omega arith) x.1 y.1) told.0 in
+    one_follows first at old outcome was_done w x.0 y.0 x.1 b (steps at x.0 y.0 (omega arith) (omega arith) x.1 y.1) is_so.0 in
     let apart : (q : ℕ) → nat_eq (first + at) q ≡ false → Apart q (page_events first at old outcome was_done w) =
     λ q d. events_apart (first + at) q (content w (first + at)) (due_at old at) (outcome at) (was_done at) d in
     let right' : RightOf first (at + 1) n old (played w (page_events first at old outcome was_done w)) =
     λ i z l h e. apart_keeps (first + i) z.belief (page_events first at old outcome was_done w) w (apart (first + i) (differs (first + at) (first + i) (λ k. absurd (omega arith)))) (right i z (omega arith) (omega arith) e) in
     let rest : Ran n first (at + 1) new (run_events n first (at + 1) old outcome was_done (played w (page_events first at old outcome was_done w))) (played w (page_events first at old outcome was_done w)) =
     run_follows n first (at + 1) old new outcome was_done (played w (page_events first at old outcome was_done w)) (omega arith) len
-    (λ i a z l h e g. steps i a z (omega arith) (omega arith) e g) right' told.1 in
+    (λ i a z l h e g. steps i a z (omega arith) (omega arith) e g) right' is_so.1 in
     joined_run n first at new (page_events first at old outcome was_done w) (run_events n first (at + 1) old outcome was_done (played w (page_events first at old outcome was_done w))) w y.0 y.1 f apart rest
 
 pub by_events : (first from count to : ℕ) (outcome : ℕ → Outcome) (old new : List PageLender) → to ≡ from + count → to ≤ length old →
     Changed (λ i. IsDone (outcome i)) from to old new → RunByEvents first from count outcome old new
-by_events first from count to outcome old new e room c w was_done right told =
+by_events first from count to outcome old new e room c w was_done right is_so =
     let r : Ran count first from new (run_events count first from old outcome was_done w) w =
     run_follows count first from old new outcome was_done w (omega arith) c.count
-    (λ i x y l h f g. (c.inside i x y l (omega arith) f g).events) (λ i x l h f. right.at i x f) told in
+    (λ i x y l h f g. (c.inside i x y l (omega arith) f g).events) (λ i x l h f. right.at i x f) is_so in
     record { possible = r.possible; right = record { at = λ i y g. pick r i y g (cases_lt i from) } } where
       pick : Ran count first from new (run_events count first from old outcome was_done w) w → (i : ℕ) (y : PageLender) → slice_get new i ≡ Some y → (i < from) ⊎ (from ≤ i) →
           Believes y.belief (played w (run_events count first from old outcome was_done w)) (first + i)

@@ -1,3 +1,4 @@
+mod Decided
 mod Followed
 mod Given
 mod Histories

@@ -59,8 +59,8 @@ moved first old w (hears from to new) = w
 moved first old w (turns new) = w
 moved first old w (others e) = unwrap_or (step w e) w
 
--- the move keeps the contracts of `done` and `lent`, of `heard`, and of `choose`, `choose_zeros`, `next`, `withdraw` and `bar`, and what is
--- told is so
+-- the move keeps the contracts of `done` and `lent`, of `heard`, and of `choose`, `choose_zeros`, `next`, `withdraw` and `bar`, and what
+-- it says is so
 abbrev pub IsTrue : ℕ → List PageLender → Mappings → Move → Type 0
 IsTrue first old w (takes from count outcome was_done new) = RunByEvents first from count outcome old new × AreTold count first from old outcome was_done w
 IsTrue first old w (hears from to new) =

@@ -1,5 +1,5 @@
 -- The pages of a window, and what a call does to a run of them.
-use Rattle.std.specs.Prelude.{◌≡◌, ℕ, ◌+◌, ◌-◌, ◌<◌, ◌≤◌, Bool, true, false, not, ◌||◌, ◌&&◌, if◌then◌else◌, List, length, Some, slice_get, ◌⊎◌}
+use Rattle.std.specs.Prelude.{◌≡◌, ℕ, zero, suc, ◌+◌, ◌-◌, ◌<◌, ◌≤◌, Bool, true, false, not, ◌||◌, ◌&&◌, if◌then◌else◌, List, length, Some, slice_get, ◌⊎◌}
 use Rattle.std.specs.Option.{option_map_or}
 use Rattle.page_lender.specs.Decisions.{due, prepared, touches, leads, moves, is_given, is_barred, is_busy, is_held, is_movable, is_private, may_go_on, joined, account, account_then, stage_of, led_to, KeepsLoan}
 use Rattle.page_lender.specs.Events.{DoneByEvents, StaysRight, HeardRightly, IsFree, ShowsNone}
@@ -42,6 +42,11 @@ pub record Changed (Becomes : ℕ → PageLender → PageLender → Type 0) (fro
 -- This is so of each page from one place to before another.
 pub record Each (Is : PageLender → Type 0) (from to : ℕ) (pages : List PageLender) : Type 0 where
   pub at : (i : ℕ) (x : PageLender) → from ≤ i → i < to → slice_get pages i ≡ Some x → Is x
+
+-- it is so of so many pages, from one place on
+abbrev pub all_from : (PageLender → Bool) → ℕ → ℕ → List PageLender → Bool
+all_from is from zero pages = true
+all_from is from (suc n) pages = all_from is from n pages && option_map_or is (slice_get pages (from + n)) true
 
 -- what comes next at a page
 abbrev pub order_due : PageLender → Order
@@ -124,6 +129,10 @@ pub record IsQuiet (page : PageLender) : Type 0 where
 pub record IsLoose (page : PageLender) : Type 0 where
   pub held : is_held page ≡ false
   pub free : IsFree page.belief
+
+-- the test of it
+abbrev pub is_loose : PageLender → Bool
+is_loose page = not (is_held page)
 
 -- So it is, and nothing keeps the page from being lent: its memory may be exchanged for other memory.
 pub record IsMovable (page : PageLender) : Type 0 where

@@ -4,14 +4,15 @@ ghost use Rattle.std.specs.Option.{option_map_or};
 ghost use Rattle.page_lender.specs.declared.belief.Belief.TheVariants as Belief;
 ghost use Rattle.window_lender.specs.Works.{work_of, has, can_bring, is_given};
 ghost use Rattle.window_lender.specs.Runs.{Changed, Each, order_due, end_of, rest_of, lent_at, new_page, is_free, IsOpen};
-ghost use Rattle.window_lender.specs.Runs.{IsNext, IsDone, IsWithdrawn, IsHeard, IsBarred, IsChosen, GoesOn, MayGoOn, IsQuiet, IsLoose, IsMovable};
+ghost use Rattle.window_lender.specs.Runs.{IsNext, IsDone, IsWithdrawn, IsHeard, IsBarred, IsChosen, GoesOn, MayGoOn, IsQuiet, IsLoose, IsMovable, all_from, is_loose};
+ghost use Rattle.page_lender.specs.Decisions.{is_movable};
 ghost use Rattle.window_lender.specs.Huge.{order_of, part_then};
 ghost use Rattle.window_lender.specs.declared.huge.PartOrder.TheVariants as PartOrder;
 ghost use Rattle.window_lender.specs.Events.{RunByEvents, StayRight, HearRight};
 
 use crate::pages::Pages;
 use crate::parts::{
-    are_loose, are_movable, are_open, are_quiet, bar, give, take, take_back, take_loans, tell,
+    are_loose, are_movable, are_open, are_quiet, bar, give, hear, take, take_back, take_loans,
 };
 use crate::{Loan, Part, PartConfig, PartLook, PartOrder, Run};
 use page_lender::{Bars, Notice, Outcome, PageLender};
@@ -201,7 +202,7 @@ impl<A: Allocator> WindowLender<A> {
         ensures right { HearRight self.new.first from (from + count) self.old.pages self.new.pages }
         ensures first { self.new.first ≡ self.old.first }
     {
-        tell(&mut self.pages, from, from + count, notice);
+        hear(&mut self.pages, from, from + count, notice);
     }
 
     /// Learns what keeps these pages from being lent from now on, and returns whether the monitor's call may go on that these bars are
@@ -218,7 +219,8 @@ impl<A: Allocator> WindowLender<A> {
     }
 
     /// Returns what is to be done after a look with a part of the window that has these pages. It is split only while none of them is held.
-    /// It is made whole only while besides nothing keeps one of them from being lent, and no device may have pinned one.
+    /// It is made whole only while besides nothing keeps one of them from being lent, and no device may have pinned one. Of the pages
+    /// nothing else decides than these two facts.
     pub fn next_of_part(
         &self,
         from: u32,
@@ -228,6 +230,7 @@ impl<A: Allocator> WindowLender<A> {
         look: &PartLook,
     ) -> PartOrder
         requires { from + count ≤ length self.now.pages }
+        ensures order { result ≡ order_of config.now part.old look.now (all_from is_loose from count self.now.pages) (all_from is_movable from count self.now.pages) }
         ensures split { result ≡ PartOrder.Split → Each IsLoose from (from + count) self.now.pages }
         ensures whole { result ≡ PartOrder.MakeWhole → Each IsMovable from (from + count) self.now.pages }
         ensures pins { result ≡ PartOrder.MakeWhole → look.now.may_pin ≡ false }

@@ -152,8 +152,8 @@ pub(crate) fn give<A: Allocator>(pages: &mut Pages<A>, from: u32, to: u32) -> Ru
     }
 }
 
-// Tells the pages what is heard of them.
-pub(crate) fn tell<A: Allocator>(pages: &mut Pages<A>, from: u32, to: u32, notice: Notice)
+// Passes on to the pages what is heard of them.
+pub(crate) fn hear<A: Allocator>(pages: &mut Pages<A>, from: u32, to: u32, notice: Notice)
     requires ordered { from ≤ to }
     requires within { to ≤ length pages.old }
     requires quiet { Each IsQuiet from to pages.old }

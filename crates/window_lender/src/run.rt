@@ -27,7 +27,7 @@ pub enum Work {
     CopyInPlace,
     /// Give it other memory of its own.
     TakeHome,
-    /// Tell the host that its slot isn't needed.
+    /// Say to the host that its slot isn't needed.
     Release,
     /// Find out whether the host still has its slot.
     FindSlot,

@@ -1,3 +1,4 @@
+pub mod LetOff
 pub mod Paid
 pub mod Stretched
 pub mod Waited

@@ -91,7 +91,7 @@ every_stretch b cs order =
     let r : Ran b (after called b cs) (given cs) = ran b cs order in
     record { share = omega (arith, r.pays); burst = omega (arith, r.bursts) }
 
-pub one_order_more : OneOrderMore
+pub one_order_more : OneOrderMore called
 one_order_more b cs spent order may more =
     let r : Ran b (after called b cs) (given cs) = ran b cs order in
     let owes : (after called b cs).owed ≤ (after called b cs).owed_most = leb-true (after called b cs).owed (after called b cs).owed_most may in

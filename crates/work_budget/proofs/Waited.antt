@@ -1,4 +1,4 @@
--- A thread that has waited for as long as its wait may work then.
+-- A thread that waits for as long as it is to may work then.
 use Rattle.std.proofs.Common.{◌≡◌, ◌∙◌, ℕ, ◌+◌, ◌-◌, ◌*◌, ◌/◌, ◌<◌, ◌≤◌, Bool, true, false, cond, refl, ap, sym, subst, arith}
 use Rattle.std.specs.Prelude.{min, nat_eq}
 use Rattle.std.proofs.lemmas.Bool.{le-leb, leb-true}

@@ -5,7 +5,7 @@ ghost use Rattle.work_budget.specs.Budgets.{part_of, begun, paced, credited, set
 use crate::Config;
 use std::marker::Model;
 
-// The longest debt that one call lets a thread wait for, in nanoseconds: ten seconds.
+// The longest debt that a thread waits for at once, in nanoseconds: ten seconds.
 const LONGEST: u64 = 10_000_000_000;
 
 /// What a thread may use of one processor, by two clocks: the time, and the processor time that the thread has used.

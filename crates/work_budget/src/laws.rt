@@ -1,6 +1,6 @@
 //! No thread that keeps to its budget uses more than its share. The functions' bodies are empty: the contract is all there is.
 ghost use Rattle.work_budget.specs.Budgets.{called};
-ghost use Rattle.work_budget.specs.Stretches.{EveryStretch, OneOrderMore, WaitsEnough, by_order_only};
+ghost use Rattle.work_budget.specs.Stretches.{EveryStretch, OneOrderMore, WaitsEnough, by_order_only, LettingOffIsWrong, NothingIsLetOff};
 
 /// For all calls in any order, whatever the clocks say: the time used over these calls is at most a sum of four. It consists of
 /// the budget's share of the time that passed, what was saved before, the credit that there was or was given, and what is owed
@@ -12,10 +12,10 @@ pub fn stretch_law()
 /// If the thread may work after these calls, it has used no more than its share, what was saved, its credit, and what it may owe.
 /// So with its next order it uses at most that and this order.
 pub fn order_law()
-    ensures { OneOrderMore }
+    ensures { OneOrderMore called }
 {}
 
-/// A thread that has no credit and does nothing for as long as `settle` returned may work then.
+/// A thread that does nothing for as long as `settle` returned, and has no credit, may work then.
 pub fn wait_law()
     ensures { WaitsEnough }
 {}
@@ -23,4 +23,11 @@ pub fn wait_law()
 /// A budget that counts each order by itself, and forgets what is owed, can exceed its share.
 pub fn wrong_budget()
     ensures { EveryStretch by_order_only → ⊥ }
+{}
+
+/// A budget that lets off what is owed above some amount doesn't keep to its share, whatever the amount is: `order_law` isn't true of it. It
+/// is true only where nothing is ever let off. So it is if no order takes longer than that amount less what the thread may owe.
+pub fn let_off_law()
+    ensures wrong { LettingOffIsWrong }
+    ensures never { NothingIsLetOff }
 {}

@@ -15,7 +15,7 @@ const TENTH: Config = Config {
 /// The longest order.
 const LONGEST_NS: u64 = 4_000_000;
 
-/// A thread, and how often it had to wait.
+/// A thread, and how often it waited.
 #[derive(Drop)]
 struct Thread {
     budget: Budget,
@@ -24,7 +24,7 @@ struct Thread {
     waits: u32,
 }
 
-/// Works on `orders` orders, and waits as long as the budget says.
+/// Works on so many orders, and waits as the budget says.
 fn work(thread: &mut Thread, numbers: &mut Numbers, orders: u32) {
     for _ in 0..orders {
         let wait_ns = thread.budget.settle(thread.now, thread.spent);
@@ -76,4 +76,14 @@ fn what_an_order_takes_too_much_is_owed(rt: HostRuntime) {
     assert_eq!(rt; budget.settle(10_500_000, 1_050_000), 0);
     budget.pace(1, 1);
     assert_eq!(rt; budget.settle(10_500_000, 2_050_000), 100_000_000);
+}
+
+#[test]
+fn a_long_order_is_paid_for(rt: HostRuntime) {
+    let mut budget = Budget::new(TENTH, 0, 0);
+    assert_eq!(rt; budget.settle(1_000_000_000, 1_000_000_000), 9_000_000_000);
+    assert_eq!(rt; budget.settle(9_997_999_999, 1_000_000_000), 2_000_010);
+    assert!(rt; !budget.may_work());
+    assert_eq!(rt; budget.settle(9_998_000_009, 1_000_000_000), 0);
+    assert!(rt; budget.may_work());
 }

@@ -1,6 +1,6 @@
-//! Tests of lenders of one page and of a window beside the protocol of windows, of the budget of their thread, and of its looks.
-//! They use the public calls of `page_lender`, `window_lender`, `window_events`, `work_budget` and `idle_pages`. This crate has
-//! only tests.
+//! Lenders of one page and of a window beside the protocol of windows, the budget of their thread, its looks and their order, and the
+//! mappings that windows take. It is by the public calls of `page_lender`, `window_lender`, `window_events`, `work_budget`, `idle_pages`,
+//! `look_order` and `mapping_room`. This crate has only tests.
 #![tactic(auto)]
 
 #[cfg(test)]
@@ -16,6 +16,10 @@ mod moves;
 #[cfg(test)]
 mod numbers;
 #[cfg(test)]
+mod orders;
+#[cfg(test)]
 mod parts;
+#[cfg(test)]
+mod rooms;
 #[cfg(test)]
 mod windows;

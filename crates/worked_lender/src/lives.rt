@@ -76,7 +76,7 @@ fn finish<A: Allocator>(rt: &impl Abort, life: &mut Life, mappings: &mut Mapping
     life.lender.done(order, outcome);
 }
 
-/// Reports to the lender that the page shows no frame itself.
+/// Lets the lender hear what is so: the page shows no frame itself.
 fn hear<A: Allocator>(rt: &impl Abort, life: &mut Life, mappings: &Mappings<A>) {
     if is_bare(&page_of(rt, mappings, 0)) || life.lender.is_busy() {
         return;

@@ -66,7 +66,7 @@ fn count(rt: &impl Abort, life: &mut PartLife, order: PartOrder) {
     }
 }
 
-/// Gives all pages of a window memory of their own, with what they show, and reports that to the lender.
+/// Gives all pages of a window memory of their own, with what they show. The lender hears of it.
 fn make_whole<A: Allocator, B: Allocator>(
     rt: &impl Abort,
     lender: &mut WindowLender<A>,

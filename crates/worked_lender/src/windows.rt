@@ -79,8 +79,8 @@ fn count(counts: &mut Counts, work: Work, done: u32) {
     counts.longest = counts.longest.max(done);
 }
 
-/// Reports to the lender that `done` pages of a run are done.
-fn report_done<A: Allocator>(
+/// Lets the lender learn that so many pages of a run were done.
+fn pass_done<A: Allocator>(
     rt: &impl Abort,
     outside: &mut Outside,
     lender: &mut WindowLender<A>,
@@ -97,8 +97,8 @@ fn report_done<A: Allocator>(
     lender.done(run, done, Outcome::Done)
 }
 
-/// Reports to the lender how a run's first page ended.
-fn report_one<A: Allocator>(
+/// Lets the lender learn what came of a run's first page.
+fn pass_one<A: Allocator>(
     rt: &impl Abort,
     lender: &mut WindowLender<A>,
     run: Run,
@@ -128,7 +128,7 @@ fn give_back<A: Allocator>(
     lender.withdraw(run);
 }
 
-/// Carries out a run, or the first of its pages, and reports that to the lender.
+/// Carries out a run, or the first of its pages. The lender learns what came of it.
 fn finish<A: Allocator, B: Allocator>(
     rt: &impl Abort,
     outside: &mut Outside,
@@ -148,12 +148,12 @@ fn finish<A: Allocator, B: Allocator>(
         if outcome == Outcome::Done {
             done = done.wrapping_add(1);
         } else {
-            rest = report_done(rt, outside, lender, rest, done);
+            rest = pass_done(rt, outside, lender, rest, done);
             done = 0;
-            rest = report_one(rt, lender, rest, outcome);
+            rest = pass_one(rt, lender, rest, outcome);
         }
     }
-    rest = report_done(rt, outside, lender, rest, done);
+    rest = pass_done(rt, outside, lender, rest, done);
     give_back(rt, outside, lender, rest);
 }
 

@@ -1,7 +1,7 @@
 use Rattle.std.proofs.Common.{◌≡◌, arith, subst}
 use Rattle.window_lender.specs.Runs.{Changed, IsHeard}
 use Rattle.window_lender.proofs.Ranges.{unchanged, changed_more, as_before}
-use Rattle.window_lender.proofs.parts.tell.Goals as goal
+use Rattle.window_lender.proofs.parts.hear.Goals as goal
 
 pub loop-place-init : goal.loop-place-init
 loop-place-init g c = unchanged (λ i. IsHeard c.args.notice) c.args.from c.args.pages.now

@@ -1,0 +1,5 @@
+mod Chosen
+mod Cleared
+mod Hinted
+mod Marked
+mod Turned
