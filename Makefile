@@ -156,8 +156,9 @@ host: $(HOST_PRODUCTS)
 	$(if $(CHECK),checks/host.py && benches/host.py)
 	$(if $(FIGURE),benches/host.py figure)
 
-# (HOST_LIBRARY names another library than the proved one)
+# (HOST_LIBRARY and WINDOW_LIBRARY name other libraries than the proved ones)
 HOST_LIBRARY = out/libpageshare_host.a
+WINDOW_LIBRARY = out/libpageshare_window.a
 HOST_FLAGS = -std=c11 -O2 -g -Wall -Wextra -Wconversion -Werror -pthread -Ilib/include -Iwindow -Ihost $(CFLAGS)
 HOST_LINK = -Wl,--wrap=memset
 HOST_SOURCES = $(wildcard host/*.c host/daemon/*.c)
@@ -168,9 +169,13 @@ out/host/pageshare-host: $(HOST_SOURCES) $(HOST_HEADERS) $(HOST_LIBRARY)
 	@mkdir -p $(@D)
 	$(CC) $(HOST_FLAGS) $(HOST_LINK) -o $@ $(HOST_SOURCES) $(HOST_LIBRARY)
 
-out/host/libpageshare-window.so: $(WINDOW_SOURCES) $(HOST_HEADERS)
+WINDOW_LINK = -Wl,-soname,$(@F) -Wl,-z,relro,-z,now -Wl,--exclude-libs,ALL
+out/host/libpageshare-window.so: $(WINDOW_SOURCES) $(HOST_HEADERS) $(WINDOW_LIBRARY)
 	@mkdir -p $(@D)
-	$(CC) $(HOST_FLAGS) -fPIC -shared -fvisibility=hidden -Wl,-soname,$(@F) -Wl,-z,relro,-z,now -o $@ $(WINDOW_SOURCES) -ldl
+	$(CC) $(HOST_FLAGS) -fPIC -shared -fvisibility=hidden $(WINDOW_LINK) -o $@ $(WINDOW_SOURCES) $(WINDOW_LIBRARY) -ldl
+
+out/libpageshare_window.a: $(SOURCES)
+	tools/build.py pageshare_window_c $@
 
 out/proved_host.a: $(SOURCES)
 	tools/build.py pageshare_host_c $@

@@ -25,7 +25,7 @@ from common.benches import built_in_c, built_in_rust
 from harness import OUT, TOP, LeftOut, Tally, needs, run
 
 BUILT = OUT / "builds"
-MADE = ["libpageshare.a", "v3/libpageshare.a", "libpageshare_host.a", "host/pageshare-host", "host/libpageshare-window.so"]
+MADE = ["libpageshare.a", "v3/libpageshare.a", "libpageshare_host.a", "libpageshare_window.a", "host/pageshare-host", "host/libpageshare-window.so"]
 STRICT = "-std=c11 -O2 -g -Wall -Wextra -Wconversion -Werror -pthread -Ilib/include".split()
 POSIX = ["-D_POSIX_C_SOURCE=200809L"]
 FREESTANDING = "-ffreestanding -fno-pic -fno-stack-protector -fcf-protection=none -mgeneral-regs-only -mno-red-zone".split()

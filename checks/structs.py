@@ -16,8 +16,11 @@ import sys
 
 from harness import TOP, Tally
 
-HEADERS = ["lib/include/pageshare.h", "lib/include/pageshare_host.h"]
-FOLDERS = {"crates/c_surface/src": "rt", "crates/pageshare_c/src": "rt", "crates/pageshare_host_c/src": "rt", "lib/rust/src": "rs"}
+HEADERS = ["lib/include/pageshare.h", "lib/include/pageshare_host.h", "host/preload/pageshare_window.h"]
+FOLDERS = {
+    "crates/c_surface/src": "rt", "crates/pageshare_c/src": "rt", "crates/pageshare_host_c/src": "rt", "crates/pageshare_window_c/src": "rt",
+    "lib/rust/src": "rs",
+}
 # The statuses of the proved libraries, and what a header writes before a name. FAULT_ANSWER is a fault that no packet of a client has.
 STATUSES = "crates/c_surface/src/status.rt"
 PREFIXES = ("PAGESHARE_ERROR_", "PAGESHARE_", "PAGESHARE_HOST_ERROR_", "PAGESHARE_HOST_")
@@ -28,7 +31,7 @@ STRUCTS = {
     "Region": "pageshare_region", "DomainShape": "pageshare_domain_shape", "DomainLoan": "pageshare_loan",
     "DomainTotals": "pageshare_domain_totals pageshare_host_totals", "HostShape": "pageshare_host_shape",
     "KnownSession": "pageshare_host_session", "ReceivedPacket": "pageshare_host_received",
-    "ServedPacket": "pageshare_host_served", "PacketHead": "pageshare_host_packet",
+    "ServedPacket": "pageshare_host_served", "PacketHead": "pageshare_host_packet", "WindowBudget": "pageshare_window_budget",
 }
 # A handle has a pointer and a flag; what is in it is private, and so are its names.
 HANDLES = {"Machine", "Slot", "DomainHandle", "DomainSlot", "HostHandle", "HostSlot", "Handle"}

@@ -12,7 +12,7 @@ built, over the same libraries: the kit keeps what it checked of neither. A note
 nothing is done where these are as they were.
 
 --products builds all that is installed and all that `make check` needs, side by side, and ends with 'N passed, M failed'. --libraries
-does the same for the static libraries of x86-64-v2, out/proved.a and out/proved_host.a. Status 0 where each FILE was written, else 1.
+does the same for the static libraries of x86-64-v2: out/proved.a, out/proved_host.a and out/libpageshare_window.a. Status 0 where each FILE was written, else 1.
 """
 from __future__ import annotations
 
@@ -57,11 +57,12 @@ PRODUCTS = [
     Product("pageshare_c", OUT / "v3/proved.a", "x86-64-v3"),
     Product("pageshare_c", OUT / "proved.a"),
     Product("pageshare_host_c", OUT / "proved_host.a"),
+    Product("pageshare_window_c", OUT / "libpageshare_window.a"),
     Product("pageshare_v3", OUT / "pageshare-v3", "x86-64-v3"),
     Product("pageshare", OUT / "pageshare"),
     Product("window_trace", OUT / "window_trace"),
 ]
-LIBRARIES = [it for it in PRODUCTS if it.file in (OUT / "proved.a", OUT / "proved_host.a")]
+LIBRARIES = [it for it in PRODUCTS if it.file.suffix == ".a" and it.cpu == DEFAULT]
 
 
 def note_of(product: Product) -> pathlib.Path:

@@ -11,7 +11,7 @@ import time
 from collections.abc import Callable, Iterable, Mapping, Sequence
 
 from harness import StrPath
-from places import AS_NOBODY, CC, FLAGS, HERE, TOP, Host, LeftOut, all_released, must, preloaded, sources
+from places import AS_NOBODY, CC, FLAGS, HERE, TOP, WINDOW_LIBRARY, Host, LeftOut, all_released, must, preloaded, sources
 
 BESIDE = 4  # so many run at once, with contents that others have, too
 HUGE = ("--huge", "--pages", "1536")
@@ -36,7 +36,7 @@ def sanitized() -> dict[str, str]:
     library = HERE.place.room / "sanitized" / HERE.library.name
     library.parent.mkdir(exist_ok=True)
     words: list[StrPath] = [CC, *FLAGS, *SANITIZE, "-fPIC", "-shared", "-fvisibility=hidden", *(f"-I{TOP / it}" for it in ("lib/include", "window", "host"))]
-    words += ["-o", library, *sources("preload"), *sorted((TOP / "window").glob("*.c")), "-ldl"]
+    words += ["-o", library, *sources("preload"), *sorted((TOP / "window").glob("*.c")), WINDOW_LIBRARY, "-ldl"]
     if subprocess.run(words).returncode != 0:
         raise LeftOut(f"{CC} doesn't build with {SANITIZE[0]}")
     first = subprocess.run([CC, "-print-file-name=libasan.so"], capture_output=True, text=True, check=True).stdout.strip()

@@ -1,13 +1,15 @@
 /*
  * The budget of the library's thread, by clocks that this program sets: work in steps, and naps that take processor time themselves, as
- * they do on a busy computer. Prints what the thread got of its part of a processor, and returns 1 where that is too little or too much.
+ * they do on a busy computer. Each ten seconds one step is long. Prints what the thread got of its part of a processor, and returns 1 if
+ * that is too little or too much.
  */
 #include "budget.h"
 #include <stdbool.h>
 #include <stdio.h>
 #include <time.h>
 
-enum { STEP_NS = 400000, NAP_NS = 30000, PERCENT = 2, BURST = 25, SECONDS = 100 };
+enum { STEP_NS = 400000, LONG_STEP_NS = 100000000, NAP_NS = 30000, NAP_MOST_NS = 100000000, PERCENT = 2, BURST = 25, SECONDS = 100, EACH_SECONDS = 10 };
+#define FIRST_LONG_NS UINT64_C(5000000000)
 static const uint64_t second_ns = 1000000000, begun_ns = 1000000000;
 
 static uint64_t clock_at_ns, spent_ns;
@@ -24,6 +26,14 @@ static void spend(uint64_t ns) {
     spent_ns += ns;
 }
 
+/* The length of the next step: each ten seconds a long one. */
+static uint64_t next_step_ns(void) {
+    static uint64_t next_long_ns = FIRST_LONG_NS;
+    if (clock_at_ns < next_long_ns) return STEP_NS;
+    next_long_ns += EACH_SECONDS * second_ns;
+    return LONG_STEP_NS;
+}
+
 int main(void) {
     struct budget budget = {0};
     const uint64_t end_ns = begun_ns + SECONDS * second_ns;
@@ -31,10 +41,11 @@ int main(void) {
     clock_at_ns = begun_ns;
     budget_set(&budget, PERCENT, BURST);
     while (clock_at_ns < end_ns) {
-        spend(STEP_NS);
-        worked_ns += STEP_NS;
+        uint64_t step_ns = next_step_ns();
+        spend(step_ns);
+        worked_ns += step_ns;
         for (uint64_t nap_ns; clock_at_ns < end_ns && (nap_ns = budget_settle(&budget)) > 0;) {
-            clock_at_ns += nap_ns;
+            clock_at_ns += nap_ns < NAP_MOST_NS ? nap_ns : NAP_MOST_NS;
             spend(NAP_NS);
         }
     }

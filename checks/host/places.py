@@ -23,6 +23,8 @@ from qemu_guests import NOBODY as NOBODY
 from qemu_guests import QEMU, initramfs, is_there, read
 
 OUT = TOP / "out/host"
+# What is proved of the library that monitors preload.
+WINDOW_LIBRARY = os.environ.get("WINDOW_LIBRARY", str(TOP / "out/libpageshare_window.a"))
 AS_NOBODY = ["setpriv", f"--reuid={NOBODY}", f"--regid={NOBODY}", "--clear-groups"]
 PROGRAMS = (QEMU, "qemu-img", "busybox")
 KERNEL_PACKAGE = "linux-image-cloud-amd64"

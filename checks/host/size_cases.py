@@ -10,7 +10,7 @@ import time
 from typing import Any, Sequence
 
 from harness import StrPath
-from places import AS_NOBODY, CC, FLAGS, HERE, OUT, TOP, Host, compile_c, must, preloaded
+from places import AS_NOBODY, CC, FLAGS, HERE, OUT, TOP, WINDOW_LIBRARY, Host, compile_c, must, preloaded
 from qemu_guests import read
 
 PAGE, SPARES, PRELOAD = 4096, 2000, TOP / "host/preload"
@@ -185,5 +185,5 @@ def case_paced() -> None:
     program = HERE.place.room / "paced"
     folders = (PRELOAD, TOP / "host", TOP / "window", TOP / "lib/include")
     words: list[StrPath] = [CC, *FLAGS, *(f"-I{it}" for it in folders), "-Wl,--wrap=clock_gettime", "-o", program]
-    must(subprocess.run([*words, TOP / "checks/host/paced.c", PRELOAD / "budget.c"]).returncode == 0, "paced.c doesn't compile")
+    must(subprocess.run([*words, TOP / "checks/host/paced.c", PRELOAD / "budget.c", WINDOW_LIBRARY]).returncode == 0, "paced.c doesn't compile")
     must(subprocess.run([program]).returncode == 0, "the thread works for too little of its time, or too long")

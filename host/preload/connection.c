@@ -375,7 +375,7 @@ static void write_counts(const struct windows_counts *now) {
         (int)ranges_devices(), now->parts_whole, now->parts_split, now->parts_huge, (unsigned long long)now->splits,
         (unsigned long long)now->made_whole, (unsigned long long)now->not_made_whole, (unsigned)tuning().huge_from,
         (unsigned long long)now->reads, (unsigned long long)now->fresh, (unsigned long long)(now->round_ns / 1000000),
-        my.budget.percent, (long long)(my.budget.credit_ns / 1000000), my.is_memory_short, my.turns,
+        my.budget.counted.percent, (long long)(my.budget.counted.credit / 1000000), my.is_memory_short, my.turns,
         (double)now->lent / (double)(now->mappings + 1), held);
     bool fits = length > 0 && (size_t)length < sizeof text;
     if (!fits || pwrite(settings.counts, text, (size_t)length, 0) != length || ftruncate(settings.counts, length) != 0) {

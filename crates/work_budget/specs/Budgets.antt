@@ -1,6 +1,7 @@
 -- What a budget of processor time has counted, and what a call does to that.
 use Rattle.std.specs.Prelude.{ℕ, ◌+◌, ◌-◌, ◌*◌, ◌/◌, ◌≤◌, min, max, Bool, nat_le, nat_eq, if◌then◌else◌}
 use Rattle.work_budget.specs.declared.config.Config.{Config}
+use Rattle.work_budget.specs.declared.config.Counts.{Counts}
 
 -- The rates are in percent of a processor, and all else in nanoseconds. `time` and `spent` are what the clocks said last: the time, and the
 -- processor time that the thread has used.
@@ -49,6 +50,29 @@ begun config now spent = record {
   saved = 0;
   owed = 0;
   credit = 0;
+}
+
+-- its rates and limits
+abbrev pub config_of : Ledger → Config
+config_of b = record { percent = b.percent; burst = b.burst; saved_ns = b.saved_most; owed_ns = b.owed_most; credit_ns = b.credit_most }
+
+-- what it has counted
+abbrev pub counts_of : Ledger → Counts
+counts_of b = record { time = b.time; spent = b.spent; saved = b.saved; owed = b.owed; credit = b.credit }
+
+-- A budget with these rates and limits that has counted this. Of a number beyond a limit the limit is left, and no more is owed than was used.
+abbrev pub resumed : Config → Counts → Ledger
+resumed config counts = record {
+  percent = share_of config.percent;
+  burst = burst_of config.percent config.burst;
+  saved_most = config.saved_ns;
+  owed_most = config.owed_ns;
+  credit_most = config.credit_ns;
+  time = counts.time;
+  spent = counts.spent;
+  saved = min counts.saved config.saved_ns;
+  owed = min counts.owed counts.spent;
+  credit = min counts.credit config.credit_ns;
 }
 
 -- with other rates

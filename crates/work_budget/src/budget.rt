@@ -1,8 +1,8 @@
 //! A thread's budget of processor time.
 ghost use Rattle.std.specs.Prelude.{◌≡◌, ◌+◌, ◌-◌, ◌*◌, ◌/◌, ◌≤◌, min, max, true, nat_le};
-ghost use Rattle.work_budget.specs.Budgets.{part_of, begun, paced, credited, settled, may_work, wait_of};
+ghost use Rattle.work_budget.specs.Budgets.{part_of, begun, paced, credited, settled, may_work, wait_of, config_of, counts_of, resumed};
 
-use crate::Config;
+use crate::{Config, Counts};
 use std::marker::Model;
 
 // The longest debt that a thread waits for at once, in nanoseconds: ten seconds.
@@ -73,6 +73,47 @@ impl Budget {
             saved: 0,
             owed: 0,
             credit: 0,
+        }
+    }
+
+    /// Makes a budget from its rates and limits, and from what it has counted: the budget that returned both, if it is that. Of
+    /// numbers beyond a limit the limit is left, and no more is owed than was used.
+    pub fn resume(config: Config, counts: Counts) -> Budget
+        ensures { result ≡ resumed config counts }
+    {
+        let percent = config.percent.min(100).max(1);
+        Budget {
+            config: Config {
+                percent,
+                burst: config.burst.min(100).max(percent),
+                ..config
+            },
+            time: counts.time,
+            spent: counts.spent,
+            saved: counts.saved.min(config.saved_ns),
+            owed: counts.owed.min(counts.spent),
+            credit: counts.credit.min(config.credit_ns),
+        }
+    }
+
+    /// Returns the rates and limits.
+    pub fn config(&self) -> Config
+        ensures { result ≡ config_of self.now }
+    {
+        self.config
+    }
+
+    /// Returns what was counted. With it and the rates and limits, [`resume`](Budget::resume) makes the budget again.
+    pub fn counts(&self) -> Counts
+        ensures counts { result ≡ counts_of self.now }
+        ensures resumes { resumed (config_of self.now) result ≡ self.now }
+    {
+        Counts {
+            time: self.time,
+            spent: self.spent,
+            saved: self.saved,
+            owed: self.owed,
+            credit: self.credit,
         }
     }
 

@@ -14,3 +14,18 @@ pub struct Config {
     /// What its credit is at most.
     pub credit_ns: u64,
 }
+
+/// What a budget has counted, apart from its rates and limits. Times are nanoseconds.
+#[derive(Clone, Copy, Debug, PartialEq, Eq)]
+pub struct Counts {
+    /// The time at the last count.
+    pub time: u64,
+    /// The processor time that the thread had used then.
+    pub spent: u64,
+    /// What is saved up.
+    pub saved: u64,
+    /// What is owed.
+    pub owed: u64,
+    /// What is left of the credit.
+    pub credit: u64,
+}

@@ -6,4 +6,4 @@ mod config;
 pub mod laws;
 
 pub use budget::Budget;
-pub use config::Config;
+pub use config::{Config, Counts};
