@@ -1,5 +1,5 @@
-mod Chosen
+pub mod Chosen
 mod Cleared
 mod Hinted
-mod Marked
-mod Turned
+pub mod Marked
+pub mod Turned

@@ -1,5 +1,5 @@
 -- Each part has its turn, and none has two in a look.
-use Rattle.std.proofs.Common.{◌≡◌, ◌∙◌, ℕ, ◌+◌, ◌<◌, ◌≤◌, ◌⊎◌, inl, inr, Bool, true, false, cond, not, ◌&&◌, ◌||◌, List, [], ◌∷◌, length, refl, ap, sym, subst, arith}
+use Rattle.std.proofs.Common.{◌≡◌, ◌∙◌, ℕ, ◌+◌, ◌*◌, ◌<◌, ◌≤◌, ◌⊎◌, inl, inr, Bool, true, false, cond, not, ◌&&◌, ◌||◌, List, [], ◌∷◌, length, refl, ap, sym, subst, arith}
 use Rattle.std.specs.Prelude.{nat_eq, slice_set, map}
 use Rattle.std.specs.List.{list_any}
 use Rattle.std.proofs.lemmas.Bool.{eq-eqb, eqb-true, cases_eq}
@@ -11,7 +11,7 @@ use Rattle.look_order.proofs.Marked.{done_at, done_is, turn_length, turn_done, t
 use Rattle.look_order.proofs.Chosen.{IsChoice, IsOver, chooses}
 
 -- within how many calls a part is chosen
-abbrev need : Bool → ℕ → ℕ → ℕ
+abbrev pub need : Bool → ℕ → ℕ → ℕ
 need had left all = cond had (left + 1 + all) left
 
 -- what another part's turn takes off
@@ -30,14 +30,22 @@ among_first p q ps e = ap (λ b. b || list_any (nat_eq p) ps) (eq-eqb p q (sym e
 among_later : (p q : ℕ) (ps : List ℕ) → is_among p ps ≡ true → is_among p (q ∷ ps) ≡ true
 among_later p q ps e = or_true (nat_eq p q) (list_any (nat_eq p) ps) e
 
-never : (ms : List PartMark) (p : ℕ) → p < length ms → need (done_at ms p) (left_in ms) (length ms) ≤ 0 → ⊥
-never ms p l n = pick (done_at ms p) refl n where
-  pick : (b : Bool) → done_at ms p ≡ b → need b (left_in ms) (length ms) ≤ 0 → ⊥
-  pick true e k = absurd (omega (arith, k))
-  pick false e k = absurd (omega (arith, k, some_left ms p l e))
+-- at least one
+pub need_some : (ms : List PartMark) (p : ℕ) → p < length ms → 1 ≤ need (done_at ms p) (left_in ms) (length ms)
+need_some ms p l = pick (done_at ms p) refl where
+  pick : (b : Bool) → done_at ms p ≡ b → 1 ≤ need b (left_in ms) (length ms)
+  pick true e = omega arith
+  pick false e = some_left ms p l e
+
+-- and at most twice the number of parts
+pub need_most : (ms : List PartMark) (p : ℕ) → p < length ms → need (done_at ms p) (left_in ms) (length ms) ≤ 2 * length ms
+need_most ms p l = pick (done_at ms p) refl where
+  pick : (b : Bool) → done_at ms p ≡ b → need b (left_in ms) (length ms) ≤ 2 * length ms
+  pick true e = omega (arith, one_less ms p l e)
+  pick false e = omega (arith, left_most ms)
 
 -- after the end of a look
-then_all : (ms : List PartMark) (p k : ℕ) → p < length ms → left_in ms ≡ 0 → need (done_at ms p) (left_in ms) (length ms) ≤ k + 1 →
+pub then_all : (ms : List PartMark) (p k : ℕ) → p < length ms → left_in ms ≡ 0 → need (done_at ms p) (left_in ms) (length ms) ≤ k + 1 →
     need (done_at (map cleared ms) p) (left_in (map cleared ms)) (length (map cleared ms)) ≤ k
 then_all ms p k l none n = pick (done_at ms p) refl n where
   pick : (b : Bool) → done_at ms p ≡ b → need b (left_in ms) (length ms) ≤ k + 1 →
@@ -50,7 +58,7 @@ then_all ms p k l none n = pick (done_at ms p) refl n where
 
 each_comes : (ms : List PartMark) (es : List Move) (p : ℕ) → p < length ms → need (done_at ms p) (left_in ms) (length ms) ≤ asked es →
     is_among p (chosen_by ms es) ≡ true
-each_comes ms [] p l n = absurd (never ms p l n)
+each_comes ms [] p l n = absurd (omega (arith, n, need_some ms p l))
 each_comes ms (finds q ∷ es) p l n =
     each_comes (heated ms q) es p (subst (λ k. p < k) (sym (heat_length ms q)) l)
     (subst (λ b. need b (left_in (heated ms q)) (length (heated ms q)) ≤ asked es) (sym (heat_done ms q p))
@@ -77,10 +85,7 @@ each_comes ms (asks ∷ es) p l n = pick (chooses ms) (λ q ne w d. each_comes (
       pick (inr o) if_other if_over = subst (λ o. is_among p (before o (chosen_by (chosen ms o) es)) ≡ true) (sym o.is) (if_over o.none)
 
 pub each_in_time : EachInTime
-each_in_time ms es p l n = each_comes ms es p l (most (done_at ms p) refl) where
-  most : (b : Bool) → done_at ms p ≡ b → need b (left_in ms) (length ms) ≤ asked es
-  most true e = omega (arith, one_less ms p l e, n)
-  most false e = omega (arith, left_most ms, n)
+each_in_time ms es p l n = each_comes ms es p l (omega (arith, n, need_most ms p l))
 
 -- in one look
 look_comes : (ms : List PartMark) (es : List Move) (p : ℕ) → p < length ms → done_at ms p ≡ false → left_in ms ≤ asked es → is_among p (of_look ms es) ≡ true
